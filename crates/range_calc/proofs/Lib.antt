@@ -1,0 +1,4 @@
+pub mod Numbers
+pub mod Collected
+pub mod Queries
+pub mod Outcomes

@@ -1,0 +1,37 @@
+-- What `parse` reads of a word at i64 is `number_of` the word.
+use Rattle.std.proofs.Common.{◌≡◌, ℕ, ◌^◌, ℤ, pos, negsuc, Bool, true, false, ◌&&◌, cond, List, Result, Some, None, Ok, Err, refl, sym, ap, ◌∙◌, length}
+use Rattle.std.specs.Bool.{Decides}
+use Rattle.std.specs.Str.{all_ascii_digits}
+use Rattle.std.specs.Str.Parse.{ParsesSigned, IsNumeral, AllDigits, signed_digits_value, without_leading_sign}
+use Rattle.std.specs.Result.{result_ok}
+use Rattle.std.proofs.lemmas.Bool.Decides.{Decides-ltb, Decides-and}
+use Rattle.std.proofs.lemmas.Str.Parse.{numerals_by_value, tells_all_ascii_digits}
+use Rattle.range_calc.specs.Words.{number_of, is_i64, is_numeral}
+use mir.Syntax.{w64}
+use mir.Val.{SFits}
+
+all_ascii_digits-Decides : (ds : List ℕ) → Decides (all_ascii_digits ds) (AllDigits 10 ds)
+all_ascii_digits-Decides ds =
+    let own = numerals_by_value (λ es. all_ascii_digits es ≡ true) tells_all_ascii_digits in (own.to ds, own.from ds)
+
+is_i64-Decides : (z : ℤ) → Decides (is_i64 z) (SFits w64 z)
+is_i64-Decides (pos n) = (λ e. record { sfits = (Decides-ltb n (2 ^ 63)).0 e }, λ f. (Decides-ltb n (2 ^ 63)).1 f.sfits)
+is_i64-Decides (negsuc n) = (λ e. record { sfits = (Decides-ltb n (2 ^ 63)).0 e }, λ f. (Decides-ltb n (2 ^ 63)).1 f.sfits)
+
+-- the test of `number_of` tells whether `parse` reads a number
+is_number-Decides : (word : List ℕ) → Decides (is_numeral word && is_i64 (signed_digits_value 10 word)) (IsNumeral 10 (without_leading_sign word) × SFits w64 (signed_digits_value 10 word))
+is_number-Decides word =
+    let ds = without_leading_sign word in
+    Decides-and _ _ (Decides-and _ _ (Decides-ltb 0 (length ds)) (all_ascii_digits-Decides ds)) (is_i64-Decides (signed_digits_value 10 word))
+
+Some-where : (b : Bool) (P : Type 0) (z v : ℤ) → Decides b P → P → z ≡ v → Some z ≡ cond b (Some v) None
+Some-where b P z v d h e = ap Some e ∙ sym (ap (λ t. cond t (Some v) None) (d.1 h))
+
+None-where : (b : Bool) (P : Type 0) (v : ℤ) → Decides b P → ¬ P → None ≡ cond b (Some v) None
+None-where true P v d h = absurd (h (d.0 refl))
+None-where false P v d h = refl
+
+pub number_of-parsed : {E : Type 0} (word : List ℕ) (r : Result ℤ E) → ParsesSigned w64 10 word r → result_ok r ≡ number_of word
+unfolding number_of
+number_of-parsed word (Ok z) h = Some-where _ _ z (signed_digits_value 10 word) (is_number-Decides word) h.0 h.1
+number_of-parsed word (Err e) h = None-where _ _ (signed_digits_value 10 word) (is_number-Decides word) h

@@ -1,0 +1,47 @@
+//! A calculator of sets of whole numbers, which are given by their boundaries.
+//!
+//! It answers its arguments with one line, and ends with a status that says how that went.
+#![tactic(auto)]
+
+mod answer;
+mod line;
+mod status;
+#[cfg(test)]
+mod tests;
+mod words;
+
+use answer::{answer, out_of_memory};
+use std::env;
+use std::io::{self, ErrorKind};
+use std::process::ExitCode;
+use std::rt::Env;
+
+/// The number that the program ends with where its output failed.
+const OUTPUT_FAILED: u8 = 5;
+
+fn main(rt: HostRuntime) -> ExitCode {
+    let mut out = io::writer(&rt);
+    let status = match arguments(&rt) {
+        Ok(words) => answer(rt.alloc(), words.as_slice(), &mut out),
+        Err(error) if error.kind() == ErrorKind::OutOfMemory => out_of_memory(&mut out),
+        // An argument that is no text is no word of a command.
+        Err(_) => answer(rt.alloc(), &[], &mut out),
+    };
+    match status {
+        Ok(status) => ExitCode::from(status.code()),
+        Err(_) => ExitCode::from(OUTPUT_FAILED),
+    }
+}
+
+/// The arguments without the program's name; where there are none, the words of the stored run.
+fn arguments(rt: &(impl Env + AllocGlobal)) -> io::Result<Vec<String>> {
+    let mut args = env::args(rt)?;
+    let _program = args.next();
+    let mut words: Vec<String> = args.collect(rt.alloc())?;
+    if words.is_empty() {
+        for word in ["union", "0,10", "20"] {
+            words.push(String::from_str(rt.alloc(), word)?)?;
+        }
+    }
+    Ok(words)
+}

@@ -1,0 +1,4 @@
+pub mod Ascending
+pub mod Below
+pub mod Copies
+pub mod Sets

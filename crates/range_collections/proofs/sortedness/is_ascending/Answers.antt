@@ -1,0 +1,10 @@
+use Rattle.std.proofs.Common.{rules}
+use Rattle.std.specs.Ordering.{is_lt}
+use Rattle.std.proofs.lemmas.List.Sorted.{answers_always}
+use Rattle.range_collections.proofs.Ascending.{IsAscending-decided}
+use Rattle.range_collections.proofs.sortedness.is_ascending.Goals as goal
+
+pub returns : goal.returns
+returns g c =
+    IsAscending-decided g.T.Ord.cmp g.met.T.Ord.total c.args.items.now c.is_sorted_by.result
+    (c.is_sorted_by.ensures.cases (λ x y. is_lt (g.T.Ord.cmp x y)) (answers_always _ _ _ (λ f a r q k. search rules)))

@@ -1,0 +1,9 @@
+pub use Rattle.range_merge.specs.Boundaries
+pub use Rattle.range_merge.specs.Connective
+pub use Rattle.range_merge.specs.Owners
+pub use Rattle.range_merge.specs.Changes
+pub use Rattle.range_merge.specs.Copies
+pub use Rattle.range_merge.specs.Runs
+pub use Rattle.range_merge.specs.Counting
+pub use Rattle.range_merge.specs.States
+pub mod Sets

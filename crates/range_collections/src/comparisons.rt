@@ -1,0 +1,72 @@
+//! A counter of comparisons by an element type's own order, and copies by its own clones.
+ghost use Rattle.std.specs.Prelude.{◌≡◌, ℕ};
+ghost use Rattle.std.specs.declared.cmp.Ordering.TheVariants.{Equal};
+
+use range_entry::EntryClone;
+use range_merge::{Compare, Copier};
+use std::alloc::AllocError;
+use std::cmp::Ordering;
+use std::marker::Model;
+
+/// Compares elements by the order of their type, and counts how often it did. A clause reads it as that number.
+#[derive(Drop)]
+pub struct Comparisons {
+    made: u128,
+}
+
+impl Model for Comparisons {
+    ghost Value = { ℕ };
+
+    ghost view = { λ counter. counter.made };
+}
+
+impl Comparisons {
+    /// A counter that stands at zero.
+    #[inline(always)]
+    pub fn new() -> Self
+        ensures { result ≡ 0 }
+    {
+        Comparisons { made: 0 }
+    }
+
+    /// How many comparisons were made.
+    #[inline(always)]
+    pub fn made(&self) -> u128
+        ensures { result ≡ self.now }
+    {
+        self.made
+    }
+}
+
+impl<T: Ord> Compare<T> for Comparisons {
+    ghost order = { T.cmp };
+
+    ghost count = { λ counter. counter };
+
+    #[inline(always)]
+    fn compare(&mut self, a: &T, b: &T) -> Ordering {
+        self.made += 1;
+        a.cmp(b)
+    }
+
+    #[inline(always)]
+    fn made(&self) -> u128 {
+        self.made
+    }
+
+    ghost total = { T.total };
+}
+
+/// Copies elements by their own clones.
+pub struct EntryCopier;
+
+impl<T: EntryClone> Copier<T> for EntryCopier {
+    ghost alike = { λ x y. T.cmp x y ≡ Equal };
+
+    ghost is_sure = { T.is_sure };
+
+    #[inline(always)]
+    fn copy(&self, item: &T) -> Result<T, AllocError> {
+        item.entry_clone()
+    }
+}

@@ -1,0 +1,82 @@
+//! What can be asked of a set and of two: the answers of its view.
+ghost use Rattle.std.specs.Prelude.{◌≡◌, ◌↔◌, ◌*◌, ◌<◌, ◌^◌, length, false, IsTrue};
+ghost use Rattle.range_merge.specs.Boundaries.{member};
+ghost use Rattle.range_merge.specs.Counting.{AddsAtMost};
+ghost use Rattle.range_merge.specs.Runs.{digits, weight};
+ghost use Rattle.range_collections.specs.Sets.{IsSubset, Intersects, IsDisjoint, HasMember};
+
+use crate::comparisons::Comparisons;
+use crate::range_set::RangeSet;
+use crate::view::RangeSetRef;
+use range_merge::MergeOperation;
+
+impl<T: Ord, const N: usize> RangeSet<T, N> {
+    /// Whether an odd number of boundaries is at or below `value`.
+    #[inline]
+    pub fn contains(&self, value: &T) -> bool
+        ensures { result ≡ member T.cmp self.now value.now }
+    {
+        self.as_ref().contains(value)
+    }
+
+    /// The same, with its comparisons counted: at most as many as the number of boundaries has binary digits.
+    #[inline]
+    pub fn contains_counted(&self, value: &T, count: &mut Comparisons) -> bool
+        requires { count.old < 2 ^ 64 }
+        ensures member { result ≡ member T.cmp self.now value.now }
+        ensures comparisons { AddsAtMost count.old count.new (digits (length self.now)) }
+    {
+        self.as_ref().contains_counted(value, count)
+    }
+
+    /// Whether no element is a member.
+    #[inline]
+    pub fn is_empty(&self) -> bool
+        ensures { IsTrue result ↔ ((x : T) → member T.cmp self.now x ≡ false) }
+    {
+        self.as_ref().is_empty()
+    }
+
+    /// Whether some element is a member of what the operation makes of both, with its comparisons counted.
+    pub fn merge_test<O: MergeOperation>(
+        &self,
+        that: RangeSetRef<T>,
+        op: &O,
+        count: &mut Comparisons,
+    ) -> bool
+        requires off { O.connective op.now false false ≡ false }
+        requires made { count.old < 2 ^ 64 }
+        ensures members { IsTrue result ↔ HasMember T.cmp (O.connective op.now) self.now that.entry.boundaries.now }
+        ensures comparisons { AddsAtMost count.old count.new (2 * weight T.cmp self.now that.entry.boundaries.now) }
+    {
+        self.as_ref().merge_test(that, op, count)
+    }
+
+    /// Whether some element is a member of both.
+    pub fn intersects(&self, that: RangeSetRef<T>) -> bool
+        ensures { IsTrue result ↔ Intersects T.cmp self.now that.entry.boundaries.now }
+    {
+        self.as_ref().intersects(that)
+    }
+
+    /// Whether no element is a member of both.
+    pub fn is_disjoint(&self, that: RangeSetRef<T>) -> bool
+        ensures { IsTrue result ↔ IsDisjoint T.cmp self.now that.entry.boundaries.now }
+    {
+        self.as_ref().is_disjoint(that)
+    }
+
+    /// Whether every member of this set is one of `that`.
+    pub fn is_subset(&self, that: RangeSetRef<T>) -> bool
+        ensures { IsTrue result ↔ IsSubset T.cmp self.now that.entry.boundaries.now }
+    {
+        self.as_ref().is_subset(that)
+    }
+
+    /// Whether every member of `that` is one of this set.
+    pub fn is_superset(&self, that: RangeSetRef<T>) -> bool
+        ensures { IsTrue result ↔ IsSubset T.cmp that.entry.boundaries.now self.now }
+    {
+        self.as_ref().is_superset(that)
+    }
+}

@@ -1,0 +1,87 @@
+//! What can be asked of a set and of two, each answered by the members, at every element. Nothing here takes memory.
+ghost use Rattle.std.specs.Prelude.{◌≡◌, ◌↔◌, ◌*◌, ◌<◌, ◌^◌, length, false, IsTrue};
+ghost use Rattle.range_merge.specs.Boundaries.{member};
+ghost use Rattle.range_merge.specs.Counting.{AddsAtMost};
+ghost use Rattle.range_merge.specs.Runs.{digits, weight};
+ghost use Rattle.range_collections.specs.Sets.{IsSubset, Intersects, IsDisjoint, HasMember};
+
+use crate::comparisons::Comparisons;
+use crate::view::RangeSetRef;
+use range_merge::{
+    BoolOpMergeState, DiffOp, IntersectionOp, MergeOperation, changes_mean_the_connective, search,
+};
+
+impl<'a, T: Ord> RangeSetRef<'a, T> {
+    /// Whether an odd number of boundaries is at or below `value`.
+    #[inline]
+    pub fn contains(&self, value: &T) -> bool
+        ensures { result ≡ member T.cmp self.now.boundaries.now value.now }
+    {
+        self.contains_counted(value, &mut Comparisons::new())
+    }
+
+    /// The same, with its comparisons counted: at most as many as the number of boundaries has binary digits.
+    #[inline]
+    pub fn contains_counted(&self, value: &T, count: &mut Comparisons) -> bool
+        requires { count.old < 2 ^ 64 }
+        ensures member { result ≡ member T.cmp self.now.boundaries.now value.now }
+        ensures comparisons { AddsAtMost count.old count.new (digits (length self.now.boundaries.now)) }
+    {
+        match search(self.boundaries, value, count) {
+            Ok(i) => i % 2 == 0,
+            Err(i) => i % 2 == 1,
+        }
+    }
+
+    /// Whether no element is a member.
+    #[inline]
+    pub fn is_empty(&self) -> bool
+        ensures { IsTrue result ↔ ((x : T) → member T.cmp self.now.boundaries.now x ≡ false) }
+    {
+        self.boundaries.is_empty()
+    }
+
+    /// Whether some element is a member of what the operation makes of both, with its comparisons counted. It stops at the first one, and makes at most twice the weight of the two lists in comparisons.
+    pub fn merge_test<O: MergeOperation>(
+        &self,
+        that: RangeSetRef<T>,
+        op: &O,
+        count: &mut Comparisons,
+    ) -> bool
+        requires off { O.connective op.now false false ≡ false }
+        requires made { count.old < 2 ^ 64 }
+        ensures members { IsTrue result ↔ HasMember T.cmp (O.connective op.now) self.now.boundaries.now that.entry.boundaries.now }
+        ensures comparisons { AddsAtMost count.old count.new (2 * weight T.cmp self.now.boundaries.now that.entry.boundaries.now) }
+    {
+        changes_mean_the_connective::<T, Comparisons>();
+        BoolOpMergeState::merge(self.boundaries, that.boundaries, op, count)
+    }
+
+    /// Whether some element is a member of both.
+    pub fn intersects(&self, that: RangeSetRef<T>) -> bool
+        ensures { IsTrue result ↔ Intersects T.cmp self.now.boundaries.now that.entry.boundaries.now }
+    {
+        self.merge_test(that, &IntersectionOp, &mut Comparisons::new())
+    }
+
+    /// Whether no element is a member of both.
+    pub fn is_disjoint(&self, that: RangeSetRef<T>) -> bool
+        ensures { IsTrue result ↔ IsDisjoint T.cmp self.now.boundaries.now that.entry.boundaries.now }
+    {
+        !self.merge_test(that, &IntersectionOp, &mut Comparisons::new())
+    }
+
+    /// Whether every member of this set is one of `that`.
+    pub fn is_subset(&self, that: RangeSetRef<T>) -> bool
+        ensures { IsTrue result ↔ IsSubset T.cmp self.now.boundaries.now that.entry.boundaries.now }
+    {
+        !self.merge_test(that, &DiffOp, &mut Comparisons::new())
+    }
+
+    /// Whether every member of `that` is one of this set.
+    pub fn is_superset(&self, that: RangeSetRef<T>) -> bool
+        ensures { IsTrue result ↔ IsSubset T.cmp that.entry.boundaries.now self.now.boundaries.now }
+    {
+        that.is_subset(*self)
+    }
+}

@@ -1,0 +1,43 @@
+-- Lists in the order by items.
+use Rattle.std.proofs.Common.{◌≡◌, ℕ, suc, ◌+◌, ◌<◌, IsTrue, List, [], ◌∷◌, ◌++◌, Bool, length, take, get_or, refl, arith}
+use Rattle.std.specs.Prelude.{◌↔◌, ◌==◌}
+use Rattle.std.specs.Cmp.{IsTotalOrder}
+use Rattle.std.specs.Cmp.Lexicographic.{slice_cmp}
+use Rattle.std.specs.Ordering.{nat_cmp, ordering_then}
+use Rattle.std.specs.declared.cmp.Ordering.{Ordering}
+use Rattle.std.specs.declared.cmp.Ordering.TheVariants.{Less, Equal, Greater}
+use Rattle.std.proofs.lemmas.Cmp.{tied_itself, lists_total, nat_cmp_total}
+use Rattle.std.proofs.lemmas.Bool.Decides.{Decides-eqb}
+use Rattle.std.proofs.lemmas.List.{take_more}
+
+-- a list equals the empty one exactly where it has no items
+empty_cases : {T : Type 0} (order : T → T → Ordering) (xs : List T) → IsTrue (length xs == 0) ↔ (slice_cmp order xs [] ≡ Equal)
+empty_cases order [] = ((λ _. refl), (λ _. refl))
+empty_cases order (x ∷ xs) = ((λ h. let none : suc (length xs) ≡ 0 = (Decides-eqb (suc (length xs)) 0).0 h in absurd (omega arith)), (λ h. cc))
+
+pub empty_alone : {T : Type 0} (order : T → T → Ordering) (xs : List T) (b : Bool) → b ≡ (length xs == 0) → IsTrue b ↔ (slice_cmp order xs [] ≡ Equal)
+empty_alone order xs b e = rw e (empty_cases order xs)
+
+-- a list equals itself
+pub equals_itself : {T : Type 0} {order : T → T → Ordering} → IsTotalOrder order → (xs : List T) → slice_cmp order xs xs ≡ Equal
+equals_itself total = tied_itself (lists_total total)
+
+-- a text equals itself
+pub equal_texts : (xs ys : List ℕ) → ys ≡ xs → slice_cmp nat_cmp xs ys ≡ Equal
+equal_texts xs ys e = rw e (equals_itself nat_cmp_total xs)
+
+-- `Equal`, and then what follows where the rest is `Equal`
+then_equal : (o p q : Ordering) → ordering_then o p ≡ Equal → (p ≡ Equal → q ≡ Equal) → ordering_then o q ≡ Equal
+then_equal Less p q e f = cc
+then_equal Equal p q e f = f e
+then_equal Greater p q e f = cc
+
+-- two lists that are equal stay so where each gets one more item and these are equal
+ends-equal : {T : Type 0} (order : T → T → Ordering) (xs ys : List T) (x y : T) → slice_cmp order xs ys ≡ Equal → order x y ≡ Equal → slice_cmp order (xs ++ x ∷ []) (ys ++ y ∷ []) ≡ Equal
+ends-equal order [] [] x y e h = rw h refl
+ends-equal order [] (b ∷ ys) x y e h = cc
+ends-equal order (a ∷ xs) [] x y e h = cc
+ends-equal order (a ∷ xs) (b ∷ ys) x y e h = then_equal (order a b) (slice_cmp order xs ys) _ e (λ k. ends-equal order xs ys x y k h)
+
+pub front_grows : {T : Type 0} (order : T → T → Ordering) (xs ys : List T) (i : ℕ) (x y : T) → i < length xs → slice_cmp order (take i xs) ys ≡ Equal → order x y ≡ Equal → x ≡ get_or xs i x → slice_cmp order (take (i + 1) xs) (ys ++ y ∷ []) ≡ Equal
+front_grows order xs ys i x y l e h at = rw (take_more xs i x l, ← at) (ends-equal order (take i xs) ys x y e h)

@@ -1,0 +1,84 @@
+//! Texts, ordered by their bytes. The empty text is the least value.
+ghost use Rattle.std.specs.Prelude.{◌≡◌, [], ⊤, IfOk, IsOk, string_bytes};
+ghost use Rattle.std.specs.Cmp.Lexicographic.{slice_cmp};
+ghost use Rattle.std.specs.Ordering.{nat_cmp};
+ghost use Rattle.std.specs.String.{string_cmp};
+ghost use Rattle.std.specs.declared.cmp.Ordering.TheVariants.{Equal};
+ghost use Rattle.range_entry.specs.Leasts.{empty_text, empty_reference, empty_list-lowest};
+
+use crate::entry_clone::EntryClone;
+use crate::lists::is_empty_list;
+use crate::range_set_entry::RangeSetEntry;
+use std::alloc::{AllocError, Global};
+
+impl RangeSetEntry for String {
+    ghost is_value = { λ _. ⊤ };
+
+    ghost least = { empty_text };
+
+    ghost is_min_sure = { ⊥ };
+
+    fn min_value(alloc: Global) -> Result<String, AllocError> {
+        Ok(String::new(alloc))
+    }
+
+    fn is_min_value(&self) -> bool {
+        is_empty_list(self.as_bytes())
+    }
+
+    fn known(&self) {}
+
+    ghost least_is_value = { tt };
+
+    ghost least_is_least = { λ x _. empty_list-lowest nat_cmp (string_bytes x) };
+}
+
+impl EntryClone for String {
+    ghost is_sure = { λ _. ⊥ };
+
+    /// The same text, or an error where there is no memory for it.
+    #[tactic(auto, using(crate::proofs::ItemOrder::equal_texts))]
+    fn entry_clone(&self) -> Result<String, AllocError>
+        ensures same { IfOk result (λ copied. string_cmp self.now copied ≡ Equal) }
+        ensures same_text { IfOk result (λ copied. string_bytes copied ≡ string_bytes self.now) }
+    {
+        self.clone()
+    }
+}
+
+impl RangeSetEntry for &str {
+    ghost is_value = { λ _. ⊤ };
+
+    ghost least = { empty_reference };
+
+    ghost is_min_sure = { ⊤ };
+
+    fn min_value(_alloc: Global) -> Result<Self, AllocError> {
+        Ok("")
+    }
+
+    fn is_min_value(&self) -> bool {
+        is_empty_list(self.as_bytes())
+    }
+
+    fn known(&self) {}
+
+    ghost least_is_value = { tt };
+
+    ghost least_is_least = { λ x _. empty_list-lowest nat_cmp x.now };
+}
+
+impl EntryClone for &str {
+    ghost is_sure = { λ _. ⊤ };
+
+    /// The same reference.
+    #[tactic(auto, using(crate::proofs::ItemOrder::equal_texts))]
+    #[inline(always)]
+    fn entry_clone(&self) -> Result<Self, AllocError>
+        ensures same { IfOk result (λ copied. slice_cmp nat_cmp self.now.now copied.now ≡ Equal) }
+        ensures sure { IsOk result }
+        ensures same_reference { result ≡ Ok self.now }
+    {
+        Ok(*self)
+    }
+}

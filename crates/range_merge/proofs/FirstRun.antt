@@ -1,0 +1,69 @@
+-- The first run of two lists, as one step of a merge.
+use Rattle.std.proofs.Common.{◌≡◌, ◌+◌, ◌≤◌, ◌<◌, List, [], ◌++◌, length, drop, Some, None, slice_get, false, not, refl, sym, ap, ◌∙◌, arith}
+use Rattle.std.proofs.lemmas.List.{nil_from_length}
+use Rattle.std.specs.Cmp.{IsTotalOrder}
+use Rattle.std.specs.declared.cmp.Ordering.{Ordering}
+use Rattle.range_merge.specs.Boundaries.{IsAscending}
+use Rattle.range_merge.specs.Connective.{Table, differ}
+use Rattle.range_merge.specs.Changes.{changes, taken_left}
+use Rattle.range_merge.specs.Owners.{owners}
+use Rattle.range_merge.specs.Runs.{runs, runs_of, weight, digits}
+use Rattle.range_merge.specs.Walk.{walk}
+use Rattle.range_merge.specs.Steps.{StandsFirst}
+use Rattle.range_merge.specs.declared.runs.Run.{Run}
+use Rattle.range_merge.specs.declared.runs.Run.TheVariants.{Left, Right, Both}
+use Rattle.range_merge.proofs.Digits as numbers
+use Rattle.range_merge.proofs.OwnersLemmas.{IsOwners-owners}
+use Rattle.range_merge.proofs.FirstRuns.{FirstLeft, FirstRight, FirstBoth, first_left, first_right, first_both, first_none}
+use Rattle.range_merge.proofs.RunsFound as found
+use Rattle.range_merge.proofs.WalkLemmas.{walk-left, walk-right, walk-shared}
+use Rattle.range_merge.proofs.ChangesLemmas as walked
+
+digits-one : digits 1 ≡ 1
+unfolding digits
+digits-one = refl
+
+module _ {K : Type 0} {order : K → K → Ordering} (o : IsTotalOrder order) (a b : List K) (a_ascends : IsAscending order a) (b_ascends : IsAscending order b) where
+  pub stands_first : (run : Run) → slice_get (runs order a b) 0 ≡ Some run → StandsFirst order run a b
+  stands_first (Left n) e =
+      let first : FirstLeft order a b n = first_left o a b a_ascends b_ascends n e in
+      record {
+        fits = (first.some, first.within);
+        weighs = first.weight_is;
+        walked = λ f ac bc. ap (walk f ac bc) first.owners_are ∙ walk-left f ac bc n a _ first.within;
+      }
+  stands_first (Right n) e =
+      let first : FirstRight order a b n = first_right o a b a_ascends b_ascends n e in
+      record {
+        fits = (first.some, first.within);
+        weighs = first.weight_is;
+        walked = λ f ac bc. ap (walk f ac bc) first.owners_are ∙ walk-right f ac bc n b _ first.within;
+      }
+  stands_first Both e =
+      let first : FirstBoth order a b = first_both o a b a_ascends b_ascends e in
+      record {
+        fits = (first.left_some, first.right_some);
+        weighs = omega (arith, first.weight_is, digits-one);
+        walked = λ f ac bc.
+            ap (walk f ac bc) first.owners_are ∙ walk-shared f ac bc first.left_item first.right_item (drop 1 a) _
+            ∙ ap (λ l. taken_left (differ (f ac bc) (f (not ac) (not bc))) 1 l ++ walk f (not ac) (not bc) (owners order (drop 1 a) (drop 1 b))) (sym first.left_is);
+      }
+
+  pub used_up : slice_get (runs order a b) 0 ≡ None → (a ≡ []) × (b ≡ [])
+  used_up e = first_none o a b a_ascends b_ascends e
+
+  pub weight-le : weight order a b ≤ length a + length b
+  weight-le = numbers.weight-le order a b
+
+  pub changes-walk : (f : Table) → changes order f a b ≡ walk f false false (owners order a b)
+  changes-walk f = walked.changes-walk o f a b (IsOwners-owners o a b a_ascends b_ascends)
+
+  pub runs-left_all : 0 < length a → length b ≡ 0 → slice_get (runs order a b) 0 ≡ Some (Left (length a))
+  runs-left_all some none = rw (nil_from_length b none) (found.runs-left_all o a some)
+
+  pub runs-right_all : 0 < length b → length a ≡ 0 → slice_get (runs order a b) 0 ≡ Some (Right (length b))
+  runs-right_all some none = rw (nil_from_length a none) (found.runs-right_all o b b_ascends some)
+
+  pub runs-none : length a ≡ 0 → length b ≡ 0 → slice_get (runs order a b) 0 ≡ None
+  unfolding runs_of owners
+  runs-none no_left no_right = rw (nil_from_length a no_left, nil_from_length b no_right) refl

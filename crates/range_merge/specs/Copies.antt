@@ -1,0 +1,25 @@
+-- Copies of items at the end of a list.
+use Rattle.std.specs.Prelude.{◌≡◌, ◌⊎◌, Bool, true, false, List, [], ◌++◌}
+use Rattle.std.specs.List.{AllZip}
+use Rattle.range_merge.specs.Changes.{Taken, taken_item}
+
+module _ {K : Type 0} where
+  -- the items, if they are taken
+  abbrev pub items_if : Bool → List K → List K
+  items_if true items = items
+  items_if false items = []
+
+  -- new is old, and behind it a copy alike to each of the items
+  pub record IsAppended (alike : K → K → Type 0) (items old new : List K) : Type 0 where
+    pub copies : List K
+    pub alike_to : AllZip alike items copies
+    pub appended : new ≡ old ++ copies
+
+  -- the items are a copy alike to each that was taken
+  abbrev pub AreCopies : (K → K → Type 0) → List (Taken K) → List K → Type 0
+  AreCopies alike ts items = AllZip (λ t x. alike (taken_item t) x) ts items
+
+  -- y stands for x in a list of copies: it is alike to x or, in a list that did not begin empty, x itself
+  abbrev pub StandsFor : Bool → (K → K → Type 0) → K → K → Type 0
+  StandsFor true alike x y = alike x y
+  StandsFor false alike x y = (x ≡ y) ⊎ alike x y

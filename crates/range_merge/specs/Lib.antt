@@ -1,0 +1,11 @@
+pub mod Boundaries
+pub mod Connective
+pub mod Owners
+pub mod Changes
+pub mod Runs
+pub mod Counting
+pub mod Walk
+pub mod Steps
+pub mod Galloping
+pub mod States
+pub mod Copies

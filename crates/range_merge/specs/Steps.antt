@@ -1,0 +1,68 @@
+-- One run of a merge: what it removes from the unread lists, what it takes, and how the two truths change.
+use Rattle.std.specs.Prelude.{◌≡◌, ℕ, ◌≤◌, ◌+◌, Option, Some, None, Bool, true, false, not, List, length, drop, ◌++◌}
+use Rattle.std.specs.declared.cmp.Ordering.{Ordering}
+use Rattle.range_merge.specs.Boundaries.{is_odd}
+use Rattle.range_merge.specs.Connective.{Table, differ}
+use Rattle.range_merge.specs.Owners.{owners}
+use Rattle.range_merge.specs.Changes.{Taken, taken_left, taken_right}
+use Rattle.range_merge.specs.Runs.{weight, digits, run_len}
+use Rattle.range_merge.specs.declared.runs.Run.{Run}
+use Rattle.range_merge.specs.declared.runs.Run.TheVariants.{Left, Right, Both}
+use Rattle.range_merge.specs.Walk.{walk}
+
+-- whether a run is taken
+abbrev pub takes : Table → Bool → Bool → Run → Bool
+takes f ac bc (Left n) = differ (f false bc) (f true bc)
+takes f ac bc (Right n) = differ (f ac false) (f ac true)
+takes f ac bc Both = differ (f ac bc) (f (not ac) (not bc))
+
+-- whether the left side is on behind a run
+abbrev pub left_on_after : Run → Bool → Bool
+left_on_after (Left n) ac = differ ac (is_odd n)
+left_on_after (Right n) ac = ac
+left_on_after Both ac = not ac
+
+-- whether the right side is on behind a run
+abbrev pub right_on_after : Run → Bool → Bool
+right_on_after (Left n) bc = bc
+right_on_after (Right n) bc = differ bc (is_odd n)
+right_on_after Both bc = not bc
+
+-- the binary digits of a run's length, if there is a run
+abbrev pub digits_of_run : Option Run → ℕ
+digits_of_run None = 0
+digits_of_run (Some run) = digits (run_len run)
+
+module _ {K : Type 0} where
+  -- the unread lists have the items of the run
+  abbrev pub RunFits : Run → List K → List K → Type 0
+  RunFits (Left n) a b = (1 ≤ n) × (n ≤ length a)
+  RunFits (Right n) a b = (1 ≤ n) × (n ≤ length b)
+  RunFits Both a b = (1 ≤ length a) × (1 ≤ length b)
+
+  -- what is left of the left list behind a run
+  abbrev pub left_after : Run → List K → List K
+  left_after (Left n) a = drop n a
+  left_after (Right n) a = a
+  left_after Both a = drop 1 a
+
+  -- what is left of the right list behind a run
+  abbrev pub right_after : Run → List K → List K
+  right_after (Left n) b = b
+  right_after (Right n) b = drop n b
+  right_after Both b = drop 1 b
+
+  -- the items of a run, if it is taken
+  abbrev pub taken_of_run : Bool → Run → List K → List K → List (Taken K)
+  taken_of_run takes (Left n) a b = taken_left takes n a
+  taken_of_run takes (Right n) a b = taken_right takes n b
+  taken_of_run takes Both a b = taken_left takes 1 a
+
+  -- a run stands in front of two lists: it fits, it weighs its digits, and the walk takes it whole or drops it
+  pub record StandsFirst (order : K → K → Ordering) (run : Run) (a b : List K) : Type 0 where
+    pub fits : RunFits run a b
+    pub weighs : weight order a b ≡ digits (run_len run) + weight order (left_after run a) (right_after run b)
+    pub walked : (f : Table) (ac bc : Bool) →
+        walk f ac bc (owners order a b) ≡
+        taken_of_run (takes f ac bc run) run a b
+        ++ walk f (left_on_after run ac) (right_on_after run bc) (owners order (left_after run a) (right_after run b))

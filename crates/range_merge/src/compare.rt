@@ -1,0 +1,43 @@
+//! What a merge is handed to compare items with and to copy them by. Nothing in this crate can make either, so each comparison of items is one call that its caller counts.
+ghost use Rattle.std.specs.Prelude.{◌≡◌, ℕ, ◌+◌, ◌-◌, ◌^◌, ◌<◌, IsOk, IfOk};
+ghost use Rattle.std.specs.Cmp.{IsTotalOrder};
+ghost use Rattle.std.specs.declared.cmp.Ordering.{Ordering as TheOrdering};
+
+use std::alloc::AllocError;
+use std::cmp::Ordering;
+
+/// Compares items by one lawful order, and counts how often it did.
+pub trait Compare<K> {
+    // The order. It belongs to the type, so no call can change it.
+    ghost order: { K → K → TheOrdering };
+
+    // How many comparisons were made.
+    ghost count: { Self → ℕ };
+
+    /// How `a` stands to `b`, for one more comparison.
+    fn compare(&mut self, a: &K, b: &K) -> Ordering
+        requires { count self.old < 2 ^ 128 - 1 }
+        ensures answer { result ≡ order a.now b.now }
+        ensures counted { count self.new ≡ count self.old + 1 };
+
+    /// How many comparisons were made.
+    fn made(&self) -> u128
+        ensures { result ≡ count self.now };
+
+    // The order is total and transitive.
+    ghost total: { IsTotalOrder order };
+}
+
+/// Copies items into a result.
+pub trait Copier<K> {
+    // The second item may be a copy of the first.
+    ghost alike: { K → K → Type 0 };
+
+    // A copy of this item is never refused.
+    ghost is_sure: { K → Type 0 };
+
+    /// A copy of the item, or an error where there is no memory for one.
+    fn copy(&self, item: &K) -> Result<K, AllocError>
+        ensures alike { IfOk result (λ copied. alike item.now copied) }
+        ensures sure { is_sure item.now → IsOk result };
+}

@@ -1,0 +1,33 @@
+//! Laws: functions that do nothing, and whose contracts are theorems on the words of the other contracts.
+ghost use Rattle.std.specs.Prelude.{◌≡◌, ℕ, ◌+◌, ◌≤◌, false, List, All, length};
+ghost use Rattle.range_merge.specs.Boundaries.{IsAscending};
+ghost use Rattle.range_merge.specs.Changes.{IsMarkedTruly, changes, taken_items};
+ghost use Rattle.range_merge.specs.Connective.{Table, Means};
+ghost use Rattle.range_merge.specs.Owners.{Owner, IsOwners, owners};
+ghost use Rattle.range_merge.specs.Runs.{digits, weight};
+
+use crate::compare::Compare;
+
+/// The owners of two strictly sorted lists are pinned: they ascend, with both lists' items among them, and no other list does so.
+pub fn owners_are_pinned<K, C: Compare<K>>()
+    ensures pinned { (a b : List K) → IsAscending C.order a → IsAscending C.order b → IsOwners C.order a b (owners C.order a b) }
+    ensures unique { (a b : List K) (os : List (Owner K)) → IsOwners C.order a b os → os ≡ owners C.order a b }
+{}
+
+/// The binary digits of a number are no more than it, and the weight of two lists is no more than their lengths together.
+pub fn weight_is_at_most_the_lengths<K, C: Compare<K>>()
+    ensures digits { (n : ℕ) → digits n ≤ n }
+    ensures weight { (a b : List K) → weight C.order a b ≤ length a + length b }
+{}
+
+/// The items at which a connective changes mean that connective, where it is off while both sides are.
+pub fn changes_mean_the_connective<K, C: Compare<K>>()
+    ensures means { (f : Table) (a b : List K) → f false false ≡ false → IsAscending C.order a → IsAscending C.order b →
+        Means C.order f (taken_items (changes C.order f a b)) a b }
+{}
+
+/// Each change is marked by the list that it comes from: it is an item of the left list, or one of the right list that equals none of the left's.
+pub fn changes_are_marked_truly<K, C: Compare<K>>()
+    ensures marks { (f : Table) (a b : List K) → IsAscending C.order a → IsAscending C.order b →
+        All (IsMarkedTruly C.order a b) (changes C.order f a b) }
+{}

@@ -1,0 +1,90 @@
+//! A list that grows at its end, by value or borrowed.
+ghost use Rattle.std.specs.Prelude.{◌≡◌, ℕ, Bool, true, false, ◌+◌, ◌≤◌, ◌<◌, List, ◌++◌, ◌∷◌, [], length, IsOk, IsErr, OnOk, All};
+ghost use Rattle.range_merge.specs.Copies.{IsAppended, items_if};
+
+use crate::compare::Copier;
+use smallvec::SmallVec;
+use std::alloc::{AllocError, Global};
+use std::default::MadeWith;
+
+/// A list that grows at its end.
+pub trait Sink<K> {
+    // The items, and how many have room.
+    ghost items: { Self → List K };
+
+    ghost room: { Self → ℕ };
+
+    // Whether it was empty at first, so that each item is a copy of one that was taken.
+    ghost began_empty: { Bool };
+
+    /// Makes room for `n` more items.
+    fn reserve(&mut self, n: usize) -> Result<(), AllocError>
+        ensures items { items self.new ≡ items self.old }
+        ensures ok { OnOk result (length (items self.new) + n ≤ room self.new) }
+        ensures succeeds { length (items self.old) + n ≤ room self.old → IsOk result }
+        ensures had_room { length (items self.old) + n ≤ room self.old → room self.new ≡ room self.old };
+
+    /// Appends an item where there is room.
+    fn push(&mut self, item: K)
+        requires { length (items self.old) < room self.old }
+        ensures items { items self.new ≡ items self.old ++ item ∷ [] }
+        ensures room { room self.new ≡ room self.old };
+}
+
+impl<K: MadeWith<Global> + Drop, const M: usize> Sink<K> for SmallVec<K, M> {
+    ghost items = { λ list. list.items };
+
+    ghost room = { λ list. list.capacity };
+
+    ghost began_empty = { false };
+
+    #[inline(always)]
+    fn reserve(&mut self, n: usize) -> Result<(), AllocError> {
+        SmallVec::reserve(self, n)
+    }
+
+    #[inline(always)]
+    fn push(&mut self, item: K) {
+        self.push_reserved(item);
+    }
+}
+
+impl<K, L: Sink<K>> Sink<K> for &mut L {
+    ghost items = { λ list. L.items list.now };
+
+    ghost room = { λ list. L.room list.now };
+
+    ghost began_empty = { true };
+
+    #[inline(always)]
+    fn reserve(&mut self, n: usize) -> Result<(), AllocError> {
+        (**self).reserve(n)
+    }
+
+    #[inline(always)]
+    fn push(&mut self, item: K) {
+        (**self).push(item);
+    }
+}
+
+// Appends copies of the items, if they are taken. It asks for room once.
+#[inline(always)]
+pub(crate) fn append_copies<K, P: Copier<K>, L: Sink<K>>(
+    list: &mut L,
+    items: &[K],
+    take: bool,
+    copier: &P,
+) -> Result<(), AllocError>
+    ensures copied { OnOk result (IsAppended P.alike (items_if take items.now) (L.items list.old) (L.items list.new)) }
+    ensures succeeds { length (L.items list.old) + length items.now ≤ L.room list.old → All P.is_sure items.now → IsOk result }
+    ensures had_room { OnOk result (length (L.items list.old) + length items.now ≤ L.room list.old → L.room list.new ≡ L.room list.old) }
+{
+    if !take {
+        return Ok(());
+    }
+    list.reserve(items.len())?;
+    for item in items {
+        list.push(copier.copy(item)?);
+    }
+    Ok(())
+}

@@ -1,0 +1,107 @@
+//! The merge: it takes the first run of the unread lists whole or drops it whole, until both lists are used up.
+ghost use Rattle.std.specs.Prelude.{◌≡◌, ℕ, ◌+◌, ◌*◌, ◌^◌, ◌<◌, ◌≤◌, Bool, true, false, not, ◌&&◌, List, [], ◌++◌, length, take, Some, Option, IsOk, OnOk, IfOk, IfSome, slice_get};
+ghost use Rattle.range_merge.specs.Boundaries.{IsAscending};
+ghost use Rattle.range_merge.specs.Changes.{Taken, changes, StopsAmong};
+ghost use Rattle.range_merge.specs.Counting.{AddsAtMost};
+ghost use Rattle.range_merge.specs.Runs.{weight, digits, runs, run_len};
+ghost use Rattle.range_merge.specs.Steps.{RunFits, digits_of_run, takes, taken_of_run, left_after, right_after, left_on_after, right_on_after};
+
+use crate::compare::Compare;
+use crate::operations::MergeOperation;
+use crate::runs::{Run, run_length};
+use crate::states::{MergeState, MergeStateMut};
+use std::alloc::AllocError;
+
+/// Merges the unread lists of `state` by the operation `op`.
+///
+/// Both lists are strictly sorted by the order of `cmp`, and both sides are off at the start. The merge appends to the output exactly the items at which the connective of `op` changes, in order; of two equal items the left's.
+/// It answers `true` where it used up both lists, and `false` where the state stopped, which a state that stops does at the first item that it takes.
+/// An error comes only where an advance of the state was refused. It asks for no memory itself.
+///
+/// It makes at most twice the weight of the two lists in comparisons, whether it ends, stops or is refused.
+pub fn merge<S: MergeStateMut, O: MergeOperation, C: Compare<S::Item>>(
+    state: &mut S,
+    op: &O,
+    cmp: &mut C,
+) -> Result<bool, AllocError>
+    requires left_ascending { IsAscending C.order (S.left state.old) }
+    requires right_ascending { IsAscending C.order (S.right state.old) }
+    requires left_off { S.left_on state.old ≡ false }
+    requires right_off { S.right_on state.old ≡ false }
+    requires made { C.count cmp.old < 2 ^ 64 }
+    ensures used_up { IfOk result (λ more. more ≡ true → (S.left state.new ≡ []) × (S.right state.new ≡ [])) }
+    ensures taken { IfOk result (λ more. more ≡ true → (before : List (Taken S.Item)) → S.output state.old before
+        → S.output state.new (before ++ changes C.order (O.connective op.now) (S.left state.old) (S.right state.old))) }
+
+    // Only a state that can stop does, and it stops exactly where something is taken.
+    ensures stopped { IfOk result (λ more. more ≡ false → (S.can_stop ≡ true)
+        × StopsAmong (S.output state.old) (S.output state.new) (changes C.order (O.connective op.now) (S.left state.old) (S.right state.old))) }
+    ensures not_stopped { S.can_stop ≡ true → IfOk result (λ more. more ≡ true
+        → changes C.order (O.connective op.now) (S.left state.old) (S.right state.old) ≡ []) }
+
+    // A state that never refuses is never refused, and stays so.
+    ensures succeeds { S.sure state.old → IsOk result }
+    ensures still_sure { S.sure state.old → OnOk result (S.sure state.new) }
+
+    ensures comparisons { AddsAtMost (C.count cmp.old) (C.count cmp.new) (2 * weight C.order (S.left state.old) (S.right state.old)) }
+{
+    let _lengths = (state.a_len(), state.b_len());
+    while let Some(run) = next_run(state, cmp) {
+        if !take_run(state, op, run)? {
+            return Ok(false);
+        }
+    }
+    Ok(true)
+}
+
+// The first run of what is unread, if anything is. The last one needs no comparison.
+#[inline(always)]
+fn next_run<S: MergeState, C: Compare<S::Item>>(state: &S, cmp: &mut C) -> Option<Run>
+    requires left_ascending { IsAscending C.order (S.left state.now) }
+    requires right_ascending { IsAscending C.order (S.right state.now) }
+    requires made { C.count cmp.old < 2 ^ 127 }
+    ensures first { slice_get (runs C.order (S.left state.now) (S.right state.now)) 0 ≡ result }
+    ensures comparisons { AddsAtMost (C.count cmp.old) (C.count cmp.new) (2 * digits_of_run result) }
+{
+    match (state.a_len(), state.b_len()) {
+        (0, 0) => None,
+        (n, 0) => Some(Run::Left(n)),
+        (0, n) => Some(Run::Right(n)),
+        _ => Some(run_length(state, cmp)),
+    }
+}
+
+// Takes a run or drops it, as the operation says.
+#[inline(always)]
+fn take_run<S: MergeStateMut, O: MergeOperation>(
+    state: &mut S,
+    op: &O,
+    run: Run,
+) -> Result<bool, AllocError>
+    requires { RunFits run (S.left state.old) (S.right state.old) }
+    ensures goes_on { IfOk result (λ more.
+        more ≡ not (S.can_stop && takes (O.connective op.now) (S.left_on state.old) (S.right_on state.old) run)) }
+    ensures left { IfOk result (λ more. more ≡ true → S.left state.new ≡ left_after run (S.left state.old)) }
+    ensures right { IfOk result (λ more. more ≡ true → S.right state.new ≡ right_after run (S.right state.old)) }
+    ensures left_on { OnOk result (S.left_on state.new ≡ left_on_after run (S.left_on state.old)) }
+    ensures right_on { OnOk result (S.right_on state.new ≡ right_on_after run (S.right_on state.old)) }
+    ensures output { OnOk result ((before : List (Taken S.Item)) → S.output state.old before → S.output state.new
+        (before ++ taken_of_run (takes (O.connective op.now) (S.left_on state.old) (S.right_on state.old) run) run (S.left state.old) (S.right state.old))) }
+    ensures succeeds { S.sure state.old → IsOk result }
+    ensures still_sure { S.sure state.old → OnOk result (S.sure state.new) }
+{
+    match run {
+        Run::Left(n) => {
+            let take = op.takes_a(state.bc());
+            state.advance_a(n, take)
+        }
+        Run::Right(n) => {
+            let take = op.takes_b(state.ac());
+            state.advance_b(n, take)
+        }
+        Run::Both => {
+            let take = op.takes_both(state.ac(), state.bc());
+            state.advance_both(take)
+        }
+    }
+}
