@@ -1,9 +1,11 @@
 -- What the words of a command ask for.
 --     number_of word         the whole number that a word writes, if it writes one within i64
 --     list_of word           the list that a word writes, if it writes one
+--     Query                  what can be asked
+--     two_lists command      what a command with two lists asks, by its word
 --     query_of words         the query that the words ask, if they ask one
 use Rattle.std.specs.Prelude.{ℕ, ◌^◌, ◌==◌, nat_lt, Bool, ◌&&◌, ◌||◌, if◌then◌else◌, ℤ, pos, negsuc, List, [], ◌∷◌, length, map, Option, Some, None, String, string_bytes, codes}
-use Rattle.std.specs.Option.{is_some, option_map, option_zip}
+use Rattle.std.specs.Option.{is_some, option_map, option_zip, option_and_then}
 use Rattle.std.specs.List.{slice_split, list_all, filter_map}
 use Rattle.std.specs.Str.{bytes_eq, all_ascii_digits}
 use Rattle.std.specs.Str.Parse.{without_leading_sign, signed_digits_value}
@@ -41,14 +43,35 @@ list_of word = if is_list word then Some (numbers_of word) else None
 -- what can be asked
 pub data Query : Type 0 where
   union : List ℤ → List ℤ → Query
+  intersection : List ℤ → List ℤ → Query
+  difference : List ℤ → List ℤ → Query
+  symmetric_difference : List ℤ → List ℤ → Query
+  disjoint : List ℤ → List ℤ → Query
+  subset : List ℤ → List ℤ → Query
+  superset : List ℤ → List ℤ → Query
+  contains : List ℤ → ℤ → Query
 
--- the query of a command with two lists
-abbrev pub query_of_lists : (List ℤ → List ℤ → Query) → List ℕ → List ℕ → Option Query
-query_of_lists query a b = option_map (λ lists. query lists.0 lists.1) (option_zip (list_of a) (list_of b))
+-- what a command with two lists asks, by its word
+unfoldable pub two_lists : List ℕ → Option (List ℤ → List ℤ → Query)
+two_lists command =
+    if bytes_eq command (codes "union") then Some union
+    else if bytes_eq command (codes "intersection") then Some intersection
+    else if bytes_eq command (codes "difference") then Some difference
+    else if bytes_eq command (codes "symmetric_difference") then Some symmetric_difference
+    else if bytes_eq command (codes "disjoint") then Some disjoint
+    else if bytes_eq command (codes "subset") then Some subset
+    else if bytes_eq command (codes "superset") then Some superset
+    else None
+
+-- what is asked of what two words write, if both write something
+abbrev pub query_of_both : {A B : Type 0} → (A → B → Query) → Option A → Option B → Option Query
+query_of_both query a b = option_map (λ both. query both.0 both.1) (option_zip a b)
 
 -- the query that the words ask, if they ask one
 unfoldable pub query_of : List (List ℕ) → Option Query
-query_of (command ∷ a ∷ b ∷ []) = if bytes_eq command (codes "union") then query_of_lists union a b else None
+query_of (command ∷ a ∷ b ∷ []) =
+    if bytes_eq command (codes "contains") then query_of_both contains (list_of a) (number_of b)
+    else option_and_then (λ query. query_of_both query (list_of a) (list_of b)) (two_lists command)
 query_of _ = None
 
 -- the words, each as its bytes

@@ -1,15 +1,13 @@
 //! Answers the words of a command with one line.
 ghost use Rattle.std.specs.Prelude.{◌≡◌, ◌↔◌, ℕ, List, [], ◌∷◌, ◌++◌, IfOk, codes};
 ghost use Rattle.std.specs.Io.KnownBytes.{Appends};
-ghost use Rattle.range_calc.specs.Outcome.{IsOutcome, IsReplyTo};
-ghost use Rattle.range_calc.specs.Requests.{query_asked};
-ghost use Rattle.range_calc.specs.Words.{union, numbers_of, query_of, texts};
+ghost use Rattle.range_calc.specs.Outcome.{IsOutcome};
+ghost use Rattle.range_calc.specs.Words.{query_of, texts};
 
-use crate::line::list_line;
+use crate::replies::reply;
 use crate::status::Status;
-use crate::words::{Request, numbers};
-use range_collections::RangeSet2;
-use std::alloc::{AllocError, Global};
+use crate::words::Request;
+use std::alloc::Global;
 use std::io::{self, Write};
 
 /// Answers the words with exactly one line and a status.
@@ -45,29 +43,4 @@ pub fn out_of_memory<W: Write>(out: &mut W) -> io::Result<Status>
 {
     out.write_all(b"out of memory\n")?;
     Ok(Status::NoMemory)
-}
-
-/// The line of a request with its newline, or none where a list isn't strictly sorted.
-fn reply(alloc: Global, request: Request<'_>) -> Result<Option<String>, AllocError>
-    ensures { IfOk result (IsReplyTo (query_asked request.entry)) }
-{
-    match request {
-        Request::Union(a, b) => union_line(alloc, a, b),
-    }
-}
-
-/// The line of a union: both lists are built before the first is checked.
-fn union_line(alloc: Global, a: &str, b: &str) -> Result<Option<String>, AllocError>
-    ensures { IfOk result (IsReplyTo (union (numbers_of a.now) (numbers_of b.now))) }
-{
-    let left = numbers(alloc, a)?;
-    let right = numbers(alloc, b)?;
-    let Some(left) = RangeSet2::new(left) else {
-        return Ok(None);
-    };
-    let Some(right) = RangeSet2::new(right) else {
-        return Ok(None);
-    };
-    let set: RangeSet2<i64> = left.union(right.as_ref())?;
-    Ok(Some(list_line(alloc, set.boundaries())?))
 }

@@ -1,12 +1,27 @@
 //! The lines that the program writes.
 ghost use Rattle.std.specs.Prelude.{◌≡◌, [], ◌∷◌, ◌++◌, IfOk, OnOk, string_bytes};
-ghost use Rattle.range_calc.specs.Line.{list_text};
+ghost use Rattle.range_calc.specs.Line.{list_text, truth_text};
 
+use range_collections::RangeSet2;
 use std::alloc::{AllocError, Global};
 use std::fmt::Write;
 
+/// The boundaries of a set as a line of its own, with the newline.
+pub fn set_line(alloc: Global, set: RangeSet2<i64>) -> Result<String, AllocError>
+    ensures { IfOk result (λ line. string_bytes line ≡ list_text set ++ 10 ∷ []) }
+{
+    list_line(alloc, set.boundaries())
+}
+
+/// `true` or `false` as a line of its own, with the newline.
+pub fn truth_line(alloc: Global, truth: bool) -> Result<String, AllocError>
+    ensures { IfOk result (λ line. string_bytes line ≡ truth_text truth ++ 10 ∷ []) }
+{
+    String::from_str(alloc, if truth { "true\n" } else { "false\n" })
+}
+
 /// A list as a line of its own, with the newline.
-pub fn list_line(alloc: Global, items: &[i64]) -> Result<String, AllocError>
+fn list_line(alloc: Global, items: &[i64]) -> Result<String, AllocError>
     ensures { IfOk result (λ line. string_bytes line ≡ list_text items.now ++ 10 ∷ []) }
 {
     let mut line = String::new(alloc);

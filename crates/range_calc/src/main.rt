@@ -4,7 +4,9 @@
 #![tactic(auto)]
 
 mod answer;
+mod commands;
 mod line;
+mod replies;
 mod status;
 #[cfg(test)]
 mod tests;

@@ -6,7 +6,7 @@ use std::io::{self, ErrorKind, Write};
 use std::test::Fail;
 
 /// Words joined by single spaces, the line that answers them, and the status.
-const ROWS: [(&str, &str, Status); 33] = [
+const ROWS: [(&str, &str, Status); 56] = [
     ("union 0,10 20", "0,10,20\n", Status::Answered),
     ("union 0,5 5,10", "0,10\n", Status::Answered),
     ("union 0,10 5,15", "0,15\n", Status::Answered),
@@ -50,12 +50,51 @@ const ROWS: [(&str, &str, Status); 33] = [
     ("union  1", "bad words\n", Status::BadWords),
     ("", "bad words\n", Status::BadWords),
     ("json {}", "bad words\n", Status::BadWords),
-    ("contains 0 1", "bad words\n", Status::BadWords),
     ("UNION 1 2", "bad words\n", Status::BadWords),
     ("union 1 2 3", "bad words\n", Status::BadWords),
     ("union + 1", "bad words\n", Status::BadWords),
     ("union 1,- 2", "bad words\n", Status::BadWords),
     ("union 3,2 x", "bad words\n", Status::BadWords),
+    ("intersection 0,5 -", "-\n", Status::Answered),
+    ("intersection 0,10 5,15", "5,10\n", Status::Answered),
+    ("difference 0,10 3,5", "0,3,5,10\n", Status::Answered),
+    ("symmetric_difference 0,10 0,10", "-\n", Status::Answered),
+    (
+        "symmetric_difference 0,10 5,15",
+        "0,5,10,15\n",
+        Status::Answered,
+    ),
+    ("difference 0,10", "bad words\n", Status::BadWords),
+    ("disjoint 0,5 5,10", "true\n", Status::Answered),
+    ("disjoint 0,6 5,10", "false\n", Status::Answered),
+    ("subset 0,10 0,5", "false\n", Status::Answered),
+    ("subset 0,5 0,10", "true\n", Status::Answered),
+    ("superset 0,10 0,5", "true\n", Status::Answered),
+    ("superset 0,5 0,10", "false\n", Status::Answered),
+    (
+        "superset 0,5 3,2",
+        "not strictly sorted\n",
+        Status::NotSorted,
+    ),
+    ("subset 0,5 x", "bad words\n", Status::BadWords),
+    ("contains 0 1", "true\n", Status::Answered),
+    ("contains -5 -5", "true\n", Status::Answered),
+    (
+        "contains 9223372036854775807 9223372036854775807",
+        "true\n",
+        Status::Answered,
+    ),
+    ("contains 0,10 10", "false\n", Status::Answered),
+    ("contains - 0", "false\n", Status::Answered),
+    ("contains 3,2 1", "not strictly sorted\n", Status::NotSorted),
+    (
+        "contains 3,2,1 1",
+        "not strictly sorted\n",
+        Status::NotSorted,
+    ),
+    ("contains 3,2 x", "bad words\n", Status::BadWords),
+    ("contains - -", "bad words\n", Status::BadWords),
+    ("contains 0 1,2", "bad words\n", Status::BadWords),
 ];
 
 #[test]

@@ -2,3 +2,10 @@ pub mod Ascending
 pub mod Below
 pub mod Copies
 pub mod Sets
+pub mod Shortest
+pub mod Cut
+pub mod Within
+pub mod RangesLemmas
+pub mod Distinct
+pub mod JsonLemmas
+pub mod Values

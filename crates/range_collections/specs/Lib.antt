@@ -7,3 +7,10 @@ pub use Rattle.range_merge.specs.Runs
 pub use Rattle.range_merge.specs.Counting
 pub use Rattle.range_merge.specs.States
 pub mod Sets
+pub mod Split
+pub mod Intersects
+pub mod Ranges
+pub mod Unsorted
+pub mod Text
+pub mod Json
+pub mod Values

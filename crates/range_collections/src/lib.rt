@@ -2,28 +2,43 @@
 #![tactic(auto)]
 
 mod comparisons;
+mod iter;
 mod laws;
+mod laws_of_ranges;
+mod laws_of_values;
+mod least;
 mod range_set;
+mod range_set_range;
 mod sortedness;
 #[cfg(test)]
 mod tests;
 mod view;
+mod whole_number;
 
 pub use comparisons::{Comparisons, EntryCopier};
+pub use iter::Iter;
 pub use laws::{
     disjoint_is_an_empty_intersection, operations_associate, operations_commute,
     results_are_pinned, same_members_are_equal_items, subset_is_an_empty_difference,
     subset_is_an_order,
+};
+pub use laws_of_ranges::{arrays_read_back, ranges_make_the_set};
+pub use laws_of_values::{
+    difference_is_an_intersection_with_the_negation, negating_twice_gives_the_same,
+    same_members_among_values_are_equal_items,
 };
 pub use range_entry::{
     EntryClone, NonZeroU8, NonZeroU16, NonZeroU32, NonZeroU64, NonZeroU128, NonZeroUsize,
     RangeSetEntry,
 };
 pub use range_merge::{
-    BoolOpMergeState, Compare, Copier, DiffOp, IntersectionOp, MergeOperation, MergeState,
-    MergeStateMut, Run, SliceIterator, SmallVecMergeState, UnionOp, XorOp,
-    changes_are_marked_truly, changes_mean_the_connective, merge, owners_are_pinned, run_length,
-    search, weight_is_at_most_the_lengths,
+    BoolOpMergeState, Compare, Copier, DiffOp, InPlaceBuilder, InPlaceMergeState,
+    InPlaceMergeStateRef, IntersectionOp, MergeOperation, MergeState, MergeStateMut, Run,
+    SliceIterator, SmallVecMergeState, UnionOp, XorOp, changes_are_marked_truly,
+    changes_mean_the_connective, merge, owners_are_pinned, run_length, search,
+    weight_is_at_most_the_lengths,
 };
-pub use range_set::{RangeSet, RangeSet2};
+pub use range_set::{JsonError, RangeSet, RangeSet2};
+pub use range_set_range::RangeSetRange;
 pub use view::RangeSetRef;
+pub use whole_number::WholeNumber;

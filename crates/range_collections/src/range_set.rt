@@ -2,12 +2,20 @@
 ghost use Rattle.std.specs.Prelude.{◌≡◌, ◌↔◌, [], IsSome, IfSome};
 ghost use Rattle.range_merge.specs.Boundaries.{IsAscending};
 
+mod constructors;
 mod equality;
+mod json;
+mod negation;
 mod operations;
+mod parts;
 mod predicates;
+mod text;
+mod unsorted;
+mod values;
 
 use crate::sortedness::is_ascending;
 use crate::view::RangeSetRef;
+pub use json::JsonError;
 use smallvec::SmallVec;
 use std::alloc::Global;
 use std::default::MadeWith;

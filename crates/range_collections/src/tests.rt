@@ -3,7 +3,11 @@ mod calls;
 mod counted;
 mod lettered;
 mod operations;
+mod parts;
 mod questions;
+mod ranges;
+mod unsorted;
+mod values;
 
 use crate::{Comparisons, EntryClone, RangeSet2, RangeSetRef};
 use smallvec::SmallVec;

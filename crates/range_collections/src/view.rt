@@ -5,6 +5,10 @@ ghost use Rattle.range_merge.specs.Boundaries.{IsAscending};
 
 mod operations;
 mod predicates;
+mod ranges;
+mod split;
+mod values;
+mod walk;
 
 use crate::sortedness::is_ascending;
 use std::alloc::AllocError;

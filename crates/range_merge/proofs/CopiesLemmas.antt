@@ -6,7 +6,7 @@ use Rattle.std.proofs.lemmas.List.Elements.{All-drop, all_zip_more, length_all_z
 use Rattle.range_merge.specs.Changes.{Taken, taken_item, taken_items, taken_left, taken_right, from_left, from_right}
 use Rattle.range_merge.specs.Copies.{items_if, IsAppended, AreCopies, StandsFor}
 
-AllZip-append : {A B : Type 0} (R : A → B → Type 0) (xs : List A) (ys : List B) (us : List A) (vs : List B) → AllZip R xs ys → AllZip R us vs → AllZip R (xs ++ us) (ys ++ vs)
+pub AllZip-append : {A B : Type 0} (R : A → B → Type 0) (xs : List A) (ys : List B) (us : List A) (vs : List B) → AllZip R xs ys → AllZip R us vs → AllZip R (xs ++ us) (ys ++ vs)
 AllZip-append R [] [] us vs h k = k
 AllZip-append R [] (y ∷ ys) us vs h k = absurd h
 AllZip-append R (x ∷ xs) [] us vs h k = absurd h

@@ -20,3 +20,7 @@ pub mod MergeLoop
 pub mod Testing
 pub mod CopiesLemmas
 pub mod Marks
+pub mod Moves
+pub mod BuildingLemmas
+pub mod TakenInPlace
+pub mod OwnOrCopies

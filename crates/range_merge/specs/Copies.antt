@@ -1,7 +1,7 @@
 -- Copies of items at the end of a list.
-use Rattle.std.specs.Prelude.{◌≡◌, ◌⊎◌, Bool, true, false, List, [], ◌++◌}
+use Rattle.std.specs.Prelude.{◌≡◌, ℕ, ◌≤◌, ◌⊎◌, Bool, true, false, List, [], ◌++◌, length, reverse}
 use Rattle.std.specs.List.{AllZip}
-use Rattle.range_merge.specs.Changes.{Taken, taken_item}
+use Rattle.range_merge.specs.Changes.{Taken, from_left, from_right, taken_item}
 
 module _ {K : Type 0} where
   -- the items, if they are taken
@@ -23,3 +23,17 @@ module _ {K : Type 0} where
   abbrev pub StandsFor : Bool → (K → K → Type 0) → K → K → Type 0
   StandsFor true alike x y = alike x y
   StandsFor false alike x y = (x ≡ y) ⊎ alike x y
+
+  -- y is the left's own item, or a copy alike to the right's
+  abbrev pub IsOwnOrCopy : (K → K → Type 0) → Taken K → K → Type 0
+  IsOwnOrCopy alike (from_left x) y = y ≡ x
+  IsOwnOrCopy alike (from_right x) y = alike x y
+
+  -- the items that were taken, item by item: the left's own, and copies alike to the right's
+  abbrev pub AreOwnOrCopies : (K → K → Type 0) → List (Taken K) → List K → Type 0
+  AreOwnOrCopies alike ts items = AllZip (IsOwnOrCopy alike) ts items
+
+  -- the copies, the last one first, are alike to the unread items, and no more than may be put
+  pub record HasCopies (alike : K → K → Type 0) (unread copies : List K) (puts : ℕ) : Type 0 where
+    pub alike_to : AllZip alike unread (reverse copies)
+    pub enough : length copies ≤ puts

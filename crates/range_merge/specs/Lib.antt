@@ -9,3 +9,4 @@ pub mod Steps
 pub mod Galloping
 pub mod States
 pub mod Copies
+pub mod Building

@@ -3,10 +3,12 @@
 
 mod compare;
 mod galloping;
+mod in_place_builder;
 mod laws;
 mod merge_state;
 mod merging;
 mod operations;
+mod place;
 mod runs;
 mod searching;
 mod slice_iterator;
@@ -15,11 +17,14 @@ mod states;
 mod tests;
 
 pub use compare::{Compare, Copier};
+pub use in_place_builder::InPlaceBuilder;
 pub use laws::{
     changes_are_marked_truly, changes_mean_the_connective, owners_are_pinned,
     weight_is_at_most_the_lengths,
 };
-pub use merge_state::{BoolOpMergeState, SmallVecMergeState};
+pub use merge_state::{
+    BoolOpMergeState, InPlaceMergeState, InPlaceMergeStateRef, SmallVecMergeState,
+};
 pub use merging::merge;
 pub use operations::{DiffOp, IntersectionOp, MergeOperation, UnionOp, XorOp};
 pub use runs::{Run, run_length};

@@ -4,6 +4,8 @@ ghost use Rattle.std.specs.Ordering.{int_cmp};
 ghost use Rattle.std.proofs.lemmas.Cmp.{int_cmp_total};
 ghost use Rattle.range_merge.specs.Boundaries.{IsAscending};
 
+mod in_place;
+
 use crate::{
     BoolOpMergeState, Compare, Copier, DiffOp, IntersectionOp, MergeOperation, Run, SliceIterator,
     SmallVecMergeState, UnionOp, XorOp, merge, run_length, search,

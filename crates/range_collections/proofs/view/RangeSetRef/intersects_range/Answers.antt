@@ -1,0 +1,25 @@
+use Rattle.std.proofs.Common.{◌≡◌, true, refl, arith, rules, ◌↔◌, ◌%◌}
+use Rattle.std.specs.Ordering.{is_lt}
+use Rattle.range_collections.specs.Intersects.{IsItemBelow, HasMemberWithin}
+use Rattle.range_collections.proofs.Within.{HasMemberWithin-start, HasMemberWithin-next, Less-from_is_lt}
+use Rattle.range_collections.proofs.view.RangeSetRef.intersects_range.Goals as goal
+
+pub returns-then-count-eq1 : goal.returns-then-count-eq1
+returns-then-count-eq1 g c =
+    let t : is_lt (g.T.Ord.cmp c.args.range.start c.args.range.end) ≡ true =
+    first_of (cc, search rules, grind arith) in (
+      λ _.
+          HasMemberWithin-start g.met.T.Ord.total c.args.self.now.boundaries.now c.args.range.start c.args.range.end c.at_or_below-count.result
+          c.args.self.now.sorted c.at_or_below-count.ensures.within c.at_or_below-count.ensures.before c.at_or_below-count.ensures.from
+          (Less-from_is_lt (g.T.Ord.cmp c.args.range.start c.args.range.end) t) c.if-count-eq1.true,
+      λ _. refl,
+    )
+
+pub returns : goal.returns
+returns g c =
+    let even : c.at_or_below-count.result % 2 ≡ 0 = omega (arith, c.if-count-eq1.false) in
+    let next : IsItemBelow g.T.Ord.cmp c.args.self.now.boundaries.now c.at_or_below-count.result c.args.range.end
+    ↔ HasMemberWithin g.T.Ord.cmp c.args.self.now.boundaries.now c.args.range.start c.args.range.end =
+    HasMemberWithin-next g.met.T.Ord.total c.args.self.now.boundaries.now c.args.range.start c.args.range.end c.at_or_below-count.result
+    c.args.self.now.sorted c.at_or_below-count.ensures.within c.at_or_below-count.ensures.before c.at_or_below-count.ensures.from even in
+    (λ t. next.0 (c.is_next_below.ensures.0 t), λ h. c.is_next_below.ensures.1 (next.1 h))

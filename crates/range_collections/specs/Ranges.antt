@@ -1,0 +1,61 @@
+-- The ranges of a set.
+--     ranges_of items             items 2i and 2i+1 as a range, and a last single item as a range without an end
+--     range_now range             the range of elements, for a range of references to them
+use Rattle.std.specs.Prelude.{◌≡◌, true, List, [], ◌∷◌}
+use Rattle.std.specs.Ordering.{is_le}
+use Rattle.std.specs.Borrow.{Bor}
+use Rattle.std.specs.declared.cmp.Ordering.{Ordering}
+use Rattle.std.specs.declared.cmp.Ordering.TheVariants.{Less, Equal}
+use Rattle.std.specs.declared.ops.Bound.{Bound}
+use Rattle.std.specs.declared.ops.Bound.TheVariants.{Included, Excluded, Unbounded}
+use Rattle.range_collections.specs.declared.range_set_range.RangeSetRange.{RangeSetRange}
+use Rattle.range_collections.specs.declared.range_set_range.RangeSetRange.TheVariants.{Range, RangeFrom}
+
+-- the ranges of a list of boundaries
+abbrev pub ranges_of : {K : Type 0} → List K → List (RangeSetRange K)
+ranges_of [] = []
+ranges_of (x ∷ []) = RangeFrom (record { start = x }) ∷ []
+ranges_of (x ∷ y ∷ rest) = Range (record { start = x; end = y }) ∷ ranges_of rest
+
+-- the range of what the references point to
+abbrev pub range_now : {K : Type 0} → RangeSetRange (Bor K) → RangeSetRange K
+range_now (Range r) = Range (record { start = r.start.now; end = r.end.now })
+range_now (RangeFrom r) = RangeFrom (record { start = r.start.now })
+
+-- the bound of what the reference points to
+abbrev pub bound_now : {K : Type 0} → Bound (Bor K) → Bound K
+bound_now (Included x) = Included x.now
+bound_now (Excluded x) = Excluded x.now
+bound_now Unbounded = Unbounded
+
+-- where a range starts
+abbrev pub range_start : {K : Type 0} → RangeSetRange K → K
+range_start (Range r) = r.start
+range_start (RangeFrom r) = r.start
+
+-- where a range ends, if it does
+abbrev pub range_end : {K : Type 0} → RangeSetRange K → Bound K
+range_end (Range r) = Excluded r.end
+range_end (RangeFrom r) = Unbounded
+
+-- both ranges have an end or neither has, and each end of one is equal to that of the other
+abbrev pub IsEqualRange : {K : Type 0} → (K → K → Ordering) → RangeSetRange K → RangeSetRange K → Type 0
+IsEqualRange order (Range r) (Range s) = (order r.start s.start ≡ Equal) × (order r.end s.end ≡ Equal)
+IsEqualRange order (Range r) (RangeFrom s) = ⊥
+IsEqualRange order (RangeFrom r) (Range s) = ⊥
+IsEqualRange order (RangeFrom r) (RangeFrom s) = order r.start s.start ≡ Equal
+
+-- P holds of each end of the range
+abbrev pub AllEnds : {K : Type 0} → (K → Type 0) → RangeSetRange K → Type 0
+AllEnds P (Range r) = P r.start × P r.end
+AllEnds P (RangeFrom r) = P r.start
+
+-- the element lies in the range
+abbrev pub IsInRange : {K : Type 0} → (K → K → Ordering) → RangeSetRange K → K → Type 0
+IsInRange order (Range r) x = (is_le (order r.start x) ≡ true) × (order x r.end ≡ Less)
+IsInRange order (RangeFrom r) x = is_le (order r.start x) ≡ true
+
+-- the range has an end, and it is below the start of the other
+abbrev pub EndsBelow : {K : Type 0} → (K → K → Ordering) → RangeSetRange K → RangeSetRange K → Type 0
+EndsBelow order (Range r) s = order r.end (range_start s) ≡ Less
+EndsBelow order (RangeFrom r) s = ⊥

@@ -1,0 +1,116 @@
+//! Sets made of a range, or of every value.
+ghost use Rattle.std.specs.Prelude.{◌≡◌, ◌≤◌, ◌&&◌, ◌⊎◌, true, false, [], ◌∷◌, Ok, IsOk, IfOk};
+ghost use Rattle.std.specs.Ordering.{is_le, is_lt};
+ghost use Rattle.std.specs.declared.cmp.Ordering.TheVariants.{Equal};
+ghost use Rattle.range_merge.specs.Boundaries.{member};
+ghost use Rattle.range_collections.specs.Sets.{AreEqual};
+ghost use Rattle.range_collections.specs.Values.{range_items, IsEverything};
+
+use crate::range_set::RangeSet;
+use range_entry::RangeSetEntry;
+use smallvec::SmallVec;
+use std::alloc::{AllocError, Global};
+use std::default::MadeWith;
+use std::ops::{Range, RangeFrom, RangeFull, RangeTo};
+
+impl<T: Ord + MadeWith<Global> + Drop, const N: usize> RangeSet<T, N> {
+    /// The elements from the start up to the end, which is out. A range whose start isn't below its end gives the set of nothing.
+    pub fn from_range(alloc: Global, range: Range<T>) -> Result<Self, AllocError>
+        ensures boundaries { IfOk result (λ set. set ≡ range_items T.cmp range.start range.end) }
+        ensures members { IfOk result (λ set. (x : T) → member T.cmp set x ≡ (is_le (T.cmp range.start x) && is_lt (T.cmp x range.end))) }
+        ensures succeeds { (2 ≤ N) ⊎ (is_lt (T.cmp range.start range.end) ≡ false) → IsOk result }
+    {
+        let Range { start, end } = range;
+        if !start.cmp(&end).is_lt() {
+            return Ok(Self::empty(alloc));
+        }
+        Ok(RangeSet::new_unchecked(two_items(alloc, start, end)?))
+    }
+
+    /// The elements at or above the start.
+    pub fn from_range_from(alloc: Global, range: RangeFrom<T>) -> Result<Self, AllocError>
+        ensures boundaries { IfOk result (λ set. set ≡ range.start ∷ []) }
+        ensures members { IfOk result (λ set. (x : T) → member T.cmp set x ≡ is_le (T.cmp range.start x)) }
+        ensures succeeds { 1 ≤ N → IsOk result }
+    {
+        Ok(RangeSet::new_unchecked(one_item(alloc, range.start)?))
+    }
+}
+
+impl<T: RangeSetEntry + MadeWith<Global> + Drop, const N: usize> RangeSet<T, N> {
+    /// The values below the end.
+    pub fn from_range_until(alloc: Global, range: RangeTo<T>) -> Result<Self, AllocError>
+        ensures members { IfOk result (λ set. (x : T) → T.is_value x → member T.cmp set x ≡ is_lt (T.cmp x range.end)) }
+        ensures nothing { T.cmp range.end T.least ≡ Equal → result ≡ Ok [] }
+        ensures succeeds { 2 ≤ N → T.is_min_sure → IsOk result }
+    {
+        let end = range.end;
+        end.known();
+        if end.is_min_value() {
+            return Ok(Self::empty(alloc));
+        }
+        let least = T::min_value(alloc)?;
+        Ok(RangeSet::new_unchecked(two_items(alloc, least, end)?))
+    }
+
+    /// Every value.
+    pub fn all(alloc: Global) -> Result<Self, AllocError>
+        ensures boundaries { IfOk result (λ set. AreEqual T.cmp set (T.least ∷ [])) }
+        ensures members { IfOk result (λ set. IsEverything T.cmp T.is_value set) }
+        ensures succeeds { 1 ≤ N → T.is_min_sure → IsOk result }
+    {
+        let least = T::min_value(alloc)?;
+        Ok(RangeSet::new_unchecked(one_item(alloc, least)?))
+    }
+
+    /// Every value.
+    pub fn from_range_full(alloc: Global, _range: RangeFull) -> Result<Self, AllocError>
+        ensures boundaries { IfOk result (λ set. AreEqual T.cmp set (T.least ∷ [])) }
+        ensures members { IfOk result (λ set. IsEverything T.cmp T.is_value set) }
+        ensures succeeds { 1 ≤ N → T.is_min_sure → IsOk result }
+    {
+        RangeSet::all(alloc)
+    }
+
+    /// Every value where `everything` is true, else the set of nothing.
+    pub fn from_bool(alloc: Global, everything: bool) -> Result<Self, AllocError>
+        ensures members { IfOk result (λ set. (x : T) → T.is_value x → member T.cmp set x ≡ everything) }
+        ensures boundaries { everything ≡ true → IfOk result (λ set. AreEqual T.cmp set (T.least ∷ [])) }
+        ensures nothing { everything ≡ false → result ≡ Ok [] }
+        ensures succeeds { 1 ≤ N → T.is_min_sure → IsOk result }
+    {
+        if everything {
+            Self::all(alloc)
+        } else {
+            Ok(Self::empty(alloc))
+        }
+    }
+}
+
+// A list of one item.
+fn one_item<T: MadeWith<Global> + Drop, const N: usize>(
+    alloc: Global,
+    item: T,
+) -> Result<SmallVec<T, N>, AllocError>
+    ensures items { IfOk result (λ list. list.items ≡ item ∷ []) }
+    ensures succeeds { 1 ≤ N → IsOk result }
+{
+    let mut list = SmallVec::with_capacity(alloc, 1)?;
+    list.push_reserved(item);
+    Ok(list)
+}
+
+// A list of two items.
+fn two_items<T: MadeWith<Global> + Drop, const N: usize>(
+    alloc: Global,
+    first: T,
+    second: T,
+) -> Result<SmallVec<T, N>, AllocError>
+    ensures items { IfOk result (λ list. list.items ≡ first ∷ second ∷ []) }
+    ensures succeeds { 2 ≤ N → IsOk result }
+{
+    let mut list = SmallVec::with_capacity(alloc, 2)?;
+    list.push_reserved(first);
+    list.push_reserved(second);
+    Ok(list)
+}

@@ -1,0 +1,54 @@
+//! A view against one range of elements.
+ghost use Rattle.std.specs.Prelude.{◌≡◌, ◌↔◌, ◌≤◌, ℕ, length, true, IsTrue};
+ghost use Rattle.std.specs.List.{AllWithin};
+ghost use Rattle.std.specs.Ordering.{is_le};
+ghost use Rattle.std.specs.declared.cmp.Ordering.TheVariants.{Greater};
+ghost use Rattle.range_collections.specs.Intersects.{HasMemberWithin, IsItemBelow};
+
+use crate::comparisons::Comparisons;
+use crate::view::RangeSetRef;
+use range_merge::search;
+use std::ops::Range;
+
+impl<'a, T: Ord> RangeSetRef<'a, T> {
+    /// Whether some member is at or above the range's start and below its end. No member is in a range whose start is not below its end.
+    #[inline]
+    pub fn intersects_range(&self, range: Range<T>) -> bool
+    where
+        T: Drop,
+        ensures { IsTrue result ↔ HasMemberWithin T.cmp self.now.boundaries.now range.start range.end }
+    {
+        if !range.start.cmp(&range.end).is_lt() {
+            return false;
+        }
+        let count = self.at_or_below(&range.start);
+        if count % 2 == 1 {
+            return true;
+        }
+        self.is_next_below(count, &range.end)
+    }
+
+    // How many boundaries are at or below `value`.
+    #[inline(always)]
+    fn at_or_below(&self, value: &T) -> usize
+        ensures within { result ≤ length self.now.boundaries.now }
+        ensures before { AllWithin (λ y. is_le (T.cmp y value.now) ≡ true) self.now.boundaries.now 0 result }
+        ensures from { AllWithin (λ y. T.cmp y value.now ≡ Greater) self.now.boundaries.now result (length self.now.boundaries.now) }
+    {
+        match search(self.boundaries, value, &mut Comparisons::new()) {
+            Ok(i) => i + 1,
+            Err(i) => i,
+        }
+    }
+
+    // Whether there is a boundary at place `i`, and it is below `end`.
+    #[inline(always)]
+    fn is_next_below(&self, i: usize, end: &T) -> bool
+        ensures { IsTrue result ↔ IsItemBelow T.cmp self.now.boundaries.now i end.now }
+    {
+        match self.boundaries.get(i) {
+            Some(next) => next.cmp(end).is_lt(),
+            None => false,
+        }
+    }
+}

@@ -1,0 +1,65 @@
+//! A view cut in two at an element. The parts are slices of the view's own list, and nothing is copied.
+ghost use Rattle.std.specs.Prelude.{◌≡◌, ◌+◌, ◌<◌, ◌≤◌, ◌^◌, length, take, drop};
+ghost use Rattle.range_merge.specs.Boundaries.{IsAscending};
+ghost use Rattle.range_merge.specs.Counting.{AddsAtMost};
+ghost use Rattle.range_merge.specs.Runs.{digits};
+ghost use Rattle.range_collections.specs.Split.{split_left, split_right, IsLeastBelow, IsLeastFrom};
+
+use crate::comparisons::Comparisons;
+use crate::view::RangeSetRef;
+use range_merge::search;
+
+impl<'a, T: Ord> RangeSetRef<'a, T> {
+    /// The least set with the same members below `at`, and the least one with the same members from `at` on.
+    #[inline]
+    pub fn split(&self, at: T) -> (RangeSetRef<'a, T>, RangeSetRef<'a, T>)
+    where
+        T: Drop,
+        ensures left { result.0.boundaries.now ≡ split_left T.cmp self.now.boundaries.now at }
+        ensures right { result.1.boundaries.now ≡ split_right T.cmp self.now.boundaries.now at }
+        ensures least_below { IsLeastBelow T.cmp at result.0.boundaries.now self.now.boundaries.now }
+        ensures least_from { IsLeastFrom T.cmp at result.1.boundaries.now self.now.boundaries.now }
+    {
+        self.split_counted(at, &mut Comparisons::new())
+    }
+
+    /// The same, with its comparisons counted: at most as many as the number of boundaries has binary digits.
+    #[inline]
+    pub fn split_counted(
+        &self,
+        at: T,
+        count: &mut Comparisons,
+    ) -> (RangeSetRef<'a, T>, RangeSetRef<'a, T>)
+    where
+        T: Drop,
+        requires { count.old < 2 ^ 64 }
+        ensures left { result.0.boundaries.now ≡ split_left T.cmp self.now.boundaries.now at }
+        ensures right { result.1.boundaries.now ≡ split_right T.cmp self.now.boundaries.now at }
+        ensures least_below { IsLeastBelow T.cmp at result.0.boundaries.now self.now.boundaries.now }
+        ensures least_from { IsLeastFrom T.cmp at result.1.boundaries.now self.now.boundaries.now }
+        ensures comparisons { AddsAtMost count.old count.new (digits (length self.now.boundaries.now)) }
+    {
+        match search(self.boundaries, &at, count) {
+            Ok(i) => self.parts(i, i + i % 2),
+            Err(i) => self.parts(i, i - i % 2),
+        }
+    }
+
+    // The boundaries before `end`, and those from `start` on.
+    #[inline(always)]
+    fn parts(&self, end: usize, start: usize) -> (RangeSetRef<'a, T>, RangeSetRef<'a, T>)
+        requires end { end ≤ length self.now.boundaries.now }
+        requires start { start ≤ length self.now.boundaries.now }
+        ensures left { result.0.boundaries.now ≡ take end self.now.boundaries.now }
+        ensures right { result.1.boundaries.now ≡ drop start self.now.boundaries.now }
+    {
+        let items = self.boundaries;
+        let left = RangeSetRef {
+            boundaries: &items[..end],
+        };
+        let right = RangeSetRef {
+            boundaries: &items[start..],
+        };
+        (left, right)
+    }
+}
