@@ -4,7 +4,7 @@ ghost use Rattle.std.specs.Ordering.{int_cmp};
 ghost use Rattle.range_merge.specs.Boundaries.{IsAscending};
 
 use super::{Copies, Numbers, is_ascending};
-use crate::{InPlaceBuilder, InPlaceMergeState, InPlaceMergeStateRef, UnionOp, merge};
+use crate::{Compare, InPlaceBuilder, InPlaceMergeState, InPlaceMergeStateRef, UnionOp, merge};
 use smallvec::SmallVec;
 use std::alloc::AllocError;
 use std::process::Abort;
