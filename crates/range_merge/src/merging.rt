@@ -16,7 +16,7 @@ use std::alloc::AllocError;
 ///
 /// Both lists are strictly sorted by the order of `cmp`, and both sides are off at the start. The merge appends to the output exactly the items at which the connective of `op` changes, in order; of two equal items the left's.
 /// It answers `true` where it used up both lists, and `false` where the state stopped, which a state that stops does at the first item that it takes.
-/// An error comes only where an advance of the state was refused. It asks for no memory itself.
+/// An error comes only where an advance of the state was refused (seen by reading; the clause says that none comes where the state never refuses). It asks for no memory itself.
 ///
 /// It makes at most twice the weight of the two lists in comparisons, whether it ends, stops or is refused.
 pub fn merge<S: MergeStateMut, O: MergeOperation, C: Compare<S::Item>>(

@@ -14,7 +14,7 @@ impl<T: RangeSetEntry + MadeWith<Global> + Drop, const N: usize> Not for RangeSe
 
     ghost not_gives = { λ a r. GivesNegation T.cmp T.is_value (BeginsAt T.cmp T.least a ⊎ ((length a < N) × T.is_min_sure)) a r };
 
-    /// Removes a first boundary that is the least value, else puts the least value in front.
+    /// Removes a first boundary that is the least value, else puts the least value in front. The clauses say the members among values, not the list.
     fn not(self) -> Result<RangeSet<T, N>, AllocError> {
         let alloc = self.allocator();
         let mut list = self.into_inner();

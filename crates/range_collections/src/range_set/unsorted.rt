@@ -8,7 +8,7 @@ use std::alloc::{AllocError, Global};
 use std::default::MadeWith;
 
 impl<T: Ord + MadeWith<Global> + Drop, const N: usize> RangeSet<T, N> {
-    /// The set whose boundaries are the distinct items of the list, in order. Of equal items the one that stood first is kept. The sort takes memory, and where there is none the list is dropped.
+    /// The set whose boundaries are the distinct items of the list, in order. Of equal items the one that stood first is kept (shown by tests). The sort takes memory, and where there is none the list is dropped.
     pub fn from_unsorted(list: SmallVec<T, N>) -> Result<Self, AllocError>
         ensures { IfOk result (AreDistinctOf T.cmp list.items) }
     {

@@ -41,7 +41,7 @@ impl<'a, T: Ord> RangeSetRef<'a, T> {
         self.boundaries.is_empty()
     }
 
-    /// Whether some element is a member of what the operation makes of both, with its comparisons counted. It stops at the first one, and makes at most twice the weight of the two lists in comparisons.
+    /// Whether some element is a member of what the operation makes of both, with its comparisons counted. It stops at the first one (no clause says so), and makes at most twice the weight of the two lists in comparisons.
     pub fn merge_test<O: MergeOperation>(
         &self,
         that: RangeSetRef<T>,

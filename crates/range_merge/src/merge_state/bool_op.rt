@@ -59,7 +59,7 @@ impl<'a, K> BoolOpMergeState<'a, K> {
 
     /// Whether the connective of `op` changes anywhere between the two strictly sorted lists.
     ///
-    /// It stops at the first place where it does. It takes no memory, and makes at most twice the weight of the two lists in comparisons.
+    /// It stops at the first place where it does (no clause says so). It takes no memory, and makes at most twice the weight of the two lists in comparisons.
     pub fn merge<O: MergeOperation, C: Compare<K>>(
         a: &'a [K],
         b: &'a [K],

@@ -14,7 +14,7 @@ pub trait Sink<K> {
 
     ghost room: { Self → ℕ };
 
-    // Whether it was empty at first, so that each item is a copy of one that was taken.
+    // Whether each item is a copy of one that was taken, as is so of a borrowed list that was empty at first; of a list by value it is not known.
     ghost began_empty: { Bool };
 
     /// Makes room for `n` more items.

@@ -60,7 +60,7 @@ impl<'a, K: MadeWith<Global> + Drop, P: Copier<K>, const M: usize> SmallVecMerge
 
     /// Fills the empty list `r` with copies of the items at which the connective of `op` changes between two strictly sorted lists.
     ///
-    /// It asks for room once for each run that is taken, and for what the copies ask. Where both lengths together are at most `M` and no copy is refused, it succeeds. A refusal drops `r`.
+    /// It asks for room once for each run that is taken, and for what the copies ask (seen by reading). Where both lengths together are at most `M` and no copy is refused, it succeeds. A refusal drops `r`.
     /// It makes at most twice the weight of the two lists in comparisons, also where it is refused.
     pub fn merge<O: MergeOperation, C: Compare<K>>(
         mut r: SmallVec<K, M>,
