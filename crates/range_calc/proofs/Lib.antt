@@ -2,3 +2,5 @@ pub mod Numbers
 pub mod Collected
 pub mod Queries
 pub mod Outcomes
+pub mod Readings
+pub mod Arrays

@@ -2,10 +2,12 @@
 --     number_of word         the whole number that a word writes, if it writes one within i64
 --     list_of word           the list that a word writes, if it writes one
 --     Query                  what can be asked
+--     one_list command       what a command with one list asks, by its word
 --     two_lists command      what a command with two lists asks, by its word
+--     list_and_number ..     what a command with a list and a number asks, by its word
 --     query_of words         the query that the words ask, if they ask one
 use Rattle.std.specs.Prelude.{ℕ, ◌^◌, ◌==◌, nat_lt, Bool, ◌&&◌, ◌||◌, if◌then◌else◌, ℤ, pos, negsuc, List, [], ◌∷◌, length, map, Option, Some, None, String, string_bytes, codes}
-use Rattle.std.specs.Option.{is_some, option_map, option_zip, option_and_then}
+use Rattle.std.specs.Option.{is_some, option_map, option_zip, option_and_then, option_or}
 use Rattle.std.specs.List.{slice_split, list_all, filter_map}
 use Rattle.std.specs.Str.{bytes_eq, all_ascii_digits}
 use Rattle.std.specs.Str.Parse.{without_leading_sign, signed_digits_value}
@@ -50,6 +52,19 @@ pub data Query : Type 0 where
   subset : List ℤ → List ℤ → Query
   superset : List ℤ → List ℤ → Query
   contains : List ℤ → ℤ → Query
+  split : List ℤ → ℤ → Query
+  negation : List ℤ → Query
+  show : List ℤ → Query
+  to_json : List ℤ → Query
+  json : List ℕ → Query
+
+-- what a command with one list asks, by its word
+unfoldable pub one_list : List ℕ → Option (List ℤ → Query)
+one_list command =
+    if bytes_eq command (codes "not") then Some negation
+    else if bytes_eq command (codes "show") then Some show
+    else if bytes_eq command (codes "to_json") then Some to_json
+    else None
 
 -- what a command with two lists asks, by its word
 unfoldable pub two_lists : List ℕ → Option (List ℤ → List ℤ → Query)
@@ -63,15 +78,26 @@ two_lists command =
     else if bytes_eq command (codes "superset") then Some superset
     else None
 
+-- what a command with a list and a number asks, by its word
+unfoldable pub list_and_number : List ℕ → Option (List ℤ → ℤ → Query)
+list_and_number command =
+    if bytes_eq command (codes "contains") then Some contains
+    else if bytes_eq command (codes "split") then Some split
+    else None
+
 -- what is asked of what two words write, if both write something
 abbrev pub query_of_both : {A B : Type 0} → (A → B → Query) → Option A → Option B → Option Query
 query_of_both query a b = option_map (λ both. query both.0 both.1) (option_zip a b)
 
--- the query that the words ask, if they ask one
+-- the query that the words ask, if they ask one: the text of `json` is one word, whatever it is
 unfoldable pub query_of : List (List ℕ) → Option Query
+query_of (command ∷ a ∷ []) =
+    if bytes_eq command (codes "json") then Some (json a)
+    else option_and_then (λ query. option_map query (list_of a)) (one_list command)
 query_of (command ∷ a ∷ b ∷ []) =
-    if bytes_eq command (codes "contains") then query_of_both contains (list_of a) (number_of b)
-    else option_and_then (λ query. query_of_both query (list_of a) (list_of b)) (two_lists command)
+    option_or
+    (option_and_then (λ query. query_of_both query (list_of a) (number_of b)) (list_and_number command))
+    (option_and_then (λ query. query_of_both query (list_of a) (list_of b)) (two_lists command))
 query_of _ = None
 
 -- the words, each as its bytes

@@ -4,6 +4,7 @@ ghost use Rattle.std.specs.Io.KnownBytes.{Appends};
 ghost use Rattle.range_calc.specs.Outcome.{IsOutcome};
 ghost use Rattle.range_calc.specs.Words.{query_of, texts};
 
+use crate::fault::Fault;
 use crate::replies::reply;
 use crate::status::Status;
 use crate::words::Request;
@@ -24,15 +25,19 @@ pub fn answer<W: Write>(alloc: Global, words: &[String], out: &mut W) -> io::Res
         return Ok(Status::BadWords);
     };
     match reply(alloc, request) {
-        Ok(Some(line)) => {
+        Ok(line) => {
             out.write_all(line.as_bytes())?;
             Ok(Status::Answered)
         }
-        Ok(None) => {
+        Err(Fault::NotSorted) => {
             out.write_all(b"not strictly sorted\n")?;
             Ok(Status::NotSorted)
         }
-        Err(_) => out_of_memory(out),
+        Err(Fault::BadJson) => {
+            out.write_all(b"bad json\n")?;
+            Ok(Status::BadJson)
+        }
+        Err(Fault::NoMemory) => out_of_memory(out),
     }
 }
 

@@ -1,8 +1,33 @@
-//! The commands that take two lists.
+//! The commands, by what they take.
 ghost use Rattle.std.specs.Prelude.{◌≡◌};
 ghost use Rattle.std.specs.Option.{option_map};
-ghost use Rattle.range_calc.specs.Words.{two_lists};
-ghost use Rattle.range_calc.specs.Requests.{query_for};
+ghost use Rattle.range_calc.specs.Words.{one_list, two_lists, list_and_number};
+ghost use Rattle.range_calc.specs.Requests.{query_on, query_for, query_at};
+
+/// A command with one list.
+#[derive(Clone, Copy)]
+pub enum OneList {
+    /// The numbers that are no members.
+    Not,
+    /// The ranges as text.
+    Show,
+    /// The boundaries as a JSON array.
+    ToJson,
+}
+
+impl OneList {
+    /// The command with this word, if there is one.
+    pub fn named(word: &str) -> Option<OneList>
+        ensures { one_list word.now ≡ option_map query_on result }
+    {
+        match word {
+            "not" => Some(OneList::Not),
+            "show" => Some(OneList::Show),
+            "to_json" => Some(OneList::ToJson),
+            _ => None,
+        }
+    }
+}
 
 /// A command with two lists.
 #[derive(Clone, Copy)]
@@ -36,6 +61,28 @@ impl TwoLists {
             "disjoint" => Some(TwoLists::Disjoint),
             "subset" => Some(TwoLists::Subset),
             "superset" => Some(TwoLists::Superset),
+            _ => None,
+        }
+    }
+}
+
+/// A command with a list and a number.
+#[derive(Clone, Copy)]
+pub enum ListAndNumber {
+    /// Whether the number is a member.
+    Contains,
+    /// The members below the number, and those from it on.
+    Split,
+}
+
+impl ListAndNumber {
+    /// The command with this word, if there is one.
+    pub fn named(word: &str) -> Option<ListAndNumber>
+        ensures { list_and_number word.now ≡ option_map query_at result }
+    {
+        match word {
+            "contains" => Some(ListAndNumber::Contains),
+            "split" => Some(ListAndNumber::Split),
             _ => None,
         }
     }

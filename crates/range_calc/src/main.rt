@@ -5,6 +5,7 @@
 
 mod answer;
 mod commands;
+mod fault;
 mod line;
 mod replies;
 mod status;

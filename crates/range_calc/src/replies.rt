@@ -1,48 +1,83 @@
-//! The lines that answer requests.
-ghost use Rattle.std.specs.Prelude.{IfOk};
+//! The lines that answer requests. Where a request has several lists, all are built before the first is checked.
+ghost use Rattle.std.specs.Prelude.{All, FitsSigned, IfOk};
+ghost use Rattle.std.specs.Int.{w64};
 ghost use Rattle.range_calc.specs.Outcome.{IsReplyText, IsReplyTo};
-ghost use Rattle.range_calc.specs.Requests.{query_for, query_asked};
-ghost use Rattle.range_calc.specs.Words.{contains, numbers_of};
+ghost use Rattle.range_calc.specs.Requests.{query_for, query_at, query_on, query_asked};
+ghost use Rattle.range_calc.specs.Words.{numbers_of, negation, json};
 
-use crate::commands::TwoLists;
-use crate::line::{set_line, truth_line};
+use crate::commands::{ListAndNumber, OneList, TwoLists};
+use crate::fault::Fault;
+use crate::line::{array_line, debug_line, parts_line, set_line, truth_line};
 use crate::words::{Request, numbers};
-use range_collections::{RangeSet2, RangeSetRef};
+use range_collections::{RangeSet2, RangeSetEntry, RangeSetRef};
+use serde_json::Value;
 use std::alloc::{AllocError, Global};
 
-/// The line of a request with its newline, or none where a list isn't strictly sorted.
-pub fn reply(alloc: Global, request: Request<'_>) -> Result<Option<String>, AllocError>
-    ensures { IfOk result (IsReplyTo (query_asked request.entry)) }
+/// The line of a request with its newline, or why it has none.
+pub fn reply(alloc: Global, request: Request<'_>) -> Result<String, Fault>
+    ensures { IsReplyTo (query_asked request.entry) result }
 {
     match request {
-        Request::Lists(command, a, b) => lists_line(alloc, command, a, b),
-        Request::Contains(a, n) => contains_line(alloc, a, n),
+        Request::OfList(command, a) => list_reply(alloc, command, a),
+        Request::OfTwoLists(command, a, b) => two_lists_reply(alloc, command, a, b),
+        Request::OfListAndNumber(command, a, n) => list_and_number_reply(alloc, command, a, n),
+        Request::OfJson(text) => json_reply(alloc, text),
     }
 }
 
-/// The line of a command with two lists: both are built before the first is checked.
-fn lists_line(
-    alloc: Global,
-    command: TwoLists,
-    a: &str,
-    b: &str,
-) -> Result<Option<String>, AllocError>
-    ensures { IfOk result (IsReplyTo (query_for command (numbers_of a.now) (numbers_of b.now))) }
+/// The line of a command with one list.
+fn list_reply(alloc: Global, command: OneList, a: &str) -> Result<String, Fault>
+    ensures { IsReplyTo (query_on command (numbers_of a.now)) result }
+{
+    let list = numbers(alloc, a)?;
+    let set = RangeSet2::new(list).ok_or(Fault::NotSorted)?;
+    let line = set_reply(alloc, command, set)?;
+    Ok(line)
+}
+
+/// The line of a command with one set.
+fn set_reply(alloc: Global, command: OneList, set: RangeSet2<i64>) -> Result<String, AllocError>
+    ensures { IfOk result (IsReplyText (query_on command set)) }
+{
+    match command {
+        OneList::Not => negation_reply(alloc, set),
+        OneList::Show => debug_line(alloc, &set),
+        OneList::ToJson => array_line(alloc, &set),
+    }
+}
+
+/// The line of the numbers that are no members.
+fn negation_reply(alloc: Global, set: RangeSet2<i64>) -> Result<String, AllocError>
+    ensures { IfOk result (IsReplyText (negation set)) }
+{
+    let negated = (!set)?;
+    known(negated.boundaries());
+    set_line(alloc, negated)
+}
+
+/// Does nothing. A caller learns that all are numbers of i64.
+fn known(items: &[i64])
+    ensures { All (FitsSigned w64) items.now }
+{
+    for n in items {
+        n.known();
+    }
+}
+
+/// The line of a command with two lists.
+fn two_lists_reply(alloc: Global, command: TwoLists, a: &str, b: &str) -> Result<String, Fault>
+    ensures { IsReplyTo (query_for command (numbers_of a.now) (numbers_of b.now)) result }
 {
     let left = numbers(alloc, a)?;
     let right = numbers(alloc, b)?;
-    let Some(left) = RangeSet2::new(left) else {
-        return Ok(None);
-    };
-    let Some(right) = RangeSet2::new(right) else {
-        return Ok(None);
-    };
-    let line = sets_line(alloc, command, &left, right.as_ref())?;
-    Ok(Some(line))
+    let left = RangeSet2::new(left).ok_or(Fault::NotSorted)?;
+    let right = RangeSet2::new(right).ok_or(Fault::NotSorted)?;
+    let line = two_sets_reply(alloc, command, &left, right.as_ref())?;
+    Ok(line)
 }
 
 /// The line of a command with two sets.
-fn sets_line(
+fn two_sets_reply(
     alloc: Global,
     command: TwoLists,
     left: &RangeSet2<i64>,
@@ -61,13 +96,45 @@ fn sets_line(
     }
 }
 
-/// The line that says whether a number is a member of a list.
-fn contains_line(alloc: Global, a: &str, n: i64) -> Result<Option<String>, AllocError>
-    ensures { IfOk result (IsReplyTo (contains (numbers_of a.now) n)) }
+/// The line of a command with a list and a number.
+fn list_and_number_reply(
+    alloc: Global,
+    command: ListAndNumber,
+    a: &str,
+    n: i64,
+) -> Result<String, Fault>
+    ensures { IsReplyTo (query_at command (numbers_of a.now) n) result }
 {
-    let Some(set) = RangeSet2::new(numbers(alloc, a)?) else {
-        return Ok(None);
-    };
-    let line = truth_line(alloc, set.contains(&n))?;
-    Ok(Some(line))
+    let list = numbers(alloc, a)?;
+    let set = RangeSet2::new(list).ok_or(Fault::NotSorted)?;
+    let line = set_and_number_reply(alloc, command, &set, n)?;
+    Ok(line)
+}
+
+/// The line of a command with a set and a number.
+fn set_and_number_reply(
+    alloc: Global,
+    command: ListAndNumber,
+    set: &RangeSet2<i64>,
+    n: i64,
+) -> Result<String, AllocError>
+    ensures { IfOk result (IsReplyText (query_at command set.now n)) }
+{
+    match command {
+        ListAndNumber::Contains => truth_line(alloc, set.contains(&n)),
+        ListAndNumber::Split => {
+            let (left, right) = set.split(n);
+            parts_line(alloc, left.boundaries(), right.boundaries())
+        }
+    }
+}
+
+/// The line of the list that a JSON text holds.
+fn json_reply(alloc: Global, text: &str) -> Result<String, Fault>
+    ensures { IsReplyTo (json text.now) result }
+{
+    let value = Value::from_str(alloc, text)?;
+    let set = RangeSet2::from_json(alloc, &value)?;
+    let line = set_line(alloc, set)?;
+    Ok(line)
 }

@@ -8,10 +8,12 @@ pub enum Status {
     Answered,
     /// A growth of memory was refused.
     NoMemory,
-    /// The words are no command with its lists.
+    /// The words are no command with what it takes.
     BadWords,
     /// A list isn't strictly sorted.
     NotSorted,
+    /// A JSON text isn't an array of whole numbers of i64.
+    BadJson,
 }
 
 impl Status {
@@ -26,6 +28,7 @@ impl Status {
             Status::NoMemory => 1,
             Status::BadWords => 2,
             Status::NotSorted => 3,
+            Status::BadJson => 4,
         }
     }
 }

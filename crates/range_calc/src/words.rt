@@ -1,20 +1,24 @@
 //! The words of a command: they are read without memory, and each list of them is built afterwards.
 ghost use Rattle.std.specs.Prelude.{◌≡◌, [], ◌∷◌, IfOk};
-ghost use Rattle.std.specs.Option.{option_map};
-ghost use Rattle.range_calc.specs.Words.{number_of, is_list, list_of, numbers_of, contains, query_of_both, query_of, texts};
-ghost use Rattle.range_calc.specs.Requests.{query_for, query_asked};
+ghost use Rattle.std.specs.Option.{option_map, option_and_then};
+ghost use Rattle.range_calc.specs.Words.{number_of, is_list, list_of, numbers_of, one_list, two_lists, list_and_number, query_of_both, query_of, texts};
+ghost use Rattle.range_calc.specs.Requests.{query_asked};
 
-use crate::commands::TwoLists;
+use crate::commands::{ListAndNumber, OneList, TwoLists};
 use smallvec::SmallVec;
 use std::alloc::{AllocError, Global};
 
 /// What the words ask, with each list still as its word.
-#[derive(Clone, Copy)]
+#[derive(Clone, Copy, Drop)]
 pub enum Request<'a> {
+    /// A command with one list.
+    OfList(OneList, &'a str),
     /// A command with two lists.
-    Lists(TwoLists, &'a str, &'a str),
-    /// Whether the number is a member of the list.
-    Contains(&'a str, i64),
+    OfTwoLists(TwoLists, &'a str, &'a str),
+    /// A command with a list and a number.
+    OfListAndNumber(ListAndNumber, &'a str, i64),
+    /// The list that a JSON text holds.
+    OfJson(&'a str),
 }
 
 impl<'a> Request<'a> {
@@ -23,6 +27,7 @@ impl<'a> Request<'a> {
         ensures { query_of (texts words.now) ≡ option_map query_asked result }
     {
         match words.len() {
+            2 => two_words(words[0].as_str(), words[1].as_str()),
             3 => three_words(words[0].as_str(), words[1].as_str(), words[2].as_str()),
             _ => None,
         }
@@ -38,35 +43,56 @@ pub fn numbers(alloc: Global, word: &str) -> Result<SmallVec<i64, 2>, AllocError
         .collect(alloc)
 }
 
+/// What a command with one more word asks, if it asks something. The text of `json` may be any word.
+fn two_words<'a>(command: &'a str, word: &'a str) -> Option<Request<'a>>
+    ensures { query_of (command.now ∷ word.now ∷ []) ≡ option_map query_asked result }
+{
+    if command == "json" {
+        Some(Request::OfJson(word))
+    } else {
+        of_list(command, word)
+    }
+}
+
 /// What a command with two more words asks, if it asks something.
 fn three_words<'a>(command: &'a str, a: &'a str, b: &'a str) -> Option<Request<'a>>
     ensures { query_of (command.now ∷ a.now ∷ b.now ∷ []) ≡ option_map query_asked result }
 {
-    if command == "contains" {
-        list_and_number(a, b)
-    } else {
-        both_lists(TwoLists::named(command)?, a, b)
-    }
+    of_list_and_number(command, a, b).or(of_two_lists(command, a, b))
 }
 
-/// What a command asks of two words, if both are lists.
-fn both_lists<'a>(command: TwoLists, a: &'a str, b: &'a str) -> Option<Request<'a>>
-    ensures { query_of_both (query_for command) (list_of a.now) (list_of b.now) ≡ option_map query_asked result }
+/// What a command with one list asks of the word, if it is one.
+fn of_list<'a>(command: &'a str, a: &'a str) -> Option<Request<'a>>
+    ensures { option_and_then (λ query. option_map query (list_of a.now)) (one_list command.now) ≡ option_map query_asked result }
 {
-    if is_list(a) && is_list(b) {
-        Some(Request::Lists(command, a, b))
+    let command = OneList::named(command)?;
+    if is_list(a) {
+        Some(Request::OfList(command, a))
     } else {
         None
     }
 }
 
-/// What `contains` asks of two words, if they are a list and a number.
-fn list_and_number<'a>(a: &'a str, n: &'a str) -> Option<Request<'a>>
-    ensures { query_of_both contains (list_of a.now) (number_of n.now) ≡ option_map query_asked result }
+/// What a command with two lists asks of two words, if they are lists.
+fn of_two_lists<'a>(command: &'a str, a: &'a str, b: &'a str) -> Option<Request<'a>>
+    ensures { option_and_then (λ query. query_of_both query (list_of a.now) (list_of b.now)) (two_lists command.now) ≡ option_map query_asked result }
 {
+    let command = TwoLists::named(command)?;
+    if is_list(a) && is_list(b) {
+        Some(Request::OfTwoLists(command, a, b))
+    } else {
+        None
+    }
+}
+
+/// What a command with a list and a number asks of two words, if they are these.
+fn of_list_and_number<'a>(command: &'a str, a: &'a str, n: &'a str) -> Option<Request<'a>>
+    ensures { option_and_then (λ query. query_of_both query (list_of a.now) (number_of n.now)) (list_and_number command.now) ≡ option_map query_asked result }
+{
+    let command = ListAndNumber::named(command)?;
+    let n = number(n)?;
     if is_list(a) {
-        let n = number(n)?;
-        Some(Request::Contains(a, n))
+        Some(Request::OfListAndNumber(command, a, n))
     } else {
         None
     }

@@ -84,6 +84,7 @@ all_numbers (v ∷ vs) good =
 pub IsReadingOf-array : (d : Data) (vs : List Value) (items : List ℤ) → as_array d ≡ Some (items_view vs) →
     position (λ v. is_bad (view v)) vs ≡ None → AreDistinctOf int_cmp (filter_map (λ v. whole_number (view v)) vs) items → IsReadingOf d items
 IsReadingOf-array d vs items h none made = record {
+  is_array = rw h refl;
   numbers = filter_map (λ v. whole_number (view v)) vs;
   reads = ap (map whole_number) (items_in-array d (map view vs) h) ∙ all_numbers vs (position-none (λ v. is_bad (view v)) vs none);
   distinct = made;
@@ -117,6 +118,7 @@ map-Some (x ∷ xs) (y ∷ ys) h =
 
 pub IsReadingOf-array_of : (zs : List ℤ) → IsAscending int_cmp zs → All (FitsSigned w64) zs → IsReadingOf (array_of zs) zs
 IsReadingOf-array_of zs up fits = record {
+  is_array = refl;
   numbers = zs;
   reads = reads-array_of zs fits;
   distinct = record {

@@ -1,6 +1,7 @@
 pub mod Ascending
 pub mod Below
 pub mod Copies
+pub mod OwnItems
 pub mod Sets
 pub mod Shortest
 pub mod Cut

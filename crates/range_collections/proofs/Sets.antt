@@ -10,7 +10,7 @@ use Rattle.range_merge.specs.Changes.{Taken, taken_item, taken_items}
 use Rattle.range_merge.specs.Connective.{Table, Means, intersection_table, difference_table}
 use Rattle.range_merge.specs.States.{any_item}
 use Rattle.range_merge.proofs.SameSet.{same_items, IsSameSet-from_items}
-use Rattle.range_collections.specs.Sets.{IsSubset, IsDisjoint, HasMember, AreEqual}
+use Rattle.range_collections.specs.Sets.{IsSubset, Intersects, IsDisjoint, HasMember, AreEqual}
 use Rattle.range_collections.proofs.Below.{member-nil, member-first}
 
 -- truths
@@ -68,6 +68,15 @@ module _ {K : Type 0} {order : K → K → Ordering} (o : IsTotalOrder order) wh
   none_from_IsDisjoint a b h (x, e) =
       let both = and-true (member order a x) (member order b x) e in
       not_both (member order b x) both.1 (h x both.0)
+
+  pub IsTrue-intersecting : (a b : List K) (r : Bool) → IsTrue r ↔ HasMember order intersection_table a b → IsTrue r ↔ Intersects order a b
+  IsTrue-intersecting a b r h = (
+    λ t.
+        let (x, e) = h.0 t in
+        let both = and-true (member order a x) (member order b x) e in
+        (x, both.0, both.1),
+    λ i. h.1 (i.0, ap₂ ◌&&◌ i.1 i.2),
+  )
 
   IsSubset-from_none : (a b : List K) → (HasMember order difference_table a b → ⊥) → IsSubset order a b
   IsSubset-from_none a b none x p = true_from (member order b x) (λ q. none (x, ap₂ (λ s t. s && not t) p q))

@@ -1,5 +1,5 @@
 -- Sets among values: the least value in front, negation, and lists of values with the same members among them.
-use Rattle.std.proofs.Common.{◌≡◌, ◌≢◌, ◌↔◌, IsTrue, refl, sym, ap, ap₂, ◌∙◌, ℕ, ◌⊎◌, inr, Result, Ok, rules, Bool, true, false, not, cond, ◌&&◌, List, [], ◌∷◌, ◌<◌, length, get_or, arith, All, subst, ◌≤◌, true≢false}
+use Rattle.std.proofs.Common.{◌≡◌, ◌≢◌, ◌↔◌, IsTrue, refl, sym, ap, ap₂, ◌∙◌, ℕ, ◌⊎◌, inr, Result, Ok, rules, Bool, true, false, not, cond, ◌&&◌, List, [], ◌∷◌, ◌<◌, length, get_or, drop, arith, All, subst, ◌≤◌, true≢false}
 use Rattle.std.specs.List.{AllZip, HoldsAt, insert, remove}
 use Rattle.std.specs.Cmp.{IsTotalOrder}
 use Rattle.std.specs.Ordering.{is_le, is_lt}
@@ -61,6 +61,41 @@ module _ {K : Type 0} {order : K → K → Ordering} (o : IsTotalOrder order) wh
       sym (same_left o (get_or a i d) (get_or b i d) (get_or b j d) here)
       ∙ sym (same_right o (get_or a j d) (get_or b j d) (get_or a i d) there)
       ∙ up i j d below (omega arith)
+
+  -- what equals b equals what b is equal to
+  AreEqual-both : (r a b : List K) → AreEqual order r b → AreEqual order a b → AreEqual order r a
+  AreEqual-both [] [] b h k = tt
+  AreEqual-both [] (x ∷ xs) [] h k = absurd k
+  AreEqual-both [] (x ∷ xs) (y ∷ ys) h k = absurd h
+  AreEqual-both (z ∷ zs) [] [] h k = absurd h
+  AreEqual-both (z ∷ zs) [] (y ∷ ys) h k = absurd k
+  AreEqual-both (z ∷ zs) (x ∷ xs) [] h k = absurd h
+  AreEqual-both (z ∷ zs) (x ∷ xs) (y ∷ ys) h k = (same_right o x y z k.0 ∙ h.0, AreEqual-both zs xs ys h.1 k.1)
+
+  AreEqual-self : (a : List K) → AreEqual order a a
+  AreEqual-self [] = tt
+  AreEqual-self (x ∷ xs) = (Equal-self o x, AreEqual-self xs)
+
+  AreEqual-rest : (a b : List K) → AreEqual order a b → AreEqual order (drop 1 a) (drop 1 b)
+  AreEqual-rest [] [] h = tt
+  AreEqual-rest [] (y ∷ ys) h = absurd h
+  AreEqual-rest (x ∷ xs) [] h = absurd h
+  AreEqual-rest (x ∷ xs) (y ∷ ys) h = h.1
+
+  BeginsAt-equal : (least : K) (a b : List K) → AreEqual order a b → BeginsAt order least a ↔ BeginsAt order least b
+  BeginsAt-equal least [] [] h = (λ n. n, λ n. n)
+  BeginsAt-equal least [] (y ∷ ys) h = absurd h
+  BeginsAt-equal least (x ∷ xs) [] h = absurd h
+  BeginsAt-equal least (x ∷ xs) (y ∷ ys) h = (λ e. sym (same_left o x y least h.0) ∙ e, λ e. same_left o x y least h.0 ∙ e)
+
+  -- the first item removed, and an item equal to y put in front
+  AreEqual-removed : (a : List K) → AreEqual order (remove a 0) (drop 1 a)
+  AreEqual-removed [] = tt
+  AreEqual-removed (x ∷ xs) = AreEqual-self xs
+
+  AreEqual-inserted : (y z : K) (a : List K) → order y z ≡ Equal → AreEqual order (insert a 0 y) (z ∷ a)
+  AreEqual-inserted y z [] e = (e, tt)
+  AreEqual-inserted y z (x ∷ xs) e = (e, AreEqual-self (x ∷ xs))
 
   pub IsAscending-one : (x : K) → IsAscending order (x ∷ [])
   IsAscending-one x = IsAscending-cons order x [] (All-nil (λ y. order x y ≡ Less)) (IsAscending-nil order)
@@ -224,23 +259,29 @@ module _ {K : Type 0} {order : K → K → Ordering} (o : IsTotalOrder order) (i
 
   -- a is the set, l its list, b the list lent, and r the list that is made
   pub GivesNegation-removed : (sure : Type 0) (a l b r : List K) (t : Bool) → l ≡ a → b ≡ l → IsAscending order l → IsTrue t ↔ BeginsAt order least b →
-      t ≡ true → r ≡ remove l 0 → GivesNegation order is_value sure a (Ok r)
-  GivesNegation-removed sure a l b r t la bl up says begins is = record {
-    negates =
-        let here : BeginsAt order least l = let P : List K → Type 0 = λ m. BeginsAt order least m in subst P bl (says.0 begins) in
-        rw (← la, is) (Negates-removed l here up);
-    succeeds = λ _. search rules;
-  }
+      t ≡ true → r ≡ remove l 0 → GivesNegation order is_value least sure a (Ok r)
+  GivesNegation-removed sure a l b r t la bl up says begins is =
+      let P : List K → Type 0 = λ m. BeginsAt order least m in
+      let here : BeginsAt order least l = subst P bl (says.0 begins) in
+      record {
+        negates = rw (← la, is) (Negates-removed l here up);
+        removed = λ _. rw (← la, is) (AreEqual-removed o l);
+        put = λ n. absurd (n (subst P la here));
+        succeeds = λ _. search rules;
+      }
 
   pub GivesNegation-inserted : (sure : Type 0) (a l b r : List K) (t : Bool) (y : K) → l ≡ a → b ≡ l → IsAscending order l → IsTrue t ↔ BeginsAt order least b →
-      BeginsWithValue order is_value b → t ≡ false → order y least ≡ Equal → r ≡ insert l 0 y → GivesNegation order is_value sure a (Ok r)
-  GivesNegation-inserted sure a l b r t y la bl up says v off e is = record {
-    negates =
-        let P : List K → Type 0 = λ m. BeginsWithValue order is_value m in
-        let Q : List K → Type 0 = λ m. BeginsAt order least m in
-        rw (← la, is) (Negates-inserted y l e up (subst P bl v) (λ h. true≢false (sym (says.1 (subst Q (sym bl) h)) ∙ off)));
-    succeeds = λ _. search rules;
-  }
+      BeginsWithValue order is_value b → t ≡ false → order y least ≡ Equal → r ≡ insert l 0 y → GivesNegation order is_value least sure a (Ok r)
+  GivesNegation-inserted sure a l b r t y la bl up says v off e is =
+      let P : List K → Type 0 = λ m. BeginsWithValue order is_value m in
+      let Q : List K → Type 0 = λ m. BeginsAt order least m in
+      let elsewhere : BeginsAt order least l → ⊥ = λ h. true≢false (sym (says.1 (subst Q (sym bl) h)) ∙ off) in
+      record {
+        negates = rw (← la, is) (Negates-inserted y l e up (subst P bl v) elsewhere);
+        removed = λ h. absurd (elsewhere (subst Q (sym la) h));
+        put = λ _. rw (← la, is) (AreEqual-inserted o y least l e);
+        succeeds = λ _. search rules;
+      }
 
   -- the list that is made ascends
   pub IsAscending-inserted : (l b : List K) (t : Bool) (y : K) → b ≡ l → IsAscending order l → IsTrue t ↔ BeginsAt order least b →
@@ -259,10 +300,17 @@ module _ {K : Type 0} {order : K → K → Ordering} (o : IsTotalOrder order) (i
 
   -- the negation of a copy b of a
   pub GivesNegation-copied : (n : ℕ) (sure min_sure : Type 0) (a b : List K) (r : Result (List K) AllocError) → AreEqual order a b →
-      GivesNegation order is_value (BeginsAt order least b ⊎ ((length b < n) × min_sure)) b r →
-      GivesNegation order is_value ((length a < n) × sure × min_sure) a r
+      GivesNegation order is_value least (BeginsAt order least b ⊎ ((length b < n) × min_sure)) b r →
+      GivesNegation order is_value least ((length a < n) × sure × min_sure) a r
   GivesNegation-copied n sure min_sure a b r h given = record {
     negates = IfOk-weaker r (λ i. Negates order is_value i b) (λ i. Negates order is_value i a) (λ i m. Negates-equal i a b h m) given.negates;
+    removed = λ s.
+        IfOk-weaker r (λ i. AreEqual order i (drop 1 b)) (λ i. AreEqual order i (drop 1 a))
+        (λ i m. AreEqual-both o i (drop 1 a) (drop 1 b) m (AreEqual-rest o a b h)) (given.removed ((BeginsAt-equal o least a b h).0 s));
+    put = λ n.
+        IfOk-weaker r (λ i. AreEqual order i (least ∷ b)) (λ i. AreEqual order i (least ∷ a))
+        (λ i m. AreEqual-both o i (least ∷ a) (least ∷ b) m (Equal-self o least, h))
+        (given.put (λ s. n ((BeginsAt-equal o least a b h).1 s)));
     succeeds = λ s.
         let same : length a ≡ length b = length_all_zip (λ x y. order x y ≡ Equal) a b h in
         given.succeeds (inr (let few : length a < n = s.0 in omega arith, s.2));

@@ -2,11 +2,11 @@
 --     array_of numbers            the array of these numbers
 --     items_in data               the items of an array
 --     first_bad data              the place of the first item that is no whole number of i64
---     IsReadingOf data items      every item is such a number, and the items are their distinct numbers in order
-use Rattle.std.specs.Prelude.{◌≡◌, ℕ, ℤ, Bool, not, is_some, Option, Some, option_and_then, List, [], ◌∷◌, map, position}
+--     IsReadingOf data items      it is an array of such numbers, and the items are their distinct numbers in order
+use Rattle.std.specs.Prelude.{◌≡◌, ℕ, ℤ, Bool, not, is_some, IsSome, Option, Some, option_and_then, List, [], ◌∷◌, map, position}
 use Rattle.std.specs.Ordering.{int_cmp}
 use Rattle.serde_json.specs.Data.{Data, null, boolean, number, string, array, object, Items, no_items, item}
-use Rattle.serde_json.specs.Find.{as_i64, as_number, of_integer}
+use Rattle.serde_json.specs.Find.{as_array, as_i64, as_number, of_integer}
 use Rattle.serde_json.specs.View.{items_of}
 use Rattle.range_collections.specs.Unsorted.{AreDistinctOf}
 
@@ -44,8 +44,9 @@ is_bad d = not (is_some (whole_number d))
 abbrev pub first_bad : Data → Option ℕ
 first_bad d = position is_bad (items_in d)
 
--- the items of the array are whole numbers, and these are the distinct ones in order
+-- the value is an array of whole numbers, and these are the distinct ones in order
 pub record IsReadingOf (d : Data) (items : List ℤ) : Type 0 where
+  pub is_array : IsSome (as_array d)
   pub numbers : List ℤ
   pub reads : map whole_number (items_in d) ≡ map Some numbers
   pub distinct : AreDistinctOf int_cmp numbers items

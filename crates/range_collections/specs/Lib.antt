@@ -14,3 +14,5 @@ pub mod Unsorted
 pub mod Text
 pub mod Json
 pub mod Values
+pub mod Operators
+pub mod InPlace

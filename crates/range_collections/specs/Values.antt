@@ -3,13 +3,14 @@
 --     AreSameAmongValues order is_value a b       both have the same members among values
 --     IsEverything order is_value items           every value is a member
 --     BeginsAt order least a                      the first item of a equals the least value
---     GivesNegation order is_value sure a r       what `!` answers: the negation, or want of memory unless it is sure
-use Rattle.std.specs.Prelude.{◌≡◌, true, cond, not, List, [], ◌∷◌, Result, IsOk, IfOk}
+--     GivesNegation order is_value least sure a r what `!` answers: the negation and its list, or want of memory unless it is sure
+use Rattle.std.specs.Prelude.{◌≡◌, true, cond, not, List, [], ◌∷◌, drop, Result, IsOk, IfOk}
 use Rattle.std.specs.declared.alloc.AllocError.{AllocError}
 use Rattle.std.specs.declared.cmp.Ordering.{Ordering}
 use Rattle.std.specs.declared.cmp.Ordering.TheVariants.{Equal}
 use Rattle.std.specs.Ordering.{is_lt}
 use Rattle.range_merge.specs.Boundaries.{IsAscending, member}
+use Rattle.range_collections.specs.Sets.{AreEqual}
 
 module _ {K : Type 0} (order : K → K → Ordering) where
   -- the boundaries of a range: none where its start isn't below its end
@@ -40,7 +41,9 @@ module _ {K : Type 0} (order : K → K → Ordering) where
     abbrev pub IsEverything : List K → Type 0
     IsEverything items = (x : K) → is_value x → member order items x ≡ true
 
-    -- an answer to `!` of a: an Ok is the negation, and where it is sure it is an Ok
-    pub record GivesNegation (sure : Type 0) (a : List K) (r : Result (List K) AllocError) : Type 0 where
+    -- an answer to `!` of a: an Ok is the negation, a first item that is the least value removed and else the least value put in front, and where it is sure it is an Ok
+    pub record GivesNegation (least : K) (sure : Type 0) (a : List K) (r : Result (List K) AllocError) : Type 0 where
       pub negates : IfOk r (λ items. Negates items a)
+      pub removed : BeginsAt least a → IfOk r (λ items. AreEqual order items (drop 1 a))
+      pub put : ¬ (BeginsAt least a) → IfOk r (λ items. AreEqual order items (least ∷ a))
       pub succeeds : sure → IsOk r

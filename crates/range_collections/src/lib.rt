@@ -10,8 +10,6 @@ mod least;
 mod range_set;
 mod range_set_range;
 mod sortedness;
-#[cfg(test)]
-mod tests;
 mod view;
 mod whole_number;
 
@@ -35,8 +33,8 @@ pub use range_merge::{
     BoolOpMergeState, Compare, Copier, DiffOp, InPlaceBuilder, InPlaceMergeState,
     InPlaceMergeStateRef, IntersectionOp, MergeOperation, MergeState, MergeStateMut, Run,
     SliceIterator, SmallVecMergeState, UnionOp, XorOp, changes_are_marked_truly,
-    changes_mean_the_connective, merge, owners_are_pinned, run_length, search,
-    weight_is_at_most_the_lengths,
+    changes_mean_the_connective, copies_stand_behind_what_was_there, merge, owners_are_pinned,
+    run_length, search, weight_is_at_most_the_lengths,
 };
 pub use range_set::{JsonError, RangeSet, RangeSet2};
 pub use range_set_range::RangeSetRange;

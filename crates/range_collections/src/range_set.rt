@@ -4,9 +4,11 @@ ghost use Rattle.range_merge.specs.Boundaries.{IsAscending};
 
 mod constructors;
 mod equality;
+mod in_place;
 mod json;
 mod negation;
 mod operations;
+mod operators;
 mod parts;
 mod predicates;
 mod text;

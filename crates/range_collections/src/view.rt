@@ -3,6 +3,7 @@ ghost use Rattle.std.specs.Prelude.{◌≡◌, ◌↔◌, [], IsSome, IfSome};
 ghost use Rattle.std.proofs.Props.{props};
 ghost use Rattle.range_merge.specs.Boundaries.{IsAscending};
 
+mod equality;
 mod operations;
 mod predicates;
 mod ranges;
@@ -13,8 +14,7 @@ mod walk;
 use crate::sortedness::is_ascending;
 use std::alloc::AllocError;
 
-/// The set of the elements with an odd number of these boundaries at or below them. Views are equal if their boundaries are, item by item, and stand in the lexicographic order of these.
-#[derive(PartialEq, Eq, PartialOrd, Ord)]
+/// The set of the elements with an odd number of these boundaries at or below them.
 pub struct RangeSetRef<'a, T: Ord> {
     /// The boundaries, strictly sorted.
     pub boundaries: &'a [T],

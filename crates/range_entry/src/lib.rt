@@ -8,8 +8,6 @@ mod non_zero_std;
 mod numbers;
 mod options;
 mod range_set_entry;
-#[cfg(test)]
-mod tests;
 mod texts;
 
 pub use entry_clone::EntryClone;

@@ -1,6 +1,6 @@
 -- What dropping unread items from a spare leaves, and what putting an item at the end of a list does.
-use Rattle.std.proofs.Common.{◌≡◌, ℕ, ◌+◌, ◌-◌, ◌<◌, ◌≤◌, List, [], ◌∷◌, ◌++◌, length, take, drop, reverse, refl, sym, ap, ◌∙◌, arith}
-use Rattle.std.proofs.lemmas.List.{append-nil, drop_at, take_all, drop_all, take-append-drop, reverse-append, reverse-reverse, length-reverse, length-append, length-drop, length-take-le}
+use Rattle.std.proofs.Common.{◌≡◌, ℕ, ◌+◌, ◌-◌, ◌≤◌, List, [], ◌∷◌, ◌++◌, length, take, drop, reverse, sym, ap, ◌∙◌, arith}
+use Rattle.std.proofs.lemmas.List.{drop_at, take_all, drop_all, take-append-drop, reverse-append, reverse-reverse, length-reverse, length-append, length-drop, length-take-le}
 use Rattle.range_merge.specs.Building.{unread_in}
 use Rattle.range_merge.proofs.Moves.{poured-rest, poured-items}
 

@@ -1,10 +1,10 @@
 -- Copies at the end of a list: item by item, and run by run.
-use Rattle.std.proofs.Common.{◌≡◌, ℕ, ◌+◌, ◌-◌, ◌<◌, ◌≤◌, All, Bool, true, false, List, [], ◌∷◌, ◌++◌, length, take, drop, map, get_or, refl, sym, ap, ◌∙◌, inr, arith, append_assoc}
+use Rattle.std.proofs.Common.{◌≡◌, ℕ, ◌+◌, ◌-◌, ◌<◌, ◌≤◌, All, Bool, true, false, List, [], ◌∷◌, ◌++◌, length, take, drop, map, get_or, refl, sym, ap, ◌∙◌, arith, append_assoc}
 use Rattle.std.specs.List.{AllZip}
-use Rattle.std.proofs.lemmas.List.{append-nil, length-append, length-drop, length-take-le}
+use Rattle.std.proofs.lemmas.List.{append-nil, length-append, length-drop, length-map, length-take-le, drop-append-le, drop_all, drop_at, take-append-le, take_all, take_at}
 use Rattle.std.proofs.lemmas.List.Elements.{All-drop, all_zip_more, length_all_zip}
 use Rattle.range_merge.specs.Changes.{Taken, taken_item, taken_items, taken_left, taken_right, from_left, from_right}
-use Rattle.range_merge.specs.Copies.{items_if, IsAppended, AreCopies, StandsFor}
+use Rattle.range_merge.specs.Copies.{items_if, IsAppended, AreCopies, AreKeptThenCopies}
 
 pub AllZip-append : {A B : Type 0} (R : A → B → Type 0) (xs : List A) (ys : List B) (us : List A) (vs : List B) → AllZip R xs ys → AllZip R us vs → AllZip R (xs ++ us) (ys ++ vs)
 AllZip-append R [] [] us vs h k = k
@@ -43,23 +43,56 @@ module _ {K : Type 0} (alike : K → K → Type 0) where
   length-appended xs old new h =
       ap length h.appended ∙ length-append old h.copies ∙ ap (λ n. length old + n) (sym (length_all_zip alike xs h.copies h.alike_to))
 
-  alike-stands : (began_empty : Bool) (x y : K) → alike x y → StandsFor began_empty alike x y
-  alike-stands true x y h = h
-  alike-stands false x y h = inr h
-
-  AreCopies-stand : (began_empty : Bool) (ts : List (Taken K)) (xs : List K) → AreCopies alike ts xs → AreCopies (StandsFor began_empty alike) ts xs
-  AreCopies-stand began_empty [] [] h = h
-  AreCopies-stand began_empty [] (x ∷ xs) h = h
-  AreCopies-stand began_empty (t ∷ ts) [] h = h
-  AreCopies-stand began_empty (t ∷ ts) (x ∷ xs) h = (alike-stands began_empty (taken_item t) x h.0, AreCopies-stand began_empty ts xs h.1)
+  AreCopies-items : (ts : List (Taken K)) (xs : List K) → AreCopies alike ts xs → AllZip alike (taken_items ts) xs
+  AreCopies-items [] [] h = h
+  AreCopies-items [] (x ∷ xs) h = h
+  AreCopies-items (t ∷ ts) [] h = h
+  AreCopies-items (t ∷ ts) (x ∷ xs) h = (h.0, AreCopies-items ts xs h.1)
 
   -- what is taken and copied further
-  pub AreCopies-append : (began_empty : Bool) (ts news : List (Taken K)) (xs old new : List K) → taken_items news ≡ xs
-      → IsAppended alike xs old new → AreCopies (StandsFor began_empty alike) ts old → AreCopies (StandsFor began_empty alike) (ts ++ news) new
-  AreCopies-append began_empty ts news xs old new are h holds =
+  AreKeptThenCopies-append : (began : ℕ) (ts news : List (Taken K)) (xs old new : List K) → taken_items news ≡ xs
+      → IsAppended alike xs old new → AreKeptThenCopies alike began ts old → AreKeptThenCopies alike began (ts ++ news) new
+  AreKeptThenCopies-append began ts news xs old new are h holds =
       let copied : AreCopies alike news h.copies = AreCopies-from_items alike news h.copies (rw are h.alike_to) in
-      rw h.appended
-      (AllZip-append (λ t x. StandsFor began_empty alike (taken_item t) x) ts old news h.copies holds (AreCopies-stand began_empty news h.copies copied))
+      let front : taken_items (take began (ts ++ news)) ≡ taken_items (take began ts) = ap taken_items (take-append-le began ts news holds.within) in
+      record {
+        within = simp length-append (omega (arith, holds.within));
+        copies = holds.copies ++ h.copies;
+        copied =
+            rw (drop-append-le began ts news holds.within)
+            (AllZip-append (λ t x. alike (taken_item t) x) (drop began ts) holds.copies news h.copies holds.copied copied);
+        appended =
+            rw front
+            (h.appended ∙ ap (λ items. items ++ h.copies) holds.appended ∙ append_assoc (taken_items (take began ts)) holds.copies h.copies);
+      }
+
+  -- a list at first
+  pub AreKeptThenCopies-first : (items : List K) → AreKeptThenCopies alike (length items) (map from_left items) items
+  AreKeptThenCopies-first items =
+      let marked : List (Taken K) = map from_left items in
+      let long : length marked ≡ length items = length-map items from_left in
+      record {
+        within = omega (arith, long);
+        copies = [];
+        copied = rw (drop_all (length items) marked (omega (arith, long))) tt;
+        appended = sym (append-nil _ ∙ ap taken_items (take_all (length items) marked (omega (arith, long))) ∙ taken_items-map_left items);
+      }
+
+  -- of a list that began with old, the copies stand behind old
+  pub IsAppended-kept : (old : List K) (ts : List (Taken K)) (items : List K) → AreKeptThenCopies alike (length old) (map from_left old ++ ts) items → IsAppended alike (taken_items ts) old items
+  IsAppended-kept old ts items h =
+      let marked : List (Taken K) = map from_left old in
+      let long : length marked ≡ length old = length-map old from_left in
+      let copied = rw (drop_at marked ts (length old) long) at h.copied in
+      record {
+        copies = h.copies;
+        alike_to = AreCopies-items ts h.copies copied;
+        appended = h.appended ∙ ap (λ kept. kept ++ h.copies) (ap taken_items (take_at marked ts (length old) long) ∙ taken_items-map_left old);
+      }
+
+  -- of a list that began empty, all are copies
+  pub AreCopies-kept : (ts : List (Taken K)) (items : List K) → AreKeptThenCopies alike 0 ts items → AreCopies alike ts items
+  AreCopies-kept ts items h = rw h.appended h.copied
 
 pub taken_items-taken_left : {K : Type 0} (take' : Bool) (n : ℕ) (l : List K) → taken_items (taken_left take' n l) ≡ items_if take' (take n l)
 taken_items-taken_left true n l = taken_items-map_left (take n l)
@@ -75,16 +108,16 @@ length-items_if false items = omega arith
 
 -- what an advance of one side leaves: front is taken or not, and rest stays unread
 module _ {K : Type 0} (alike : K → K → Type 0) (IsSure : K → Type 0) where
-  pub AreCopies-left : (began_empty : Bool) (take' : Bool) (n : ℕ) (left front old new : List K) (before : List (Taken K)) → front ≡ take n left
-      → IsAppended alike (items_if take' front) old new → AreCopies (StandsFor began_empty alike) before old → AreCopies (StandsFor began_empty alike) (before ++ taken_left take' n left) new
-  AreCopies-left began_empty take' n left front old new before is h holds =
-      AreCopies-append alike began_empty before (taken_left take' n left) (items_if take' front) old new
+  pub AreKeptThenCopies-left : (began : ℕ) (take' : Bool) (n : ℕ) (left front old new : List K) (before : List (Taken K)) → front ≡ take n left
+      → IsAppended alike (items_if take' front) old new → AreKeptThenCopies alike began before old → AreKeptThenCopies alike began (before ++ taken_left take' n left) new
+  AreKeptThenCopies-left began take' n left front old new before is h holds =
+      AreKeptThenCopies-append alike began before (taken_left take' n left) (items_if take' front) old new
       (taken_items-taken_left take' n left ∙ ap (items_if take') (sym is)) h holds
 
-  pub AreCopies-right : (began_empty : Bool) (take' : Bool) (n : ℕ) (right front old new : List K) (before : List (Taken K)) → front ≡ take n right
-      → IsAppended alike (items_if take' front) old new → AreCopies (StandsFor began_empty alike) before old → AreCopies (StandsFor began_empty alike) (before ++ taken_right take' n right) new
-  AreCopies-right began_empty take' n right front old new before is h holds =
-      AreCopies-append alike began_empty before (taken_right take' n right) (items_if take' front) old new
+  pub AreKeptThenCopies-right : (began : ℕ) (take' : Bool) (n : ℕ) (right front old new : List K) (before : List (Taken K)) → front ≡ take n right
+      → IsAppended alike (items_if take' front) old new → AreKeptThenCopies alike began before old → AreKeptThenCopies alike began (before ++ taken_right take' n right) new
+  AreKeptThenCopies-right began take' n right front old new before is h holds =
+      AreKeptThenCopies-append alike began before (taken_right take' n right) (items_if take' front) old new
       (taken_items-taken_right take' n right ∙ ap (items_if take') (sym is)) h holds
 
   -- what is unread and what is kept still have room together

@@ -1,8 +1,8 @@
 -- Items that move within a list, and from the end of one list to the end of another.
-use Rattle.std.proofs.Common.{◌≡◌, ℕ, zero, suc, ◌+◌, ◌-◌, ◌<◌, ◌≤◌, List, [], ◌∷◌, ◌++◌, length, take, drop, reverse, get_or, set, refl, sym, ap, ◌∙◌, subst, arith, add-one, append_assoc}
+use Rattle.std.proofs.Common.{◌≡◌, ℕ, zero, suc, ◌+◌, ◌-◌, ◌<◌, ◌≤◌, List, [], ◌∷◌, ◌++◌, length, take, drop, reverse, get_or, set, sym, ap, ◌∙◌, arith, add-one, append_assoc}
 use Rattle.std.specs.List.{swap}
-use Rattle.std.proofs.lemmas.List.{append-nil, take_at, drop_at, take-append-drop, take-set-le, take_more_set, drop-set-lt, reverse-append, reverse-reverse, length-reverse, length-append, length-take-le, length-drop, length-set, take_more, drop_more, get_or-drop}
-use Rattle.std.proofs.lemmas.List.Edits.{swap_is, length-swap}
+use Rattle.std.proofs.lemmas.List.{take_at, drop_at, take-append-drop, take-set-le, take_more_set, drop-set-lt, reverse-append, reverse-reverse, length-reverse, length-append, length-take-le, length-drop, take_more, drop_more, get_or-drop}
+use Rattle.std.proofs.lemmas.List.Edits.{swap_is}
 use Rattle.std.proofs.Math.Seq.{take-add}
 
 module _ {K : Type 0} where

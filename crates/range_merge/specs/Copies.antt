@@ -1,7 +1,7 @@
 -- Copies of items at the end of a list.
-use Rattle.std.specs.Prelude.{◌≡◌, ℕ, ◌≤◌, ◌⊎◌, Bool, true, false, List, [], ◌++◌, length, reverse}
+use Rattle.std.specs.Prelude.{◌≡◌, ℕ, ◌≤◌, Bool, true, false, List, [], ◌++◌, length, take, drop, reverse}
 use Rattle.std.specs.List.{AllZip}
-use Rattle.range_merge.specs.Changes.{Taken, from_left, from_right, taken_item}
+use Rattle.range_merge.specs.Changes.{Taken, from_left, from_right, taken_item, taken_items}
 
 module _ {K : Type 0} where
   -- the items, if they are taken
@@ -19,10 +19,12 @@ module _ {K : Type 0} where
   abbrev pub AreCopies : (K → K → Type 0) → List (Taken K) → List K → Type 0
   AreCopies alike ts items = AllZip (λ t x. alike (taken_item t) x) ts items
 
-  -- y stands for x in a list of copies: it is alike to x or, in a list that did not begin empty, x itself
-  abbrev pub StandsFor : Bool → (K → K → Type 0) → K → K → Type 0
-  StandsFor true alike x y = alike x y
-  StandsFor false alike x y = (x ≡ y) ⊎ alike x y
+  -- the first `began` items are those that were taken first themselves, and behind them stands a copy alike to each of the others
+  pub record AreKeptThenCopies (alike : K → K → Type 0) (began : ℕ) (ts : List (Taken K)) (items : List K) : Type 0 where
+    pub within : began ≤ length ts
+    pub copies : List K
+    pub copied : AreCopies alike (drop began ts) copies
+    pub appended : items ≡ taken_items (take began ts) ++ copies
 
   -- y is the left's own item, or a copy alike to the right's
   abbrev pub IsOwnOrCopy : (K → K → Type 0) → Taken K → K → Type 0

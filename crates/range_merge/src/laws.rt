@@ -1,12 +1,13 @@
 //! Laws: functions that do nothing, and whose contracts are theorems on the words of the other contracts.
-ghost use Rattle.std.specs.Prelude.{◌≡◌, ℕ, ◌+◌, ◌≤◌, false, List, All, length};
+ghost use Rattle.std.specs.Prelude.{◌≡◌, ℕ, ◌+◌, ◌≤◌, false, List, ◌++◌, All, length, map};
 ghost use Rattle.range_merge.specs.Boundaries.{IsAscending};
-ghost use Rattle.range_merge.specs.Changes.{IsMarkedTruly, changes, taken_items};
+ghost use Rattle.range_merge.specs.Changes.{IsMarkedTruly, Taken, changes, from_left, taken_items};
 ghost use Rattle.range_merge.specs.Connective.{Table, Means};
+ghost use Rattle.range_merge.specs.Copies.{AreKeptThenCopies, IsAppended};
 ghost use Rattle.range_merge.specs.Owners.{Owner, IsOwners, owners};
 ghost use Rattle.range_merge.specs.Runs.{digits, weight};
 
-use crate::compare::Compare;
+use crate::compare::{Compare, Copier};
 
 /// The owners of two strictly sorted lists are pinned: they ascend, with both lists' items among them, and no other list does so.
 pub fn owners_are_pinned<K, C: Compare<K>>()
@@ -30,4 +31,10 @@ pub fn changes_mean_the_connective<K, C: Compare<K>>()
 pub fn changes_are_marked_truly<K, C: Compare<K>>()
     ensures marks { (f : Table) (a b : List K) → IsAscending C.order a → IsAscending C.order b →
         All (IsMarkedTruly C.order a b) (changes C.order f a b) }
+{}
+
+/// A list that began with some items has these in front still, and behind them the copies of what was taken since.
+pub fn copies_stand_behind_what_was_there<K, P: Copier<K>>()
+    ensures behind { (r : List K) (ts : List (Taken K)) (items : List K) →
+        AreKeptThenCopies P.alike (length r) (map from_left r ++ ts) items → IsAppended P.alike (taken_items ts) r items }
 {}

@@ -13,14 +13,12 @@ mod runs;
 mod searching;
 mod slice_iterator;
 mod states;
-#[cfg(test)]
-mod tests;
 
 pub use compare::{Compare, Copier};
 pub use in_place_builder::InPlaceBuilder;
 pub use laws::{
-    changes_are_marked_truly, changes_mean_the_connective, owners_are_pinned,
-    weight_is_at_most_the_lengths,
+    changes_are_marked_truly, changes_mean_the_connective, copies_stand_behind_what_was_there,
+    owners_are_pinned, weight_is_at_most_the_lengths,
 };
 pub use merge_state::{
     BoolOpMergeState, InPlaceMergeState, InPlaceMergeStateRef, SmallVecMergeState,

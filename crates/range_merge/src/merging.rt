@@ -38,6 +38,7 @@ pub fn merge<S: MergeStateMut, O: MergeOperation, C: Compare<S::Item>>(
         × StopsAmong (S.output state.old) (S.output state.new) (changes C.order (O.connective op.now) (S.left state.old) (S.right state.old))) }
     ensures not_stopped { S.can_stop ≡ true → IfOk result (λ more. more ≡ true
         → changes C.order (O.connective op.now) (S.left state.old) (S.right state.old) ≡ []) }
+    ensures began { S.began state.new ≡ S.began state.old }
 
     // A state that never refuses is never refused, and stays so.
     ensures succeeds { S.sure state.old → IsOk result }
@@ -87,6 +88,7 @@ fn take_run<S: MergeStateMut, O: MergeOperation>(
     ensures right_on { OnOk result (S.right_on state.new ≡ right_on_after run (S.right_on state.old)) }
     ensures output { OnOk result ((before : List (Taken S.Item)) → S.output state.old before → S.output state.new
         (before ++ taken_of_run (takes (O.connective op.now) (S.left_on state.old) (S.right_on state.old) run) run (S.left state.old) (S.right state.old))) }
+    ensures began { S.began state.new ≡ S.began state.old }
     ensures succeeds { S.sure state.old → IsOk result }
     ensures still_sure { S.sure state.old → OnOk result (S.sure state.new) }
 {

@@ -45,6 +45,9 @@ pub trait MergeStateMut: MergeState {
     // What was taken so far may be this list.
     ghost output: { Self → List (Taken Self.Item) → Type 0 };
 
+    // How many items the output had at first.
+    ghost began: { Self → ℕ };
+
     // Whether an advance that takes stops the merge.
     ghost can_stop: { Bool };
 
@@ -62,6 +65,7 @@ pub trait MergeStateMut: MergeState {
         ensures other_on { OnOk result (right_on self.new ≡ right_on self.old) }
         ensures output { OnOk result ((before : List (Taken Self.Item)) →
             output self.old before → output self.new (before ++ taken_left take n (Self.left self.old))) }
+        ensures began { began self.new ≡ began self.old }
         ensures succeeds { sure self.old → IsOk result }
         ensures still_sure { sure self.old → OnOk result (sure self.new) };
 
@@ -76,6 +80,7 @@ pub trait MergeStateMut: MergeState {
         ensures other_on { OnOk result (left_on self.new ≡ left_on self.old) }
         ensures output { OnOk result ((before : List (Taken Self.Item)) →
             output self.old before → output self.new (before ++ taken_right take n (Self.right self.old))) }
+        ensures began { began self.new ≡ began self.old }
         ensures succeeds { sure self.old → IsOk result }
         ensures still_sure { sure self.old → OnOk result (sure self.new) };
 
@@ -90,6 +95,7 @@ pub trait MergeStateMut: MergeState {
         ensures right_on { OnOk result (right_on self.new ≡ not (right_on self.old)) }
         ensures output { OnOk result ((before : List (Taken Self.Item)) →
             output self.old before → output self.new (before ++ taken_left take 1 (Self.left self.old))) }
+        ensures began { began self.new ≡ began self.old }
         ensures succeeds { sure self.old → IsOk result }
         ensures still_sure { sure self.old → OnOk result (sure self.new) };
 

@@ -1,12 +1,14 @@
 //! Sets made of a range, or of every value.
-ghost use Rattle.std.specs.Prelude.{◌≡◌, ◌≤◌, ◌&&◌, ◌⊎◌, true, false, [], ◌∷◌, Ok, IsOk, IfOk};
+ghost use Rattle.std.specs.Prelude.{◌≡◌, ◌≢◌, ◌↔◌, ◌≤◌, ◌&&◌, ◌⊎◌, true, false, [], ◌∷◌, Ok, IsOk, IfOk, length};
 ghost use Rattle.std.specs.Ordering.{is_le, is_lt};
 ghost use Rattle.std.specs.declared.cmp.Ordering.TheVariants.{Equal};
 ghost use Rattle.range_merge.specs.Boundaries.{member};
+ghost use Rattle.range_collections.specs.Ranges.{range_boundaries, IsInRange};
 ghost use Rattle.range_collections.specs.Sets.{AreEqual};
 ghost use Rattle.range_collections.specs.Values.{range_items, IsEverything};
 
 use crate::range_set::RangeSet;
+use crate::range_set_range::RangeSetRange;
 use range_entry::RangeSetEntry;
 use smallvec::SmallVec;
 use std::alloc::{AllocError, Global};
@@ -35,6 +37,18 @@ impl<T: Ord + MadeWith<Global> + Drop, const N: usize> RangeSet<T, N> {
     {
         Ok(RangeSet::new_unchecked(one_item(alloc, range.start)?))
     }
+
+    /// The elements of the range: what `from_range` or `from_range_from` gives for it. The one error is want of memory.
+    pub fn from_range_set_range(alloc: Global, range: RangeSetRange<T>) -> Result<Self, AllocError>
+        ensures boundaries { IfOk result (λ set. set ≡ range_boundaries T.cmp range) }
+        ensures members { IfOk result (λ set. (x : T) → (member T.cmp set x ≡ true) ↔ IsInRange T.cmp range x) }
+        ensures succeeds { length (range_boundaries T.cmp range) ≤ N → IsOk result }
+    {
+        match range {
+            RangeSetRange::Range(ends) => Self::from_range(alloc, ends),
+            RangeSetRange::RangeFrom(start) => Self::from_range_from(alloc, start),
+        }
+    }
 }
 
 impl<T: RangeSetEntry + MadeWith<Global> + Drop, const N: usize> RangeSet<T, N> {
@@ -42,6 +56,7 @@ impl<T: RangeSetEntry + MadeWith<Global> + Drop, const N: usize> RangeSet<T, N> 
     pub fn from_range_until(alloc: Global, range: RangeTo<T>) -> Result<Self, AllocError>
         ensures members { IfOk result (λ set. (x : T) → T.is_value x → member T.cmp set x ≡ is_lt (T.cmp x range.end)) }
         ensures nothing { T.cmp range.end T.least ≡ Equal → result ≡ Ok [] }
+        ensures boundaries { T.cmp range.end T.least ≢ Equal → IfOk result (λ set. AreEqual T.cmp set (T.least ∷ range.end ∷ [])) }
         ensures succeeds { 2 ≤ N → T.is_min_sure → IsOk result }
     {
         let end = range.end;

@@ -12,9 +12,9 @@ use std::ops::Not;
 impl<T: RangeSetEntry + MadeWith<Global> + Drop, const N: usize> Not for RangeSet<T, N> {
     type Output = Result<RangeSet<T, N>, AllocError>;
 
-    ghost not_gives = { λ a r. GivesNegation T.cmp T.is_value (BeginsAt T.cmp T.least a ⊎ ((length a < N) × T.is_min_sure)) a r };
+    ghost not_gives = { λ a r. GivesNegation T.cmp T.is_value T.least (BeginsAt T.cmp T.least a ⊎ ((length a < N) × T.is_min_sure)) a r };
 
-    /// Removes a first boundary that is the least value, else puts the least value in front. The clauses say the members among values, not the list.
+    /// Removes a first boundary that is the least value, else puts the least value in front. The clause says the members among values, and the list, item by item.
     fn not(self) -> Result<RangeSet<T, N>, AllocError> {
         let alloc = self.allocator();
         let mut list = self.into_inner();
@@ -33,7 +33,7 @@ impl<T: RangeSetEntry + EntryClone + MadeWith<Global> + Drop, const N: usize> No
     for &RangeSet<T, N> {
     type Output = Result<RangeSet<T, N>, AllocError>;
 
-    ghost not_gives = { λ a r. GivesNegation T.cmp T.is_value ((length a.now < N) × All T.is_sure a.now × T.is_min_sure) a.now r };
+    ghost not_gives = { λ a r. GivesNegation T.cmp T.is_value T.least ((length a.now < N) × All T.is_sure a.now × T.is_min_sure) a.now r };
 
     /// The negation of a clone.
     fn not(self) -> Result<RangeSet<T, N>, AllocError> {

@@ -113,6 +113,8 @@ impl<'a, K> MergeStateMut for BoolOpMergeState<'a, K> {
 
     ghost output = { λ s ts. s.taken ≡ any_item ts };
 
+    ghost began = { λ _. 0 };
+
     ghost can_stop = { true };
 
     ghost sure = { λ _. ⊤ };

@@ -172,6 +172,8 @@ impl<K, const N: usize, L: Place<K>> MergeStateMut for InPlaceMergeState<K, N, L
 
     ghost output = { λ s ts. taken_items ts ≡ s.kept };
 
+    ghost began = { λ _. 0 };
+
     ghost can_stop = { false };
 
     ghost sure = { λ _. ⊤ };

@@ -186,6 +186,8 @@ impl<'a, K, P: Copier<K>, const N: usize, L: Place<K>> MergeStateMut
 
     ghost output = { λ s ts. AreOwnOrCopies P.alike ts s.kept };
 
+    ghost began = { λ _. 0 };
+
     ghost can_stop = { false };
 
     ghost sure = { λ _. ⊤ };

@@ -14,9 +14,6 @@ pub trait Sink<K> {
 
     ghost room: { Self → ℕ };
 
-    // Whether each item is a copy of one that was taken, as is so of a borrowed list that was empty at first; of a list by value it is not known.
-    ghost began_empty: { Bool };
-
     /// Makes room for `n` more items.
     fn reserve(&mut self, n: usize) -> Result<(), AllocError>
         ensures items { items self.new ≡ items self.old }
@@ -36,8 +33,6 @@ impl<K: MadeWith<Global> + Drop, const M: usize> Sink<K> for SmallVec<K, M> {
 
     ghost room = { λ list. list.capacity };
 
-    ghost began_empty = { false };
-
     #[inline(always)]
     fn reserve(&mut self, n: usize) -> Result<(), AllocError> {
         SmallVec::reserve(self, n)
@@ -53,8 +48,6 @@ impl<K, L: Sink<K>> Sink<K> for &mut L {
     ghost items = { λ list. L.items list.now };
 
     ghost room = { λ list. L.room list.now };
-
-    ghost began_empty = { true };
 
     #[inline(always)]
     fn reserve(&mut self, n: usize) -> Result<(), AllocError> {

@@ -1,10 +1,11 @@
 //! A merge that copies what is taken into a list.
-ghost use Rattle.std.specs.Prelude.{◌≡◌, ℕ, ◌+◌, ◌*◌, ◌^◌, ◌<◌, ◌≤◌, Bool, true, false, [], length, All, IsOk, IfOk};
+ghost use Rattle.std.specs.Prelude.{◌≡◌, ℕ, ◌+◌, ◌*◌, ◌^◌, ◌<◌, ◌≤◌, Bool, true, false, [], length, map, All, IsOk, IfOk};
 ghost use Rattle.range_merge.specs.Boundaries.{IsAscending};
-ghost use Rattle.range_merge.specs.Changes.{changes};
-ghost use Rattle.range_merge.specs.Copies.{AreCopies, StandsFor};
+ghost use Rattle.range_merge.specs.Changes.{changes, from_left};
+ghost use Rattle.range_merge.specs.Copies.{AreCopies, AreKeptThenCopies};
 ghost use Rattle.range_merge.specs.Counting.{AddsAtMost};
 ghost use Rattle.range_merge.specs.Runs.{weight};
+ghost use Rattle.range_merge.specs.States.{HasRoomForAll};
 
 use crate::compare::{Compare, Copier};
 use crate::merge_state::sink::{Sink, append_copies};
@@ -26,6 +27,8 @@ pub struct SmallVecMergeState<'a, K, P: Copier<K>, const M: usize, L: Sink<K> = 
     ac: bool,
     bc: bool,
     r: L,
+    // How many items `r` had at first.
+    began: usize,
     copier: &'a P,
 }
 
@@ -40,22 +43,29 @@ impl<'a, K, P: Copier<K>, const M: usize, L: Sink<K>> Model for SmallVecMergeSta
       left_on = s.ac;
       right_on = s.bc;
       items = L.items s.r;
+      began = s.began;
       room = L.room s.r;
     } };
 }
 
 impl<'a, K: MadeWith<Global> + Drop, P: Copier<K>, const M: usize> SmallVecMergeState<'a, K, P, M> {
-    /// All items of both slices unread, both sides off, and the items of `r` as what was taken so far.
+    /// All items of both slices unread, both sides off, and the items of `r` as what was taken so far, from the left.
+    ///
+    /// Copies of what is taken are appended to them. No advance is refused where the items of `r` and those of both slices together are at most `M`, and no copy is refused. It takes no memory.
     pub fn new(a: &'a [K], b: &'a [K], r: SmallVec<K, M>, copier: &'a P) -> Self
         ensures left { result.left ≡ a.now }
         ensures right { result.right ≡ b.now }
         ensures left_on { result.left_on ≡ false }
         ensures right_on { result.right_on ≡ false }
         ensures items { result.items ≡ r.items }
+        ensures began { result.began ≡ length r.items }
+        ensures output { AreKeptThenCopies P.alike result.began (map from_left r.items) result.items }
         ensures at_least_inline { M ≤ result.room }
+        ensures sure { length r.items + length a.now + length b.now ≤ M → All P.is_sure a.now → All P.is_sure b.now → HasRoomForAll P.is_sure result }
     {
         let _inline = r.capacity();
-        Self::over(a, b, r, copier)
+        let began = r.len();
+        Self::over(a, b, r, began, copier)
     }
 
     /// Fills the empty list `r` with copies of the items at which the connective of `op` changes between two strictly sorted lists.
@@ -81,7 +91,7 @@ impl<'a, K: MadeWith<Global> + Drop, P: Copier<K>, const M: usize> SmallVecMerge
         let alloc = *r.allocator();
         let _inline = r.capacity();
         let mut state = SmallVecMergeState::<K, P, M, &mut SmallVec<K, M>>::over(
-            a, b, &mut r, copier,
+            a, b, &mut r, 0, copier,
         );
         let _went_through = merging::merge(&mut state, op, cmp)?;
         Ok(mem::replace(state.r, SmallVec::new(alloc)))
@@ -96,12 +106,13 @@ impl<'a, K, P: Copier<K>, const M: usize, L: Sink<K>> SmallVecMergeState<'a, K, 
         self.r
     }
 
-    fn over(a: &'a [K], b: &'a [K], r: L, copier: &'a P) -> Self
+    fn over(a: &'a [K], b: &'a [K], r: L, began: usize, copier: &'a P) -> Self
         ensures left { result.left ≡ a.now }
         ensures right { result.right ≡ b.now }
         ensures left_on { result.left_on ≡ false }
         ensures right_on { result.right_on ≡ false }
         ensures items { result.items ≡ L.items r }
+        ensures began { result.began ≡ began }
         ensures room { result.room ≡ L.room r }
     {
         SmallVecMergeState {
@@ -110,6 +121,7 @@ impl<'a, K, P: Copier<K>, const M: usize, L: Sink<K>> SmallVecMergeState<'a, K, 
             ac: false,
             bc: false,
             r,
+            began,
             copier,
         }
     }
@@ -150,11 +162,13 @@ impl<'a, K, P: Copier<K>, const M: usize, L: Sink<K>> MergeStateMut
 
     ghost right_on = { λ s. s.right_on };
 
-    ghost output = { λ s ts. AreCopies (StandsFor L.began_empty P.alike) ts s.items };
+    ghost output = { λ s ts. AreKeptThenCopies P.alike s.began ts s.items };
+
+    ghost began = { λ s. s.began };
 
     ghost can_stop = { false };
 
-    ghost sure = { λ s. (length s.items + length s.left + length s.right ≤ s.room) × All P.is_sure s.left × All P.is_sure s.right };
+    ghost sure = { λ s. HasRoomForAll P.is_sure s };
 
     #[inline(always)]
     fn advance_a(&mut self, n: usize, take: bool) -> Result<bool, AllocError> {

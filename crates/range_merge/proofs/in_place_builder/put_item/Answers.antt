@@ -1,4 +1,4 @@
-use Rattle.std.proofs.Common.{◌≡◌, ◌+◌, ◌-◌, ◌++◌, ◌∷◌, [], length, take, drop, reverse, arith, ap, sym, ◌∙◌}
+use Rattle.std.proofs.Common.{◌≡◌, ◌+◌, arith}
 use Rattle.range_merge.proofs.BuildingLemmas.{take-put, unread_in-put}
 use Rattle.range_merge.proofs.in_place_builder.put_item.Goals as goal
 

@@ -1,4 +1,4 @@
-use Rattle.std.proofs.Common.{◌≤◌, length, rules, arith}
+use Rattle.std.proofs.Common.{◌≤◌, length, arith}
 use Rattle.range_merge.proofs.BuildingLemmas.{unread_in-skip}
 use Rattle.range_merge.proofs.in_place_builder.skip_items.Goals as goal
 

@@ -16,6 +16,7 @@ loop-run-init g c = record {
     none_done = λ can. refl;
   };
   counted = (omega arith, omega arith);
+  began = refl;
   still_sure = λ sure. sure;
 }
 
@@ -65,6 +66,7 @@ loop-run-preserved g c =
           rw (left, right, c.in_ok-take_run.ensures.left_on, c.in_ok-take_run.ensures.right_on)
           (Progress-step c.in-Some.run' _ first so_far.progress goes_on c.in_ok-take_run.ensures.output);
       counted = rw (left, right) (omega (arith, first.weighs, c.in-Some.ensures.comparisons), omega (arith, first.weighs, c.in-Some.ensures.comparisons));
+      began = c.in_ok-take_run.ensures.began ∙ so_far.began;
       still_sure = search rules;
     }
 

@@ -1,4 +1,4 @@
-use Rattle.std.proofs.Common.{◌+◌, ◌*◌, ◌^◌, ◌<◌, ◌≤◌, length}
+use Rattle.std.proofs.Common.{◌≡◌, ◌+◌, ◌*◌, ◌^◌, ◌<◌, ◌≤◌, length}
 use Rattle.range_merge.specs.Boundaries.{IsAscending}
 use Rattle.range_merge.specs.Runs.{weight}
 use Rattle.range_merge.proofs.MergeLoop.{Progress}
@@ -20,6 +20,7 @@ invariant-loop-run g l =
           (state.left_on now) (state.right_on now) (state.output was) (state.output now) state.can_stop;
       counted : (g.C.Compare.count l.initial.cmp ≤ g.C.Compare.count l.cmp)
           × (g.C.Compare.count l.cmp + 2 * weight order (left now) (right now) ≤ g.C.Compare.count l.initial.cmp + 2 * weight order (left was) (right was));
+      began : state.began now ≡ state.began was;
       still_sure : state.sure was → state.sure now;
     }
 

@@ -1,4 +1,4 @@
-use Rattle.std.proofs.Common.{◌≡◌, ◌+◌, ◌<◌, ◌∙◌, arith}
+use Rattle.std.proofs.Common.{◌+◌, ◌<◌, ◌∙◌, arith}
 use Rattle.std.proofs.lemmas.List.Edits.{length-swap}
 use Rattle.range_merge.proofs.Moves.{take-in_place, move_down-more}
 use Rattle.range_merge.proofs.place.move_down.Goals as goal

@@ -1,12 +1,7 @@
-use Rattle.std.proofs.Common.{◌≡◌, ℕ, false, List, refl}
-use Rattle.std.specs.Str.{bytes_eq}
-use Rattle.std.proofs.lemmas.Bool.{false_from_ne_true}
-use Rattle.std.proofs.lemmas.Slice.Eq.{bytes_eq-Decides}
+use Rattle.std.proofs.Common.{refl}
 use Rattle.range_calc.specs.Words.{two_lists}
+use Rattle.range_calc.proofs.Queries.{bytes_eq-false}
 use Rattle.range_calc.proofs.commands.TwoLists.named.Goals as goal
-
-bytes_eq-false : (word other : List ℕ) → (word ≡ other → ⊥) → bytes_eq word other ≡ false
-bytes_eq-false word other h = false_from_ne_true (bytes_eq word other) (λ e. h ((bytes_eq-Decides word other).0 e))
 
 pub returns-in-union : goal.returns-in-union
 unfolding two_lists

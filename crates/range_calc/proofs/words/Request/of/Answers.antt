@@ -6,4 +6,5 @@ use Rattle.range_calc.proofs.words.Request.of.Goals as goal
 
 pub returns-in_default : goal.returns-in_default
 returns-in_default c =
-    query_of-other_number (texts c.args.words.now) (λ e. omega (arith, c.in_default, length-map c.args.words.now string_bytes))
+    let same = length-map c.args.words.now string_bytes in
+    query_of-other_number (texts c.args.words.now) (λ e. omega (arith, c.in_default, same)) (λ e. omega (arith, c.in_default, same))

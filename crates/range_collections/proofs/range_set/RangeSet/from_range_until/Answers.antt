@@ -27,7 +27,7 @@ pub returns-clause-members : goal.returns-clause-members
 returns-clause-members g c =
     let entry = g.T.RangeSetEntry in
     λ x v.
-    rw (c.new_unchecked.ensures ∙ c.in_ok-two_items.ensures.items)
+    rw (c.new_unchecked.ensures, c.in_ok-two_items.ensures.items)
     (member-until g.met.T.Ord.total entry.is_value entry.least g.met.T.RangeSetEntry.least_is_value g.met.T.RangeSetEntry.least_is_least
     c.in_ok-least.least c.args.range.end x c.in_ok-least.ensures.least c.known.ensures
     (λ e. true≢false (sym (c.is_min_value.ensures.1 e) ∙ c.if-is_min_value.false)) v)

@@ -1,4 +1,4 @@
-use Rattle.std.proofs.Common.{◌≡◌, [], reverse, sym, ap, ◌∙◌}
+use Rattle.std.proofs.Common.{◌≡◌, reverse, sym, ap, ◌∙◌}
 use Rattle.std.proofs.lemmas.List.{reverse-reverse}
 use Rattle.range_merge.specs.Changes.{taken_items, changes}
 use Rattle.range_merge.proofs.TakenInPlace.{whole-output}

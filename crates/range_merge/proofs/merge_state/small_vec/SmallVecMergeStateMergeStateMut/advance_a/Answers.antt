@@ -1,10 +1,10 @@
-use Rattle.range_merge.proofs.CopiesLemmas.{AreCopies-left, sure_after_left}
+use Rattle.range_merge.proofs.CopiesLemmas.{AreKeptThenCopies-left, sure_after_left}
 use Rattle.range_merge.proofs.merge_state.small_vec.SmallVecMergeStateMergeStateMut.advance_a.Goals as goal
 
 pub returns-clause-output : goal.returns-clause-output
 returns-clause-output g c =
     rw (← c.self.view_is) (λ before holds.
-    AreCopies-left g.P.Copier.alike g.P.Copier.is_sure _ c.args.take c.args.n c.self.inside.a _ _ _ before c.take_front-front.ensures.front c.in_ok-append_copies.ensures.copied holds)
+    AreKeptThenCopies-left g.P.Copier.alike g.P.Copier.is_sure _ c.args.take c.args.n c.self.inside.a _ _ _ before c.take_front-front.ensures.front c.in_ok-append_copies.ensures.copied holds)
 
 pub returns-clause-still_sure : goal.returns-clause-still_sure
 returns-clause-still_sure g c =

@@ -2,7 +2,7 @@ use Rattle.std.proofs.Common.{◌≡◌, true, false, length, ap, ◌∙◌, ari
 use Rattle.std.proofs.lemmas.Bool.{false≢true}
 use Rattle.std.proofs.lemmas.List.{length-take-le}
 use Rattle.std.proofs.lemmas.List.Elements.{All-take}
-use Rattle.range_merge.proofs.CopiesLemmas.{AreCopies-left, sure_after_both}
+use Rattle.range_merge.proofs.CopiesLemmas.{AreKeptThenCopies-left, sure_after_both}
 use Rattle.range_merge.proofs.merge_state.small_vec.SmallVecMergeStateMergeStateMut.advance_both.Goals as goal
 
 pub returns-in_err-append_copies-clause-succeeds : goal.returns-in_err-append_copies-clause-succeeds
@@ -17,7 +17,7 @@ returns-in_err-append_copies-clause-succeeds g c =
 pub returns-clause-output : goal.returns-clause-output
 returns-clause-output g c =
     rw (← c.self.view_is) (λ before holds.
-    AreCopies-left g.P.Copier.alike g.P.Copier.is_sure _ c.args.take 1 c.self.inside.a _ _ _ before c.take_front-front.ensures.front c.in_ok-append_copies.ensures.copied holds)
+    AreKeptThenCopies-left g.P.Copier.alike g.P.Copier.is_sure _ c.args.take 1 c.self.inside.a _ _ _ before c.take_front-front.ensures.front c.in_ok-append_copies.ensures.copied holds)
 
 pub returns-clause-still_sure : goal.returns-clause-still_sure
 returns-clause-still_sure g c =

@@ -1,0 +1,71 @@
+//! A number with a flag, ordered by the number alone, whose clone is refused where the flag is set.
+ghost use Rattle.std.specs.Prelude.{◌≡◌, false};
+ghost use Rattle.std.proofs.Common.{rules};
+ghost use Rattle.std.specs.Cmp.{partial_order_from_own_ties};
+ghost use Rattle.std.specs.Cmp.Rules.{comparing};
+ghost use Rattle.std.specs.Ordering.{int_cmp, int_eq, on, as_partial_cmp};
+
+use range_entry::EntryClone;
+use std::alloc::AllocError;
+use std::cmp::Ordering;
+
+#[derive(Clone, Copy, Default)]
+pub(crate) struct Flagged {
+    pub(crate) number: i64,
+    flag: bool,
+}
+
+// The number, with its flag set or not.
+pub(crate) fn with_flag(number: i64, flag: bool) -> Flagged {
+    Flagged { number, flag }
+}
+
+impl PartialEq for Flagged {
+    ghost eq = { on (λ item. item.number) int_eq };
+
+    ghost laws = { Prim.search (comparing, rules) };
+
+    fn eq(&self, other: &Flagged) -> bool {
+        self.number == other.number
+    }
+}
+
+impl Eq for Flagged {
+    ghost laws = { Prim.search (comparing, rules) };
+}
+
+impl Ord for Flagged {
+    ghost cmp = { on (λ item. item.number) int_cmp };
+
+    ghost total = { Prim.search (comparing, rules) };
+
+    ghost matches_partial_cmp = { Prim.search (comparing, rules) };
+
+    ghost matches_eq = { Prim.search (comparing, rules) };
+
+    fn cmp(&self, other: &Flagged) -> Ordering {
+        self.number.cmp(&other.number)
+    }
+}
+
+impl PartialOrd for Flagged {
+    ghost partial_cmp = { as_partial_cmp (on (λ item. item.number) int_cmp) };
+
+    ghost laws = { partial_order_from_own_ties (Prim.search (comparing, rules)) (Prim.search (comparing, rules)) };
+
+    fn partial_cmp(&self, other: &Flagged) -> Option<Ordering> {
+        Some(self.cmp(other))
+    }
+}
+
+impl EntryClone for Flagged {
+    ghost is_sure = { λ item. item.flag ≡ false };
+
+    fn entry_clone(&self) -> Result<Flagged, AllocError> {
+        if self.flag {
+            Err(AllocError)
+        } else {
+            Ok(*self)
+        }
+    }
+}

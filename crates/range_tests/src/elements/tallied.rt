@@ -1,0 +1,84 @@
+//! A number that adds one to a tally whenever it is compared.
+ghost use Rattle.std.specs.Prelude.{◌≡◌, ⊤, Ok};
+ghost use Rattle.std.proofs.Common.{rules};
+ghost use Rattle.std.specs.Cmp.{partial_order_from_own_ties};
+ghost use Rattle.std.specs.Cmp.Rules.{comparing};
+ghost use Rattle.std.specs.Ordering.{int_cmp, int_eq, on, as_partial_cmp};
+
+use range_entry::EntryClone;
+use std::alloc::AllocError;
+use std::cell::Cell;
+use std::cmp::Ordering;
+
+// The order looks at the number alone. A blank has no tally.
+#[derive(Clone, Copy, Default)]
+pub(crate) struct Tallied<'t> {
+    number: i64,
+    tally: Option<&'t Cell<u128>>,
+}
+
+// The number, with the tally to add to.
+pub(crate) fn with_tally<'t>(number: i64, tally: &'t Cell<u128>) -> Tallied<'t> {
+    Tallied {
+        number,
+        tally: Some(tally),
+    }
+}
+
+impl<'t> Tallied<'t> {
+    // Adds one to the tally.
+    fn count(&self) {
+        if let Some(tally) = self.tally {
+            tally.set(tally.get().saturating_add(1));
+        }
+    }
+}
+
+impl<'t> PartialEq for Tallied<'t> {
+    ghost eq = { on (λ item. item.number) int_eq };
+
+    ghost laws = { Prim.search (comparing, rules) };
+
+    fn eq(&self, other: &Self) -> bool {
+        self.count();
+        self.number == other.number
+    }
+}
+
+impl<'t> Eq for Tallied<'t> {
+    ghost laws = { Prim.search (comparing, rules) };
+}
+
+impl<'t> Ord for Tallied<'t> {
+    ghost cmp = { on (λ item. item.number) int_cmp };
+
+    ghost total = { Prim.search (comparing, rules) };
+
+    ghost matches_partial_cmp = { Prim.search (comparing, rules) };
+
+    ghost matches_eq = { Prim.search (comparing, rules) };
+
+    fn cmp(&self, other: &Self) -> Ordering {
+        self.count();
+        self.number.cmp(&other.number)
+    }
+}
+
+impl<'t> PartialOrd for Tallied<'t> {
+    ghost partial_cmp = { as_partial_cmp (on (λ item. item.number) int_cmp) };
+
+    ghost laws = { partial_order_from_own_ties (Prim.search (comparing, rules)) (Prim.search (comparing, rules)) };
+
+    fn partial_cmp(&self, other: &Self) -> Option<Ordering> {
+        self.count();
+        Some(self.number.cmp(&other.number))
+    }
+}
+
+impl<'t> EntryClone for Tallied<'t> {
+    ghost is_sure = { λ _. ⊤ };
+
+    fn entry_clone(&self) -> Result<Self, AllocError> {
+        Ok(*self)
+    }
+}

@@ -1,0 +1,47 @@
+//! Tests of the crates below: worked rows, element types of their own, and calls that find no memory.
+#![tactic(auto)]
+
+#[cfg(test)]
+mod calls;
+#[cfg(test)]
+mod changed;
+#[cfg(test)]
+mod contains;
+#[cfg(test)]
+mod counted;
+#[cfg(test)]
+mod elements;
+#[cfg(test)]
+mod entries;
+#[cfg(test)]
+mod flags;
+#[cfg(test)]
+mod given;
+#[cfg(test)]
+mod in_place;
+#[cfg(test)]
+mod json;
+#[cfg(test)]
+mod merging;
+#[cfg(test)]
+mod numbers;
+#[cfg(test)]
+mod operations;
+#[cfg(test)]
+mod operators;
+#[cfg(test)]
+mod parts;
+#[cfg(test)]
+mod questions;
+#[cfg(test)]
+mod ranges;
+#[cfg(test)]
+mod refusals;
+#[cfg(test)]
+mod searching;
+#[cfg(test)]
+mod starved;
+#[cfg(test)]
+mod tally;
+#[cfg(test)]
+mod values;
