@@ -62,6 +62,10 @@ fn contains_at_the_ends(rt: HostRuntime) {
     assert!(rt; has(&[255u8], &255) == Some(true));
     assert!(rt; has(&[255u8], &254) == Some(false));
     assert!(rt; has(&[u128::MAX], &u128::MAX) == Some(true));
+    assert!(rt; has(&[0i64, 10], &0) == Some(true));
+    assert!(rt; has(&[0i64, 10], &1) == Some(true));
+    assert!(rt; has(&[0i64, 10], &9) == Some(true));
+    assert!(rt; has(&[0i64, 10], &10) == Some(false));
     assert!(rt; has(&[from_end(255), from_end(250)], &from_end(251)) == Some(true));
     assert!(rt; has(&[from_end(255), from_end(250)], &from_end(250)) == Some(false));
     assert!(rt; matches!(RangeSetRef::new(&[255u8]), Some(set) if !set.is_empty()));
@@ -107,4 +111,5 @@ fn sets_of_nothing(rt: HostRuntime) {
 fn lists_come_back(rt: HostRuntime) {
     assert!(rt; gives_back(rt.alloc(), &[0, 10]));
     assert!(rt; gives_back(rt.alloc(), &[0, 10, 20]));
+    assert!(rt; gives_back(rt.alloc(), &[]));
 }

@@ -6,7 +6,7 @@ use std::alloc::{AllocError, Global};
 use std::test::Fail;
 
 // The right side, with the flag set at its item of this place.
-fn flagged_at(place: usize) -> [Flagged; 4] {
+pub(crate) fn flagged_at(place: usize) -> [Flagged; 4] {
     [
         with_flag(1, place == 0),
         with_flag(3, place == 1),
@@ -24,7 +24,7 @@ fn are(made: Result<RangeSet<Flagged, 8>, AllocError>, want: Option<&[i64]>) -> 
     }
 }
 
-fn numbers_are(items: &[Flagged], want: &[i64]) -> bool {
+pub(crate) fn numbers_are(items: &[Flagged], want: &[i64]) -> bool {
     items.len() == want.len()
         && items
             .iter()

@@ -10,17 +10,23 @@ mod contains;
 #[cfg(test)]
 mod counted;
 #[cfg(test)]
+mod counted_merges;
+#[cfg(test)]
 mod elements;
 #[cfg(test)]
 mod entries;
 #[cfg(test)]
 mod flags;
 #[cfg(test)]
+mod flags_of_changes;
+#[cfg(test)]
 mod given;
 #[cfg(test)]
 mod in_place;
 #[cfg(test)]
 mod json;
+#[cfg(test)]
+mod letters;
 #[cfg(test)]
 mod merging;
 #[cfg(test)]
@@ -38,10 +44,20 @@ mod ranges;
 #[cfg(test)]
 mod refusals;
 #[cfg(test)]
+mod refusals_in_place;
+#[cfg(test)]
+mod refusals_of_copies;
+#[cfg(test)]
+mod refusals_of_lists;
+#[cfg(test)]
 mod searching;
+#[cfg(test)]
+mod smoke;
 #[cfg(test)]
 mod starved;
 #[cfg(test)]
 mod tally;
+#[cfg(test)]
+mod tally_of_changes;
 #[cfg(test)]
 mod values;

@@ -189,7 +189,10 @@ fn tells_whether_anything_is_taken(rt: HostRuntime) {
 fn states_are_merged(rt: HostRuntime) {
     // The list holds something already, and the merge appends to it.
     assert!(rt; list_state_gives(rt.alloc(), &[-1], &[0, 10], &[20], &[-1, 0, 10, 20]));
+    assert!(rt; list_state_gives(rt.alloc(), &[], &[0, 10], &[20], &[0, 10, 20]));
     assert!(rt; testing_state_gives(&[0, 10], &[20], &IntersectionOp, (true, false)));
+    assert!(rt; testing_state_gives(&[0, 5], &[0, 10], &DiffOp, (true, false)));
+    assert!(rt; testing_state_gives(&[0, 5], &[0, 10], &UnionOp, (false, true)));
     assert!(rt; testing_state_gives(&[0, 10], &[20], &UnionOp, (false, true)));
 }
 

@@ -69,6 +69,21 @@ fn set_operations_refuse(starved: &mut Starved, a: &RangeSet2<i64>, b: &RangeSet
         )
 }
 
+// The same of the operators, with a set to the left that is lent, and one that is handed over.
+fn operators_refuse(
+    alloc: Global,
+    starved: &mut Starved,
+    a: &RangeSet2<i64>,
+    b: &RangeSet2<i64>,
+) -> bool {
+    let all = &[0, 10, 20, 30, 40];
+    starved.refuses_in_turn(|| Some(()), |()| set_is(a | b, all))
+        && starved.refuses_in_turn(|| Some(()), |()| set_is(a ^ b, all))
+        && starved.refuses_in_turn(|| Some(()), |()| set_is(b - a, &[20, 30, 40]))
+        && starved.refuses_in_turn(|| Some(()), |()| set_is(b & b, &[20, 30, 40]))
+        && starved.refuses_in_turn(|| set_of(alloc, &[0, 10]), |left| set_is(left | b, all))
+}
+
 // Whether a clone of a set, and its negation in both forms, are refused in turn.
 fn copies_refuse(alloc: Global, starved: &mut Starved, set: &RangeSet2<i64>) -> bool {
     starved.refuses_in_turn(|| Some(()), |()| set_is(set.clone(), &[20, 30, 40]))
@@ -119,6 +134,7 @@ fn operations_of_sets(rt: HostRuntime) -> Result<(), Fail> {
     let b = set_of(alloc, &[20, 30, 40]).ok_or("sorted")?;
     let mut starved = Starved::new(alloc)?;
     assert!(rt; set_operations_refuse(&mut starved, &a, &b));
+    assert!(rt; operators_refuse(alloc, &mut starved, &a, &b));
     assert!(rt; copies_refuse(alloc, &mut starved, &b));
     Ok(())
 }

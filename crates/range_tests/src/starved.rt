@@ -121,4 +121,25 @@ impl Starved {
         }
         last == Answer::Right
     }
+
+    // Whether one byte is refused where no room is left.
+    fn refuses_a_byte(&mut self) -> bool {
+        let alloc = self.alloc;
+        let refused = self.answer(
+            0,
+            (),
+            &|()| match Vec::<u8>::with_capacity(alloc, 1) {
+                Ok(_) => Answer::Right,
+                Err(_) => Answer::Refused,
+            },
+        );
+        refused == Answer::Refused
+    }
+
+    // Whether the call gives the answer with ample memory where each request is refused.
+    pub(crate) fn is_right_without_memory<F: Fn(()) -> Answer>(&mut self, call: F) -> bool
+        requires calls { F.IsAlwaysCallable call }
+    {
+        self.refuses_a_byte() && self.answer(0, (), &call) == Answer::Right
+    }
 }

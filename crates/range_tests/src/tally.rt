@@ -12,14 +12,17 @@ use std::test::Fail;
 
 // Two views, and the tally of their elements.
 #[derive(Drop)]
-struct Pair<'a> {
-    left: RangeSetRef<'a, Tallied<'a>>,
-    right: RangeSetRef<'a, Tallied<'a>>,
-    tally: &'a Cell<u128>,
+pub(crate) struct Pair<'a> {
+    pub(crate) left: RangeSetRef<'a, Tallied<'a>>,
+    pub(crate) right: RangeSetRef<'a, Tallied<'a>>,
+    pub(crate) tally: &'a Cell<u128>,
 }
 
 // What the tally stands at, where a set was made.
-fn cost(tally: &Cell<u128>, made: Result<RangeSet2<Tallied>, AllocError>) -> Option<u128> {
+pub(crate) fn cost(
+    tally: &Cell<u128>,
+    made: Result<RangeSet2<Tallied>, AllocError>,
+) -> Option<u128> {
     match made {
         Ok(_) => Some(tally.get()),
         Err(_) => None,
@@ -73,7 +76,7 @@ fn plain_costs(alloc: Global, pair: &Pair) -> [Option<u128>; 4] {
 }
 
 // What each of their counted forms raises it by.
-fn counted_costs(alloc: Global, pair: &Pair) -> [Option<u128>; 4] {
+pub(crate) fn counted_costs(alloc: Global, pair: &Pair) -> [Option<u128>; 4] {
     [
         merge_cost(alloc, pair, &UnionOp),
         merge_cost(alloc, pair, &IntersectionOp),
@@ -126,7 +129,7 @@ fn costs_agree(alloc: Global, pair: &Pair) -> bool {
 }
 
 // Whether each is there.
-fn all_are_some(costs: &[Option<u128>]) -> bool {
+pub(crate) fn all_are_some(costs: &[Option<u128>]) -> bool {
     costs.iter().all(|cost| cost.is_some())
 }
 
@@ -168,7 +171,7 @@ fn cutting_agrees<'a>(
 }
 
 // The numbers, with the tally.
-fn tallied<'t>(
+pub(crate) fn tallied<'t>(
     alloc: Global,
     numbers: &[i64],
     tally: &'t Cell<u128>,

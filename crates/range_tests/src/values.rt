@@ -76,6 +76,11 @@ fn is_everything<T: RangeSetEntry>(items: &[T]) -> Option<bool> {
     Some(RangeSetRef::new(items)?.is_all())
 }
 
+// Whether the set, if it was made, has every value.
+fn set_is_everything<T: RangeSetEntry + Drop>(set: Option<RangeSet2<T>>) -> Option<bool> {
+    Some(set?.is_all())
+}
+
 #[test]
 fn negation(rt: HostRuntime) {
     let alloc = rt.alloc();
@@ -163,4 +168,7 @@ fn sets_of_every_value(rt: HostRuntime) {
     assert!(rt; is_everything(&[0u8]) == Some(true));
     assert!(rt; is_everything(&[0u8, 5]) == Some(false));
     assert!(rt; is_everything::<u8>(&[]) == Some(false));
+    assert!(rt; set_is_everything(set_of(rt.alloc(), &[0u8])) == Some(true));
+    assert!(rt; set_is_everything(set_of(rt.alloc(), &[0u8, 5])) == Some(false));
+    assert!(rt; set_is_everything(set_of::<u8>(rt.alloc(), &[])) == Some(false));
 }
