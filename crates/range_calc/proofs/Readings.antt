@@ -29,13 +29,13 @@ first_bad-numbers d zs e = rw (position_or_len-numbers (items_in d) zs e, le-ltb
 
 module _ (text : List ℕ) (d : Data) (reads : read text ≡ Some d) where
   pub unreadable-not_array : as_array d ≡ None → ¬ (IsReadable (json text))
-  unreadable-not_array none (items, (value, is, array, reading)) =
+  unreadable-not_array none (items, (value, is, reading)) =
       let same : value ≡ d = cc in
-      let some : IsSome (as_array d) = rw same at array in
+      let some : IsSome (as_array d) = rw same at reading.is_array in
       true≢false (sym some ∙ ap is_some none)
 
   pub unreadable-not_integer : (i : ℕ) → first_bad d ≡ Some i → ¬ (IsReadable (json text))
-  unreadable-not_integer i bad (items, (value, is, array, reading)) =
+  unreadable-not_integer i bad (items, (value, is, reading)) =
       let same : value ≡ d = cc in
       let none : first_bad value ≡ None = first_bad-numbers value reading.numbers reading.reads in
       cc

@@ -6,13 +6,12 @@
 --     IsReply query line             the line answers the query
 --     IsSorted query                 each list of the query is strictly sorted
 --     IsReadable query               a JSON text of the query holds a list
-use Rattle.std.specs.Prelude.{◌≡◌, ◌↔◌, ℕ, ℤ, Bool, IsTrue, IsSome, List, ◌∷◌, ◌++◌, Some, All, FitsSigned}
+use Rattle.std.specs.Prelude.{◌≡◌, ◌↔◌, ℕ, ℤ, Bool, IsTrue, List, ◌∷◌, ◌++◌, Some, All, FitsSigned}
 use Rattle.std.specs.Int.{w64}
 use Rattle.std.specs.Fmt.{signed_decimal}
 use Rattle.std.specs.Ordering.{int_cmp}
 use Rattle.serde_json.specs.Data.{Data}
 use Rattle.serde_json.specs.Read.{read}
-use Rattle.serde_json.specs.Find.{as_array}
 use Rattle.range_merge.specs.Boundaries.{IsAscending, member}
 use Rattle.range_merge.specs.Connective.{Table, Means, union_table, intersection_table, difference_table, symmetric_difference_table}
 use Rattle.range_collections.specs.Json.{IsReadingOf}
@@ -38,7 +37,7 @@ IsNegationLine a line =
 
 -- the JSON text is an array of whole numbers of i64, and the items are the distinct ones in order
 abbrev pub HoldsItems : List ℕ → List ℤ → Type 0
-HoldsItems text items = (value : Data) × (read text ≡ Some value) × IsSome (as_array value) × IsReadingOf value items
+HoldsItems text items = (value : Data) × (read text ≡ Some value) × IsReadingOf value items
 
 -- the line is the text of the list that the JSON text holds
 abbrev pub IsReadingLine : List ℕ → List ℕ → Type 0

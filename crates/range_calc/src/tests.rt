@@ -1,4 +1,5 @@
 //! Words, the lines that answer them, and their statuses.
+mod refusals;
 mod rows;
 mod writers;
 

@@ -5,7 +5,7 @@ use std::process::Abort;
 use std::test::Fail;
 
 /// Commands with two lists: the words joined by single spaces, the line that answers them, and the status.
-const LISTS: [(&str, &str, Status); 31] = [
+const LISTS: [(&str, &str, Status); 32] = [
     ("union 0,10 20", "0,10,20\n", Status::Answered),
     ("union 0,5 5,10", "0,10\n", Status::Answered),
     ("union 0,10 5,15", "0,15\n", Status::Answered),
@@ -14,6 +14,7 @@ const LISTS: [(&str, &str, Status); 31] = [
     ("union 0,10 -", "0,10\n", Status::Answered),
     ("union +5 -", "5\n", Status::Answered),
     ("union -0,1 -", "0,1\n", Status::Answered),
+    ("union -0 -", "0\n", Status::Answered),
     ("union - 007", "7\n", Status::Answered),
     ("union - -", "-\n", Status::Answered),
     (
