@@ -1,6 +1,6 @@
 //! Of two equal boundaries the left side's stays: the operators and the changes in place, over numbers with letters.
 use crate::elements::{Lettered, letters_are, with_letter};
-use range_collections::RangeSet2;
+use range_collections::{Comparisons, RangeSet2, UnionOp};
 use smallvec::SmallVec;
 use std::alloc::{AllocError, Global};
 
@@ -30,6 +30,62 @@ fn operators_give(left: &RangeSet2<Lettered>, right: &RangeSet2<Lettered>) -> bo
         && are(left & right, &[(1, b'a'), (5, b'a')])
         && are(left - right, &[])
         && are(left ^ right, &[(5, b'a'), (9, b'b')])
+}
+
+// Whether `|` answers so with the right side owned, with the left one, and with both.
+fn unites_with_owned_right(alloc: Global) -> bool {
+    let Some((left, right)) = both(alloc) else {
+        return false;
+    };
+    are(&left | right, &[(1, b'a'), (9, b'b')])
+}
+
+fn unites_with_owned_left(alloc: Global) -> bool {
+    let Some((left, right)) = both(alloc) else {
+        return false;
+    };
+    are(left | &right, &[(1, b'a'), (9, b'b')])
+}
+
+fn unites_owned_sides(alloc: Global) -> bool {
+    let Some((left, right)) = both(alloc) else {
+        return false;
+    };
+    are(left | right, &[(1, b'a'), (9, b'b')])
+}
+
+// Whether a union in place answers so, plain and counted, with the right side lent and owned.
+fn unites_lent(alloc: Global) -> bool {
+    let Some((mut left, right)) = both(alloc) else {
+        return false;
+    };
+    left.union_with(right.as_ref()).is_ok()
+        && letters_are(left.boundaries(), &[(1, b'a'), (9, b'b')])
+}
+
+fn unites_owned(alloc: Global) -> bool {
+    let Some((mut left, right)) = both(alloc) else {
+        return false;
+    };
+    left.bitor_assign(right).is_ok() && letters_are(left.boundaries(), &[(1, b'a'), (9, b'b')])
+}
+
+fn merges_lent(alloc: Global) -> bool {
+    let Some((mut left, right)) = both(alloc) else {
+        return false;
+    };
+    left.merge_ref(right.as_ref(), &UnionOp, &mut Comparisons::new())
+        .is_ok()
+        && letters_are(left.boundaries(), &[(1, b'a'), (9, b'b')])
+}
+
+fn merges_owned(alloc: Global) -> bool {
+    let Some((mut left, right)) = both(alloc) else {
+        return false;
+    };
+    left.merge_owned(right, &UnionOp, &mut Comparisons::new())
+        .is_ok()
+        && letters_are(left.boundaries(), &[(1, b'a'), (9, b'b')])
 }
 
 // Whether an intersection in place, with the right side lent and owned, is the left list.
@@ -68,6 +124,18 @@ fn alternates_owned(alloc: Global) -> bool {
 fn operators_keep_the_left_boundary(rt: HostRuntime) {
     let sets = both(rt.alloc());
     assert!(rt; matches!(&sets, Some((left, right)) if operators_give(left, right)));
+}
+
+#[test]
+fn unions_keep_the_left_boundary(rt: HostRuntime) {
+    let alloc = rt.alloc();
+    assert!(rt; unites_with_owned_right(alloc));
+    assert!(rt; unites_with_owned_left(alloc));
+    assert!(rt; unites_owned_sides(alloc));
+    assert!(rt; unites_lent(alloc));
+    assert!(rt; unites_owned(alloc));
+    assert!(rt; merges_lent(alloc));
+    assert!(rt; merges_owned(alloc));
 }
 
 #[test]

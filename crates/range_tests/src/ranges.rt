@@ -17,6 +17,11 @@ fn ends(range: &RangeSetRange<i64>) -> (Option<i64>, Option<i64>) {
     (start, end)
 }
 
+// Whether the range has no end.
+fn is_endless(range: &RangeSetRange<i64>) -> bool {
+    matches!(range.end_bound(), Bound::Unbounded)
+}
+
 // The ends of a range's copy, and of that one's clone.
 fn copied_ends(range: &RangeSetRange<&i64>) -> Option<[(Option<i64>, Option<i64>); 2]> {
     let copied = range.cloned().ok()?;
@@ -66,6 +71,8 @@ fn ranges_of_a_set(rt: HostRuntime) {
 fn ranges_from_ranges(rt: HostRuntime) {
     assert!(rt; ends(&RangeSetRange::from(2..5)) == (Some(2), Some(5)));
     assert!(rt; ends(&RangeSetRange::from(7..)) == (Some(7), None));
+    assert!(rt; is_endless(&RangeSetRange::from(7..)));
+    assert!(rt; !is_endless(&RangeSetRange::from(2..5)));
 }
 
 #[test]

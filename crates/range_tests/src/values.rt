@@ -1,5 +1,6 @@
 //! Sets made of ranges, every value, negation and clones, on types with and without a least number of 0.
 use crate::elements::{Back, Only, from_end};
+use crate::given::prints;
 use range_collections::{RangeSet, RangeSet2, RangeSetRef};
 use range_entry::{EntryClone, NonZeroU8, RangeSetEntry};
 use smallvec::SmallVec;
@@ -71,6 +72,17 @@ fn negates<T: RangeSetEntry + EntryClone + MadeWith<Global> + Drop>(
     }
 }
 
+// Whether the set from 10 on, with 1 to 5 taken in, has these boundaries and this text.
+fn takes_in(alloc: Global) -> Result<bool, AllocError> {
+    let mut set: RangeSet2<i32> = RangeSet::from_range_from(alloc, 10..)?;
+    let taken_in = set.bitor_assign(RangeSet::from_range(alloc, 1..5)?).is_ok();
+    Ok(
+        taken_in
+            && set.boundaries() == [1, 5, 10].as_slice()
+            && prints(alloc, &set, "RangeSet{1..5, 10..}"),
+    )
+}
+
 // Whether the view of these boundaries has every value.
 fn is_everything<T: RangeSetEntry>(items: &[T]) -> Option<bool> {
     Some(RangeSetRef::new(items)?.is_all())
@@ -128,6 +140,11 @@ fn ranges(rt: HostRuntime) {
 }
 
 #[test]
+fn a_range_is_taken_in(rt: HostRuntime) {
+    assert!(rt; takes_in(rt.alloc()) == Ok(true));
+}
+
+#[test]
 fn ranges_of_other_orders(rt: HostRuntime) {
     let alloc = rt.alloc();
     assert!(rt; gives(RangeSet::from_range(alloc, from_end(3)..from_end(5)), &[]));
@@ -161,6 +178,13 @@ fn every_value(rt: HostRuntime) {
     assert!(rt; gives(RangeSet::all(alloc), &[Only]));
     assert!(rt; gives(RangeSet::all(alloc), &[from_end(255)]));
     assert!(rt; matches!(NonZeroU8::new(1), Some(one) if gives(RangeSet::all(alloc), &[one])));
+}
+
+#[test]
+fn a_single_boundary(rt: HostRuntime) {
+    let from_7 = RangeSetRef::single(&7i64);
+    assert!(rt; from_7.boundaries() == [7].as_slice());
+    assert!(rt; from_7.contains(&7) && from_7.contains(&i64::MAX) && !from_7.contains(&6));
 }
 
 #[test]
