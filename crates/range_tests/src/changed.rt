@@ -1,5 +1,5 @@
-//! Sets that are changed in place: long lists, equal items, counters, and room for both sides.
-use crate::elements::{Lettered, letters_are, with_letter};
+//! Sets that are changed in place: long lists, counters, and room for both sides.
+use crate::forms::Operation;
 use crate::given::{numbers, set_of};
 use range_collections::{Comparisons, RangeSet, RangeSet2, RangeSetRange, RangeSetRef, UnionOp};
 use smallvec::SmallVec;
@@ -7,24 +7,39 @@ use std::alloc::{AllocError, Global};
 use std::ops::{Range, RangeFrom};
 use std::test::Fail;
 
-// Whether the union in place is this list, with the right side owned.
-fn unites_owned(alloc: Global, a: &[i64], b: &[i64], want: &[i64]) -> bool {
+// Whether the change in place is this list, with the right side owned.
+fn changes_owned(op: Operation, alloc: Global, a: &[i64], b: &[i64], want: &[i64]) -> bool {
     let (Some(mut left), Some(right)) = (set_of(alloc, a), set_of(alloc, b)) else {
         return false;
     };
-    left.bitor_assign(right).is_ok() && left.boundaries() == want
+    op.assign(&mut left, right).is_ok() && left.boundaries() == want
 }
 
 // The same, with the right side lent.
-fn unites_lent(alloc: Global, a: &[i64], b: &[i64], want: &[i64]) -> bool {
+fn changes_lent(op: Operation, alloc: Global, a: &[i64], b: &[i64], want: &[i64]) -> bool {
     let (Some(mut left), Some(right)) = (set_of(alloc, a), RangeSetRef::new(b)) else {
         return false;
     };
-    left.union_with(right).is_ok() && left.boundaries() == want
+    op.change(&mut left, right).is_ok() && left.boundaries() == want
+}
+
+fn changes(op: Operation, alloc: Global, a: &[i64], b: &[i64], want: &[i64]) -> bool {
+    changes_owned(op, alloc, a, b, want) && changes_lent(op, alloc, a, b, want)
 }
 
 fn unites(alloc: Global, a: &[i64], b: &[i64], want: &[i64]) -> bool {
-    unites_owned(alloc, a, b, want) && unites_lent(alloc, a, b, want)
+    changes(Operation::Union, alloc, a, b, want)
+}
+
+// Two numbers of each four from 0 on, below 128.
+fn of_each_four(alloc: Global, first: i64, second: i64) -> Result<Vec<i64>, AllocError> {
+    let mut items = Vec::new(alloc);
+    for x in 0..128i64 {
+        if x % 4 == first || x % 4 == second {
+            items.push(x)?;
+        }
+    }
+    Ok(items)
 }
 
 // Whether the counted union in place is this list, made in at most so many comparisons.
@@ -106,31 +121,6 @@ fn alternates_eight(alloc: Global) -> bool {
     is_eight(changed, &left, &[0, 1, 2, 3, 4, 5, 6, 7])
 }
 
-// The set of these lettered numbers.
-fn lettered(alloc: Global, items: &[Lettered]) -> Option<RangeSet2<Lettered>> {
-    RangeSet::new(SmallVec::from_slice(alloc, items).ok()?)
-}
-
-// Whether the left's own items stay, with the right side owned and lent.
-fn keeps_the_left(alloc: Global, a: &[Lettered], b: &[Lettered], want: &[(i64, u8)]) -> bool {
-    let (Some(mut left), Some(right)) = (lettered(alloc, a), lettered(alloc, b)) else {
-        return false;
-    };
-    left.bitor_assign(right).is_ok() && letters_are(left.boundaries(), want)
-}
-
-fn keeps_the_left_of_a_view(
-    alloc: Global,
-    a: &[Lettered],
-    b: &[Lettered],
-    want: &[(i64, u8)],
-) -> bool {
-    let (Some(mut left), Some(right)) = (lettered(alloc, a), RangeSetRef::new(b)) else {
-        return false;
-    };
-    left.union_with(right).is_ok() && letters_are(left.boundaries(), want)
-}
-
 // Whether the set of a range has these boundaries.
 fn is_set_of(alloc: Global, range: RangeSetRange<i64>, want: &[i64]) -> bool {
     match RangeSet2::from_range_set_range(alloc, range) {
@@ -148,6 +138,94 @@ fn long_lists_in_place(rt: HostRuntime) -> Result<(), Fail> {
     both.push(200)?;
     assert!(rt; unites(alloc, &[100, 200], items.as_slice(), both.as_slice()));
     assert!(rt; unites(alloc, items.as_slice(), &[-5, 100], &[-5, 100]));
+    Ok(())
+}
+
+// Boundaries of both sides in turn.
+#[test]
+fn long_crossing_lists_in_place(rt: HostRuntime) -> Result<(), Fail> {
+    let alloc = rt.alloc();
+    let left = of_each_four(alloc, 0, 2)?;
+    let right = of_each_four(alloc, 1, 3)?;
+    let (a, b) = (left.as_slice(), right.as_slice());
+    assert!(rt;
+        changes(
+            Operation::Union,
+            alloc,
+            a,
+            b,
+            of_each_four(alloc, 0, 3)?.as_slice()
+        )
+    );
+    assert!(rt;
+        changes(
+            Operation::Intersection,
+            alloc,
+            a,
+            b,
+            of_each_four(alloc, 1, 2)?.as_slice()
+        )
+    );
+    assert!(rt;
+        changes(
+            Operation::Difference,
+            alloc,
+            a,
+            b,
+            of_each_four(alloc, 0, 1)?.as_slice()
+        )
+    );
+    assert!(rt;
+        changes(
+            Operation::SymmetricDifference,
+            alloc,
+            a,
+            b,
+            numbers(alloc, 0, 128)?.as_slice()
+        )
+    );
+    Ok(())
+}
+
+// The last half of the left side's boundaries are the first half of the right side's.
+#[test]
+fn long_lists_that_share_boundaries_in_place(rt: HostRuntime) -> Result<(), Fail> {
+    let alloc = rt.alloc();
+    let left = numbers(alloc, 0, 64)?;
+    let right = numbers(alloc, 32, 96)?;
+    let (a, b) = (left.as_slice(), right.as_slice());
+    assert!(rt;
+        changes(
+            Operation::Intersection,
+            alloc,
+            a,
+            b,
+            numbers(alloc, 32, 64)?.as_slice()
+        )
+    );
+    assert!(rt;
+        changes(
+            Operation::Difference,
+            alloc,
+            a,
+            b,
+            numbers(alloc, 0, 32)?.as_slice()
+        )
+    );
+    assert!(rt;
+        changes(
+            Operation::Difference,
+            alloc,
+            b,
+            a,
+            numbers(alloc, 64, 96)?.as_slice()
+        )
+    );
+    let mut ends = numbers(alloc, 0, 32)?;
+    for x in 64..96 {
+        ends.push(x)?;
+    }
+    assert!(rt; changes(Operation::SymmetricDifference, alloc, a, b, ends.as_slice()));
     Ok(())
 }
 
@@ -169,15 +247,6 @@ fn room_for_both_sides(rt: HostRuntime) {
     assert!(rt; intersects_eight(alloc));
     assert!(rt; differs_eight(alloc));
     assert!(rt; alternates_eight(alloc));
-}
-
-#[test]
-fn equal_items_are_the_left_ones(rt: HostRuntime) {
-    let alloc = rt.alloc();
-    let a = [with_letter(1, b'a'), with_letter(5, b'a')];
-    let b = [with_letter(1, b'b'), with_letter(9, b'b')];
-    assert!(rt; keeps_the_left(alloc, &a, &b, &[(1, b'a'), (9, b'b')]));
-    assert!(rt; keeps_the_left_of_a_view(alloc, &a, &b, &[(1, b'a'), (9, b'b')]));
 }
 
 #[test]

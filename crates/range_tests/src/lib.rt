@@ -10,8 +10,6 @@ mod contains;
 #[cfg(test)]
 mod counted;
 #[cfg(test)]
-mod counted_merges;
-#[cfg(test)]
 mod elements;
 #[cfg(test)]
 mod entries;
@@ -19,6 +17,8 @@ mod entries;
 mod flags;
 #[cfg(test)]
 mod flags_of_changes;
+#[cfg(test)]
+mod forms;
 #[cfg(test)]
 mod given;
 #[cfg(test)]
@@ -33,8 +33,6 @@ mod merging;
 mod numbers;
 #[cfg(test)]
 mod operations;
-#[cfg(test)]
-mod operators;
 #[cfg(test)]
 mod parts;
 #[cfg(test)]
@@ -59,5 +57,7 @@ mod starved;
 mod tally;
 #[cfg(test)]
 mod tally_of_changes;
+#[cfg(test)]
+mod tally_of_sets;
 #[cfg(test)]
 mod values;

@@ -76,7 +76,7 @@ fn plain_costs(alloc: Global, pair: &Pair) -> [Option<u128>; 4] {
 }
 
 // What each of their counted forms raises it by.
-pub(crate) fn counted_costs(alloc: Global, pair: &Pair) -> [Option<u128>; 4] {
+fn counted_costs(alloc: Global, pair: &Pair) -> [Option<u128>; 4] {
     [
         merge_cost(alloc, pair, &UnionOp),
         merge_cost(alloc, pair, &IntersectionOp),
@@ -129,7 +129,7 @@ fn costs_agree(alloc: Global, pair: &Pair) -> bool {
 }
 
 // Whether each is there.
-pub(crate) fn all_are_some(costs: &[Option<u128>]) -> bool {
+fn all_are_some(costs: &[Option<u128>]) -> bool {
     costs.iter().all(|cost| cost.is_some())
 }
 
@@ -223,6 +223,7 @@ fn calls_compare_through_their_counter(rt: HostRuntime) -> Result<(), Fail> {
         ([0, 5].as_slice(), [5, 10].as_slice()),
         (&[0, 2, 4], &[1, 3, 5]),
         (&[0, 10], &[5, 15]),
+        (&[0, 10], &[0, 10]),
         (low.as_slice(), high.as_slice()),
     ] {
         assert!(rt; all_agree(alloc, a, b)?, "{a:?} and {b:?}");

@@ -1,24 +1,24 @@
-//! The operators, and the calls that change a set in place, raise the tally of their elements by exactly as much as their counted forms, which raise it by exactly what they add to `made`.
-ghost use Rattle.std.specs.Prelude.{◌≡◌, false};
-
+//! The calls of sets, the operators and the changes in place raise the tally of their elements by exactly as much as their counted forms, which raise it by exactly what they add to `made`.
 use crate::elements::Tallied;
+use crate::forms::Operation;
 use crate::given::numbers;
-use crate::tally::{Pair, all_are_some, cost, counted_costs, tallied};
-use range_collections::{
-    Comparisons, DiffOp, IntersectionOp, MergeOperation, RangeSet2, RangeSetRef, UnionOp, XorOp,
-};
+use crate::tally::{Pair, cost, tallied};
+use range_collections::{Comparisons, RangeSet2, RangeSetRef};
 use smallvec::SmallVec;
 use std::alloc::{AllocError, Global};
 use std::cell::Cell;
 use std::test::Fail;
 
 // The set of a view's boundaries.
-fn set_of<'t>(alloc: Global, view: RangeSetRef<'t, Tallied<'t>>) -> Option<RangeSet2<Tallied<'t>>> {
+pub(crate) fn set_of<'t>(
+    alloc: Global,
+    view: RangeSetRef<'t, Tallied<'t>>,
+) -> Option<RangeSet2<Tallied<'t>>> {
     RangeSet2::new(SmallVec::from_slice(alloc, view.boundaries()).ok()?)
 }
 
 // What the tally stands at, if the counter stands there too.
-fn counted_alike(tally: &Cell<u128>, count: &Comparisons) -> Option<u128> {
+pub(crate) fn counted_alike(tally: &Cell<u128>, count: &Comparisons) -> Option<u128> {
     let raised = tally.get();
     if raised == count.made() {
         Some(raised)
@@ -27,166 +27,130 @@ fn counted_alike(tally: &Cell<u128>, count: &Comparisons) -> Option<u128> {
     }
 }
 
-// What each operator raises the tally by.
-fn operator_costs(
-    left: &RangeSet2<Tallied>,
-    right: &RangeSet2<Tallied>,
-    tally: &Cell<u128>,
-) -> [Option<u128>; 4] {
-    tally.set(0);
-    let union = cost(tally, left | right);
-    tally.set(0);
-    let intersection = cost(tally, left & right);
-    tally.set(0);
-    let difference = cost(tally, left - right);
-    tally.set(0);
-    let symmetric_difference = cost(tally, left ^ right);
-    [union, intersection, difference, symmetric_difference]
+// What the operation of a set and a view raises the tally by.
+fn set_cost<'t>(op: Operation, alloc: Global, pair: &Pair<'t>) -> Option<u128> {
+    let left = set_of(alloc, pair.left)?;
+    pair.tally.set(0);
+    cost(pair.tally, op.of_set(&left, pair.right))
 }
 
-// What each change raises it by, with the right side lent.
-fn union_with_cost(alloc: Global, pair: &Pair) -> Option<u128> {
+// What the operator does with both sides lent, with the right one owned, with the left one, and with both.
+fn lent_cost<'t>(op: Operation, alloc: Global, pair: &Pair<'t>) -> Option<u128> {
+    let left = set_of(alloc, pair.left)?;
+    let right = set_of(alloc, pair.right)?;
+    pair.tally.set(0);
+    cost(pair.tally, op.of_lent(&left, &right))
+}
+
+fn owned_right_cost<'t>(op: Operation, alloc: Global, pair: &Pair<'t>) -> Option<u128> {
+    let left = set_of(alloc, pair.left)?;
+    let right = set_of(alloc, pair.right)?;
+    pair.tally.set(0);
+    cost(pair.tally, op.of_lent_and_owned(&left, right))
+}
+
+fn owned_left_cost<'t>(op: Operation, alloc: Global, pair: &Pair<'t>) -> Option<u128> {
+    let left = set_of(alloc, pair.left)?;
+    let right = set_of(alloc, pair.right)?;
+    pair.tally.set(0);
+    cost(pair.tally, op.of_owned_and_lent(left, &right))
+}
+
+fn owned_cost<'t>(op: Operation, alloc: Global, pair: &Pair<'t>) -> Option<u128> {
+    let left = set_of(alloc, pair.left)?;
+    let right = set_of(alloc, pair.right)?;
+    pair.tally.set(0);
+    cost(pair.tally, op.of_owned(left, right))
+}
+
+// What the change in place does with the right side lent, and with it owned.
+fn change_cost<'t>(op: Operation, alloc: Global, pair: &Pair<'t>) -> Option<u128> {
     let mut left = set_of(alloc, pair.left)?;
     pair.tally.set(0);
-    left.union_with(pair.right).ok()?;
+    op.change(&mut left, pair.right).ok()?;
     Some(pair.tally.get())
 }
 
-fn intersection_with_cost(alloc: Global, pair: &Pair) -> Option<u128> {
-    let mut left = set_of(alloc, pair.left)?;
-    pair.tally.set(0);
-    left.intersection_with(pair.right).ok()?;
-    Some(pair.tally.get())
-}
-
-fn difference_with_cost(alloc: Global, pair: &Pair) -> Option<u128> {
-    let mut left = set_of(alloc, pair.left)?;
-    pair.tally.set(0);
-    left.difference_with(pair.right).ok()?;
-    Some(pair.tally.get())
-}
-
-fn symmetric_difference_with_cost(alloc: Global, pair: &Pair) -> Option<u128> {
-    let mut left = set_of(alloc, pair.left)?;
-    pair.tally.set(0);
-    left.symmetric_difference_with(pair.right).ok()?;
-    Some(pair.tally.get())
-}
-
-fn with_costs(alloc: Global, pair: &Pair) -> [Option<u128>; 4] {
-    [
-        union_with_cost(alloc, pair),
-        intersection_with_cost(alloc, pair),
-        difference_with_cost(alloc, pair),
-        symmetric_difference_with_cost(alloc, pair),
-    ]
-}
-
-// The same, with the right side owned.
-fn bitor_assign_cost(alloc: Global, pair: &Pair) -> Option<u128> {
+fn assignment_cost<'t>(op: Operation, alloc: Global, pair: &Pair<'t>) -> Option<u128> {
     let mut left = set_of(alloc, pair.left)?;
     let right = set_of(alloc, pair.right)?;
     pair.tally.set(0);
-    left.bitor_assign(right).ok()?;
+    op.assign(&mut left, right).ok()?;
     Some(pair.tally.get())
 }
 
-fn bitand_assign_cost(alloc: Global, pair: &Pair) -> Option<u128> {
-    let mut left = set_of(alloc, pair.left)?;
-    let right = set_of(alloc, pair.right)?;
-    pair.tally.set(0);
-    left.bitand_assign(right).ok()?;
-    Some(pair.tally.get())
-}
-
-fn sub_assign_cost(alloc: Global, pair: &Pair) -> Option<u128> {
-    let mut left = set_of(alloc, pair.left)?;
-    let right = set_of(alloc, pair.right)?;
-    pair.tally.set(0);
-    left.sub_assign(right).ok()?;
-    Some(pair.tally.get())
-}
-
-fn bitxor_assign_cost(alloc: Global, pair: &Pair) -> Option<u128> {
-    let mut left = set_of(alloc, pair.left)?;
-    let right = set_of(alloc, pair.right)?;
-    pair.tally.set(0);
-    left.bitxor_assign(right).ok()?;
-    Some(pair.tally.get())
-}
-
-fn assign_costs(alloc: Global, pair: &Pair) -> [Option<u128>; 4] {
-    [
-        bitor_assign_cost(alloc, pair),
-        bitand_assign_cost(alloc, pair),
-        sub_assign_cost(alloc, pair),
-        bitxor_assign_cost(alloc, pair),
-    ]
-}
-
-// What the counted form raises it by, where it adds as much to `made`: with the right side lent, and owned.
-fn lent_cost<O: MergeOperation>(alloc: Global, pair: &Pair, op: &O) -> Option<u128>
-    requires { O.connective op.now false false ≡ false }
-{
-    let mut left = set_of(alloc, pair.left)?;
+// What the counted form raises it by, where it adds as much to `made`: into a new set, of views and of a set and a view, and in place with the right side lent, and owned.
+fn view_merge_cost(op: Operation, alloc: Global, pair: &Pair) -> Option<u128> {
     let mut count = Comparisons::new();
     pair.tally.set(0);
-    left.merge_ref(pair.right, op, &mut count).ok()?;
+    cost(
+        pair.tally,
+        op.merge_views(alloc, pair.left, pair.right, &mut count),
+    )?;
     counted_alike(pair.tally, &count)
 }
 
-fn owned_cost<O: MergeOperation>(alloc: Global, pair: &Pair, op: &O) -> Option<u128>
-    requires { O.connective op.now false false ≡ false }
-{
+fn set_merge_cost(op: Operation, alloc: Global, pair: &Pair) -> Option<u128> {
+    let left = set_of(alloc, pair.left)?;
+    let mut count = Comparisons::new();
+    pair.tally.set(0);
+    cost(pair.tally, op.merge_set(&left, pair.right, &mut count))?;
+    counted_alike(pair.tally, &count)
+}
+
+fn lent_merge_cost(op: Operation, alloc: Global, pair: &Pair) -> Option<u128> {
+    let mut left = set_of(alloc, pair.left)?;
+    let mut count = Comparisons::new();
+    pair.tally.set(0);
+    op.merge_lent(&mut left, pair.right, &mut count).ok()?;
+    counted_alike(pair.tally, &count)
+}
+
+fn owned_merge_cost(op: Operation, alloc: Global, pair: &Pair) -> Option<u128> {
     let mut left = set_of(alloc, pair.left)?;
     let right = set_of(alloc, pair.right)?;
     let mut count = Comparisons::new();
     pair.tally.set(0);
-    left.merge_owned(right, op, &mut count).ok()?;
+    op.merge_owned(&mut left, right, &mut count).ok()?;
     counted_alike(pair.tally, &count)
 }
 
-fn lent_costs(alloc: Global, pair: &Pair) -> [Option<u128>; 4] {
-    [
-        lent_cost(alloc, pair, &UnionOp),
-        lent_cost(alloc, pair, &IntersectionOp),
-        lent_cost(alloc, pair, &DiffOp),
-        lent_cost(alloc, pair, &XorOp),
-    ]
-}
-
-fn owned_costs(alloc: Global, pair: &Pair) -> [Option<u128>; 4] {
-    [
-        owned_cost(alloc, pair, &UnionOp),
-        owned_cost(alloc, pair, &IntersectionOp),
-        owned_cost(alloc, pair, &DiffOp),
-        owned_cost(alloc, pair, &XorOp),
-    ]
-}
-
-// Whether the operators cost what the counted merge into a new set does.
-fn operators_agree(alloc: Global, pair: &Pair) -> bool {
-    let counted = counted_costs(alloc, pair);
-    match (set_of(alloc, pair.left), set_of(alloc, pair.right)) {
-        (Some(left), Some(right)) => {
-            all_are_some(&counted) && operator_costs(&left, &right, pair.tally) == counted
-        }
-        _ => false,
-    }
+// Whether the operation of a set and the operators cost what the counted merges into a new set do.
+fn operators_agree<'t>(op: Operation, alloc: Global, pair: &Pair<'t>) -> bool {
+    let counted = view_merge_cost(op, alloc, pair);
+    counted.is_some()
+        && set_merge_cost(op, alloc, pair) == counted
+        && set_cost(op, alloc, pair) == counted
+        && lent_cost(op, alloc, pair) == counted
+        && owned_right_cost(op, alloc, pair) == counted
+        && owned_left_cost(op, alloc, pair) == counted
+        && owned_cost(op, alloc, pair) == counted
 }
 
 // Whether changes in place cost what their counted forms do.
-fn changes_agree(alloc: Global, pair: &Pair) -> bool {
-    let lent = lent_costs(alloc, pair);
-    let owned = owned_costs(alloc, pair);
-    all_are_some(&lent)
-        && all_are_some(&owned)
-        && with_costs(alloc, pair) == lent
-        && assign_costs(alloc, pair) == owned
+fn changes_agree<'t>(op: Operation, alloc: Global, pair: &Pair<'t>) -> bool {
+    let lent = lent_merge_cost(op, alloc, pair);
+    let owned = owned_merge_cost(op, alloc, pair);
+    lent.is_some()
+        && owned.is_some()
+        && change_cost(op, alloc, pair) == lent
+        && assignment_cost(op, alloc, pair) == owned
 }
 
-// Whether both hold of the sets of these boundaries.
-fn both_agree(alloc: Global, a: &[i64], b: &[i64]) -> Result<bool, AllocError> {
+// Whether both hold of each operation.
+fn all_agree(alloc: Global, pair: &Pair) -> bool {
+    operators_agree(Operation::Union, alloc, pair)
+        && operators_agree(Operation::Intersection, alloc, pair)
+        && operators_agree(Operation::Difference, alloc, pair)
+        && operators_agree(Operation::SymmetricDifference, alloc, pair)
+        && changes_agree(Operation::Union, alloc, pair)
+        && changes_agree(Operation::Intersection, alloc, pair)
+        && changes_agree(Operation::Difference, alloc, pair)
+        && changes_agree(Operation::SymmetricDifference, alloc, pair)
+}
+
+// Whether they hold of the sets of these boundaries.
+fn lists_agree(alloc: Global, a: &[i64], b: &[i64]) -> Result<bool, AllocError> {
     let tally = Cell::new(0);
     let left_items = tallied(alloc, a, &tally)?;
     let right_items = tallied(alloc, b, &tally)?;
@@ -201,7 +165,7 @@ fn both_agree(alloc: Global, a: &[i64], b: &[i64]) -> Result<bool, AllocError> {
         right,
         tally: &tally,
     };
-    Ok(operators_agree(alloc, &pair) && changes_agree(alloc, &pair))
+    Ok(all_agree(alloc, &pair))
 }
 
 #[test]
@@ -213,10 +177,11 @@ fn operators_and_changes_compare_through_their_counter(rt: HostRuntime) -> Resul
         ([0, 5].as_slice(), [5, 10].as_slice()),
         (&[0, 2, 4], &[1, 3, 5]),
         (&[0, 10], &[5, 15]),
+        (&[0, 10], &[0, 10]),
         (low.as_slice(), high.as_slice()),
     ] {
-        assert!(rt; both_agree(alloc, a, b)?, "{a:?} and {b:?}");
-        assert!(rt; both_agree(alloc, b, a)?, "{b:?} and {a:?}");
+        assert!(rt; lists_agree(alloc, a, b)?, "{a:?} and {b:?}");
+        assert!(rt; lists_agree(alloc, b, a)?, "{b:?} and {a:?}");
     }
     Ok(())
 }
