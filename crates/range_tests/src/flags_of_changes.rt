@@ -1,106 +1,139 @@
 //! Changes in place with elements whose clones are refused: a lent right side is cloned item by item before anything is changed, and an owned one is never cloned.
-use crate::elements::{Flagged, with_flag};
-use crate::flags::{flagged_at, numbers_are};
-use range_collections::{RangeSet, RangeSetRef};
-use smallvec::SmallVec;
+use crate::elements::{Flagged, FlaggedCopier, with_flag};
+use crate::flags::{flagged_at, numbers_are, of_eight, unflagged};
+use crate::forms::Operation;
+use range_collections::{
+    Comparisons, InPlaceMergeStateRef, MergeOperation, RangeSetRef, UnionOp, XorOp,
+};
 use std::alloc::{AllocError, Global};
 
-// The set of these items, with room for eight.
-fn of_eight(alloc: Global, items: &[Flagged]) -> Option<RangeSet<Flagged, 8>> {
-    RangeSet::new(SmallVec::from_slice(alloc, items).ok()?)
-}
-
-// Whether a change was refused, and the set is as it was, or else has these numbers.
+// Whether a change was refused and the items are as they were, or else has these numbers.
 fn stands_or_is(
     made: Result<(), AllocError>,
-    set: &RangeSet<Flagged, 8>,
+    items: &[Flagged],
     old: &[i64],
     want: Option<&[i64]>,
 ) -> bool {
     match (made, want) {
-        (Ok(()), Some(want)) => numbers_are(set.boundaries(), want),
-        (Err(_), None) => numbers_are(set.boundaries(), old),
+        (Ok(()), Some(want)) => numbers_are(items, want),
+        (Err(_), None) => numbers_are(items, old),
         _ => false,
     }
 }
 
-// The set of 0, 2, 4 and 6, none of which is flagged.
-fn unflagged(alloc: Global) -> Option<RangeSet<Flagged, 8>> {
-    of_eight(
-        alloc,
-        &[
-            with_flag(0, false),
-            with_flag(2, false),
-            with_flag(4, false),
-            with_flag(6, false),
-        ],
-    )
-}
-
-// Whether each change of that set with 1, 3, 5 and 7 is refused, or else makes these lists.
-fn unites(alloc: Global, right: RangeSetRef<Flagged>, want: Option<&[i64]>) -> bool {
+// Whether a change of 0, 2, 4 and 6 is refused, or else makes this list.
+fn change_answers(
+    op: Operation,
+    alloc: Global,
+    right: RangeSetRef<Flagged>,
+    want: Option<&[i64]>,
+) -> bool {
     match unflagged(alloc) {
         Some(mut set) => {
-            let made = set.union_with(right);
-            stands_or_is(made, &set, &[0, 2, 4, 6], want)
+            let made = op.change(&mut set, right);
+            stands_or_is(made, set.boundaries(), &[0, 2, 4, 6], want)
         }
         None => false,
     }
 }
 
-fn intersects(alloc: Global, right: RangeSetRef<Flagged>, want: Option<&[i64]>) -> bool {
+// Whether its counted form does.
+fn merge_answers(
+    op: Operation,
+    alloc: Global,
+    right: RangeSetRef<Flagged>,
+    want: Option<&[i64]>,
+) -> bool {
     match unflagged(alloc) {
         Some(mut set) => {
-            let made = set.intersection_with(right);
-            stands_or_is(made, &set, &[0, 2, 4, 6], want)
+            let made = op.merge_lent(&mut set, right, &mut Comparisons::new());
+            stands_or_is(made, set.boundaries(), &[0, 2, 4, 6], want)
         }
         None => false,
     }
 }
 
-fn subtracts(alloc: Global, right: RangeSetRef<Flagged>, want: Option<&[i64]>) -> bool {
+// Whether the merge of the lists does.
+fn list_answers<O: MergeOperation>(
+    alloc: Global,
+    right: RangeSetRef<Flagged>,
+    op: &O,
+    want: Option<&[i64]>,
+) -> bool {
     match unflagged(alloc) {
-        Some(mut set) => {
-            let made = set.difference_with(right);
-            stands_or_is(made, &set, &[0, 2, 4, 6], want)
+        Some(set) => {
+            let mut list = set.into_inner();
+            let made = InPlaceMergeStateRef::<Flagged, FlaggedCopier, 8>::merge(
+                &mut list,
+                right.boundaries(),
+                &FlaggedCopier,
+                op,
+                &mut Comparisons::new(),
+            );
+            stands_or_is(made, list.as_slice(), &[0, 2, 4, 6], want)
         }
         None => false,
     }
 }
 
-fn alternates(alloc: Global, right: RangeSetRef<Flagged>, want: Option<&[i64]>) -> bool {
+// Whether a state over the lists is refused, and the first one comes back as it was, or else is made.
+fn state_answers(alloc: Global, right: RangeSetRef<Flagged>, is_made: bool) -> bool {
     match unflagged(alloc) {
-        Some(mut set) => {
-            let made = set.symmetric_difference_with(right);
-            stands_or_is(made, &set, &[0, 2, 4, 6], want)
+        Some(set) => {
+            match InPlaceMergeStateRef::new(set.into_inner(), right.boundaries(), &FlaggedCopier) {
+                Ok(state) => is_made && state.result().is_empty(),
+                Err((_, list)) => !is_made && numbers_are(list.as_slice(), &[0, 2, 4, 6]),
+            }
         }
         None => false,
     }
 }
 
-// Whether each of the four is refused with the flag set at this place.
+// Whether an operation answers so in each form that changes the left side.
+fn forms_answer(
+    op: Operation,
+    alloc: Global,
+    right: RangeSetRef<Flagged>,
+    want: Option<&[i64]>,
+) -> bool {
+    change_answers(op, alloc, right, want) && merge_answers(op, alloc, right, want)
+}
+
+// Whether each is refused with the flag set at this place, and the right side is then as it was.
 fn all_refuse(alloc: Global, place: usize) -> bool {
-    let items = flagged_at(place);
-    match RangeSetRef::new(&items) {
-        Some(right) => {
-            unites(alloc, right, None)
-                && intersects(alloc, right, None)
-                && subtracts(alloc, right, None)
-                && alternates(alloc, right, None)
+    match flagged_at(alloc, place) {
+        Some(set) => {
+            let right = set.as_ref();
+            forms_answer(Operation::Union, alloc, right, None)
+                && forms_answer(Operation::Intersection, alloc, right, None)
+                && forms_answer(Operation::Difference, alloc, right, None)
+                && forms_answer(Operation::SymmetricDifference, alloc, right, None)
+                && list_answers(alloc, right, &UnionOp, None)
+                && list_answers(alloc, right, &XorOp, None)
+                && state_answers(alloc, right, false)
+                && numbers_are(set.boundaries(), &[1, 3, 5, 7])
         }
         None => false,
     }
 }
 
-// Whether each of the four is made where no flag is set.
+// Whether each is made where no flag is set.
 fn all_are_made(alloc: Global) -> bool {
-    let items = flagged_at(4);
-    match RangeSetRef::new(&items) {
-        Some(right) => {
-            unites(alloc, right, Some(&[0, 3, 4, 7]))
-                && intersects(alloc, right, Some(&[1, 2, 5, 6]))
-                && subtracts(alloc, right, Some(&[0, 1, 4, 5]))
-                && alternates(alloc, right, Some(&[0, 1, 2, 3, 4, 5, 6, 7]))
+    match flagged_at(alloc, 4) {
+        Some(set) => {
+            let right = set.as_ref();
+            forms_answer(Operation::Union, alloc, right, Some(&[0, 3, 4, 7]))
+                && forms_answer(Operation::Intersection, alloc, right, Some(&[1, 2, 5, 6]))
+                && forms_answer(Operation::Difference, alloc, right, Some(&[0, 1, 4, 5]))
+                && forms_answer(
+                    Operation::SymmetricDifference,
+                    alloc,
+                    right,
+                    Some(&[0, 1, 2, 3, 4, 5, 6, 7]),
+                )
+                && list_answers(alloc, right, &UnionOp, Some(&[0, 3, 4, 7]))
+                && list_answers(alloc, right, &XorOp, Some(&[0, 1, 2, 3, 4, 5, 6, 7]))
+                && state_answers(alloc, right, true)
         }
         None => false,
     }
@@ -113,7 +146,7 @@ fn unites_with_dropped(alloc: Global, flag: bool, want: Option<&[i64]>) -> bool 
     match (of_eight(alloc, &left), RangeSetRef::new(&right)) {
         (Some(mut set), Some(right)) => {
             let made = set.union_with(right);
-            stands_or_is(made, &set, &[0, 10], want)
+            stands_or_is(made, set.boundaries(), &[0, 10], want)
         }
         _ => false,
     }
@@ -128,6 +161,16 @@ fn unites_owned_flagged(alloc: Global) -> bool {
             set.bitor_assign(right).is_ok() && numbers_are(set.boundaries(), &[0, 15])
         }
         _ => false,
+    }
+}
+
+// Whether the negation of an owned 0, 10, both of them flagged, begins at the least number.
+fn negates_owned_flagged(alloc: Global) -> bool {
+    match of_eight(alloc, &[with_flag(0, true), with_flag(10, true)]) {
+        Some(set) => {
+            matches!(!set, Ok(other) if numbers_are(other.boundaries(), &[i64::MIN, 0, 10]))
+        }
+        None => false,
     }
 }
 
@@ -148,4 +191,5 @@ fn flagged_items_that_are_dropped(rt: HostRuntime) {
 #[test]
 fn owned_items_are_not_cloned(rt: HostRuntime) {
     assert!(rt; unites_owned_flagged(rt.alloc()));
+    assert!(rt; negates_owned_flagged(rt.alloc()));
 }

@@ -1,12 +1,14 @@
 //! A number with a flag, ordered by the number alone, whose clone is refused where the flag is set.
-ghost use Rattle.std.specs.Prelude.{◌≡◌, false};
+ghost use Rattle.std.specs.Prelude.{◌≡◌, ◌^◌, ◌-◌, ⊤, false, negsuc, FitsSigned};
+ghost use Rattle.std.specs.Int.{w64};
 ghost use Rattle.std.proofs.Common.{rules};
 ghost use Rattle.std.specs.Cmp.{partial_order_from_own_ties};
 ghost use Rattle.std.specs.Cmp.Rules.{comparing};
 ghost use Rattle.std.specs.Ordering.{int_cmp, int_eq, on, as_partial_cmp};
 
-use range_entry::EntryClone;
-use std::alloc::AllocError;
+use range_entry::{EntryClone, RangeSetEntry};
+use range_merge::Copier;
+use std::alloc::{AllocError, Global};
 use std::cmp::Ordering;
 
 #[derive(Clone, Copy, Default)]
@@ -58,6 +60,33 @@ impl PartialOrd for Flagged {
     }
 }
 
+impl RangeSetEntry for Flagged {
+    ghost is_value = { λ x. FitsSigned w64 x.number };
+
+    ghost least = { record { number = negsuc (2 ^ 63 - 1); flag = false } };
+
+    ghost is_min_sure = { ⊤ };
+
+    fn min_value(_alloc: Global) -> Result<Flagged, AllocError> {
+        Ok(Flagged {
+            number: i64::MIN,
+            flag: false,
+        })
+    }
+
+    fn is_min_value(&self) -> bool {
+        self.number == i64::MIN
+    }
+
+    fn known(&self) {
+        let _number = self.number;
+    }
+
+    ghost least_is_value = { Prim.search rules };
+
+    ghost least_is_least = { Prim.search (comparing, rules) };
+}
+
 impl EntryClone for Flagged {
     ghost is_sure = { λ item. item.flag ≡ false };
 
@@ -66,6 +95,23 @@ impl EntryClone for Flagged {
             Err(AllocError)
         } else {
             Ok(*self)
+        }
+    }
+}
+
+// Copies such numbers, and refuses where the flag is set.
+pub(crate) struct FlaggedCopier;
+
+impl Copier<Flagged> for FlaggedCopier {
+    ghost alike = { λ x y. x ≡ y };
+
+    ghost is_sure = { λ item. item.flag ≡ false };
+
+    fn copy(&self, item: &Flagged) -> Result<Flagged, AllocError> {
+        if item.flag {
+            Err(AllocError)
+        } else {
+            Ok(*item)
         }
     }
 }
