@@ -1,8 +1,8 @@
 //! Calls whose requests for memory are refused in turn: they answer want of memory, or else what they answer with ample memory, and what they were lent stays as it was.
+use crate::forms::Operation;
 use crate::given::set_of;
 use crate::starved::{Answer, Starved};
-use range_collections::{Comparisons, RangeSet, RangeSet2, RangeSetRef, UnionOp};
-use smallvec::SmallVec;
+use range_collections::{Comparisons, RangeSet, RangeSet2, RangeSetRange};
 use std::alloc::{AllocError, Global};
 use std::test::Fail;
 
@@ -14,74 +14,86 @@ fn set_is<const N: usize>(made: Result<RangeSet<i64, N>, AllocError>, want: &[i6
     }
 }
 
-// Whether the operations of two views that have nothing in common are refused in turn.
-fn operations_refuse(
+// Whether an operation of two lent sets, and of their views, is refused in turn.
+fn lent_forms_refuse(
+    op: Operation,
     alloc: Global,
     starved: &mut Starved,
-    a: RangeSetRef<i64>,
-    b: RangeSetRef<i64>,
+    left: &RangeSet2<i64>,
+    right: &RangeSet2<i64>,
+    want: &[i64],
 ) -> bool {
-    let all = &[0, 10, 20, 30, 40];
-    starved.refuses_in_turn(|| Some(()), |()| set_is::<2>(a.union(alloc, b), all))
-        && starved.refuses_in_turn(
-            || Some(()),
-            |()| set_is::<2>(a.symmetric_difference(alloc, b), all),
-        )
-        && starved.refuses_in_turn(
-            || Some(()),
-            |()| set_is::<2>(b.difference(alloc, a), &[20, 30, 40]),
-        )
-        && starved.refuses_in_turn(
-            || Some(()),
-            |()| set_is::<2>(b.intersection(alloc, b), &[20, 30, 40]),
-        )
-        && starved.refuses_in_turn(
-            || Some(()),
-            |()| set_is::<2>(
-                a.merge_new(alloc, b, &UnionOp, &mut Comparisons::new()),
-                all,
-            ),
-        )
+    let (a, b) = (left.as_ref(), right.as_ref());
+    starved.refuses_in_turn(
+        || Some(()),
+        |()| set_is::<2>(op.of_views(alloc, a, b), want),
+    ) && starved.refuses_in_turn(|| Some(()), |()| set_is(op.of_set(left, b), want))
+        && starved.refuses_in_turn(|| Some(()), |()| set_is(op.of_lent(left, right), want))
 }
 
-// The same of a set and a view.
-fn set_operations_refuse(starved: &mut Starved, a: &RangeSet2<i64>, b: &RangeSet2<i64>) -> bool {
-    let all = &[0, 10, 20, 30, 40];
-    starved.refuses_in_turn(|| Some(()), |()| set_is::<2>(a.union(b.as_ref()), all))
-        && starved.refuses_in_turn(
-            || Some(()),
-            |()| set_is::<2>(a.symmetric_difference(b.as_ref()), all),
-        )
-        && starved.refuses_in_turn(
-            || Some(()),
-            |()| set_is::<2>(b.difference(a.as_ref()), &[20, 30, 40]),
-        )
-        && starved.refuses_in_turn(
-            || Some(()),
-            |()| set_is::<2>(b.intersection(b.as_ref()), &[20, 30, 40]),
-        )
-        && starved.refuses_in_turn(
-            || Some(()),
-            |()| set_is::<2>(
-                a.merge_new(b.as_ref(), &UnionOp, &mut Comparisons::new()),
-                all,
-            ),
-        )
-}
-
-// The same of the operators, with a set to the left that is lent, and one that is handed over.
-fn operators_refuse(
+// Whether its operator is, with the right side owned, with the left one, and with both.
+fn owned_forms_refuse(
+    op: Operation,
     alloc: Global,
     starved: &mut Starved,
-    a: &RangeSet2<i64>,
-    b: &RangeSet2<i64>,
+    left: &RangeSet2<i64>,
+    right: &RangeSet2<i64>,
+    want: &[i64],
 ) -> bool {
-    let all = &[0, 10, 20, 30, 40];
-    starved.refuses_in_turn(|| Some(()), |()| set_is(a | b, all))
-        && starved.refuses_in_turn(|| Some(()), |()| set_is(a ^ b, all))
-        && starved.refuses_in_turn(|| Some(()), |()| set_is(b - a, &[20, 30, 40]))
-        && starved.refuses_in_turn(|| Some(()), |()| set_is(b & b, &[20, 30, 40]))
-        && starved.refuses_in_turn(|| set_of(alloc, &[0, 10]), |left| set_is(left | b, all))
+    starved.refuses_in_turn(
+        || set_of(alloc, right.boundaries()),
+        |owned| set_is(op.of_lent_and_owned(left, owned), want),
+    ) && starved.refuses_in_turn(
+        || set_of(alloc, left.boundaries()),
+        |owned| set_is(op.of_owned_and_lent(owned, right), want),
+    ) && starved.refuses_in_turn(
+        || both_of(alloc, left, right),
+        |(owned, other)| set_is(op.of_owned(owned, other), want),
+    )
+}
+
+// The sets of the same boundaries.
+fn both_of(
+    alloc: Global,
+    left: &RangeSet2<i64>,
+    right: &RangeSet2<i64>,
+) -> Option<(RangeSet2<i64>, RangeSet2<i64>)> {
+    let owned = set_of(alloc, left.boundaries())?;
+    let other = set_of(alloc, right.boundaries())?;
+    Some((owned, other))
+}
+
+// Whether its counted merge into a new set is, of views and of a set and a view.
+fn merges_refuse(
+    op: Operation,
+    alloc: Global,
+    starved: &mut Starved,
+    left: &RangeSet2<i64>,
+    right: &RangeSet2<i64>,
+    want: &[i64],
+) -> bool {
+    let (a, b) = (left.as_ref(), right.as_ref());
+    starved.refuses_in_turn(
+        || Some(()),
+        |()| set_is::<2>(op.merge_views(alloc, a, b, &mut Comparisons::new()), want),
+    ) && starved.refuses_in_turn(
+        || Some(()),
+        |()| set_is::<2>(op.merge_set(left, b, &mut Comparisons::new()), want),
+    )
+}
+
+// Whether all of them are.
+fn forms_refuse(
+    op: Operation,
+    alloc: Global,
+    starved: &mut Starved,
+    left: &RangeSet2<i64>,
+    right: &RangeSet2<i64>,
+    want: &[i64],
+) -> bool {
+    lent_forms_refuse(op, alloc, starved, left, right, want)
+        && owned_forms_refuse(op, alloc, starved, left, right, want)
+        && merges_refuse(op, alloc, starved, left, right, want)
 }
 
 // Whether a clone of a set, and its negation in both forms, are refused in turn.
@@ -104,6 +116,12 @@ fn constructors_refuse(alloc: Global, starved: &mut Starved) -> bool {
         |()| set_is::<0>(RangeSet::from_range_from(alloc, 1..), &[1]),
     ) && starved.refuses_in_turn(
         || Some(()),
+        |()| set_is::<1>(
+            RangeSet::from_range_set_range(alloc, RangeSetRange::from(1..5)),
+            &[1, 5],
+        ),
+    ) && starved.refuses_in_turn(
+        || Some(()),
         |()| set_is::<1>(RangeSet::from_range_until(alloc, ..5), &[i64::MIN, 5]),
     ) && starved.refuses_in_turn(
         || Some(()),
@@ -118,24 +136,87 @@ fn constructors_refuse(alloc: Global, starved: &mut Starved) -> bool {
 }
 
 #[test]
-fn operations_of_views(rt: HostRuntime) -> Result<(), Fail> {
-    let alloc = rt.alloc();
-    let a = RangeSetRef::new(&[0i64, 10]).ok_or("sorted")?;
-    let b = RangeSetRef::new(&[20i64, 30, 40]).ok_or("sorted")?;
-    let mut starved = Starved::new(alloc)?;
-    assert!(rt; operations_refuse(alloc, &mut starved, a, b));
-    Ok(())
-}
-
-#[test]
-fn operations_of_sets(rt: HostRuntime) -> Result<(), Fail> {
+fn unions(rt: HostRuntime) -> Result<(), Fail> {
     let alloc = rt.alloc();
     let a = set_of(alloc, &[0, 10]).ok_or("sorted")?;
     let b = set_of(alloc, &[20, 30, 40]).ok_or("sorted")?;
     let mut starved = Starved::new(alloc)?;
-    assert!(rt; set_operations_refuse(&mut starved, &a, &b));
-    assert!(rt; operators_refuse(alloc, &mut starved, &a, &b));
-    assert!(rt; copies_refuse(alloc, &mut starved, &b));
+    assert!(rt;
+        forms_refuse(
+            Operation::Union,
+            alloc,
+            &mut starved,
+            &a,
+            &b,
+            &[0, 10, 20, 30, 40]
+        )
+    );
+    Ok(())
+}
+
+#[test]
+fn intersections(rt: HostRuntime) -> Result<(), Fail> {
+    let alloc = rt.alloc();
+    let a = set_of(alloc, &[0]).ok_or("sorted")?;
+    let b = set_of(alloc, &[20, 30, 40]).ok_or("sorted")?;
+    let mut starved = Starved::new(alloc)?;
+    assert!(rt;
+        forms_refuse(
+            Operation::Intersection,
+            alloc,
+            &mut starved,
+            &a,
+            &b,
+            &[20, 30, 40]
+        )
+    );
+    Ok(())
+}
+
+#[test]
+fn differences(rt: HostRuntime) -> Result<(), Fail> {
+    let alloc = rt.alloc();
+    let a = set_of(alloc, &[20, 30, 40]).ok_or("sorted")?;
+    let b = set_of(alloc, &[0, 10]).ok_or("sorted")?;
+    let mut starved = Starved::new(alloc)?;
+    assert!(rt;
+        forms_refuse(
+            Operation::Difference,
+            alloc,
+            &mut starved,
+            &a,
+            &b,
+            &[20, 30, 40]
+        )
+    );
+    Ok(())
+}
+
+#[test]
+fn symmetric_differences(rt: HostRuntime) -> Result<(), Fail> {
+    let alloc = rt.alloc();
+    let a = set_of(alloc, &[0, 10]).ok_or("sorted")?;
+    let b = set_of(alloc, &[20, 30, 40]).ok_or("sorted")?;
+    let mut starved = Starved::new(alloc)?;
+    assert!(rt;
+        forms_refuse(
+            Operation::SymmetricDifference,
+            alloc,
+            &mut starved,
+            &a,
+            &b,
+            &[0, 10, 20, 30, 40]
+        )
+    );
+    Ok(())
+}
+
+#[test]
+fn copies(rt: HostRuntime) -> Result<(), Fail> {
+    let alloc = rt.alloc();
+    let set = set_of(alloc, &[20, 30, 40]).ok_or("sorted")?;
+    let mut starved = Starved::new(alloc)?;
+    assert!(rt; copies_refuse(alloc, &mut starved, &set));
     Ok(())
 }
 

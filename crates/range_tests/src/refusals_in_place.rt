@@ -1,23 +1,25 @@
 //! Changes in place whose requests for memory are refused in turn: the set stays as it was, and a set that was handed over comes back. Where the boundaries of both sides have room in the set, they need no memory.
+use crate::forms::Operation;
 use crate::given::set_of;
 use crate::starved::{Answer, Starved};
-use range_collections::{Comparisons, RangeSet, RangeSet2, UnionOp};
+use range_collections::{Comparisons, RangeSet, RangeSet2};
 use smallvec::SmallVec;
 use std::alloc::{AllocError, Global};
 use std::test::Fail;
 
-// Two sets.
-#[derive(Drop)]
-struct Sides {
-    left: RangeSet2<i64>,
-    right: RangeSet2<i64>,
+// Two lists of boundaries, and the one that a change is to make of the first.
+#[derive(Clone, Copy)]
+struct Lists<'a> {
+    left: &'a [i64],
+    right: &'a [i64],
+    want: &'a [i64],
 }
 
-// The sets of 0, 10 and of 20.
-fn given_sides(alloc: Global) -> Option<Sides> {
-    let left = set_of(alloc, &[0, 10])?;
-    let right = set_of(alloc, &[20])?;
-    Some(Sides { left, right })
+// The sets of both sides.
+fn sides_of(alloc: Global, lists: &Lists) -> Option<(RangeSet2<i64>, RangeSet2<i64>)> {
+    let left = set_of(alloc, lists.left)?;
+    let right = set_of(alloc, lists.right)?;
+    Some((left, right))
 }
 
 // What a change of the left set with a lent one says.
@@ -25,12 +27,12 @@ fn changed(
     made: Result<(), AllocError>,
     left: &RangeSet2<i64>,
     right: &RangeSet2<i64>,
-    want: &[i64],
+    lists: &Lists,
 ) -> Answer {
-    let is_lent = right.boundaries() == [20].as_slice();
+    let is_lent = right.boundaries() == lists.right;
     match made {
-        Ok(()) => Answer::right_if(is_lent && left.boundaries() == want),
-        Err(_) => refused_if(is_lent && left.boundaries() == [0, 10].as_slice()),
+        Ok(()) => Answer::right_if(is_lent && left.boundaries() == lists.want),
+        Err(_) => refused_if(is_lent && left.boundaries() == lists.left),
     }
 }
 
@@ -38,12 +40,12 @@ fn changed(
 fn assigned(
     made: Result<(), (AllocError, RangeSet2<i64>)>,
     left: &RangeSet2<i64>,
-    want: &[i64],
+    lists: &Lists,
 ) -> Answer {
     match made {
-        Ok(()) => Answer::right_if(left.boundaries() == want),
+        Ok(()) => Answer::right_if(left.boundaries() == lists.want),
         Err((_, right)) => refused_if(
-            right.boundaries() == [20].as_slice() && left.boundaries() == [0, 10].as_slice(),
+            right.boundaries() == lists.right && left.boundaries() == lists.left,
         ),
     }
 }
@@ -57,84 +59,58 @@ fn refused_if(stands: bool) -> Answer {
     }
 }
 
-// The four operations with the right side lent.
-fn united(sides: Sides) -> Answer {
-    let Sides { mut left, right } = sides;
-    let made = left.union_with(right.as_ref());
-    changed(made, &left, &right, &[0, 10, 20])
-}
-
-fn intersected(sides: Sides) -> Answer {
-    let Sides { mut left, right } = sides;
-    let made = left.intersection_with(right.as_ref());
-    changed(made, &left, &right, &[])
-}
-
-fn subtracted(sides: Sides) -> Answer {
-    let Sides { mut left, right } = sides;
-    let made = left.difference_with(right.as_ref());
-    changed(made, &left, &right, &[0, 10])
-}
-
-fn alternated(sides: Sides) -> Answer {
-    let Sides { mut left, right } = sides;
-    let made = left.symmetric_difference_with(right.as_ref());
-    changed(made, &left, &right, &[0, 10, 20])
-}
-
-fn merged(sides: Sides) -> Answer {
-    let Sides { mut left, right } = sides;
-    let made = left.merge_ref(right.as_ref(), &UnionOp, &mut Comparisons::new());
-    changed(made, &left, &right, &[0, 10, 20])
-}
-
-// The four operations with the right side owned.
-fn united_owned(sides: Sides) -> Answer {
-    let Sides { mut left, right } = sides;
-    let made = left.bitor_assign(right);
-    assigned(made, &left, &[0, 10, 20])
-}
-
-fn intersected_owned(sides: Sides) -> Answer {
-    let Sides { mut left, right } = sides;
-    let made = left.bitand_assign(right);
-    assigned(made, &left, &[])
-}
-
-fn subtracted_owned(sides: Sides) -> Answer {
-    let Sides { mut left, right } = sides;
-    let made = left.sub_assign(right);
-    assigned(made, &left, &[0, 10])
-}
-
-fn alternated_owned(sides: Sides) -> Answer {
-    let Sides { mut left, right } = sides;
-    let made = left.bitxor_assign(right);
-    assigned(made, &left, &[0, 10, 20])
-}
-
-fn merged_owned(sides: Sides) -> Answer {
-    let Sides { mut left, right } = sides;
-    let made = left.merge_owned(right, &UnionOp, &mut Comparisons::new());
-    assigned(made, &left, &[0, 10, 20])
-}
-
-// Whether changes with a lent set are refused in turn.
-fn changes_refuse(alloc: Global, starved: &mut Starved) -> bool {
-    starved.refuses_in_turn(|| given_sides(alloc), united)
-        && starved.refuses_in_turn(|| given_sides(alloc), intersected)
-        && starved.refuses_in_turn(|| given_sides(alloc), subtracted)
-        && starved.refuses_in_turn(|| given_sides(alloc), alternated)
-        && starved.refuses_in_turn(|| given_sides(alloc), merged)
+// Whether the change with a lent set, and its counted form, are refused in turn.
+fn change_refuses(op: Operation, alloc: Global, starved: &mut Starved, lists: &Lists) -> bool {
+    starved.refuses_in_turn(
+        || sides_of(alloc, lists),
+        |(mut left, right)| {
+            let made = op.change(&mut left, right.as_ref());
+            changed(made, &left, &right, lists)
+        },
+    ) && starved.refuses_in_turn(
+        || sides_of(alloc, lists),
+        |(mut left, right)| {
+            let made = op.merge_lent(&mut left, right.as_ref(), &mut Comparisons::new());
+            changed(made, &left, &right, lists)
+        },
+    )
 }
 
 // The same with an owned one.
-fn assignments_refuse(alloc: Global, starved: &mut Starved) -> bool {
-    starved.refuses_in_turn(|| given_sides(alloc), united_owned)
-        && starved.refuses_in_turn(|| given_sides(alloc), intersected_owned)
-        && starved.refuses_in_turn(|| given_sides(alloc), subtracted_owned)
-        && starved.refuses_in_turn(|| given_sides(alloc), alternated_owned)
-        && starved.refuses_in_turn(|| given_sides(alloc), merged_owned)
+fn assignment_refuses(op: Operation, alloc: Global, starved: &mut Starved, lists: &Lists) -> bool {
+    starved.refuses_in_turn(
+        || sides_of(alloc, lists),
+        |(mut left, right)| {
+            let made = op.assign(&mut left, right);
+            assigned(made, &left, lists)
+        },
+    ) && starved.refuses_in_turn(
+        || sides_of(alloc, lists),
+        |(mut left, right)| {
+            let made = op.merge_owned(&mut left, right, &mut Comparisons::new());
+            assigned(made, &left, lists)
+        },
+    )
+}
+
+// Whether each operation's are, on sides of which the left one has room of its own.
+fn short_sides_refuse(op: Operation, alloc: Global, starved: &mut Starved, want: &[i64]) -> bool {
+    let lists = Lists {
+        left: &[0, 10],
+        right: &[20],
+        want,
+    };
+    change_refuses(op, alloc, starved, &lists) && assignment_refuses(op, alloc, starved, &lists)
+}
+
+// The same on sides that both have more boundaries than there is room for, so that the room, the spare and the copies are asked for one after the other.
+fn long_sides_refuse(op: Operation, alloc: Global, starved: &mut Starved, want: &[i64]) -> bool {
+    let lists = Lists {
+        left: &[0, 10, 20],
+        right: &[5, 15, 25],
+        want,
+    };
+    change_refuses(op, alloc, starved, &lists) && assignment_refuses(op, alloc, starved, &lists)
 }
 
 // The set of these boundaries, with room for eight.
@@ -222,6 +198,13 @@ fn negated_of_one(alloc: Global) -> Answer {
     }
 }
 
+fn negated_lent_of_one(alloc: Global) -> Answer {
+    match of_one(alloc, i64::MIN) {
+        Some(set) => Answer::right_if(one_is(!&set, &[])),
+        None => Answer::Wrong,
+    }
+}
+
 fn cloned_of_one(alloc: Global) -> Answer {
     match of_one(alloc, 5) {
         Some(set) => Answer::right_if(one_is(set.clone(), &[5])),
@@ -233,22 +216,57 @@ fn cloned_of_one(alloc: Global) -> Answer {
 fn ones_need_none(alloc: Global, starved: &mut Starved) -> bool {
     starved.is_right_without_memory(|()| made_of_one(alloc))
         && starved.is_right_without_memory(|()| negated_of_one(alloc))
+        && starved.is_right_without_memory(|()| negated_lent_of_one(alloc))
         && starved.is_right_without_memory(|()| cloned_of_one(alloc))
 }
 
 #[test]
-fn changes_in_place(rt: HostRuntime) -> Result<(), Fail> {
+fn unions(rt: HostRuntime) -> Result<(), Fail> {
     let alloc = rt.alloc();
     let mut starved = Starved::new(alloc)?;
-    assert!(rt; changes_refuse(alloc, &mut starved));
+    assert!(rt; short_sides_refuse(Operation::Union, alloc, &mut starved, &[0, 10, 20]));
+    assert!(rt; long_sides_refuse(Operation::Union, alloc, &mut starved, &[0, 15, 20]));
     Ok(())
 }
 
 #[test]
-fn assignments(rt: HostRuntime) -> Result<(), Fail> {
+fn intersections(rt: HostRuntime) -> Result<(), Fail> {
     let alloc = rt.alloc();
     let mut starved = Starved::new(alloc)?;
-    assert!(rt; assignments_refuse(alloc, &mut starved));
+    assert!(rt; short_sides_refuse(Operation::Intersection, alloc, &mut starved, &[]));
+    assert!(rt; long_sides_refuse(Operation::Intersection, alloc, &mut starved, &[5, 10, 25]));
+    Ok(())
+}
+
+#[test]
+fn differences(rt: HostRuntime) -> Result<(), Fail> {
+    let alloc = rt.alloc();
+    let mut starved = Starved::new(alloc)?;
+    assert!(rt; short_sides_refuse(Operation::Difference, alloc, &mut starved, &[0, 10]));
+    assert!(rt; long_sides_refuse(Operation::Difference, alloc, &mut starved, &[0, 5, 20, 25]));
+    Ok(())
+}
+
+#[test]
+fn symmetric_differences(rt: HostRuntime) -> Result<(), Fail> {
+    let alloc = rt.alloc();
+    let mut starved = Starved::new(alloc)?;
+    assert!(rt;
+        short_sides_refuse(
+            Operation::SymmetricDifference,
+            alloc,
+            &mut starved,
+            &[0, 10, 20]
+        )
+    );
+    assert!(rt;
+        long_sides_refuse(
+            Operation::SymmetricDifference,
+            alloc,
+            &mut starved,
+            &[0, 5, 10, 15, 20, 25]
+        )
+    );
     Ok(())
 }
 

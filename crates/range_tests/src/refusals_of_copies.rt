@@ -42,11 +42,26 @@ fn texts_are_cloned(list: &Vec<String>, again: &Vec<String>) -> Answer {
 // What a copy of the range from `ab` to `cd` says.
 fn range_is_copied(range: &RangeSetRange<&String>) -> Answer {
     match range.cloned() {
-        Ok(RangeSetRange::Range(Range { start, end })) => {
-            Answer::right_if(start.as_str() == "ab" && end.as_str() == "cd")
-        }
-        Ok(RangeSetRange::RangeFrom(_)) => Answer::Wrong,
+        Ok(copied) => Answer::right_if(is_range(&copied)),
         Err(_) => Answer::Refused,
+    }
+}
+
+// What a clone of the range from `ab` to `cd` says.
+fn range_is_cloned(range: &RangeSetRange<String>) -> Answer {
+    match range.clone() {
+        Ok(copied) => Answer::right_if(is_range(&copied) && is_range(range)),
+        Err(_) => refused_if(is_range(range)),
+    }
+}
+
+// Whether a range is that one.
+fn is_range(range: &RangeSetRange<String>) -> bool {
+    match range {
+        RangeSetRange::Range(Range { start, end }) => {
+            start.as_str() == "ab" && end.as_str() == "cd"
+        }
+        RangeSetRange::RangeFrom(_) => false,
     }
 }
 
@@ -87,5 +102,16 @@ fn copies_of_ranges(rt: HostRuntime) -> Result<(), Fail> {
     let range = RangeSetRange::from(&start..&end);
     let mut starved = Starved::new(alloc)?;
     assert!(rt; starved.refuses_in_turn(|| Some(()), |()| range_is_copied(&range)));
+    Ok(())
+}
+
+#[test]
+fn clones_of_ranges(rt: HostRuntime) -> Result<(), Fail> {
+    let alloc = rt.alloc();
+    let start = String::from_str(alloc, "ab")?;
+    let end = String::from_str(alloc, "cd")?;
+    let range = RangeSetRange::from(start..end);
+    let mut starved = Starved::new(alloc)?;
+    assert!(rt; starved.refuses_in_turn(|| Some(()), |()| range_is_cloned(&range)));
     Ok(())
 }

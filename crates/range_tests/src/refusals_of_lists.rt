@@ -11,6 +11,20 @@ use smallvec::SmallVec;
 use std::alloc::{AllocError, Global};
 use std::test::Fail;
 
+// The lists of 0, 10, 20 and of 5, 15, 25.
+fn two_lists(alloc: Global) -> Option<(SmallVec<i64, 2>, SmallVec<i64, 2>)> {
+    let left = list_of(alloc, &[0, 10, 20])?;
+    let right = list_of(alloc, &[5, 15, 25])?;
+    Some((left, right))
+}
+
+// The sets of these boundaries.
+fn two_sets(alloc: Global) -> Option<(RangeSet2<i64>, RangeSet2<i64>)> {
+    let left = set_of(alloc, &[0, 10, 20])?;
+    let right = set_of(alloc, &[5, 15, 25])?;
+    Some((left, right))
+}
+
 // The list of these numbers.
 fn list_of(alloc: Global, items: &[i64]) -> Option<SmallVec<i64, 2>> {
     SmallVec::from_slice(alloc, items).ok()
@@ -33,13 +47,13 @@ fn builder_is_made(list: SmallVec<i64, 2>) -> Answer {
     }
 }
 
-// The state over 0, 10 and 20, 30, with the second list owned.
+// The state over both lists, with the second list owned.
 fn state_is_made(left: SmallVec<i64, 2>, right: SmallVec<i64, 2>) -> Answer {
     match InPlaceMergeState::new(left, right) {
         Ok(state) => Answer::right_if(state.result().is_empty()),
         Err((_, left, right)) => {
-            if right.as_slice() == [20, 30].as_slice() {
-                refused_with(&left, &[0, 10])
+            if right.as_slice() == [5, 15, 25].as_slice() {
+                refused_with(&left, &[0, 10, 20])
             } else {
                 Answer::Wrong
             }
@@ -51,19 +65,19 @@ fn state_is_made(left: SmallVec<i64, 2>, right: SmallVec<i64, 2>) -> Answer {
 fn lent_state_is_made(left: SmallVec<i64, 2>, right: RangeSetRef<i64>) -> Answer {
     match InPlaceMergeStateRef::new(left, right.boundaries(), &Copies) {
         Ok(state) => Answer::right_if(state.result().is_empty()),
-        Err((_, left)) => refused_with(&left, &[0, 10]),
+        Err((_, left)) => refused_with(&left, &[0, 10, 20]),
     }
 }
 
-// The union of 0, 10 and 20, 30 in the first list.
+// The union of both in the first list.
 fn is_merged(left: RangeSet2<i64>, right: RangeSet2<i64>) -> Answer {
     let mut list = left.into_inner();
     let mut numbers = Numbers { made: 0 };
     match InPlaceMergeState::merge(&mut list, right.into_inner(), &UnionOp, &mut numbers) {
-        Ok(()) => Answer::right_if(list.as_slice() == [0, 10, 20, 30].as_slice()),
+        Ok(()) => Answer::right_if(list.as_slice() == [0, 15, 20].as_slice()),
         Err((_, right)) => {
-            if right.as_slice() == [20, 30].as_slice() {
-                refused_with(&list, &[0, 10])
+            if right.as_slice() == [5, 15, 25].as_slice() {
+                refused_with(&list, &[0, 10, 20])
             } else {
                 Answer::Wrong
             }
@@ -83,8 +97,8 @@ fn is_merged_lent(left: RangeSet2<i64>, right: RangeSetRef<i64>) -> Answer {
         &UnionOp,
         &mut numbers,
     ) {
-        Ok(()) => Answer::right_if(list.as_slice() == [0, 10, 20, 30].as_slice()),
-        Err(_) => refused_with(&list, &[0, 10]),
+        Ok(()) => Answer::right_if(list.as_slice() == [0, 15, 20].as_slice()),
+        Err(_) => refused_with(&list, &[0, 10, 20]),
     }
 }
 
@@ -94,7 +108,7 @@ fn is_merged_anew(alloc: Global, left: RangeSetRef<i64>, right: RangeSetRef<i64>
     let mut numbers = Numbers { made: 0 };
     let (a, b) = (left.boundaries(), right.boundaries());
     match SmallVecMergeState::merge(list, a, b, &Copies, &UnionOp, &mut numbers) {
-        Ok(list) => Answer::right_if(list.as_slice() == [0, 10, 20, 30].as_slice()),
+        Ok(list) => Answer::right_if(list.as_slice() == [0, 15, 20].as_slice()),
         Err(_) => Answer::Refused,
     }
 }
@@ -151,14 +165,11 @@ fn states_refuse(
 ) -> bool {
     starved.refuses_in_turn(|| list_of(alloc, &[1, 2, 3]), builder_is_made)
         && starved.refuses_in_turn(
-            || list_of(alloc, &[0, 10]),
-            |list| match list_of(alloc, &[20, 30]) {
-                Some(right) => state_is_made(list, right),
-                None => Answer::Wrong,
-            },
+            || two_lists(alloc),
+            |(list, other)| state_is_made(list, other),
         )
         && starved.refuses_in_turn(
-            || list_of(alloc, &[0, 10]),
+            || list_of(alloc, &[0, 10, 20]),
             |list| lent_state_is_made(list, right),
         )
         && starved.refuses_in_turn(|| Some(()), |()| is_merged_anew(alloc, left, right))
@@ -167,22 +178,16 @@ fn states_refuse(
 // Whether merges in place are refused in turn.
 fn merges_refuse(alloc: Global, starved: &mut Starved, right: RangeSetRef<i64>) -> bool {
     starved.refuses_in_turn(
-        || set_of(alloc, &[0, 10]),
+        || set_of(alloc, &[0, 10, 20]),
         |left| is_merged_lent(left, right),
-    ) && starved.refuses_in_turn(
-        || set_of(alloc, &[0, 10]),
-        |left| match set_of(alloc, &[20, 30]) {
-            Some(right) => is_merged(left, right),
-            None => Answer::Wrong,
-        },
-    )
+    ) && starved.refuses_in_turn(|| two_sets(alloc), |(left, other)| is_merged(left, other))
 }
 
 #[test]
 fn states(rt: HostRuntime) -> Result<(), Fail> {
     let alloc = rt.alloc();
-    let left = RangeSetRef::new(&[0i64, 10]).ok_or("sorted")?;
-    let right = RangeSetRef::new(&[20i64, 30]).ok_or("sorted")?;
+    let left = RangeSetRef::new(&[0i64, 10, 20]).ok_or("sorted")?;
+    let right = RangeSetRef::new(&[5i64, 15, 25]).ok_or("sorted")?;
     let mut starved = Starved::new(alloc)?;
     assert!(rt; states_refuse(alloc, &mut starved, left, right));
     assert!(rt; merges_refuse(alloc, &mut starved, right));
