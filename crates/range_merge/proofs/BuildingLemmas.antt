@@ -12,6 +12,9 @@ module _ {K : Type 0} where
       let many : length (reverse (drop k xs)) ≡ n = length-reverse (drop k xs) ∙ length-drop k xs ∙ omega arith in
       sym (ap (drop n) whole ∙ drop_at (reverse (drop k xs)) (reverse (take k xs)) n many)
 
+  pub length-unread_in : (start : ℕ) (list spare : List K) → length list - start + length spare ≡ length (unread_in start list spare)
+  length-unread_in start list spare = omega (arith, length-append (drop start list) (reverse spare), length-drop start list, length-reverse spare)
+
   -- the spare without the first unread items, where nothing in the list is unread
   pub unread_in-skip : (start n many : ℕ) (list spare new : List K) → length list ≤ start → many ≡ length spare → new ≡ take (many - n) spare
       → n ≤ length (unread_in start list spare) → unread_in start list new ≡ drop n (unread_in start list spare)

@@ -1,5 +1,6 @@
 -- Odd numbers, and truths that differ.
 use Rattle.std.proofs.Common.{◌≡◌, ℕ, zero, suc, ◌+◌, ◌%◌, ◌<◌, ◌==◌, Bool, true, false, not, cond, refl, sym, ap, ◌∙◌, arith}
+use Rattle.std.proofs.Math.Bool.{beq}
 use Rattle.std.proofs.Math.Nat.{suc-mod}
 use Rattle.range_merge.specs.Boundaries.{is_odd}
 use Rattle.range_merge.specs.Connective.{differ}
@@ -15,6 +16,12 @@ is_odd-suc n = ap (λ m. m == 1) (suc-mod n 2) ∙ odd_after (n % 2) (omega arit
 pub is_odd-cond : (b : Bool) (n : ℕ) → is_odd (cond b (suc n) n) ≡ differ b (is_odd n)
 is_odd-cond true n = is_odd-suc n
 is_odd-cond false n = refl
+
+pub unequal-differ : (a b : Bool) → not (beq a b) ≡ differ a b
+unequal-differ true true = refl
+unequal-differ true false = refl
+unequal-differ false true = refl
+unequal-differ false false = refl
 
 pub differ-not_left : (a b : Bool) → differ (not a) b ≡ not (differ a b)
 differ-not_left true true = refl

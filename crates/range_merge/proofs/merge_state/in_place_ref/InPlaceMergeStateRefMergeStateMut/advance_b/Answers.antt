@@ -1,4 +1,6 @@
 use Rattle.std.proofs.Common.{reverse}
+use Rattle.range_merge.specs.Boundaries.{is_odd}
+use Rattle.range_merge.proofs.Parity.{unequal-differ}
 use Rattle.range_merge.proofs.OwnOrCopies.{AreOwnOrCopies-right, HasCopies-drop}
 use Rattle.range_merge.proofs.merge_state.in_place_ref.InPlaceMergeStateRefMergeStateMut.advance_b.Goals as goal
 
@@ -13,3 +15,6 @@ returns-clause-output g c =
     rw (← c.self.view_is) (λ before holds.
     AreOwnOrCopies-right g.P.Copier.alike c.args.take c.args.n c.self.inside.b (reverse (g.L.Place.items c.self.inside.copies)) c.self.inside.builder.kept c.put_from.new.self.kept before
     c.self.invariant.alike_to c.put_from.ensures.kept holds)
+
+pub returns-clause-on : goal.returns-clause-on
+returns-clause-on g c = rw (← c.self.view_is) (unequal-differ c.self.inside.bc (is_odd c.args.n))

@@ -1,0 +1,4 @@
+use Rattle.range_collections.proofs.range_set.RangeSet.boundaries.Goals as goal
+
+pub returns-clause-same : goal.returns-clause-same
+returns-clause-same g c = rw (← c.self.view_is) c.as_slice.ensures

@@ -1,0 +1,18 @@
+use Rattle.std.proofs.Common.{reverse, refl, ap, ◌∙◌}
+use Rattle.std.proofs.lemmas.List.{reverse-reverse}
+use Rattle.range_merge.proofs.merge_state.in_place.InPlaceMergeState+K+N.new.Goals as goal
+
+pub returns-in-Ok-clause-left : goal.returns-in-Ok-clause-left
+returns-in-Ok-clause-left g c = c.over.ensures.left ∙ c.prepared.ensures.items
+
+pub returns-in-Ok-clause-right : goal.returns-in-Ok-clause-right
+returns-in-Ok-clause-right g c = c.over.ensures.right ∙ ap reverse c.turn_round.ensures.items ∙ reverse-reverse c.args.b.items
+
+pub returns-in-Ok-clause-kept : goal.returns-in-Ok-clause-kept
+returns-in-Ok-clause-kept g c = c.over.ensures.kept
+
+pub returns-in-Err-clause-left_handed_back : goal.returns-in-Err-clause-left_handed_back
+returns-in-Err-clause-left_handed_back g c = c.prepared.ensures.items
+
+pub returns-in-Err-clause-right_handed_back : goal.returns-in-Err-clause-right_handed_back
+returns-in-Err-clause-right_handed_back g c = refl
