@@ -1,4 +1,4 @@
-//! Tests of the crates below: worked rows, element types of their own, and calls that find no memory.
+//! Tests of the crates below: worked cases, element types of their own, and calls that find no memory.
 #![tactic(auto)]
 
 #[cfg(test)]

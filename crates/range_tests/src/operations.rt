@@ -1,4 +1,4 @@
-//! Worked rows of the four operations, in every form, at numbers and at an element type of the tests' own.
+//! Worked cases of the four operations, in every form, at numbers and at an element type of the tests' own.
 use crate::elements::{Lettered, with_letter};
 use crate::forms::Operation;
 use range_collections::{Comparisons, EntryClone, RangeSet2};
