@@ -1,43 +1,29 @@
 -- How many boundaries are at or below an element, where a search found its place.
-use Rattle.std.proofs.Common.{◌≡◌, ◌↔◌, IsTrue, refl, sym, ap, ◌∙◌, ℕ, zero, suc, inl, inr, ◌<◌, ◌≤◌, ◌+◌, ◌%◌, ◌==◌, Bool, true, false, cond, List, [], ◌∷◌, length, filter, get_or, arith}
+use Rattle.std.proofs.Common.{◌≡◌, ◌↔◌, IsTrue, sym, ap, ◌∙◌, ℕ, zero, suc, inl, inr, ◌<◌, ◌≤◌, ◌+◌, ◌%◌, ◌==◌, Bool, true, false, List, [], ◌∷◌, length, get_or, arith}
 use Rattle.std.specs.List.{HoldsAt, AllWithin}
 use Rattle.std.proofs.lemmas.Bool.{cases_lt}
 use Rattle.std.proofs.lemmas.Bool.Decides.{eqb_tells}
 use Rattle.std.specs.Cmp.{IsTotalOrder}
-use Rattle.std.proofs.lemmas.Cmp.{tied_itself, alike_right}
+use Rattle.std.proofs.lemmas.Cmp.{alike_right}
 use Rattle.std.specs.declared.cmp.Ordering.{Ordering}
 use Rattle.std.specs.declared.cmp.Ordering.TheVariants.{Less, Equal, Greater}
 use Rattle.std.specs.Ordering.{is_le, ordering_reverse}
 use Rattle.range_merge.specs.Boundaries.{IsAscending, below, member, is_odd}
+use Rattle.range_merge.proofs.Members.{below-nil, below-cons, member-nil}
+use Rattle.range_merge.proofs.SameSet.{member-head}
 
 module _ {K : Type 0} (order : K → K → Ordering) where
-  pub below-nil : (x : K) → below order [] x ≡ 0
-  unfolding below
-  below-nil x = refl
-
-  pub member-nil : (x : K) → member order [] x ≡ false
-  member-nil x = rw (below-nil x)
-
-  -- one more boundary in front counts if it is at or below x
-  pub below-cons : (y : K) (ys : List K) (x : K) →
-      below order (y ∷ ys) x ≡ cond (is_le (order y x)) (suc (below order ys x)) (below order ys x)
-  unfolding below
-  below-cons y ys x =
-      elim (is_le (order y x)) as (λ b. length (cond b (y ∷ filter (λ z. is_le (order z x)) ys) (filter (λ z. is_le (order z x)) ys)) ≡
-      cond b (suc (length (filter (λ z. is_le (order z x)) ys))) (length (filter (λ z. is_le (order z x)) ys)))
-      [ true ↦ refl | false ↦ refl ]
-
   pub below-cons_in : (y : K) (ys : List K) (x : K) → is_le (order y x) ≡ true → below order (y ∷ ys) x ≡ suc (below order ys x)
-  below-cons_in y ys x h = rw (below-cons y ys x, h)
+  below-cons_in y ys x h = rw (below-cons order y ys x, h)
 
   pub below-cons_out : (y : K) (ys : List K) (x : K) → is_le (order y x) ≡ false → below order (y ∷ ys) x ≡ below order ys x
-  below-cons_out y ys x h = rw (below-cons y ys x, h)
+  below-cons_out y ys x h = rw (below-cons order y ys x, h)
 
   -- the boundaries before place i are at or below x, and the others are above it
   pub below-split : (x : K) (xs : List K) (i : ℕ) → i ≤ length xs →
       AllWithin (λ y. is_le (order y x) ≡ true) xs 0 i → AllWithin (λ y. order y x ≡ Greater) xs i (length xs) →
       below order xs x ≡ i
-  below-split x [] i within before from = below-nil x ∙ omega arith
+  below-split x [] i within before from = below-nil order x ∙ omega arith
   below-split x (y ∷ ys) zero within before from =
       below-cons_out y ys x (ap is_le (from 0 y (omega arith) (omega arith))) ∙
       below-split x ys zero (omega arith) (λ k d low high. absurd (omega arith)) (λ k d low high. from (suc k) d (omega arith) (omega arith))
@@ -68,13 +54,6 @@ module _ {K : Type 0} (order : K → K → Ordering) where
           o.antisymm (get_or xs k d) x ∙
           ap ordering_reverse (sym (o.congr (get_or xs i d) x (get_or xs k d) (here d)) ∙ up i k d (omega arith) high)
 
-  -- the first boundary of an ascending list is a member: it alone is at or below itself
-  pub below-first : (o : IsTotalOrder order) (x : K) (xs : List K) → IsAscending order (x ∷ xs) → below order (x ∷ xs) x ≡ 1
-  below-first o x xs up = below-found o x (x ∷ xs) 0 up (omega arith) (λ d. tied_itself o x)
-
-  pub member-first : (o : IsTotalOrder order) (x : K) (xs : List K) → IsAscending order (x ∷ xs) → member order (x ∷ xs) x ≡ true
-  member-first o x xs up = rw (below-first o x xs up)
-
   length-not_zero : (x : K) (xs : List K) → (length (x ∷ xs) == 0) ≡ false
   length-not_zero x xs =
       elim (eqb_tells (length (x ∷ xs)) 0) as (λ _. (length (x ∷ xs) == 0) ≡ false) [
@@ -85,10 +64,10 @@ module _ {K : Type 0} (order : K → K → Ordering) where
   -- an ascending list is empty exactly if it has no members
   pub IsTrue-no_members : (o : IsTotalOrder order) (xs : List K) (r : Bool) → IsAscending order xs → r ≡ (length xs == 0) →
       IsTrue r ↔ ((x : K) → member order xs x ≡ false)
-  IsTrue-no_members o [] r up e = (λ _ x. member-nil x, λ _. e)
+  IsTrue-no_members o [] r up e = (λ _ x. member-nil order x, λ _. e)
   IsTrue-no_members o (x ∷ xs) r up e = (
     λ t. let off : true ≡ false = sym t ∙ e ∙ length-not_zero x xs in absurd (cc),
-    λ none. let off : true ≡ false = sym (member-first o x xs up) ∙ none x in absurd (cc),
+    λ none. let off : true ≡ false = sym (member-head o x xs up) ∙ none x in absurd (cc),
   )
 
   pub member-missing : (x : K) (xs : List K) (i : ℕ) → below order xs x ≡ i → member order xs x ≡ ((i % 2) == 1)

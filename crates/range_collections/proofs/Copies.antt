@@ -10,7 +10,7 @@ use Rattle.range_merge.specs.Boundaries.{IsAscending, below, member, is_odd}
 use Rattle.range_merge.specs.Changes.{Taken, taken_item, taken_items}
 use Rattle.range_merge.specs.Connective.{Table, Means}
 use Rattle.range_collections.proofs.Ascending.{IsAscending-nil, IsAscending-head, IsAscending-tail, IsAscending-cons}
-use Rattle.range_collections.proofs.Below.{below-cons}
+use Rattle.range_merge.proofs.Members.{below-cons}
 
 module _ {K : Type 0} {order : K → K → Ordering} (o : IsTotalOrder order) where
   -- what is below every item of a list is below each copy too

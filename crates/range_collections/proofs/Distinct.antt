@@ -14,6 +14,8 @@ use Rattle.std.specs.declared.cmp.Ordering.{Ordering}
 use Rattle.std.specs.declared.cmp.Ordering.TheVariants.{Less, Equal, Greater}
 use Rattle.range_merge.specs.Boundaries.{IsAscending}
 use Rattle.range_collections.specs.Unsorted.{AreDistinctOf}
+use Rattle.range_merge.proofs.Marks.{Contains-here, Contains-behind}
+use Rattle.range_merge.proofs.OwnersUnique.{not_both_less}
 
 module _ {K : Type 0} {order : K → K → Ordering} (o : IsTotalOrder order) {E : K → K → Bool} (e : IsEquivalence E)
     (ties : (x y : K) → E x y ≡ eq_by_cmp order x y) where
@@ -43,22 +45,11 @@ module _ {K : Type 0} (order : K → K → Ordering) where
   Contains-cons_cases x xs z (zero, within, is) here there = here is
   Contains-cons_cases x xs z (suc k, within, is) here there = there (k, omega arith, is)
 
-  Contains-here : (x : K) (xs : List K) → Contains (x ∷ xs) x
-  Contains-here x xs = (0, omega arith, refl)
-
-  Contains-there : (x : K) (xs : List K) (z : K) → Contains xs z → Contains (x ∷ xs) z
-  Contains-there x xs z (k, within, is) = (suc k, omega arith, is)
-
   -- the first item of an ascending list is below each later one
   Less-contained : (x : K) (xs : List K) (z : K) → IsAscending order (x ∷ xs) → Contains xs z → order x z ≡ Less
   Less-contained x xs z up (k, within, is) = subst (λ y. order x y ≡ Less) is (up 0 (suc k) z (omega arith) (omega arith))
 
 module _ {K : Type 0} {order : K → K → Ordering} (o : IsTotalOrder order) where
-  -- an item of a list is equal to the first or below a later one is ruled out
-  not_both : (x y : K) → order x y ≡ Less → order y x ≡ Less → ⊥
-  not_both x y l m =
-      let e : Less ≡ Equal = sym (o.trans x y x l m) ∙ tied_itself o x in cc
-
   not_tied : (x y : K) → order x y ≡ Less → order y x ≡ Equal → ⊥
   not_tied x y l m =
       let e : Less ≡ Equal = sym l ∙ tied_back o y x m in cc
@@ -67,21 +58,21 @@ module _ {K : Type 0} {order : K → K → Ordering} (o : IsTotalOrder order) wh
   pub AllZip-distinct : (xs ys : List K) → IsAscending order xs → AreDistinctOf order xs ys → AllZip (λ x y. order x y ≡ Equal) xs ys
   AllZip-distinct [] [] up h = tt
   AllZip-distinct [] (y ∷ ys) up h =
-      let (k, within, is) = h.taken y (Contains-here order y ys) in absurd (omega arith)
+      let (k, within, is) = h.taken y (Contains-here y ys) in absurd (omega arith)
   AllZip-distinct (x ∷ xs) [] up h =
-      let (k, y, within, is, e) = h.kept x (Contains-here order x xs) in absurd (omega arith)
+      let (k, y, within, is, e) = h.kept x (Contains-here x xs) in absurd (omega arith)
   AllZip-distinct (x ∷ xs) (y ∷ ys) up h = (first, AllZip-distinct xs ys (IsAscending-tail order x xs up) others)
     where
       -- x is below y or equal to it, and y is so to x
       low : (order x y ≡ Equal) ⊎ (order x y ≡ Less)
       low =
-          Contains-cons_cases order x xs y (h.taken y (Contains-here order y ys))
+          Contains-cons_cases order x xs y (h.taken y (Contains-here y ys))
           (λ e. inl (subst (λ z. order x z ≡ Equal) e (tied_itself o x)))
           (λ later. inr (Less-contained order x xs y up later))
 
       high : (order y x ≡ Equal) ⊎ (order y x ≡ Less)
       high =
-          let (k, z, within, is, e) = h.kept x (Contains-here order x xs) in
+          let (k, z, within, is, e) = h.kept x (Contains-here x xs) in
           Contains-cons_cases order y ys z (k, within, is)
           (λ at_y. inl (tied_back o x y (subst (λ w. order x w ≡ Equal) (sym at_y) e)))
           (λ later. inr (sym (alike_right o z x y (tied_back o x z e)) ∙ Less-contained order y ys z h.sorted later))
@@ -93,7 +84,7 @@ module _ {K : Type 0} {order : K → K → Ordering} (o : IsTotalOrder order) wh
             | inr l ↦
                 elim high as (λ _. order x y ≡ Equal) [
                   | inl e ↦ absurd (not_tied x y l e)
-                  | inr m ↦ absurd (not_both x y l m)
+                  | inr m ↦ absurd (not_both_less o x y l m)
                 ]
           ]
 
@@ -101,13 +92,13 @@ module _ {K : Type 0} {order : K → K → Ordering} (o : IsTotalOrder order) wh
       others = record {
         sorted = IsAscending-tail order y ys h.sorted;
         taken = λ z later.
-            Contains-cons_cases order x xs z (h.taken z (Contains-there order y ys z later))
+            Contains-cons_cases order x xs z (h.taken z (Contains-behind y z ys later))
             (λ e.
             absurd (not_tied y z (Less-contained order y ys z h.sorted later)
             (subst (λ w. order w y ≡ Equal) e first)))
             (λ inside. inside);
         kept = λ z later.
-            let (k, w, within, is, e) = h.kept z (Contains-there order x xs z later) in
+            let (k, w, within, is, e) = h.kept z (Contains-behind x z xs later) in
             Contains-cons_cases order y ys w (k, within, is)
             (λ at_y.
             absurd (not_tied x z (Less-contained order x xs z up later)

@@ -35,14 +35,6 @@ items_in-array (string s) ds h = cc
 items_in-array (array is) ds h = let e : is ≡ items_of ds = cc in ap list_of e ∙ list_of-items_of ds
 items_in-array (object ms) ds h = cc
 
-pub items_in-none : (d : Data) → as_array d ≡ None → items_in d ≡ []
-items_in-none null h = refl
-items_in-none (boolean b) h = refl
-items_in-none (number n) h = refl
-items_in-none (string s) h = refl
-items_in-none (array is) h = cc
-items_in-none (object ms) h = refl
-
 prefix_len-map : {X Y : Type 0} (p : Y → Bool) (f : X → Y) (xs : List X) → prefix_len p (map f xs) ≡ prefix_len (λ x. p (f x)) xs
 prefix_len-map p f [] = refl
 prefix_len-map p f (x ∷ xs) = ap (λ n. cond (p (f x)) (1 + n) 0) (prefix_len-map p f xs)
@@ -59,9 +51,6 @@ position-none p xs h k d within =
           let off : None ≡ Some (position_or_len p xs) = sym h ∙ e in cc
       | inr none ↦ fails_before_first p xs k d (omega arith)
     ]
-
-pub first_bad-none : (d : Data) → as_array d ≡ None → first_bad d ≡ None
-first_bad-none d h = ap (position is_bad) (items_in-none d h)
 
 pub first_bad-array : (d : Data) (vs : List Value) → as_array d ≡ Some (items_view vs) → first_bad d ≡ position (λ v. is_bad (view v)) vs
 first_bad-array d vs h = ap (position is_bad) (items_in-array d (map view vs) h) ∙ position-map is_bad view vs

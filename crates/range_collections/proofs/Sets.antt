@@ -9,9 +9,9 @@ use Rattle.range_merge.specs.Boundaries.{IsAscending, IsSameSet, member}
 use Rattle.range_merge.specs.Changes.{Taken, taken_item, taken_items}
 use Rattle.range_merge.specs.Connective.{Table, Means, intersection_table, difference_table}
 use Rattle.range_merge.specs.States.{any_item}
-use Rattle.range_merge.proofs.SameSet.{same_items, IsSameSet-from_items}
+use Rattle.range_merge.proofs.SameSet.{same_items, IsSameSet-from_items, member-head}
 use Rattle.range_collections.specs.Sets.{IsSubset, Intersects, IsDisjoint, HasMember, AreEqual}
-use Rattle.range_collections.proofs.Below.{member-nil, member-first}
+use Rattle.range_merge.proofs.Members.{member-nil}
 
 -- truths
 
@@ -51,7 +51,7 @@ Equal-from_is_eq Greater h = cc
 module _ {K : Type 0} {order : K → K → Ordering} (o : IsTotalOrder order) where
   -- a list that means a connective has an item exactly if the connective has a member
   HasMember-from_first : (f : Table) (x : K) (xs a b : List K) → Means order f (x ∷ xs) a b → HasMember order f a b
-  HasMember-from_first f x xs a b m = (x, sym (m.members x) ∙ member-first order o x xs m.sorted)
+  HasMember-from_first f x xs a b m = (x, sym (m.members x) ∙ member-head o x xs m.sorted)
 
   none_in_nil : (f : Table) (a b : List K) → Means order f [] a b → HasMember order f a b → ⊥
   none_in_nil f a b m (x, h) = not_both (member order [] x) (m.members x ∙ h) (member-nil order x)

@@ -9,10 +9,10 @@ use Rattle.std.specs.declared.cmp.Ordering.{Ordering}
 use Rattle.std.specs.declared.cmp.Ordering.TheVariants.{Less, Equal, Greater}
 use Rattle.std.specs.Ordering.{is_le}
 use Rattle.range_merge.specs.Boundaries.{IsAscending, below, member, is_odd}
-use Rattle.range_merge.proofs.Members.{by_Ordering}
+use Rattle.range_merge.proofs.Members.{by_Ordering, below-nil}
 use Rattle.range_merge.proofs.Orders.{Less-from_greater}
 use Rattle.range_merge.proofs.Parity.{is_odd-suc}
-use Rattle.range_collections.proofs.Below.{below-nil, below-cons_in, below-cons_out, below-found}
+use Rattle.range_collections.proofs.Below.{below-cons_in, below-cons_out, below-found}
 
 pub is_le-cases : {G : Type 0} (r : Ordering) → (is_le r ≡ true → G) → (r ≡ Greater → G) → G
 is_le-cases Less t f = t refl

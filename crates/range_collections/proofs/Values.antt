@@ -1,5 +1,5 @@
 -- Sets among values: the least value in front, negation, and lists of values with the same members among them.
-use Rattle.std.proofs.Common.{◌≡◌, ◌≢◌, ◌↔◌, IsTrue, refl, sym, ap, ap₂, ◌∙◌, ℕ, ◌⊎◌, inr, Result, Ok, rules, Bool, true, false, not, cond, ◌&&◌, List, [], ◌∷◌, ◌<◌, length, get_or, drop, arith, All, subst, ◌≤◌, true≢false}
+use Rattle.std.proofs.Common.{◌≡◌, ◌≢◌, ◌↔◌, IsTrue, refl, sym, ap, ap₂, ◌∙◌, ℕ, ◌⊎◌, inr, Result, Ok, rules, Bool, true, false, not, ◌&&◌, List, [], ◌∷◌, ◌<◌, length, get_or, drop, arith, All, subst, ◌≤◌, true≢false}
 use Rattle.std.specs.List.{AllZip, HoldsAt, insert, remove}
 use Rattle.std.specs.Cmp.{IsTotalOrder}
 use Rattle.std.specs.Ordering.{is_le, is_lt}
@@ -12,28 +12,19 @@ use Rattle.range_merge.specs.Boundaries.{IsAscending, member}
 use Rattle.range_merge.specs.Connective.{Means, differ, intersection_table, difference_table}
 use Rattle.range_merge.proofs.Members.{member-nil, member-cons, member-above, by_Ordering}
 use Rattle.range_merge.proofs.Orders.{Greater-from_less, Less-from_greater, Equal-sym, Equal-self, same_left, same_right, Less-then_equal, Less-from_equal}
-use Rattle.range_merge.proofs.SameSet.{same_items, IsSameSet-from_items, member-below_all, member-head}
+use Rattle.range_merge.proofs.SameSet.{same_items, IsSameSet-from_items, member-head, differ-cancel, member-before}
 use Rattle.range_collections.specs.Sets.{AreEqual}
-use Rattle.range_collections.specs.Values.{range_items, BeginsAt, BeginsWithValue, Negates, GivesNegation, AreSameAmongValues, IsEverything}
+use Rattle.range_collections.specs.Values.{BeginsAt, BeginsWithValue, Negates, GivesNegation, AreSameAmongValues, IsEverything}
 use Rattle.range_collections.proofs.Ascending.{IsAscending-nil, IsAscending-head, IsAscending-tail, IsAscending-cons}
+use Rattle.range_merge.proofs.Parity.{differ-false}
+use Rattle.range_merge.proofs.ChangesLemmas.{and-false}
 
 -- truths
-
-differ-cancel : (b c d : Bool) → differ b c ≡ differ b d → c ≡ d
-differ-cancel true true true h = refl
-differ-cancel true true false h = cc
-differ-cancel true false true h = cc
-differ-cancel true false false h = refl
-differ-cancel false c d h = h
 
 differ-twice : (b c : Bool) → differ b (differ b c) ≡ c
 differ-twice true true = refl
 differ-twice true false = refl
 differ-twice false c = refl
-
-differ-false : (b : Bool) → differ b false ≡ b
-differ-false true = refl
-differ-false false = refl
 
 not-not : (b : Bool) → not (not b) ≡ b
 not-not true = refl
@@ -143,10 +134,6 @@ module _ {K : Type 0} {order : K → K → Ordering} (o : IsTotalOrder order) wh
       (λ e. sym (and-false (is_le (order start x))) ∙ ap (λ r. is_le (order start x) && is_lt r) (sym e))
       (λ g. sym (and-false (is_le (order start x))) ∙ ap (λ r. is_le (order start x) && is_lt r) (sym g))
     where
-      and-false : (b : Bool) → (b && false) ≡ false
-      and-false true = refl
-      and-false false = refl
-
       is_le-cases : order x end ≡ Less → is_le (order start x) ≡ false
       is_le-cases l =
           by_Ordering (order start x)
@@ -156,12 +143,6 @@ module _ {K : Type 0} {order : K → K → Ordering} (o : IsTotalOrder order) wh
 
       outside : (s y : K) → order x end ≡ Less → is_le (order start x) ≡ false → false ≡ (is_le (order start x) && is_lt (order x end))
       outside s y l e = ap (λ b. b && is_lt (order x end)) (sym e)
-
-  pub range_items-in : (start end : K) → is_lt (order start end) ≡ true → range_items order start end ≡ start ∷ end ∷ []
-  range_items-in start end h = ap (λ b. cond b (start ∷ end ∷ []) []) h
-
-  pub range_items-out : (start end : K) → is_lt (order start end) ≡ false → range_items order start end ≡ []
-  range_items-out start end h = ap (λ b. cond b (start ∷ end ∷ []) []) h
 
 -- the least value
 
@@ -319,12 +300,6 @@ module _ {K : Type 0} {order : K → K → Ordering} (o : IsTotalOrder order) (i
 -- lists of values
 
 module _ {K : Type 0} {order : K → K → Ordering} (o : IsTotalOrder order) (is_value : K → Type 0) where
-  -- an item below the first of a list is no member of it
-  member-before : (x y : K) (ys : List K) → order x y ≡ Less → IsAscending order (y ∷ ys) → member order (y ∷ ys) x ≡ false
-  member-before x y ys l up =
-      let R = λ (z : K). order x z ≡ Less in
-      member-below_all o (y ∷ ys) x (All-cons R y ys l (λ k d within. o.trans x y (get_or ys k d) l (IsAscending-head order y ys up k d within)))
-
   AreSameAmongValues-tail : (x y : K) (xs ys : List K) → order x y ≡ Equal → AreSameAmongValues order is_value (x ∷ xs) (y ∷ ys) →
       AreSameAmongValues order is_value xs ys
   AreSameAmongValues-tail x y xs ys e h z v =
@@ -340,14 +315,14 @@ module _ {K : Type 0} {order : K → K → Ordering} (o : IsTotalOrder order) (i
       true≢false (sym (member-head o x xs p) ∙ h x (All-head is_value x xs u) ∙ member-nil order x)
   same_values (x ∷ xs) (y ∷ ys) u v p q h =
       by_Ordering (order x y)
-      (λ l. absurd (true≢false (sym (member-head o x xs p) ∙ h x (All-head is_value x xs u) ∙ member-before x y ys l q)))
+      (λ l. absurd (true≢false (sym (member-head o x xs p) ∙ h x (All-head is_value x xs u) ∙ member-before o x y ys l q)))
       (λ e. (
         e,
         same_values xs ys (All-tail is_value x xs u) (All-tail is_value y ys v) (IsAscending-tail order x xs p) (IsAscending-tail order y ys q)
             (AreSameAmongValues-tail x y xs ys e h),
       ))
       (λ g. absurd (true≢false (sym (member-head o y ys q) ∙ sym (h y (All-head is_value y ys v)) ∙
-      member-before y x xs (Less-from_greater o x y g) p)))
+      member-before o y x xs (Less-from_greater o x y g) p)))
 
   pub AreEqual-twice : (a b c : List K) → All is_value a → All is_value c → IsAscending order a → Negates order is_value b a →
       Negates order is_value c b → AreEqual order a c
@@ -433,14 +408,6 @@ module _ {K : Type 0} {order : K → K → Ordering} (o : IsTotalOrder order) (i
           ap (λ t. t && not (member order b x)) out ∙ sym (ap (λ t. t && member order n x) out))
 
 -- what a test of two elements says: v is what `cmp` gave and t what was asked of it
-
-Less-from_lt : (v : Ordering) → is_lt v ≡ true → v ≡ Less
-Less-from_lt Less h = refl
-Less-from_lt Equal h = cc
-Less-from_lt Greater h = cc
-
-pub Less-from_is_lt : (v : Ordering) (t : Bool) (w : Ordering) → v ≡ w → t ≡ is_lt v → t ≡ true → w ≡ Less
-Less-from_is_lt v t w e is h = sym e ∙ Less-from_lt v (sym is ∙ h)
 
 pub not_less-from_is_lt : (v : Ordering) (t : Bool) (w : Ordering) → v ≡ w → t ≡ is_lt v → t ≡ false → is_lt w ≡ false
 not_less-from_is_lt v t w e is h = ap is_lt (sym e) ∙ sym is ∙ h

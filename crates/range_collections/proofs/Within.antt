@@ -1,22 +1,17 @@
 -- Whether a set has a member in a range: the start is one, or the next boundary lies before the end.
-use Rattle.std.proofs.Common.{◌≡◌, ◌↔◌, refl, sym, ap, ◌∙◌, subst, ℕ, suc, inl, inr, ◌<◌, ◌≤◌, ◌%◌, ◌==◌, true, false, List, length, get_or, arith}
+use Rattle.std.proofs.Common.{◌≡◌, ◌↔◌, sym, ap, ◌∙◌, subst, ℕ, suc, inl, inr, ◌<◌, ◌≤◌, ◌%◌, ◌==◌, true, false, List, length, get_or, arith}
 use Rattle.std.specs.List.{AllWithin}
-use Rattle.std.specs.Ordering.{is_le, is_lt}
+use Rattle.std.specs.Ordering.{is_le}
 use Rattle.std.specs.Cmp.{IsTotalOrder}
 use Rattle.std.proofs.lemmas.Bool.{cases_lt, true≢false}
 use Rattle.std.proofs.lemmas.List.{get_or_default}
 use Rattle.std.specs.declared.cmp.Ordering.{Ordering}
-use Rattle.std.specs.declared.cmp.Ordering.TheVariants.{Less, Equal, Greater}
+use Rattle.std.specs.declared.cmp.Ordering.TheVariants.{Less, Greater}
 use Rattle.range_merge.specs.Boundaries.{IsAscending, member, is_odd}
 use Rattle.range_merge.proofs.Orders.{Greater-from_less, Less-from_greater, Equal-self}
 use Rattle.range_collections.specs.Intersects.{HasMemberWithin, IsItemBelow}
 use Rattle.range_collections.proofs.Below.{below-split}
 use Rattle.range_collections.proofs.Shortest.{is_le-cases, le-trans, Less-from_le, le-from_greater, below-item}
-
-pub Less-from_is_lt : (v : Ordering) → is_lt v ≡ true → v ≡ Less
-Less-from_is_lt Less h = refl
-Less-from_is_lt Equal h = cc
-Less-from_is_lt Greater h = cc
 
 module _ {K : Type 0} {order : K → K → Ordering} (o : IsTotalOrder order) (xs : List K) (start end : K) (n : ℕ)
     (up : IsAscending order xs) (within : n ≤ length xs)

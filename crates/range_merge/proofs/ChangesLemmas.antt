@@ -1,7 +1,7 @@
 -- What `changes` gives: it is the walk over the owners, and its items mean the connective.
 use Rattle.std.proofs.Common.{◌≡◌, ℕ, ◌<◌, get_or, Bool, true, false, ◌&&◌, cond, List, [], ◌∷◌, map, length, filter, refl, sym, ap, ap₂, ◌∙◌, All, AllPairs}
 use Rattle.std.proofs.lemmas.List.Elements.{All-cons, All-head, All-tail, All-map}
-use Rattle.std.proofs.lemmas.List.Kept.{AllPairs-filter}
+use Rattle.std.proofs.lemmas.List.Kept.{AllPairs-filter, AllPairs-cons}
 use Rattle.std.specs.Cmp.{IsTotalOrder}
 use Rattle.std.specs.declared.cmp.Ordering.{Ordering}
 use Rattle.std.specs.declared.cmp.Ordering.TheVariants.{Less, Equal, Greater}
@@ -11,17 +11,18 @@ use Rattle.range_merge.specs.Connective.{Table, differ, Means}
 use Rattle.range_merge.specs.Owners.{Owner, left_only, right_only, shared, item_of, left_items, right_items, OwnersAscend, IsShare, IsOwners, owners}
 use Rattle.range_merge.specs.Changes.{Taken, taken_item, taken_items, taken_of, answer_at, answer_just_below, changes}
 use Rattle.range_merge.proofs.Orders.{Greater-from_less, Greater-trans, Equal-self}
-use Rattle.range_merge.proofs.Pairs.{AllPairs-nil, AllPairs-cons, AllPairs-head, AllPairs-tail}
+use Rattle.range_merge.proofs.Pairs.{AllPairs-nil, AllPairs-head, AllPairs-tail}
 use Rattle.range_merge.proofs.Parity.{differ-comm, differ-false, differ-self, differ-trans, differ-not_both}
 use Rattle.range_merge.proofs.Members.{member-nil, member-cons, member-above, odd_below, odd_below-above, by_Ordering}
-use Rattle.range_merge.proofs.Sides.{in_left, in_right, All-left_items, right_items-above, member-left_items, member-right_items, odd_below-left_items, odd_below-right_items}
+use Rattle.range_merge.proofs.Sides.{in_left, in_right, right_items-above, member-left_items, member-right_items, odd_below-left_items, odd_below-right_items}
 use Rattle.range_merge.specs.Walk.{walk}
+use Rattle.range_merge.proofs.OwnersLemmas.{All-left_items}
 
 and-true : (a : Bool) → (a && true) ≡ a
 and-true true = refl
 and-true false = refl
 
-and-false : (a : Bool) → (a && false) ≡ false
+pub and-false : (a : Bool) → (a && false) ≡ false
 and-false true = refl
 and-false false = refl
 

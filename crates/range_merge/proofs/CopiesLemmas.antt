@@ -27,9 +27,6 @@ taken_items-map_right [] = refl
 taken_items-map_right (x ∷ xs) = ap (λ ys. x ∷ ys) (taken_items-map_right xs)
 
 module _ {K : Type 0} (alike : K → K → Type 0) where
-  pub IsAppended-none : (old : List K) → IsAppended alike [] old old
-  IsAppended-none old = record { copies = []; alike_to = tt; appended = sym (append-nil old) }
-
   -- one copy more
   pub IsAppended-more : (xs old new : List K) (i : ℕ) (x y : K) → i < length xs → x ≡ get_or xs i x → alike x y
       → IsAppended alike (take i xs) old new → IsAppended alike (take (i + 1) xs) old (new ++ y ∷ [])

@@ -114,7 +114,3 @@ module _ {K : Type 0} where
     -- the weight of any two lists is at most their lengths together
     pub weight-le : (a b : List K) → weight order a b ≤ length a + length b
     weight-le a b = omega (arith, weight_of-le (runs order a b), total_len-runs_of (owners order a b), length-owners a b)
-
-    pub weight-nil : weight order [] [] ≡ 0
-    unfolding owners runs_of
-    weight-nil = weight_of-nil

@@ -7,21 +7,17 @@ use Rattle.range_merge.specs.Boundaries.{IsAscending}
 use Rattle.range_merge.specs.Connective.{Table, differ}
 use Rattle.range_merge.specs.Changes.{changes, taken_left}
 use Rattle.range_merge.specs.Owners.{owners}
-use Rattle.range_merge.specs.Runs.{runs, runs_of, weight, digits}
+use Rattle.range_merge.specs.Runs.{runs, runs_of, weight}
 use Rattle.range_merge.specs.Walk.{walk}
 use Rattle.range_merge.specs.Steps.{StandsFirst}
 use Rattle.range_merge.specs.declared.runs.Run.{Run}
 use Rattle.range_merge.specs.declared.runs.Run.TheVariants.{Left, Right, Both}
 use Rattle.range_merge.proofs.Digits as numbers
 use Rattle.range_merge.proofs.OwnersLemmas.{IsOwners-owners}
-use Rattle.range_merge.proofs.FirstRuns.{FirstLeft, FirstRight, FirstBoth, first_left, first_right, first_both, first_none}
+use Rattle.range_merge.proofs.FirstRuns.{FirstLeft, FirstRight, FirstBoth, first_left, first_right, first_both, first_none, digits-one}
 use Rattle.range_merge.proofs.RunsFound as found
 use Rattle.range_merge.proofs.WalkLemmas.{walk-left, walk-right, walk-shared}
 use Rattle.range_merge.proofs.ChangesLemmas as walked
-
-digits-one : digits 1 ≡ 1
-unfolding digits
-digits-one = refl
 
 module _ {K : Type 0} {order : K → K → Ordering} (o : IsTotalOrder order) (a b : List K) (a_ascends : IsAscending order a) (b_ascends : IsAscending order b) where
   pub stands_first : (run : Run) → slice_get (runs order a b) 0 ≡ Some run → StandsFirst order run a b

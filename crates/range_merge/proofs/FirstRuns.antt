@@ -22,7 +22,6 @@ pub record FirstLeft {K : Type 0} (order : K → K → Ordering) (a b : List K) 
   pub some : 1 ≤ n
   pub within : n ≤ length a
   pub owners_are : owners order a b ≡ map left_only (take n a) ++ owners order (drop n a) b
-  pub runs_are : runs order a b ≡ Left n ∷ runs order (drop n a) b
   pub weight_is : weight order a b ≡ digits n + weight order (drop n a) b
 
 -- the first run is of the first n of b
@@ -30,7 +29,6 @@ pub record FirstRight {K : Type 0} (order : K → K → Ordering) (a b : List K)
   pub some : 1 ≤ n
   pub within : n ≤ length b
   pub owners_are : owners order a b ≡ map right_only (take n b) ++ owners order a (drop n b)
-  pub runs_are : runs order a b ≡ Right n ∷ runs order a (drop n b)
   pub weight_is : weight order a b ≡ digits n + weight order a (drop n b)
 
 -- the first run is of the first of each, which are equal
@@ -38,15 +36,13 @@ pub record FirstBoth {K : Type 0} (order : K → K → Ordering) (a b : List K) 
   pub left_item : K
   pub right_item : K
   pub left_is : a ≡ left_item ∷ drop 1 a
-  pub right_is : b ≡ right_item ∷ drop 1 b
   pub left_some : 1 ≤ length a
   pub right_some : 1 ≤ length b
   pub equal : order left_item right_item ≡ Equal
   pub owners_are : owners order a b ≡ shared left_item right_item ∷ owners order (drop 1 a) (drop 1 b)
-  pub runs_are : runs order a b ≡ Both ∷ runs order (drop 1 a) (drop 1 b)
   pub weight_is : weight order a b ≡ 1 + weight order (drop 1 a) (drop 1 b)
 
-digits-one : digits 1 ≡ 1
+pub digits-one : digits 1 ≡ 1
 unfolding digits
 digits-one = refl
 
@@ -66,7 +62,6 @@ module _ {K : Type 0} {order : K → K → Ordering} (o : IsTotalOrder order) wh
         some = s.some;
         within = omega (arith, s.within, ap (λ (xs : List K). length xs) h.lefts);
         owners_are = s.split ∙ ap₂ (λ (xs : List K) (os : List (Owner K)). map left_only (take n xs) ++ os) h.lefts rest;
-        runs_are = runs_eq;
         weight_is = ap (λ (rs : List Run). weight_of rs) runs_eq ∙ weight_of-cons (Left n) (runs order (drop n a) b);
       }
 
@@ -85,7 +80,6 @@ module _ {K : Type 0} {order : K → K → Ordering} (o : IsTotalOrder order) wh
         some = s.some;
         within = omega (arith, s.within, ap (λ (ys : List K). length ys) h.rights);
         owners_are = s.split ∙ ap₂ (λ (ys : List K) (os : List (Owner K)). map right_only (take n ys) ++ os) h.rights rest;
-        runs_are = runs_eq;
         weight_is = ap (λ (rs : List Run). weight_of rs) runs_eq ∙ weight_of-cons (Right n) (runs order a (drop n b));
       }
 
@@ -107,12 +101,10 @@ module _ {K : Type 0} {order : K → K → Ordering} (o : IsTotalOrder order) wh
         left_item = x;
         right_item = y;
         left_is = subst (λ (xs : List K). xs ≡ x ∷ drop 1 xs) h.lefts refl;
-        right_is = subst (λ (ys : List K). ys ≡ y ∷ drop 1 ys) h.rights refl;
         left_some = subst (λ (xs : List K). 1 ≤ length xs) h.lefts (omega arith);
         right_some = subst (λ (ys : List K). 1 ≤ length ys) h.rights (omega arith);
         equal = IsOwners-share order a b (shared x y) os h;
         owners_are = e ∙ ap (λ (ps : List (Owner K)). shared x y ∷ ps) rest;
-        runs_are = runs_eq;
         weight_is = ap (λ (rs : List Run). weight_of rs) runs_eq ∙ (weight_of-cons Both (runs order (drop 1 a) (drop 1 b))
             ∙ ap (λ (k : ℕ). k + weight order (drop 1 a) (drop 1 b)) digits-one);
       }

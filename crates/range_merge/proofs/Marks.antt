@@ -12,10 +12,10 @@ use Rattle.range_merge.proofs.Orders.{Greater-from_less}
 use Rattle.range_merge.proofs.ChangesLemmas.{taken_item-taken_of}
 use Rattle.range_merge.proofs.OwnersLemmas.{Above, All-left_items, IsGood, IsGood-from_owners, IsOwners-above, IsOwners-tail, IsOwners-owners}
 
-Contains-here : {K : Type 0} (x : K) (xs : List K) → Contains (x ∷ xs) x
+pub Contains-here : {K : Type 0} (x : K) (xs : List K) → Contains (x ∷ xs) x
 Contains-here x xs = (0, omega arith, refl)
 
-Contains-behind : {K : Type 0} (x y : K) (xs : List K) → Contains xs y → Contains (x ∷ xs) y
+pub Contains-behind : {K : Type 0} (x y : K) (xs : List K) → Contains xs y → Contains (x ∷ xs) y
 Contains-behind x y xs (k, within, is) = (suc k, omega arith, is)
 
 module _ {K : Type 0} {order : K → K → Ordering} (o : IsTotalOrder order) where

@@ -1,10 +1,8 @@
 -- What a merge in place that borrows its right list keeps, run by run: the left's own items, and copies of the right's.
-use Rattle.std.proofs.Common.{◌≡◌, ℕ, zero, suc, ◌≤◌, Bool, true, false, List, [], ◌∷◌, ◌++◌, length, take, drop, map, reverse, refl, sym, ap, ◌∙◌}
+use Rattle.std.proofs.Common.{◌≡◌, ℕ, zero, suc, ◌≤◌, Bool, true, false, List, [], ◌∷◌, ◌++◌, length, take, drop, map, reverse, refl}
 use Rattle.std.specs.List.{AllZip}
-use Rattle.std.proofs.lemmas.List.{length-reverse, reverse-reverse}
-use Rattle.std.proofs.lemmas.List.Elements.{length_all_zip}
 use Rattle.range_merge.specs.Changes.{Taken, taken_left, taken_right, from_left, from_right}
-use Rattle.range_merge.specs.Copies.{items_if, IsAppended, IsOwnOrCopy, AreOwnOrCopies, HasCopies}
+use Rattle.range_merge.specs.Copies.{items_if, IsOwnOrCopy, AreOwnOrCopies, HasCopies}
 use Rattle.range_merge.proofs.CopiesLemmas.{AllZip-append}
 
 module _ {K : Type 0} (alike : K → K → Type 0) where
@@ -22,10 +20,6 @@ module _ {K : Type 0} (alike : K → K → Type 0) where
   AllZip-drop (suc n) (x ∷ xs) [] h = absurd h
   AllZip-drop (suc n) (x ∷ xs) (y ∷ ys) h = AllZip-drop n xs ys h.1
 
-  -- as many copies as items
-  pub length-copies : (xs copies : List K) → AllZip alike xs (reverse copies) → length copies ≡ length xs
-  length-copies xs copies h = sym (length-reverse copies) ∙ sym (length_all_zip alike xs (reverse copies) h)
-
   -- what is left behind the first items and their copies
   pub HasCopies-drop : (n puts : ℕ) (unread unread' copies copies' : List K) → unread' ≡ drop n unread → reverse copies' ≡ drop n (reverse copies)
       → AllZip alike unread (reverse copies) → length copies' ≤ puts → HasCopies alike unread' copies' puts
@@ -33,12 +27,6 @@ module _ {K : Type 0} (alike : K → K → Type 0) where
     alike_to = rw (items, same) (AllZip-drop n unread (reverse copies) h);
     enough = enough;
   }
-
-  -- the copies of all items behind none
-  pub copies-appended : (xs old made turned : List K) → old ≡ [] → turned ≡ reverse made → IsAppended alike xs old made → AllZip alike xs (reverse turned)
-  copies-appended xs old made turned none is h =
-      let all : made ≡ h.copies = h.appended ∙ ap (λ ys. ys ++ h.copies) none in
-      rw (ap reverse is ∙ reverse-reverse made ∙ all) h.alike_to
 
   own : (xs : List K) → AreOwnOrCopies alike (map from_left xs) xs
   own [] = tt

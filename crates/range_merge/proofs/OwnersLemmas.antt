@@ -9,7 +9,8 @@ use Rattle.std.specs.declared.cmp.Ordering.TheVariants.{Less, Equal, Greater}
 use Rattle.range_merge.specs.Boundaries.{IsAscending}
 use Rattle.range_merge.specs.Owners.{Owner, left_only, right_only, shared, item_of, left_items, right_items, IsShare, IsOwners, with_right_at, with_right, owners}
 use Rattle.range_merge.proofs.Orders.{Less-from_greater, Equal-sym, Less-trans, Less-then_equal}
-use Rattle.range_merge.proofs.Pairs.{AllPairs-nil, AllPairs-head, AllPairs-tail, AllPairs-cons}
+use Rattle.range_merge.proofs.Pairs.{AllPairs-nil, AllPairs-head, AllPairs-tail}
+use Rattle.std.proofs.lemmas.List.Kept.{AllPairs-cons}
 
 module _ {K : Type 0} where
   -- a fact of an owner's item
@@ -51,9 +52,6 @@ module _ {K : Type 0} where
 
     pub IsGood-from_owners : (a b : List K) (os : List (Owner K)) → IsOwners order a b os → IsGood os
     IsGood-from_owners a b os h = record { ascend = h.ascend; lefts = refl; rights = refl; equal = h.equal }
-
-    pub IsOwners-from_good : (a b : List K) (os : List (Owner K)) → IsGood os → left_items os ≡ a → right_items os ≡ b → IsOwners order a b os
-    IsOwners-from_good a b os h l r = record { ascend = h.ascend; lefts = l; rights = r; equal = h.equal }
 
     pub IsOwners-nil : IsOwners order [] [] []
     IsOwners-nil = record { ascend = AllPairs-nil Ascends; lefts = refl; rights = refl; equal = All-nil (IsShare order) }

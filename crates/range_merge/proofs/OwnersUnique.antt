@@ -8,8 +8,9 @@ use Rattle.std.specs.declared.cmp.Ordering.TheVariants.{Less, Equal}
 use Rattle.range_merge.specs.Boundaries.{IsAscending}
 use Rattle.range_merge.specs.Owners.{Owner, left_only, right_only, shared, item_of, left_items, right_items, IsOwners, owners}
 use Rattle.range_merge.proofs.Orders.{Greater-from_less, Equal-sym}
-use Rattle.range_merge.proofs.Pairs.{AllPairs-nil, AllPairs-cons}
+use Rattle.range_merge.proofs.Pairs.{AllPairs-nil}
 use Rattle.range_merge.proofs.OwnersLemmas.{All-left_items, Above, IsGood, IsGood-from_owners, IsOwners-above, IsOwners-tail, IsOwners-share, right_items-above, IsOwners-owners}
+use Rattle.std.proofs.lemmas.List.Kept.{AllPairs-cons}
 
 module _ {K : Type 0} {order : K → K → Ordering} (o : IsTotalOrder order) where
   -- the first owner stands below an item of the left that comes after it
@@ -28,7 +29,7 @@ module _ {K : Type 0} {order : K → K → Ordering} (o : IsTotalOrder order) wh
       (All-same (Above order (item_of p)) (y ∷ ys) (right_items os) (sym e)
       (right_items-above o (item_of p) os (IsOwners-tail order _ _ p os g) (IsOwners-above order _ _ p os g)))
 
-  not_both_less : (x y : K) → order x y ≡ Less → order y x ≡ Less → ⊥
+  pub not_both_less : (x y : K) → order x y ≡ Less → order y x ≡ Less → ⊥
   not_both_less x y h k = let e = Greater-from_less o x y h in absurd (cc)
 
   -- the first owners are of one kind

@@ -11,12 +11,6 @@ module _ {X : Type 0} (R : X → X → Type 0) where
   pub AllPairs-tail : (x : X) (xs : List X) → AllPairs R (x ∷ xs) → AllPairs R xs
   AllPairs-tail x xs h i j d below within = h (suc i) (suc j) d (omega arith) (omega arith)
 
-  pub AllPairs-cons : (x : X) (xs : List X) → All (R x) xs → AllPairs R xs → AllPairs R (x ∷ xs)
-  AllPairs-cons x xs first rest zero zero d below within = absurd (omega arith)
-  AllPairs-cons x xs first rest zero (suc j) d below within = first j d (omega arith)
-  AllPairs-cons x xs first rest (suc i) zero d below within = absurd (omega arith)
-  AllPairs-cons x xs first rest (suc i) (suc j) d below within = rest i j d (omega arith) (omega arith)
-
   pub AllPairs-drop : (n : ℕ) (xs : List X) → AllPairs R xs → AllPairs R (drop n xs)
   AllPairs-drop zero xs h = h
   AllPairs-drop (suc n) [] h = h

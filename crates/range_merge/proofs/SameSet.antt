@@ -11,7 +11,7 @@ use Rattle.range_merge.proofs.Orders.{Greater-from_less, Less-from_greater, Equa
 use Rattle.range_merge.proofs.Pairs.{AllPairs-head, AllPairs-tail}
 use Rattle.range_merge.proofs.Members.{member-nil, member-cons, member-above, by_Ordering}
 
-differ-cancel : (b c d : Bool) → differ b c ≡ differ b d → c ≡ d
+pub differ-cancel : (b c d : Bool) → differ b c ≡ differ b d → c ≡ d
 differ-cancel true true true h = refl
 differ-cancel true true false h = cc
 differ-cancel true false true h = cc
@@ -29,7 +29,7 @@ module _ {K : Type 0} {order : K → K → Ordering} (o : IsTotalOrder order) wh
       member-cons order x xs x ∙ ap₂ differ (ap is_le (Equal-self o x)) (member-below_all xs x (AllPairs-head (λ y z. order y z ≡ Less) x xs h))
 
   -- an item below the first of a list is no member of it
-  member-before : (x y : K) (ys : List K) → order x y ≡ Less → IsAscending order (y ∷ ys) → member order (y ∷ ys) x ≡ false
+  pub member-before : (x y : K) (ys : List K) → order x y ≡ Less → IsAscending order (y ∷ ys) → member order (y ∷ ys) x ≡ false
   member-before x y ys l h =
       let above = AllPairs-head (λ y z. order y z ≡ Less) y ys h in
       member-cons order y ys x

@@ -23,17 +23,6 @@ module _ {K : Type 0} where
   in_right (right_only y) = true
   in_right (shared x y) = true
 
-  -- what holds of every owner's item holds of the left's
-  pub All-left_items : (P : K → Type 0) (os : List (Owner K)) → All (λ p. P (item_of p)) os → All P (left_items os)
-  All-left_items P [] h = All-nil P
-  All-left_items P (left_only x ∷ os) h =
-      let Q = λ (p : Owner K). P (item_of p) in
-      All-cons P x (left_items os) (All-head Q (left_only x) os h) (All-left_items P os (All-tail Q (left_only x) os h))
-  All-left_items P (right_only y ∷ os) h = All-left_items P os (All-tail (λ p. P (item_of p)) (right_only y) os h)
-  All-left_items P (shared x y ∷ os) h =
-      let Q = λ (p : Owner K). P (item_of p) in
-      All-cons P x (left_items os) (All-head Q (shared x y) os h) (All-left_items P os (All-tail Q (shared x y) os h))
-
 module _ {K : Type 0} (order : K → K → Ordering) where
   -- the count at x over an owner and the others, for each side
   pub member-left_items : (p : Owner K) (os : List (Owner K)) (x : K)

@@ -105,20 +105,29 @@ fn all_answer<T: Ord>(left: &RangeSet2<T>, right: &RangeSet2<T>, first: &T) -> b
         && sets_answer(left, right)
 }
 
+// Whether the calls of two sets of letters that cross answer.
+fn calls_of_letters(alloc: Global) -> Option<bool> {
+    let first = with_letter(0, b'a');
+    let left = set_of(alloc, &[first, with_letter(10, b'b')])?;
+    let right = set_of(alloc, &[with_letter(5, b'c'), with_letter(15, b'd')])?;
+    Some(all_answer(&left, &right, &first))
+}
+
+// The same of two sets of numbers.
+fn calls_of_numbers(alloc: Global) -> Option<bool> {
+    let left = set_of(alloc, &[0i64, 10])?;
+    let right = set_of(alloc, &[5i64, 15])?;
+    Some(all_answer(&left, &right, &0))
+}
+
 #[test]
 fn calls_of_crossing_sets(rt: HostRuntime) {
-    let alloc = rt.alloc();
-    let a = [with_letter(0, b'a'), with_letter(10, b'b')];
-    let b = [with_letter(5, b'c'), with_letter(15, b'd')];
-    let sets = (set_of(alloc, &a), set_of(alloc, &b));
-    assert!(rt; matches!(&sets, (Some(left), Some(right)) if all_answer(left, right, &a[0])));
+    assert!(rt; calls_of_letters(rt.alloc()) == Some(true));
 }
 
 #[test]
 fn calls_of_crossing_sets_of_numbers(rt: HostRuntime) {
-    let alloc = rt.alloc();
-    let sets = (set_of(alloc, &[0i64, 10]), set_of(alloc, &[5i64, 15]));
-    assert!(rt; matches!(&sets, (Some(left), Some(right)) if all_answer(left, right, &0)));
+    assert!(rt; calls_of_numbers(rt.alloc()) == Some(true));
 }
 
 #[test]
@@ -127,16 +136,18 @@ fn clones_of_elements(rt: HostRuntime) {
     assert!(rt; is_cloned(&with_letter(7, b'a')));
 }
 
-// Of two equal boundaries the left side's stays.
+// Whether of two equal boundaries the left side's stays, in views and in sets with a view.
+fn left_stays(alloc: Global, a: &[Lettered], b: &[Lettered]) -> Option<bool> {
+    let left = RangeSetRef::new(a)?;
+    let right = RangeSetRef::new(b)?;
+    let set = set_of(alloc, a)?;
+    Some(views_give(alloc, left, right) && set_gives(&set, right))
+}
+
 #[test]
 fn the_left_boundary_stays(rt: HostRuntime) {
     let alloc = rt.alloc();
     let a = [with_letter(1, b'a'), with_letter(5, b'a')];
     let b = [with_letter(1, b'b'), with_letter(9, b'b')];
-    assert!(rt;
-        matches!((RangeSetRef::new(&a), RangeSetRef::new(&b)), (Some(left), Some(right)) if views_give(alloc, left, right))
-    );
-    assert!(rt;
-        matches!((set_of(alloc, &a), RangeSetRef::new(&b)), (Some(left), Some(right)) if set_gives(&left, right))
-    );
+    assert!(rt; left_stays(alloc, &a, &b) == Some(true));
 }

@@ -1,7 +1,8 @@
 use Rattle.std.proofs.Common.{◌≡◌, true, refl, arith, rules, ◌↔◌, ◌%◌}
 use Rattle.std.specs.Ordering.{is_lt}
 use Rattle.range_collections.specs.Intersects.{IsItemBelow, HasMemberWithin}
-use Rattle.range_collections.proofs.Within.{HasMemberWithin-start, HasMemberWithin-next, Less-from_is_lt}
+use Rattle.range_collections.proofs.Ascending.{Less-from_is_lt}
+use Rattle.range_collections.proofs.Within.{HasMemberWithin-start, HasMemberWithin-next}
 use Rattle.range_collections.proofs.view.RangeSetRef.intersects_range.Goals as goal
 
 pub returns-then-count-eq1 : goal.returns-then-count-eq1

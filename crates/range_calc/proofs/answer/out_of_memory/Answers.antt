@@ -1,0 +1,4 @@
+use Rattle.range_calc.proofs.answer.out_of_memory.Goals as goal
+
+pub returns-clause-line : goal.returns-clause-line
+returns-clause-line g c = c.in_ok-write_all.ensures.bytes

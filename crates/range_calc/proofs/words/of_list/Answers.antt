@@ -1,0 +1,8 @@
+use Rattle.std.proofs.Common.{refl, sym, ◌∙◌}
+use Rattle.range_calc.proofs.words.of_list.Goals as goal
+
+pub returns-then-is_list : goal.returns-then-is_list
+returns-then-is_list c = rw (c.in_ok-command.ensures, sym c.is_list.ensures ∙ c.if-is_list.true) refl
+
+pub returns-else-is_list : goal.returns-else-is_list
+returns-else-is_list c = rw (c.in_ok-command.ensures, sym c.is_list.ensures ∙ c.if-is_list.false) refl
