@@ -1,6 +1,13 @@
 use Rattle.std.proofs.Common.{length, refl}
+use Rattle.std.proofs.Math.Nat.{le_of_lt}
 use Rattle.std.proofs.lemmas.Option.{slice_get_read}
 use Rattle.range_merge.proofs.merge_state.in_place_ref.InPlaceMergeStateRefMergeState.b_at.Goals as goal
+
+pub offset_bounds-as_slice-i : goal.offset_bounds-as_slice-i
+offset_bounds-as_slice-i g c = le_of_lt (rw (← c.self.view_is, ← c.as_slice.ensures) at c.requires)
+
+pub bounds-as_slice-i : goal.bounds-as_slice-i
+bounds-as_slice-i g c = rw (← c.self.view_is, ← c.as_slice.ensures) at c.requires
 
 pub returns : goal.returns
 returns g c =
