@@ -1,6 +1,11 @@
-use Rattle.std.proofs.Common.{reverse, refl, ap, ◌∙◌}
-use Rattle.std.proofs.lemmas.List.{reverse-reverse}
+use Rattle.std.proofs.Common.{◌≡◌, length, reverse, ap, ◌∙◌, arith, rules, refl}
+use Rattle.std.proofs.lemmas.List.{length-reverse, reverse-reverse}
 use Rattle.range_merge.proofs.merge_state.in_place.InPlaceMergeState+K+N.new.Goals as goal
+
+pub over-requires : goal.over-requires
+over-requires g c =
+    let same : length c.turn_round.new.list.items ≡ length c.args.b.items = ap length c.turn_round.ensures.items ∙ length-reverse c.args.b.items in
+    (search rules, (c.in-Ok.ensures.spare, (c.in-Ok.ensures.room, (rw c.in-Ok.ensures.items c.in-Ok.ensures.spare_room, omega (arith, c.len-extra.ensures.value)))))
 
 pub returns-in-Ok-clause-left : goal.returns-in-Ok-clause-left
 returns-in-Ok-clause-left g c = c.over.ensures.left ∙ c.prepared.ensures.items
@@ -16,3 +21,6 @@ returns-in-Err-clause-left_handed_back g c = c.prepared.ensures.items
 
 pub returns-in-Err-clause-right_handed_back : goal.returns-in-Err-clause-right_handed_back
 returns-in-Err-clause-right_handed_back g c = refl
+
+pub returns-in-Err-clause-succeeds : goal.returns-in-Err-clause-succeeds
+returns-in-Err-clause-succeeds g c = rw (← c.len-extra.ensures.value) c.in-Err.ensures.succeeds
