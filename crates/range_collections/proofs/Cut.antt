@@ -63,7 +63,7 @@ module _ {K : Type 0} (order : K → K → Ordering) where
   All-drop_within P n xs within h k d less =
       rw (get_or-drop n xs k d) (h (n + k) d (omega arith) (omega (arith, less, length-drop n xs)))
 
-  IsAscending-take : (n : ℕ) (xs : List K) → IsAscending order xs → IsAscending order (take n xs)
+  pub IsAscending-take : (n : ℕ) (xs : List K) → IsAscending order xs → IsAscending order (take n xs)
   IsAscending-take n xs up i j d less within =
       elim (cases_lt n (length xs)) as (λ _. order (get_or (take n xs) i d) (get_or (take n xs) j d) ≡ Less) [
         | inl short ↦
