@@ -55,6 +55,14 @@ position-none p xs h k d within =
 pub first_bad-array : (d : Data) (vs : List Value) → as_array d ≡ Some (items_view vs) → first_bad d ≡ position (λ v. is_bad (view v)) vs
 first_bad-array d vs h = ap (position is_bad) (items_in-array d (map view vs) h) ∙ position-map is_bad view vs
 
+pub first_bad-no_array : (d : Data) → as_array d ≡ None → first_bad d ≡ None
+first_bad-no_array null h = refl
+first_bad-no_array (boolean b) h = refl
+first_bad-no_array (number n) h = refl
+first_bad-no_array (string s) h = refl
+first_bad-no_array (array is) h = cc
+first_bad-no_array (object ms) h = refl
+
 one_more : (v : Value) (vs : List Value) (r : Option ℤ) → whole_number (view v) ≡ r → is_bad (view v) ≡ false →
     map whole_number (map view vs) ≡ map Some (filter_map (λ w. whole_number (view w)) vs) →
     map whole_number (map view (v ∷ vs)) ≡ map Some (filter_map (λ w. whole_number (view w)) (v ∷ vs))

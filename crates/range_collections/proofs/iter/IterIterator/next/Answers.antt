@@ -1,4 +1,4 @@
-use Rattle.std.proofs.Common.{◌≡◌, [], sym, ◌∙◌, refl}
+use Rattle.std.proofs.Common.{sym, ◌∙◌, refl}
 use Rattle.std.proofs.lemmas.List.{nil_from_length}
 use Rattle.range_collections.proofs.iter.IterIterator.next.Goals as goal
 

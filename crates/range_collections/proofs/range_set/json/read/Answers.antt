@@ -1,4 +1,4 @@
-use Rattle.std.proofs.Common.{◌≡◌, Some, None, ◌∙◌, ap, ◌++◌, ◌∷◌, [], rules}
+use Rattle.std.proofs.Common.{◌≡◌, sym, Some, None, ◌∙◌, ap, ◌++◌, ◌∷◌, [], rules}
 use Rattle.std.specs.Prelude.{FitsSigned}
 use Rattle.std.specs.Int.{w64}
 use Rattle.std.proofs.lemmas.Int.{to_z-of_z}
@@ -13,12 +13,12 @@ loop-item-preserved g c =
     elim c.match-as_i64.branch [
       | in-Some+in_ok-push w ↦
           let fits : FitsSigned w64 w.in-Some.x = search rules in
-          let pushed : w.push.new.self.items ≡ c.loop-item.list.items ++ w.in-Some.x ∷ [] = simp to_z-of_z at w.in_ok-push.ensures.ok in
-          let number : whole_number (view c.item-item.result) ≡ Some w.in-Some.x = first_of (cc, search rules) in
+          let pushed : w.push.new.self.items ≡ c.loop-item.list.items ++ w.in-Some.x ∷ [] = rw (to_z-of_z w64 w.in-Some.x fits) at w.in_ok-push.ensures.ok in
+          let number : whole_number (view c.item-item.result) ≡ Some w.in-Some.x = sym w.in-Some.ensures in
           filter_map-kept (λ v. whole_number (view v)) c.args.items.now c.loop-item.list.items c.loop-item.item-index c.item-item.result
           c.loop-item-test.true c.item-item.is c.loop-item.invariant w.in-Some.x number c.match-as_i64.list.items (ap (λ v. v.items) w.list-is ∙ pushed)
       | in_default w ↦
-          let none : whole_number (view c.item-item.result) ≡ None = first_of (cc, search rules) in
+          let none : whole_number (view c.item-item.result) ≡ None = sym w.in_default.ensures in
           filter_map-left_out (λ v. whole_number (view v)) c.args.items.now c.loop-item.list.items c.loop-item.item-index c.item-item.result
           c.loop-item-test.true c.item-item.is c.loop-item.invariant none c.match-as_i64.list.items (ap (λ v. v.items) w.list-is)
     ]
