@@ -2,6 +2,7 @@ use Rattle.std.proofs.Common.{◌≡◌, sym, Some, None, ◌∙◌, ap, ◌++�
 use Rattle.std.specs.Prelude.{FitsSigned}
 use Rattle.std.specs.Int.{w64}
 use Rattle.std.proofs.lemmas.Int.{to_z-of_z}
+use Rattle.std.proofs.lemmas.List.{take_all}
 use Rattle.serde_json.specs.View.{view}
 use Rattle.range_collections.specs.Json.{whole_number}
 use Rattle.range_collections.proofs.JsonLemmas.{filter_map-kept, filter_map-left_out}
@@ -22,3 +23,8 @@ loop-item-preserved g c =
           filter_map-left_out (λ v. whole_number (view v)) c.args.items.now c.loop-item.list.items c.loop-item.item-index c.item-item.result
           c.loop-item-test.true c.item-item.is c.loop-item.invariant none c.match-as_i64.list.items (ap (λ v. v.items) w.list-is)
     ]
+
+pub returns : goal.returns
+returns g c =
+    let whole = rw (take_all c.loop-item.item-index c.args.items.now c.loop-item-test.false) at c.loop-item.invariant in
+    rw (← whole) c.from_unsorted.ensures
