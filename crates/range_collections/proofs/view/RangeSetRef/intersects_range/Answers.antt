@@ -1,4 +1,4 @@
-use Rattle.std.proofs.Common.{◌≡◌, true, refl, arith, rules, ◌↔◌, ◌%◌}
+use Rattle.std.proofs.Common.{◌≡◌, true, refl, arith, ◌↔◌, ◌%◌}
 use Rattle.std.specs.Ordering.{is_lt}
 use Rattle.range_collections.specs.Intersects.{IsItemBelow, HasMemberWithin}
 use Rattle.range_collections.proofs.Ascending.{Less-from_is_lt}
@@ -8,7 +8,7 @@ use Rattle.range_collections.proofs.view.RangeSetRef.intersects_range.Goals as g
 pub returns-then-count-eq1 : goal.returns-then-count-eq1
 returns-then-count-eq1 g c =
     let t : is_lt (g.T.Ord.cmp c.args.range.start c.args.range.end) ≡ true =
-    first_of (cc, search rules, grind arith) in (
+    rw (← c.cmp.ensures, ← c.is_lt.ensures) c.if-not-is_lt.false in (
       λ _.
           HasMemberWithin-start g.met.T.Ord.total c.args.self.now.boundaries.now c.args.range.start c.args.range.end c.at_or_below-count.result
           c.args.self.now.sorted c.at_or_below-count.ensures.within c.at_or_below-count.ensures.before c.at_or_below-count.ensures.from
