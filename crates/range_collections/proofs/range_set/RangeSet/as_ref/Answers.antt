@@ -1,4 +1,10 @@
 use Rattle.range_collections.proofs.range_set.RangeSet.as_ref.Goals as goal
 
+pub invariant_of-result : goal.invariant_of-result
+invariant_of-result g c = record { sorted = rw c.as_slice.ensures c.self.invariant }
+
 pub returns-clause-same : goal.returns-clause-same
 returns-clause-same g c = rw (← c.self.view_is) c.as_slice.ensures
+
+pub returns-clause-sorted : goal.returns-clause-sorted
+returns-clause-sorted g c = rw (← c.self.view_is) c.self.invariant

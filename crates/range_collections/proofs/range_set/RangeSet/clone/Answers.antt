@@ -1,6 +1,14 @@
-use Rattle.std.proofs.Common.{rules}
+use Rattle.std.proofs.Common.{refl, rules, sym, true≢false}
+use Rattle.std.proofs.lemmas.Result.{IfOk-from_err}
 use Rattle.range_collections.proofs.Values.{IsAscending-equal}
 use Rattle.range_collections.proofs.range_set.RangeSet.clone.Goals as goal
+
+pub returns-in_err-clones-clause-equal : goal.returns-in_err-clones-clause-equal
+returns-in_err-clones-clause-equal g c = IfOk-from_err c.from_residual.result _ c.from_residual.ensures.0
+
+pub returns-in_err-clones-clause-succeeds : goal.returns-in_err-clones-clause-succeeds
+returns-in_err-clones-clause-succeeds g c =
+    λ room sure. absurd (true≢false (sym (c.in_err-clones.ensures.succeeds (rw c.boundaries.ensures.same room) (rw c.boundaries.ensures.same sure))))
 
 pub new_unchecked-requires : goal.new_unchecked-requires
 new_unchecked-requires g c = (
@@ -11,3 +19,9 @@ new_unchecked-requires g c = (
         c.boundaries.ensures.sorted,
   ),
 )
+
+pub returns-clause-equal : goal.returns-clause-equal
+returns-clause-equal g c = rw (c.new_unchecked.ensures, ← c.boundaries.ensures.same) c.in_ok-clones.ensures.equal
+
+pub returns-clause-succeeds : goal.returns-clause-succeeds
+returns-clause-succeeds g c = λ _ _. refl

@@ -25,6 +25,15 @@ returns-clause-left_own_item g c =
     (c.changes_are_marked_truly.ensures.marks f a b c.self.invariant c.args.that.sorted))
     c.merge.ensures.taken)
 
+pub returns-clause-unchanged : goal.returns-clause-unchanged
+returns-clause-unchanged g c = rw (← c.self.view_is) c.merge.ensures.unchanged
+
+pub returns-clause-succeeds : goal.returns-clause-succeeds
+returns-clause-succeeds g c = rw (← c.self.view_is) c.merge.ensures.succeeds
+
+pub returns-clause-comparisons : goal.returns-clause-comparisons
+returns-clause-comparisons g c = rw (← c.self.view_is) c.merge.ensures.comparisons
+
 pub invariant_of-self : goal.invariant_of-self
 invariant_of-self g c =
     let f = g.O.MergeOperation.connective c.args.op.now in
