@@ -35,3 +35,14 @@ pub number_of-parsed : {E : Type 0} (word : List ℕ) (r : Result ℤ E) → Par
 unfolding number_of
 number_of-parsed word (Ok z) h = Some-where _ _ z (signed_digits_value 10 word) (is_number-Decides word) h.0 h.1
 number_of-parsed word (Err e) h = None-where _ _ (signed_digits_value 10 word) (is_number-Decides word) h
+
+Some-fits : (b : Bool) (P : Type 0) (v z : ℤ) → Decides b (P × SFits w64 v) → cond b (Some v) None ≡ Some z → SFits w64 z
+Some-fits true P v z d e =
+    let same : v ≡ z = cc in
+    rw (← same) (d.0 refl).1
+Some-fits false P v z d e = cc
+
+-- what a word writes is within i64
+pub number_of-fits : (word : List ℕ) (z : ℤ) → number_of word ≡ Some z → SFits w64 z
+unfolding number_of
+number_of-fits word z e = Some-fits _ _ (signed_digits_value 10 word) z (is_number-Decides word) e

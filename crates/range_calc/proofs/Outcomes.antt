@@ -1,9 +1,13 @@
 -- What the lines of an answer come to.
-use Rattle.std.proofs.Common.{◌≡◌, ℕ, List, [], ◌∷◌, ◌++◌, Option, Some, Result, Ok, Err, refl, String, string_bytes, codes, IfOk}
+use Rattle.std.proofs.Common.{◌≡◌, ℕ, List, [], ◌∷◌, ◌++◌, Option, Some, None, Result, Ok, Err, true≢false, refl, sym, String, string_bytes, codes, IfOk}
+use Rattle.std.specs.Prelude.{IsSome, IsErrAnd}
+use Rattle.std.specs.Option.{ok_or}
 use Rattle.std.specs.Io.KnownBytes.{Appends}
-use Rattle.range_calc.specs.Replies.{IsReply}
-use Rattle.range_calc.specs.Outcome.{IsOutcome, IsReplyText}
+use Rattle.range_calc.specs.Replies.{IsReply, IsSorted}
+use Rattle.range_calc.specs.Outcome.{IsOutcome, IsReplyText, IsReplyTo}
 use Rattle.range_calc.specs.Words.{Query}
+use Rattle.range_calc.specs.declared.fault.Fault.{Fault}
+use Rattle.range_calc.specs.declared.fault.Fault.TheVariants as fault
 use Rattle.range_calc.specs.declared.status.Status.{Status}
 use Rattle.range_calc.specs.declared.status.Status.TheVariants.{NoMemory}
 
@@ -19,3 +23,17 @@ pub IsReplyText-line : {A E : Type 0} (r : Result (String A) E) (query : Query) 
     → IfOk r (λ text. string_bytes text ≡ line ++ 10 ∷ []) → IfOk r (IsReplyText query)
 IsReplyText-line (Ok text) query line answers is = (line, answers, is)
 IsReplyText-line (Err x) query line answers is = tt
+
+-- want of memory, whatever was asked
+pub IsReplyTo-no_memory : {A : Type 0} (query : Query) (r : Result (String A) Fault) → IsErrAnd r (λ why. why ≡ fault.NoMemory) → IsReplyTo query r
+IsReplyTo-no_memory query (Ok text) h = absurd h
+IsReplyTo-no_memory query (Err why) h = rw h tt
+
+-- a list of which no set is made
+pub IsReplyTo-unsorted : {A S : Type 0} (query : Query) (r : Result (String A) Fault) (made : Option S) (why : Fault) → (IsSorted query → IsSome made)
+    → Err why ≡ ok_or made fault.NotSorted → IsErrAnd r (λ given. given ≡ why) → IsReplyTo query r
+IsReplyTo-unsorted query (Ok text) made why s v e = absurd e
+IsReplyTo-unsorted query (Err given) (Some set) why s v e = cc
+IsReplyTo-unsorted query (Err given) None why s v e =
+    let is : given ≡ fault.NotSorted = cc in
+    rw is (λ sorted. true≢false (sym (s sorted)))

@@ -4,7 +4,9 @@ use Rattle.std.specs.Prelude.{◌↔◌, is_some, IsSome, String, Result, Ok, Er
 use Rattle.std.specs.List.{position_or_len}
 use Rattle.std.proofs.lemmas.Bool.{le-ltb}
 use Rattle.serde_json.specs.Data.{Data}
+use Rattle.serde_json.specs.Errors.{IsMemory}
 use Rattle.serde_json.specs.Read.{read}
+use Rattle.serde_json.specs.declared.error.Error.{Error}
 use Rattle.serde_json.specs.Find.{as_array}
 use Rattle.range_collections.specs.Json.{items_in, whole_number, is_bad, first_bad}
 use Rattle.range_collections.specs.declared.range_set.json.JsonError.{JsonError}
@@ -12,8 +14,9 @@ use Rattle.range_collections.specs.declared.range_set.json.JsonError.TheVariants
 use Rattle.range_calc.specs.Words.{json}
 use Rattle.range_calc.specs.Replies.{IsReadable}
 use Rattle.range_calc.specs.Outcome.{IsReplyTo}
-use Rattle.range_calc.specs.Faults.{fault_of_value}
+use Rattle.range_calc.specs.Faults.{IsFaultOfText, fault_of_value}
 use Rattle.range_calc.specs.declared.fault.Fault.{Fault}
+use Rattle.range_calc.specs.declared.fault.Fault.TheVariants as fault
 
 -- where all are numbers, none is bad
 position_or_len-numbers : (ds : List Data) (zs : List ℤ) → map whole_number ds ≡ map Some zs → position_or_len is_bad ds ≡ length ds
@@ -26,6 +29,21 @@ position_or_len-numbers (d ∷ ds) (z ∷ zs) e =
 
 first_bad-numbers : (d : Data) (zs : List ℤ) → map whole_number (items_in d) ≡ map Some zs → first_bad d ≡ None
 first_bad-numbers d zs e = rw (position_or_len-numbers (items_in d) zs e, le-ltb (length (items_in d)) (length (items_in d)) (omega arith)) refl
+
+-- a text that isn't read, and what comes of it
+pub IsReplyTo-unread : {A : Type 0} (text : List ℕ) (r : Result (String A) Fault) (error : Error) → (¬ (IsMemory error) → read text ≡ None)
+    → IsErrAnd r (IsFaultOfText error) → IsReplyTo (json text) r
+IsReplyTo-unread text (Ok line) error unread h = absurd h
+IsReplyTo-unread text (Err fault.NoMemory) error unread h = tt
+IsReplyTo-unread text (Err fault.BadJson) error unread h = λ readable.
+    let other : ¬ (IsMemory error) = λ memory. let same = h.0 memory in cc in
+    let none : read text ≡ None = unread other in
+    let some = readable.1.1 in
+    cc
+IsReplyTo-unread text (Err fault.NotSorted) error unread h = λ sorted.
+    let other : ¬ (IsMemory error) = λ memory. let same = h.0 memory in cc in
+    let same = h.1 other in
+    cc
 
 module _ (text : List ℕ) (d : Data) (reads : read text ≡ Some d) where
   pub unreadable-not_array : as_array d ≡ None → ¬ (IsReadable (json text))

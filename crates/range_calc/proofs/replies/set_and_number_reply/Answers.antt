@@ -7,7 +7,8 @@ use Rattle.range_calc.proofs.Outcomes.{IsReplyText-line}
 use Rattle.range_calc.proofs.replies.set_and_number_reply.Goals as goal
 
 pub returns-in-Contains : goal.returns-in-Contains
-returns-in-Contains c = let truth = rw (to_z-of_z w64 c.args.n c.ranges.n) at c.contains.ensures in
+returns-in-Contains c =
+    let truth = rw (to_z-of_z w64 c.args.n c.ranges.n) at c.contains.ensures in
     rw c.in-Contains.is (IsReplyText-line c.truth_line.result (contains c.args.set.now c.args.n) (truth_text c.contains.result) (ap truth_text truth) c.truth_line.ensures)
 
 pub returns-in-Split : goal.returns-in-Split
