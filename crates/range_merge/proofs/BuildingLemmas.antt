@@ -1,6 +1,7 @@
 -- What dropping unread items from a spare leaves, and what putting an item at the end of a list does.
-use Rattle.std.proofs.Common.{◌≡◌, ℕ, ◌+◌, ◌-◌, ◌≤◌, List, [], ◌∷◌, ◌++◌, length, take, drop, reverse, sym, ap, ◌∙◌, arith}
-use Rattle.std.proofs.lemmas.List.{drop_at, take_all, drop_all, take-append-drop, reverse-append, reverse-reverse, length-reverse, length-append, length-drop, length-take-le}
+use Rattle.std.proofs.Common.{◌≡◌, ℕ, ◌+◌, ◌-◌, ◌<◌, ◌≤◌, List, [], ◌∷◌, ◌++◌, length, take, drop, reverse, ⊎_elim, sym, ap, ◌∙◌, arith}
+use Rattle.std.proofs.lemmas.Bool.{cases_lt}
+use Rattle.std.proofs.lemmas.List.{append-nil, drop_at, take_all, drop_all, take-append-drop, reverse-append, reverse-reverse, length-reverse, length-append, length-drop, length-take-le}
 use Rattle.range_merge.specs.Building.{unread_in}
 use Rattle.range_merge.proofs.Moves.{poured-rest, poured-items}
 
@@ -14,6 +15,21 @@ module _ {K : Type 0} where
 
   pub length-unread_in : (start : ℕ) (list spare : List K) → length list - start + length spare ≡ length (unread_in start list spare)
   length-unread_in start list spare = omega (arith, length-append (drop start list) (reverse spare), length-drop start list, length-reverse spare)
+
+  -- the unread items, where the spare is empty, and where nothing in the list is unread
+  pub unread_in-list : (start : ℕ) (list spare : List K) → spare ≡ [] → unread_in start list spare ≡ drop start list
+  unread_in-list start list spare none = ap (λ ys. drop start list ++ reverse ys) none ∙ append-nil (drop start list)
+
+  pub unread_in-spare : (start : ℕ) (list spare : List K) → length list ≤ start → unread_in start list spare ≡ reverse spare
+  unread_in-spare start list spare used = ap (λ ys. ys ++ reverse spare) (drop_all start list used)
+
+  -- a spare that holds an item has all unread items
+  pub none_waits : (start : ℕ) (list spare : List K) → (start < length list → spare ≡ []) → 0 < length spare → length list ≤ start
+  none_waits start list spare waits some =
+      ⊎_elim
+      (λ behind. absurd (let none : length spare ≡ 0 = ap length (waits behind) in omega arith))
+      (λ used. used)
+      (cases_lt start (length list))
 
   -- the spare without the first unread items, where nothing in the list is unread
   pub unread_in-skip : (start n many : ℕ) (list spare new : List K) → length list ≤ start → many ≡ length spare → new ≡ take (many - n) spare

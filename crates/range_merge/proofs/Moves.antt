@@ -1,9 +1,13 @@
--- Items that move within a list, and from the end of one list to the end of another.
+-- Items that move within a list, and from the end of one list to the end of another, and a list that is written back.
 use Rattle.std.proofs.Common.{◌≡◌, ℕ, zero, suc, ◌+◌, ◌-◌, ◌<◌, ◌≤◌, List, [], ◌∷◌, ◌++◌, length, take, drop, reverse, get_or, set, sym, ap, ◌∙◌, arith, add-one, append_assoc}
-use Rattle.std.specs.List.{swap}
+use Rattle.std.specs.List.{swap, refill}
 use Rattle.std.proofs.lemmas.List.{take_at, drop_at, take-append-drop, take-set-le, take_more_set, drop-set-lt, reverse-append, reverse-reverse, length-reverse, length-append, length-take-le, length-drop, take_more, drop_more, get_or-drop}
 use Rattle.std.proofs.lemmas.List.Edits.{swap_is}
 use Rattle.std.proofs.Math.Seq.{take-add}
+
+-- a list written whole over another of its length
+pub refill_all : {K : Type 0} (xs ys : List K) → length ys ≡ length xs → refill (length xs) xs ys ≡ ys
+refill_all xs ys e = take_at ys (drop (length ys) xs) (length xs) e
 
 module _ {K : Type 0} where
   -- what is behind two places that are exchanged, and what is up to the first

@@ -1,4 +1,4 @@
-use Rattle.std.proofs.Common.{◌+◌, ◌<◌, ◌∙◌, arith}
+use Rattle.std.proofs.Common.{◌+◌, ◌<◌, refl, ◌∙◌, arith}
 use Rattle.std.proofs.lemmas.List.Edits.{length-swap}
 use Rattle.range_merge.proofs.Moves.{take-in_place, move_down-more}
 use Rattle.range_merge.proofs.place.move_down.Goals as goal
@@ -19,3 +19,12 @@ loop-i-preserved g c =
       len = length-swap (items c.loop-i.list) (c.args.to + c.loop-i.i) (c.args.from + c.loop-i.i) ∙ so_far.len;
       room = c.swap.ensures.room ∙ so_far.room;
     }
+
+pub returns-then-to-from-clause-behind : goal.returns-then-to-from-clause-behind
+returns-then-to-from-clause-behind g c = refl
+
+pub returns-then-to-from-clause-len : goal.returns-then-to-from-clause-len
+returns-then-to-from-clause-len g c = refl
+
+pub returns-then-to-from-clause-room : goal.returns-then-to-from-clause-room
+returns-then-to-from-clause-room g c = refl

@@ -1,4 +1,4 @@
-use Rattle.std.proofs.Common.{◌∙◌}
+use Rattle.std.proofs.Common.{refl, ◌∙◌}
 use Rattle.range_merge.proofs.in_place_builder.InPlaceBuilder+K+N.new.Goals as goal
 
 pub returns-in-Ok-clause-kept : goal.returns-in-Ok-clause-kept
@@ -12,3 +12,9 @@ returns-in-Ok-clause-puts_left g c = c.over.ensures.puts_left
 
 pub returns-in-Err-clause-handed_back : goal.returns-in-Err-clause-handed_back
 returns-in-Err-clause-handed_back g c = c.prepared.ensures.items
+
+pub returns-in-Ok-clause-succeeds : goal.returns-in-Ok-clause-succeeds
+returns-in-Ok-clause-succeeds g c = λ _. refl
+
+pub returns-in-Err-clause-succeeds : goal.returns-in-Err-clause-succeeds
+returns-in-Err-clause-succeeds g c = c.in-Err.ensures.succeeds

@@ -1,7 +1,39 @@
-use Rattle.std.proofs.Common.{◌≡◌, [], ◌∙◌}
+use Rattle.std.proofs.Common.{◌≡◌, [], refl, ◌∙◌, arith}
+use Rattle.std.proofs.lemmas.Bool.{false≢true}
 use Rattle.range_merge.proofs.Testing.{went_through}
 use Rattle.range_merge.proofs.CopiesLemmas.{AreKeptThenCopies-first, AreCopies-kept}
 use Rattle.range_merge.proofs.merge_state.small_vec.SmallVecMergeState+K+P+M.merge.Goals as goal
+
+pub merge-requires-clause-left_ascending : goal.merge-requires-clause-left_ascending
+merge-requires-clause-left_ascending g c = rw c.over-state.ensures.left c.requires.left_ascending
+
+pub merge-requires-clause-right_ascending : goal.merge-requires-clause-right_ascending
+merge-requires-clause-right_ascending g c = rw c.over-state.ensures.right c.requires.right_ascending
+
+pub merge-requires-clause-left_off : goal.merge-requires-clause-left_off
+merge-requires-clause-left_off g c = c.over-state.ensures.left_on
+
+pub merge-requires-clause-right_off : goal.merge-requires-clause-right_off
+merge-requires-clause-right_off g c = c.over-state.ensures.right_on
+
+pub merge-requires-clause-made : goal.merge-requires-clause-made
+merge-requires-clause-made g c = c.requires.made
+
+pub returns-in_err-_went_through-clause-succeeds : goal.returns-in_err-_went_through-clause-succeeds
+returns-in_err-_went_through-clause-succeeds g c = λ fits left right.
+    absurd (
+    false≢true (
+    c.in_err-_went_through.ensures.succeeds (
+    rw (c.over-state.ensures.items, c.over-state.ensures.left, c.over-state.ensures.right, c.over-state.ensures.room, c.requires.empty, ← c.capacity-inline.ensures.value)
+    (omega (arith, fits, c.capacity-inline.ensures.at_least_inline), left, right)
+    )
+    )
+    )
+
+pub returns-in_err-_went_through-clause-comparisons : goal.returns-in_err-_went_through-clause-comparisons
+returns-in_err-_went_through-clause-comparisons g c =
+    let merged = rw (c.over-state.ensures.left, c.over-state.ensures.right) at c.merge.ensures in
+    merged.comparisons
 
 pub returns-clause-copied : goal.returns-clause-copied
 returns-clause-copied g c =
@@ -13,3 +45,11 @@ returns-clause-copied g c =
     let copies = AreCopies-kept alike _ _ (rw (merged.began, c.over-state.ensures.began) at kept) in
     let items = rw (← c.state.view_is) at copies in
     rw c.replace.ensures.value items
+
+pub returns-clause-succeeds : goal.returns-clause-succeeds
+returns-clause-succeeds g c = λ _ _ _. refl
+
+pub returns-clause-comparisons : goal.returns-clause-comparisons
+returns-clause-comparisons g c =
+    let merged = rw (c.over-state.ensures.left, c.over-state.ensures.right) at c.merge.ensures in
+    merged.comparisons

@@ -1,4 +1,4 @@
-use Rattle.std.proofs.Common.{◌∙◌}
+use Rattle.std.proofs.Common.{◌∙◌, arith}
 use Rattle.range_merge.proofs.CopiesLemmas.{AreKeptThenCopies-first}
 use Rattle.range_merge.proofs.merge_state.small_vec.SmallVecMergeState+K+P+M.new.Goals as goal
 
@@ -16,3 +16,18 @@ returns-clause-items g c = c.over.ensures.items
 
 pub returns-clause-began : goal.returns-clause-began
 returns-clause-began g c = c.over.ensures.began ∙ c.len-began.ensures.value
+
+pub returns-clause-left_on : goal.returns-clause-left_on
+returns-clause-left_on g c = c.over.ensures.left_on
+
+pub returns-clause-right_on : goal.returns-clause-right_on
+returns-clause-right_on g c = c.over.ensures.right_on
+
+pub returns-clause-at_least_inline : goal.returns-clause-at_least_inline
+returns-clause-at_least_inline g c =
+    rw (c.over.ensures.room, ← c.capacity-inline.ensures.value) c.capacity-inline.ensures.at_least_inline
+
+pub returns-clause-sure : goal.returns-clause-sure
+returns-clause-sure g c = λ fits left right.
+    rw (c.over.ensures.items, c.over.ensures.left, c.over.ensures.right, c.over.ensures.room, ← c.capacity-inline.ensures.value)
+    (omega (arith, fits, c.capacity-inline.ensures.at_least_inline), left, right)
