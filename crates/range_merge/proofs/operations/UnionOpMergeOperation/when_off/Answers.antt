@@ -1,0 +1,5 @@
+use Rattle.std.proofs.Common.{refl}
+use Rattle.range_merge.proofs.operations.UnionOpMergeOperation.when_off.Goals as goal
+
+pub returns : goal.returns
+returns c = refl
