@@ -1,4 +1,5 @@
 use Rattle.std.proofs.Common.{[], refl, rules, sym, ◌∙◌, arith}
+use Rattle.std.proofs.lemmas.Bool.{false≢true}
 use Rattle.std.proofs.lemmas.List.{append-nil}
 use Rattle.range_merge.proofs.FirstRun.{stands_first, used_up, weight-le, changes-walk}
 use Rattle.range_merge.proofs.MergeLoop.{Progress-step, StopsAmong-run, Progress-end, IsAscending-left_after, IsAscending-right_after, length-after}
@@ -87,3 +88,52 @@ returns-clause-not_stopped g c = λ can _.
     let ends = used_up g.met.C.Compare.total _ _ so_far.left_ascends so_far.right_ascends c.in_default.ensures.first in
     changes-walk g.met.C.Compare.total _ _ c.requires.left_ascending c.requires.right_ascending _
     ∙ sym (Progress-end so_far.progress ends.0 ends.1) ∙ so_far.progress.none_done can
+
+pub next_run-requires-clause-left_ascending : goal.next_run-requires-clause-left_ascending
+next_run-requires-clause-left_ascending g c = c.loop-run.invariant.left_ascends
+
+pub next_run-requires-clause-right_ascending : goal.next_run-requires-clause-right_ascending
+next_run-requires-clause-right_ascending g c = c.loop-run.invariant.right_ascends
+
+pub returns-in_err-take_run-clause-began : goal.returns-in_err-take_run-clause-began
+returns-in_err-take_run-clause-began g c = c.take_run.ensures.began ∙ c.loop-run.invariant.began
+
+pub returns-in_err-take_run-clause-succeeds : goal.returns-in_err-take_run-clause-succeeds
+returns-in_err-take_run-clause-succeeds g c = λ sure.
+    absurd (false≢true (c.in_err-take_run.ensures.succeeds (c.loop-run.invariant.still_sure sure)))
+
+pub returns-then-not-branch-clause-used_up : goal.returns-then-not-branch-clause-used_up
+returns-then-not-branch-clause-used_up g c = λ through. absurd (false≢true through)
+
+pub returns-then-not-branch-clause-taken : goal.returns-then-not-branch-clause-taken
+returns-then-not-branch-clause-taken g c = λ through. absurd (false≢true through)
+
+pub returns-then-not-branch-clause-not_stopped : goal.returns-then-not-branch-clause-not_stopped
+returns-then-not-branch-clause-not_stopped g c = λ _ through. absurd (false≢true through)
+
+pub returns-then-not-branch-clause-began : goal.returns-then-not-branch-clause-began
+returns-then-not-branch-clause-began g c = c.take_run.ensures.began ∙ c.loop-run.invariant.began
+
+pub returns-then-not-branch-clause-succeeds : goal.returns-then-not-branch-clause-succeeds
+returns-then-not-branch-clause-succeeds g c = λ _. refl
+
+pub returns-then-not-branch-clause-still_sure : goal.returns-then-not-branch-clause-still_sure
+returns-then-not-branch-clause-still_sure g c = λ sure. c.in_ok-take_run.ensures.still_sure (c.loop-run.invariant.still_sure sure)
+
+pub returns-clause-stopped : goal.returns-clause-stopped
+returns-clause-stopped g c = λ stopped. absurd (false≢true (sym stopped))
+
+pub returns-clause-began : goal.returns-clause-began
+returns-clause-began g c = c.loop-run.invariant.began
+
+pub returns-clause-succeeds : goal.returns-clause-succeeds
+returns-clause-succeeds g c = λ _. refl
+
+pub returns-clause-still_sure : goal.returns-clause-still_sure
+returns-clause-still_sure g c = c.loop-run.invariant.still_sure
+
+pub returns-clause-comparisons : goal.returns-clause-comparisons
+returns-clause-comparisons g c = record {
+  at_least = omega (arith, c.loop-run.invariant.counted, c.in_default.ensures.comparisons.at_least);
+  at_most = omega (arith, c.loop-run.invariant.counted, c.in_default.ensures.comparisons.at_most);
+}
