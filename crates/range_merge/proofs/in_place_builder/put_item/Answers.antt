@@ -1,7 +1,11 @@
 use Rattle.std.proofs.Common.{◌≡◌, ◌+◌, refl, ◌∙◌, arith}
-use Rattle.std.proofs.lemmas.List.{drop-set-lt, length-set, take_more_set}
+use Rattle.std.proofs.lemmas.List.{drop-set-lt, length-set, length-take-le, take_more_set}
+use Rattle.range_merge.proofs.Moves.{poured-rest}
 use Rattle.range_merge.proofs.BuildingLemmas.{length-put, length-unread_in, take-put, unread_in-put}
 use Rattle.range_merge.proofs.in_place_builder.put_item.Goals as goal
+
+pub set-requires : goal.set-requires
+set-requires g c = omega (arith, c.if-kept-start.true, c.requires.laid_out.within)
 
 pub returns-then-kept-start-clause-laid_out : goal.returns-then-kept-start-clause-laid_out
 returns-then-kept-start-clause-laid_out g c =
@@ -25,10 +29,25 @@ returns-then-kept-start-clause-unread g c =
 pub returns-then-kept-start-clause-room : goal.returns-then-kept-start-clause-room
 returns-then-kept-start-clause-room g c = c.set.ensures.room
 
+pub overflow_sub-waiting : goal.overflow_sub-waiting
+overflow_sub-waiting g c = omega (arith, c.len.ensures, c.requires.laid_out.within)
+
+pub pour-requires-clause-within : goal.pour-requires-clause-within
+pour-requires-clause-within g c = omega (arith, c.len.ensures)
+
 pub pour-requires-clause-room : goal.pour-requires-clause-room
 pour-requires-clause-room g c =
     let items = g.L.Place.items in
     omega (arith, c.len.ensures, length-unread_in c.args.start (items c.args.list.now) (items c.args.spare.now), c.requires.spare_room)
+
+pub push-requires : goal.push-requires
+push-requires g c =
+    let items = g.L.Place.items in
+    let list = items c.args.list.now in
+    let pour = rw c.len.ensures at c.pour.ensures in
+    let within = c.requires.laid_out.within in
+    rw (c.pour.ensures.from_room, poured-rest c.args.start list (items c.pour.new.from) within pour.rest, length-take-le c.args.start list within)
+    (omega (arith, c.requires.room, c.requires.laid_out.ordered))
 
 pub returns-clause-laid_out : goal.returns-clause-laid_out
 returns-clause-laid_out g c =
