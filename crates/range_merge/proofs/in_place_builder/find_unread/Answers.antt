@@ -5,12 +5,6 @@ use Rattle.range_merge.specs.Building.{unread_in}
 use Rattle.range_merge.proofs.BuildingLemmas.{length-unread_in}
 use Rattle.range_merge.proofs.in_place_builder.find_unread.Goals as goal
 
-pub overflow_sub-waiting : goal.overflow_sub-waiting
-overflow_sub-waiting g c = omega (arith, c.requires.within, c.len.ensures)
-
-pub at-requires : goal.at-requires
-at-requires g c = omega (arith, c.len.ensures, c.if-i-waiting.true)
-
 pub returns-then-i-waiting : goal.returns-then-i-waiting
 returns-then-i-waiting g c =
     let items = g.L.Place.items in
@@ -23,16 +17,6 @@ returns-then-i-waiting g c =
 
 pub overflow_sub-len : goal.overflow_sub-len
 overflow_sub-len g c =
-    let items = g.L.Place.items in
-    omega (arith, length-unread_in c.args.start (items c.args.list.now) (items c.args.spare.now), c.requires.some, c.len.ensures, c.len-2.ensures)
-
-pub overflow_sub-len-2 : goal.overflow_sub-len-2
-overflow_sub-len-2 g c =
-    let items = g.L.Place.items in
-    omega (arith, length-unread_in c.args.start (items c.args.list.now) (items c.args.spare.now), c.requires.some, c.len.ensures, c.len-2.ensures)
-
-pub at-requires-2 : goal.at-requires-2
-at-requires-2 g c =
     let items = g.L.Place.items in
     omega (arith, length-unread_in c.args.start (items c.args.list.now) (items c.args.spare.now), c.requires.some, c.len.ensures, c.len-2.ensures)
 
