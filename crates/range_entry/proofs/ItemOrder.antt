@@ -25,19 +25,3 @@ equals_itself total = tied_itself (lists_total total)
 -- a text equals itself
 pub equal_texts : (xs ys : List ℕ) → ys ≡ xs → slice_cmp nat_cmp xs ys ≡ Equal
 equal_texts xs ys e = rw e (equals_itself nat_cmp_total xs)
-
--- `Equal`, and then what follows where the rest is `Equal`
-then_equal : (o p q : Ordering) → ordering_then o p ≡ Equal → (p ≡ Equal → q ≡ Equal) → ordering_then o q ≡ Equal
-then_equal Less p q e f = cc
-then_equal Equal p q e f = f e
-then_equal Greater p q e f = cc
-
--- two lists that are equal stay so where each gets one more item and these are equal
-ends-equal : {T : Type 0} (order : T → T → Ordering) (xs ys : List T) (x y : T) → slice_cmp order xs ys ≡ Equal → order x y ≡ Equal → slice_cmp order (xs ++ x ∷ []) (ys ++ y ∷ []) ≡ Equal
-ends-equal order [] [] x y e h = rw h refl
-ends-equal order [] (b ∷ ys) x y e h = cc
-ends-equal order (a ∷ xs) [] x y e h = cc
-ends-equal order (a ∷ xs) (b ∷ ys) x y e h = then_equal (order a b) (slice_cmp order xs ys) _ e (λ k. ends-equal order xs ys x y k h)
-
-pub front_grows : {T : Type 0} (order : T → T → Ordering) (xs ys : List T) (i : ℕ) (x y : T) → i < length xs → slice_cmp order (take i xs) ys ≡ Equal → order x y ≡ Equal → x ≡ get_or xs i x → slice_cmp order (take (i + 1) xs) (ys ++ y ∷ []) ≡ Equal
-front_grows order xs ys i x y l e h at = rw (take_more xs i x l, ← at) (ends-equal order (take i xs) ys x y e h)

@@ -9,8 +9,15 @@ pub trait EntryClone: Ord {
     // A clone of this element is never refused.
     ghost is_sure: { Self → Type 0 };
 
-    /// An element that is equal to this one, or an error where there is no memory for it.
+    // The second element counts as a copy of the first.
+    ghost is_copy: { Self → Self → Type 0 };
+
+    /// A copy of this element, which is equal to it, or an error where there is no memory for it.
     fn entry_clone(&self) -> Result<Self, AllocError>
         ensures same { IfOk result (λ copied. Self.cmp self.now copied ≡ Equal) }
+        ensures copy { IfOk result (λ copied. is_copy self.now copied) }
         ensures sure { is_sure self.now → IsOk result };
+
+    // A copy is equal to its source.
+    ghost copy_is_equal: { (x y : Self) → is_copy x y → Self.cmp x y ≡ Equal };
 }

@@ -1,7 +1,10 @@
 //! Lists, ordered item by item. The empty list is the least value.
 ghost use Rattle.std.specs.Prelude.{◌≡◌, ◌↔◌, [], ⊤, IsTrue, IsOk, IfOk};
+ghost use Rattle.std.specs.List.{AllZip};
 ghost use Rattle.std.specs.Cmp.Lexicographic.{slice_cmp};
 ghost use Rattle.std.specs.declared.cmp.Ordering.TheVariants.{Equal};
+ghost use Rattle.std.proofs.Common.{ap};
+ghost use Rattle.range_entry.specs.Copies.{copies-equal, same_list-equal};
 ghost use Rattle.range_entry.specs.Leasts.{empty_list, empty_reference, empty_list-lowest};
 
 use crate::entry_clone::EntryClone;
@@ -41,8 +44,9 @@ impl<T: Ord> RangeSetEntry for Vec<T> {
 impl<T: EntryClone + Drop> EntryClone for Vec<T> {
     ghost is_sure = { λ _. ⊥ };
 
+    ghost is_copy = { λ xs ys. AllZip T.is_copy xs.items ys.items };
+
     /// A list of clones of the items, in their order.
-    #[tactic(auto, using(crate::proofs::ItemOrder::front_grows))]
     fn entry_clone(&self) -> Result<Vec<T>, AllocError> {
         let mut copied = Vec::with_capacity(*self.allocator(), self.len())?;
         for item in self {
@@ -50,6 +54,8 @@ impl<T: EntryClone + Drop> EntryClone for Vec<T> {
         }
         Ok(copied)
     }
+
+    ghost copy_is_equal = { λ xs ys. copies-equal T.cmp T.is_copy T.copy_is_equal xs.items ys.items };
 }
 
 impl<T: Ord> RangeSetEntry for &[T] {
@@ -77,14 +83,19 @@ impl<T: Ord> RangeSetEntry for &[T] {
 impl<T: Ord> EntryClone for &[T] {
     ghost is_sure = { λ _. ⊤ };
 
+    ghost is_copy = { λ x y. y ≡ x };
+
     /// The same reference.
     #[tactic(auto, using(crate::proofs::ItemOrder::equals_itself))]
     #[inline(always)]
     fn entry_clone(&self) -> Result<Self, AllocError>
         ensures same { IfOk result (λ copied. slice_cmp T.cmp self.now.now copied.now ≡ Equal) }
+        ensures copy { IfOk result (λ copied. copied ≡ self.now) }
         ensures sure { IsOk result }
         ensures same_reference { result ≡ Ok self.now }
     {
         Ok(*self)
     }
+
+    ghost copy_is_equal = { λ x y e. same_list-equal T.cmp T.total x.now y.now (ap (λ z. z.now) e) };
 }

@@ -3,6 +3,7 @@ ghost use Rattle.std.specs.Prelude.{◌≡◌, ◌≢◌, ◌^◌, ◌-◌, ◌<
 ghost use Rattle.std.specs.Int.{w8, w16, w32, w64, w128};
 ghost use Rattle.std.specs.declared.cmp.Ordering.TheVariants.{Less};
 ghost use Rattle.std.proofs.Common.{rules};
+ghost use Rattle.range_entry.specs.Copies.{same-equal};
 
 use crate::entry_clone::EntryClone;
 use crate::range_set_entry::RangeSetEntry;
@@ -56,6 +57,8 @@ impl<T: Number> RangeSetEntry for T {
 impl<T: Number> EntryClone for T {
     ghost is_sure = { λ _. ⊤ };
 
+    ghost is_copy = { λ x y. y ≡ x };
+
     /// The number itself.
     #[inline(always)]
     fn entry_clone(&self) -> Result<T, AllocError>
@@ -63,6 +66,8 @@ impl<T: Number> EntryClone for T {
     {
         Ok(*self)
     }
+
+    ghost copy_is_equal = { same-equal T.cmp T.total };
 }
 
 impl Number for u8 {

@@ -1,5 +1,6 @@
 //! Options. `None` is the least value, below every `Some`.
 ghost use Rattle.std.specs.Prelude.{⊤, None, IfSome};
+ghost use Rattle.range_entry.specs.Copies.{IsOptionCopy, option_copy-equal};
 ghost use Rattle.range_entry.specs.Leasts.{None-lowest};
 
 use crate::entry_clone::EntryClone;
@@ -32,10 +33,14 @@ impl<T: Ord> RangeSetEntry for Option<T> {
 impl<T: EntryClone> EntryClone for Option<T> {
     ghost is_sure = { λ x. IfSome x T.is_sure };
 
+    ghost is_copy = { IsOptionCopy T.is_copy };
+
     fn entry_clone(&self) -> Result<Option<T>, AllocError> {
         match self {
             None => Ok(None),
             Some(held) => Ok(Some(held.entry_clone()?)),
         }
     }
+
+    ghost copy_is_equal = { option_copy-equal T.cmp T.is_copy T.copy_is_equal };
 }

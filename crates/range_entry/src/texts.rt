@@ -4,6 +4,8 @@ ghost use Rattle.std.specs.Cmp.Lexicographic.{slice_cmp};
 ghost use Rattle.std.specs.Ordering.{nat_cmp};
 ghost use Rattle.std.specs.String.{string_cmp};
 ghost use Rattle.std.specs.declared.cmp.Ordering.TheVariants.{Equal};
+ghost use Rattle.std.proofs.Common.{ap};
+ghost use Rattle.range_entry.specs.Copies.{same_text-equal};
 ghost use Rattle.range_entry.specs.Leasts.{empty_text, empty_reference, empty_list-lowest};
 
 use crate::entry_clone::EntryClone;
@@ -36,14 +38,18 @@ impl RangeSetEntry for String {
 impl EntryClone for String {
     ghost is_sure = { λ _. ⊥ };
 
+    ghost is_copy = { λ x y. string_bytes y ≡ string_bytes x };
+
     /// The same text, or an error where there is no memory for it.
     #[tactic(auto, using(crate::proofs::ItemOrder::equal_texts))]
     fn entry_clone(&self) -> Result<String, AllocError>
         ensures same { IfOk result (λ copied. string_cmp self.now copied ≡ Equal) }
-        ensures same_text { IfOk result (λ copied. string_bytes copied ≡ string_bytes self.now) }
+        ensures copy { IfOk result (λ copied. string_bytes copied ≡ string_bytes self.now) }
     {
         self.clone()
     }
+
+    ghost copy_is_equal = { λ x y. same_text-equal (string_bytes x) (string_bytes y) };
 }
 
 impl RangeSetEntry for &str {
@@ -71,14 +77,19 @@ impl RangeSetEntry for &str {
 impl EntryClone for &str {
     ghost is_sure = { λ _. ⊤ };
 
+    ghost is_copy = { λ x y. y ≡ x };
+
     /// The same reference.
     #[tactic(auto, using(crate::proofs::ItemOrder::equal_texts))]
     #[inline(always)]
     fn entry_clone(&self) -> Result<Self, AllocError>
         ensures same { IfOk result (λ copied. slice_cmp nat_cmp self.now.now copied.now ≡ Equal) }
+        ensures copy { IfOk result (λ copied. copied ≡ self.now) }
         ensures sure { IsOk result }
         ensures same_reference { result ≡ Ok self.now }
     {
         Ok(*self)
     }
+
+    ghost copy_is_equal = { λ x y e. same_text-equal x.now y.now (ap (λ z. z.now) e) };
 }

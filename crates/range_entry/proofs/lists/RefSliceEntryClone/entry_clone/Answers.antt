@@ -10,3 +10,6 @@ returns-clause-sure g c = refl
 
 pub returns-clause-same_reference : goal.returns-clause-same_reference
 returns-clause-same_reference g c = refl
+
+pub returns-clause-copy : goal.returns-clause-copy
+returns-clause-copy g c = refl

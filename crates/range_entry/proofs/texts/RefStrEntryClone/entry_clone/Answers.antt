@@ -10,3 +10,6 @@ returns-clause-sure c = refl
 
 pub returns-clause-same_reference : goal.returns-clause-same_reference
 returns-clause-same_reference c = refl
+
+pub returns-clause-copy : goal.returns-clause-copy
+returns-clause-copy c = refl

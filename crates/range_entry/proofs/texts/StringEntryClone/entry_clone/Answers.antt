@@ -13,5 +13,5 @@ if_ok (Err e) P Q h = tt
 pub returns-clause-same : goal.returns-clause-same
 returns-clause-same c = IfOk-weaker c.clone.result _ _ (λ t same. equal_texts (string_bytes c.args.self.now) (string_bytes t) same) (if_ok c.clone.result _ _ c.clone.ensures.cases)
 
-pub returns-clause-same_text : goal.returns-clause-same_text
-returns-clause-same_text c = if_ok c.clone.result _ _ c.clone.ensures.cases
+pub returns-clause-copy : goal.returns-clause-copy
+returns-clause-copy c = if_ok c.clone.result _ _ c.clone.ensures.cases
