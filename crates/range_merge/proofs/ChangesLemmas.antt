@@ -7,7 +7,7 @@ use Rattle.std.specs.declared.cmp.Ordering.{Ordering}
 use Rattle.std.specs.declared.cmp.Ordering.TheVariants.{Less, Equal, Greater}
 use Rattle.std.specs.Ordering.{is_le, is_lt}
 use Rattle.range_merge.specs.Boundaries.{IsAscending, member}
-use Rattle.range_merge.specs.Connective.{Table, differ, Means}
+use Rattle.range_merge.specs.Connective.{Table, differ, opposite, Means}
 use Rattle.range_merge.specs.Owners.{Owner, left_only, right_only, shared, item_of, left_items, right_items, OwnersAscend, IsShare, IsOwners, owners}
 use Rattle.range_merge.specs.Changes.{Taken, taken_item, taken_items, taken_of, answer_at, answer_just_below, changes}
 use Rattle.range_merge.proofs.Orders.{Greater-from_less, Greater-trans, Equal-self}
@@ -227,4 +227,11 @@ module _ {K : Type 0} {order : K → K → Ordering} (o : IsTotalOrder order) wh
   Means-changes f a b off p q io = record {
     sorted = IsAscending-changes f a b io;
     members = λ x. members-changes f a b io x ∙ ap (λ t. differ t (f (member order a x) (member order b x))) off;
+  }
+
+  pub Means-changes_opposite : (f : Table) (a b : List K) → f false false ≡ true → IsAscending order a → IsAscending order b → IsOwners order a b (owners order a b)
+      → Means order (opposite f) (taken_items (changes order f a b)) a b
+  Means-changes_opposite f a b on p q io = record {
+    sorted = IsAscending-changes f a b io;
+    members = λ x. members-changes f a b io x ∙ ap (λ t. differ t (f (member order a x) (member order b x))) on;
   }

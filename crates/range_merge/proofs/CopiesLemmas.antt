@@ -1,8 +1,8 @@
 -- Copies at the end of a list: item by item, and run by run.
-use Rattle.std.proofs.Common.{◌≡◌, ℕ, ◌+◌, ◌-◌, ◌<◌, ◌≤◌, All, Bool, true, false, List, [], ◌∷◌, ◌++◌, length, take, drop, map, get_or, refl, sym, ap, ◌∙◌, arith, append_assoc}
+use Rattle.std.proofs.Common.{◌≡◌, ℕ, ◌+◌, ◌<◌, ◌≤◌, Bool, true, false, List, [], ◌∷◌, ◌++◌, length, take, drop, map, get_or, refl, sym, ap, ◌∙◌, arith, append_assoc}
 use Rattle.std.specs.List.{AllZip}
-use Rattle.std.proofs.lemmas.List.{append-nil, length-append, length-drop, length-map, length-take-le, drop-append-le, drop_all, drop_at, take-append-le, take_all, take_at}
-use Rattle.std.proofs.lemmas.List.Elements.{All-drop, all_zip_more, length_all_zip}
+use Rattle.std.proofs.lemmas.List.{append-nil, length-append, length-map, drop-append-le, drop_all, drop_at, take-append-le, take_all, take_at}
+use Rattle.std.proofs.lemmas.List.Elements.{all_zip_more, length_all_zip}
 use Rattle.range_merge.specs.Changes.{Taken, taken_item, taken_items, taken_left, taken_right, from_left, from_right}
 use Rattle.range_merge.specs.Copies.{items_if, IsAppended, AreCopies, AreKeptThenCopies}
 
@@ -47,7 +47,7 @@ module _ {K : Type 0} (alike : K → K → Type 0) where
   AreCopies-items (t ∷ ts) (x ∷ xs) h = (h.0, AreCopies-items ts xs h.1)
 
   -- what is taken and copied further
-  AreKeptThenCopies-append : (began : ℕ) (ts news : List (Taken K)) (xs old new : List K) → taken_items news ≡ xs
+  pub AreKeptThenCopies-append : (began : ℕ) (ts news : List (Taken K)) (xs old new : List K) → taken_items news ≡ xs
       → IsAppended alike xs old new → AreKeptThenCopies alike began ts old → AreKeptThenCopies alike began (ts ++ news) new
   AreKeptThenCopies-append began ts news xs old new are h holds =
       let copied : AreCopies alike news h.copies = AreCopies-from_items alike news h.copies (rw are h.alike_to) in
@@ -103,53 +103,9 @@ length-items_if : {K : Type 0} (take' : Bool) (items : List K) → length (items
 length-items_if true items = omega arith
 length-items_if false items = omega arith
 
--- what an advance of one side leaves: front is taken or not, and rest stays unread
-module _ {K : Type 0} (alike : K → K → Type 0) (IsSure : K → Type 0) where
-  pub AreKeptThenCopies-left : (began : ℕ) (take' : Bool) (n : ℕ) (left front old new : List K) (before : List (Taken K)) → front ≡ take n left
-      → IsAppended alike (items_if take' front) old new → AreKeptThenCopies alike began before old → AreKeptThenCopies alike began (before ++ taken_left take' n left) new
-  AreKeptThenCopies-left began take' n left front old new before is h holds =
-      AreKeptThenCopies-append alike began before (taken_left take' n left) (items_if take' front) old new
-      (taken_items-taken_left take' n left ∙ ap (items_if take') (sym is)) h holds
-
-  pub AreKeptThenCopies-right : (began : ℕ) (take' : Bool) (n : ℕ) (right front old new : List K) (before : List (Taken K)) → front ≡ take n right
-      → IsAppended alike (items_if take' front) old new → AreKeptThenCopies alike began before old → AreKeptThenCopies alike began (before ++ taken_right take' n right) new
-  AreKeptThenCopies-right began take' n right front old new before is h holds =
-      AreKeptThenCopies-append alike began before (taken_right take' n right) (items_if take' front) old new
-      (taken_items-taken_right take' n right ∙ ap (items_if take') (sym is)) h holds
-
-  -- what is unread and what is kept still have room together
-  pub room_after : (take' : Bool) (n : ℕ) (unread front rest old new : List K) (other room room' : ℕ) → n ≤ length unread → front ≡ take n unread → rest ≡ drop n unread
-      → length old + length unread + other ≤ room → (length old + length front ≤ room → room' ≡ room) → IsAppended alike (items_if take' front) old new
-      → length new + length rest + other ≤ room'
-  room_after take' n unread front rest old new other room room' within is_front is_rest fits same h =
-      let front_len : length front ≡ n = ap length is_front ∙ length-take-le n unread within in
-      let rest_len : length rest ≡ length unread - n = ap length is_rest ∙ length-drop n unread in
-      let still : room' ≡ room = same (omega arith) in
-      omega (arith, length-appended alike (items_if take' front) old new h, length-items_if take' front)
-
-  All-rest : (n : ℕ) (unread rest : List K) → rest ≡ drop n unread → All IsSure unread → All IsSure rest
-  All-rest n unread rest is h = rw is (All-drop IsSure n unread h)
-
-  pub sure_after_left : (take' : Bool) (n : ℕ) (left right front rest old new : List K) (room room' : ℕ) → n ≤ length left → front ≡ take n left → rest ≡ drop n left
-      → (length old + length front ≤ room → room' ≡ room) → IsAppended alike (items_if take' front) old new
-      → (length old + length left + length right ≤ room) × All IsSure left × All IsSure right
-      → (length new + length rest + length right ≤ room') × All IsSure rest × All IsSure right
-  sure_after_left take' n left right front rest old new room room' within is_front is_rest same h sure =
-      (room_after take' n left front rest old new (length right) room room' within is_front is_rest sure.0 same h, All-rest n left rest is_rest sure.1, sure.2)
-
-  pub sure_after_right : (take' : Bool) (n : ℕ) (left right front rest old new : List K) (room room' : ℕ) → n ≤ length right → front ≡ take n right → rest ≡ drop n right
-      → (length old + length front ≤ room → room' ≡ room) → IsAppended alike (items_if take' front) old new
-      → (length old + length left + length right ≤ room) × All IsSure left × All IsSure right
-      → (length new + length left + length rest ≤ room') × All IsSure left × All IsSure rest
-  sure_after_right take' n left right front rest old new room room' within is_front is_rest same h sure =
-      let fits : length old + length right + length left ≤ room = omega (arith, sure.0) in
-      (omega (arith, room_after take' n right front rest old new (length left) room room' within is_front is_rest fits same h), sure.1, All-rest n right rest is_rest sure.2)
-
-  pub sure_after_both : (take' : Bool) (left right front left_rest right_rest old new : List K) (room room' : ℕ) → 1 ≤ length left → front ≡ take 1 left → left_rest ≡ drop 1 left → right_rest ≡ drop 1 right
-      → (length old + length front ≤ room → room' ≡ room) → IsAppended alike (items_if take' front) old new
-      → (length old + length left + length right ≤ room) × All IsSure left × All IsSure right
-      → (length new + length left_rest + length right_rest ≤ room') × All IsSure left_rest × All IsSure right_rest
-  sure_after_both take' left right front left_rest right_rest old new room room' some is_front is_left is_right same h sure =
-      let fits : length new + length left_rest + length right ≤ room' = room_after take' 1 left front left_rest old new (length right) room room' some is_front is_left sure.0 same h in
-      let shorter : length right_rest ≡ length right - 1 = ap length is_right ∙ length-drop 1 right in
-      (omega arith, All-rest 1 left left_rest is_left sure.1, All-rest 1 right right_rest is_right sure.2)
+-- a list that had room for n items has room for m more behind those that were appended
+pub room_after : {K : Type 0} (alike : K → K → Type 0) (take' : Bool) (items old new : List K) (m n room room' : ℕ) → length items + m ≤ n
+    → length old + n ≤ room → (length old + length items ≤ room → room' ≡ room) → IsAppended alike (items_if take' items) old new → length new + m ≤ room'
+room_after alike take' items old new m n room room' within fits same h =
+    let still : room' ≡ room = same (omega arith) in
+    omega (arith, length-appended alike (items_if take' items) old new h, length-items_if take' items)

@@ -19,6 +19,8 @@ pub mod FirstRun
 pub mod MergeLoop
 pub mod Testing
 pub mod CopiesLemmas
+pub mod Outputs
+pub mod Counts
 pub mod Marks
 pub mod Moves
 pub mod BuildingLemmas

@@ -1,31 +1,12 @@
 -- What a merge that only tests ends with.
-use Rattle.std.proofs.Common.{◌≡◌, ℕ, zero, suc, ◌≤◌, Bool, true, false, ◌||◌, List, [], ◌∷◌, ◌++◌, length, take, Result, Ok, Err, IsOk, IfOk, refl, ◌∙◌, arith}
-use Rattle.range_merge.specs.Changes.{Taken, StopsAmong, taken_left, taken_right}
+use Rattle.std.proofs.Common.{◌≡◌, ℕ, zero, suc, ◌≤◌, Bool, true, false, List, [], ◌∷◌, ◌++◌, length, take, Result, Ok, Err, IsOk, IfOk, refl, ◌∙◌, arith}
+use Rattle.range_merge.specs.Changes.{Taken, StopsAmong}
 use Rattle.range_merge.specs.States.{any_item}
 
 any_item-take : {T : Type 0} (n : ℕ) (ts : List T) → 1 ≤ n → n ≤ length ts → any_item (take n ts) ≡ any_item ts
 any_item-take zero ts some within = absurd (omega arith)
 any_item-take (suc n) [] some within = refl
 any_item-take (suc n) (t ∷ ts) some within = refl
-
--- what was remembered, and whether more is taken, is whether there is an item in all
-pub remembers : {T : Type 0} (was more : Bool) (before items : List T) → was ≡ any_item before → any_item items ≡ more → (was || more) ≡ any_item (before ++ items)
-remembers was more [] items so_far now = rw (so_far, now) refl
-remembers was more (t ∷ ts) items so_far now = rw so_far refl
-
-module _ {K : Type 0} where
-  -- there is an item among those of a run if it is taken
-  pub any_item-left : (wanted : Bool) (n : ℕ) (items : List K) → 1 ≤ n → n ≤ length items → any_item (taken_left wanted n items) ≡ wanted
-  any_item-left false n items some within = refl
-  any_item-left true zero items some within = absurd (omega arith)
-  any_item-left true (suc n) [] some within = absurd (omega arith)
-  any_item-left true (suc n) (x ∷ xs) some within = refl
-
-  pub any_item-right : (wanted : Bool) (n : ℕ) (items : List K) → 1 ≤ n → n ≤ length items → any_item (taken_right wanted n items) ≡ wanted
-  any_item-right false n items some within = refl
-  any_item-right true zero items some within = absurd (omega arith)
-  any_item-right true (suc n) [] some within = absurd (omega arith)
-  any_item-right true (suc n) (x ∷ xs) some within = refl
 
 -- the state remembers an item exactly if there was one to take
 pub taken-any_item : {K E : Type 0} (r : Result Bool E) (was taken : Bool) (items : List (Taken K)) → IsOk r → was ≡ false

@@ -1,27 +1,20 @@
 -- What is seen of the states of a merge.
+use Rattle.smallvec.specs.SmallVec.{SmallVec}
 use Rattle.std.specs.Prelude.{ℕ, ◌+◌, ◌≤◌, Bool, true, false, List, [], ◌∷◌, length, All}
 
--- a merge that only tells whether anything is taken: the unread items of each side, whether the side is on, and whether anything was taken
-pub record Testing (K : Type 0) : Type 0 where
+-- a merge over two slices: the unread items of each side, whether the side is on, what its output holds of what was taken, and how many items that began with
+pub record Merging (K : Type 0) (Output : Type 0) : Type 0 where
   pub left : List K
   pub right : List K
   pub left_on : Bool
   pub right_on : Bool
-  pub taken : Bool
-
--- a merge that copies what is taken into a list: the unread items of each side, whether the side is on, the items of the list, how many it began with, and how many have room
-pub record Collecting (K : Type 0) : Type 0 where
-  pub left : List K
-  pub right : List K
-  pub left_on : Bool
-  pub right_on : Bool
-  pub items : List K
+  pub taken : Output
   pub began : ℕ
-  pub room : ℕ
 
 -- the list has room for what is unread, and no copy of it is refused
-abbrev pub HasRoomForAll : {K : Type 0} → (K → Type 0) → Collecting K → Type 0
-HasRoomForAll is_sure s = (length s.items + length s.left + length s.right ≤ s.room) × All is_sure s.left × All is_sure s.right
+abbrev pub HasRoomForAll : {K : Type 0} → (K → Type 0) → Merging K (SmallVec K) → Type 0
+HasRoomForAll is_sure s =
+    (length s.taken.items + (length s.left + length s.right) ≤ s.taken.capacity) × All is_sure s.left × All is_sure s.right
 
 -- a builder that works in place: the items that are kept, those that are still unread, and how many may still be put
 pub record Building (K : Type 0) : Type 0 where

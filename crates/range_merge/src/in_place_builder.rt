@@ -49,7 +49,6 @@ impl<K: MadeWith<Global> + Drop, const N: usize> InPlaceBuilder<K, N> {
         ensures handed_back { IfErr result (λ refused. refused.1.items ≡ list.items) }
         ensures succeeds { length list.items + extra ≤ N → IsOk result }
     {
-        let _room = list.capacity();
         match prepared(&mut list, extra) {
             Ok(spare) => Ok(Self::over(list, spare, extra)),
             Err(error) => Err((error, list)),
@@ -111,6 +110,7 @@ impl<K, const N: usize, L: Place<K>> InPlaceBuilder<K, N, L> {
         ensures puts_left { self.new.puts_left ≡ self.old.puts_left }
     {
         keep_items(&mut self.list, &mut self.spare, self.kept, self.start, n);
+        // Brings that the length is within usize.
         let _len = self.list.len();
         self.kept += n;
         self.start += n;
@@ -263,6 +263,7 @@ fn skip_items<K, L: Place<K>>(list: &L, spare: &mut L, start: usize, n: usize) -
     ensures unread { unread_in result (L.items list.now) (L.items spare.new) ≡ drop n (unread_in start (L.items list.now) (L.items spare.old)) }
     ensures spare_room { L.room spare.new ≡ L.room spare.old }
 {
+    // Brings that the length is within usize.
     let _len = list.len();
     let waiting = spare.len();
     if waiting == 0 {

@@ -1,8 +1,8 @@
 //! Laws: functions that do nothing, and whose contracts are theorems on the words of the other contracts.
-ghost use Rattle.std.specs.Prelude.{◌≡◌, ℕ, ◌+◌, ◌≤◌, false, List, ◌++◌, All, length, map};
+ghost use Rattle.std.specs.Prelude.{◌≡◌, ℕ, ◌+◌, ◌≤◌, Bool, true, false, List, ◌++◌, All, length, map};
 ghost use Rattle.range_merge.specs.Boundaries.{IsAscending};
 ghost use Rattle.range_merge.specs.Changes.{IsMarkedTruly, Taken, changes, from_left, taken_items};
-ghost use Rattle.range_merge.specs.Connective.{Table, Means};
+ghost use Rattle.range_merge.specs.Connective.{Table, Means, opposite, table_of, union_table, intersection_table, difference_table, symmetric_difference_table};
 ghost use Rattle.range_merge.specs.Copies.{AreKeptThenCopies, IsAppended};
 ghost use Rattle.range_merge.specs.Owners.{Owner, IsOwners, owners};
 ghost use Rattle.range_merge.specs.Runs.{digits, weight};
@@ -25,6 +25,20 @@ pub fn weight_is_at_most_the_lengths<K, C: Compare<K>>()
 pub fn changes_mean_the_connective<K, C: Compare<K>>()
     ensures means { (f : Table) (a b : List K) → f false false ≡ false → IsAscending C.order a → IsAscending C.order b →
         Means C.order f (taken_items (changes C.order f a b)) a b }
+{}
+
+/// The items at which a connective changes mean its opposite, where it is on while both sides are off.
+pub fn changes_mean_the_opposite<K, C: Compare<K>>()
+    ensures means { (f : Table) (a b : List K) → f false false ≡ true → IsAscending C.order a → IsAscending C.order b →
+        Means C.order (opposite f) (taken_items (changes C.order f a b)) a b }
+{}
+
+/// The four operations are the connectives of their rows: the answers where neither side is on, the left alone, the right alone, and both.
+pub fn operations_are_connectives()
+    ensures union { (a b : Bool) → union_table a b ≡ table_of false true true true a b }
+    ensures intersection { (a b : Bool) → intersection_table a b ≡ table_of false false false true a b }
+    ensures difference { (a b : Bool) → difference_table a b ≡ table_of false true false false a b }
+    ensures symmetric_difference { (a b : Bool) → symmetric_difference_table a b ≡ table_of false true true false a b }
 {}
 
 /// Each change is marked by the list that it comes from: it is an item of the left list, or one of the right list that equals none of the left's.

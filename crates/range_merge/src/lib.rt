@@ -2,6 +2,7 @@
 #![tactic(auto)]
 
 mod compare;
+mod counting_laws;
 mod galloping;
 mod in_place_builder;
 mod laws;
@@ -15,16 +16,18 @@ mod slice_iterator;
 mod states;
 
 pub use compare::{Compare, Copier};
+pub use counting_laws::changes_are_at_most_the_lengths;
 pub use in_place_builder::InPlaceBuilder;
 pub use laws::{
-    changes_are_marked_truly, changes_mean_the_connective, copies_stand_behind_what_was_there,
-    owners_are_pinned, weight_is_at_most_the_lengths,
+    changes_are_marked_truly, changes_mean_the_connective, changes_mean_the_opposite,
+    copies_stand_behind_what_was_there, operations_are_connectives, owners_are_pinned,
+    weight_is_at_most_the_lengths,
 };
 pub use merge_state::{
-    BoolOpMergeState, InPlaceMergeState, InPlaceMergeStateRef, SmallVecMergeState,
+    BoolOpMergeState, CountMergeState, InPlaceMergeState, InPlaceMergeStateRef, SmallVecMergeState,
 };
 pub use merging::merge;
-pub use operations::{DiffOp, IntersectionOp, MergeOperation, UnionOp, XorOp};
+pub use operations::{Connective, DiffOp, IntersectionOp, MergeOperation, UnionOp, XorOp};
 pub use runs::{Run, run_length};
 pub use searching::search;
 pub use slice_iterator::SliceIterator;

@@ -46,6 +46,7 @@ pub fn merge<S: MergeStateMut, O: MergeOperation, C: Compare<S::Item>>(
 
     ensures comparisons { AddsAtMost (C.count cmp.old) (C.count cmp.new) (2 * weight C.order (S.left state.old) (S.right state.old)) }
 {
+    // Brings that both lengths are within usize.
     let _lengths = (state.a_len(), state.b_len());
     while let Some(run) = next_run(state, cmp) {
         if !take_run(state, op, run)? {

@@ -1,6 +1,6 @@
 //! The operations on two sets, each as the places where its connective changes.
 ghost use Rattle.std.specs.Prelude.{◌≡◌, Bool, false, true, not};
-ghost use Rattle.range_merge.specs.Connective.{Table, differ, union_table, intersection_table, difference_table, symmetric_difference_table};
+ghost use Rattle.range_merge.specs.Connective.{Table, differ, union_table, intersection_table, difference_table, symmetric_difference_table, table_of};
 
 /// A connective of two sides, and where it changes.
 pub trait MergeOperation {
@@ -35,6 +35,19 @@ pub struct DiffOp;
 
 /// In one of the two sets and not in the other.
 pub struct XorOp;
+
+/// Any of the sixteen connectives, by its four answers.
+#[derive(Clone, Copy, Debug, PartialEq, Eq)]
+pub struct Connective {
+    /// The answer where both sides are off.
+    pub neither: bool,
+    /// The answer where the left side alone is on.
+    pub left: bool,
+    /// The answer where the right side alone is on.
+    pub right: bool,
+    /// The answer where both sides are on.
+    pub both: bool,
+}
 
 impl MergeOperation for UnionOp {
     ghost connective = { λ _. union_table };
@@ -129,5 +142,44 @@ impl MergeOperation for XorOp {
     #[inline(always)]
     fn when_off(&self) -> bool {
         false
+    }
+}
+
+impl MergeOperation for Connective {
+    ghost connective = { λ op. table_of op.neither op.left op.right op.both };
+
+    #[inline(always)]
+    fn takes_a(&self, bc: bool) -> bool {
+        self.answer(false, bc) != self.answer(true, bc)
+    }
+
+    #[inline(always)]
+    fn takes_b(&self, ac: bool) -> bool {
+        self.answer(ac, false) != self.answer(ac, true)
+    }
+
+    #[inline(always)]
+    fn takes_both(&self, ac: bool, bc: bool) -> bool {
+        self.answer(ac, bc) != self.answer(!ac, !bc)
+    }
+
+    #[inline(always)]
+    fn when_off(&self) -> bool {
+        self.neither
+    }
+}
+
+impl Connective {
+    // The answer where the sides are as `ac` and `bc` say.
+    #[inline(always)]
+    fn answer(&self, ac: bool, bc: bool) -> bool
+        ensures { result ≡ table_of self.now.neither self.now.left self.now.right self.now.both ac bc }
+    {
+        match (ac, bc) {
+            (false, false) => self.neither,
+            (true, false) => self.left,
+            (false, true) => self.right,
+            (true, true) => self.both,
+        }
     }
 }

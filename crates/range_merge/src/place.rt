@@ -160,6 +160,7 @@ pub(crate) fn move_down<K, L: Place<K>>(list: &mut L, to: usize, from: usize, n:
     if to == from {
         return;
     }
+    // Brings that the length is within usize.
     let _len = list.len();
     for i in 0..n {
         list.swap(to + i, from + i);
@@ -192,6 +193,7 @@ pub(crate) fn prepared<K: MadeWith<Global> + Drop, const N: usize>(
     ensures spare_room { IfOk result (λ spare. length list.old.items ≤ spare.capacity) }
     ensures succeeds { length list.old.items + extra ≤ N → IsOk result }
 {
+    // Brings that the capacity is at least N.
     let _inline = list.capacity();
     let spare = SmallVec::with_capacity(*list.allocator(), list.len())?;
     list.reserve(extra)?;

@@ -14,7 +14,7 @@ use std::cmp::Ordering;
 /// The items have to be strictly sorted. It makes at most as many comparisons as the binary digits of `items.len()`.
 pub fn search<K, C: Compare<K>>(items: &[K], key: &K, cmp: &mut C) -> Result<usize, usize>
     requires ascending { IsAscending C.order items.now }
-    requires made { C.count cmp.old < 2 ^ 64 }
+    requires made { C.count cmp.old < 2 ^ 127 }
     ensures found_within { IfOk result (λ i. i < length items.now) }
     ensures found { IfOk result (HoldsAt (λ y. C.order y key.now ≡ Equal) items.now) }
     ensures missing_within { IfErr result (λ i. i ≤ length items.now) }

@@ -1,5 +1,5 @@
 //! A merge that only tells whether anything is taken.
-ghost use Rattle.std.specs.Prelude.{◌≡◌, ℕ, ◌*◌, ◌^◌, ◌<◌, Bool, true, false, ⊤};
+ghost use Rattle.std.specs.Prelude.{◌≡◌, ◌*◌, ◌^◌, ◌<◌, true, false, ⊤};
 ghost use Rattle.range_merge.specs.Boundaries.{IsAscending};
 ghost use Rattle.range_merge.specs.Changes.{changes};
 ghost use Rattle.range_merge.specs.Counting.{AddsAtMost};
@@ -7,30 +7,14 @@ ghost use Rattle.range_merge.specs.Runs.{weight};
 ghost use Rattle.range_merge.specs.States.{any_item};
 
 use crate::compare::Compare;
+use crate::merge_state::output::Output;
+use crate::merge_state::over_slices::SliceMergeState;
 use crate::merging;
 use crate::operations::MergeOperation;
-use crate::slice_iterator::SliceIterator;
-use crate::states::{MergeState, MergeStateMut};
 use std::alloc::AllocError;
-use std::marker::Model;
 
 /// A state that stops the merge at the first item that is taken, and remembers that there was one. It takes no memory and never refuses.
-#[derive(Drop)]
-pub struct BoolOpMergeState<'a, K> {
-    a: SliceIterator<'a, K>,
-    b: SliceIterator<'a, K>,
-    ac: bool,
-    bc: bool,
-    taken: bool,
-}
-
-impl<'a, K> Model for BoolOpMergeState<'a, K> {
-    ghost use Rattle.range_merge.specs.States.{Testing};
-
-    ghost Value = { Testing K };
-
-    ghost view = { λ s. record { left = s.a; right = s.b; left_on = s.ac; right_on = s.bc; taken = s.taken } };
-}
+pub type BoolOpMergeState<'a, K> = SliceMergeState<'a, K, bool>;
 
 impl<'a, K> BoolOpMergeState<'a, K> {
     /// All items of both slices unread, both sides off, and nothing taken.
@@ -41,20 +25,7 @@ impl<'a, K> BoolOpMergeState<'a, K> {
         ensures right_on { result.right_on ≡ false }
         ensures taken { result.taken ≡ false }
     {
-        BoolOpMergeState {
-            a: SliceIterator::new(a),
-            b: SliceIterator::new(b),
-            ac: false,
-            bc: false,
-            taken: false,
-        }
-    }
-
-    /// Whether anything was taken.
-    pub fn result(self) -> bool
-        ensures { result ≡ self.entry.taken }
-    {
-        self.taken
+        Self::over(a, b, false, ())
     }
 
     /// Whether the connective of `op` changes anywhere between the two strictly sorted lists.
@@ -78,80 +49,23 @@ impl<'a, K> BoolOpMergeState<'a, K> {
     }
 }
 
-impl<'a, K> MergeState for BoolOpMergeState<'a, K> {
-    type Item = K;
-
-    ghost left = { λ s. s.left };
-
-    ghost right = { λ s. s.right };
-
-    #[inline(always)]
-    fn a_len(&self) -> usize {
-        self.a.as_slice().len()
-    }
-
-    #[inline(always)]
-    fn b_len(&self) -> usize {
-        self.b.as_slice().len()
-    }
-
-    #[inline(always)]
-    fn a_at(&self, i: usize) -> &K {
-        &self.a.as_slice()[i]
-    }
-
-    #[inline(always)]
-    fn b_at(&self, i: usize) -> &K {
-        &self.b.as_slice()[i]
-    }
-}
-
-impl<'a, K> MergeStateMut for BoolOpMergeState<'a, K> {
-    ghost left_on = { λ s. s.left_on };
-
-    ghost right_on = { λ s. s.right_on };
-
-    ghost output = { λ s ts. s.taken ≡ any_item ts };
+// Whether anything was taken. The first item stops the merge.
+impl<K> Output<K, ()> for bool {
+    ghost may_be = { λ s _ ts. s ≡ any_item ts };
 
     ghost began = { λ _. 0 };
 
     ghost can_stop = { true };
 
-    ghost sure = { λ _. ⊤ };
+    ghost fits = { λ _ _. ⊤ };
+
+    ghost has_room = { λ _ _. ⊤ };
+
+    ghost is_sure = { λ _. ⊤ };
 
     #[inline(always)]
-    fn advance_a(&mut self, n: usize, take: bool) -> Result<bool, AllocError> {
-        self.ac = self.ac != (n % 2 == 1);
-        self.taken = self.taken | take;
-        self.a.drop_front(n);
+    fn append(&mut self, _items: &[K], take: bool, _by: &()) -> Result<bool, AllocError> {
+        *self = *self | take;
         Ok(!take)
-    }
-
-    #[inline(always)]
-    fn advance_b(&mut self, n: usize, take: bool) -> Result<bool, AllocError> {
-        self.bc = self.bc != (n % 2 == 1);
-        self.taken = self.taken | take;
-        self.b.drop_front(n);
-        Ok(!take)
-    }
-
-    #[inline(always)]
-    fn advance_both(&mut self, take: bool) -> Result<bool, AllocError> {
-        self.ac = !self.ac;
-        self.bc = !self.bc;
-        self.taken = self.taken | take;
-        self.a.drop_front(1);
-        self.b.drop_front(1);
-        Ok(!take)
-    }
-
-    #[inline(always)]
-    fn ac(&self) -> bool {
-        self.ac
-    }
-
-    #[inline(always)]
-    fn bc(&self) -> bool {
-        self.bc
     }
 }

@@ -61,7 +61,6 @@ impl<K: MadeWith<Global> + Drop, const N: usize> InPlaceMergeState<K, N> {
         ensures right_handed_back { IfErr result (λ refused. refused.2.items ≡ b.items) }
         ensures succeeds { length a.items + length b.items ≤ N → IsOk result }
     {
-        let _room = a.capacity();
         let extra = b.len();
         match prepared(&mut a, extra) {
             Ok(spare) => {

@@ -74,7 +74,6 @@ impl<'a, K: MadeWith<Global> + Drop, P: Copier<K>, const N: usize> InPlaceMergeS
         ensures handed_back { IfErr result (λ refused. refused.1.items ≡ a.items) }
         ensures succeeds { length a.items + length b.now ≤ N → All P.is_sure b.now → IsOk result }
     {
-        let _room = a.capacity();
         match prepared_copies(&mut a, b, copier) {
             Ok((spare, copies)) => Ok(Self::over(a, spare, b, copies)),
             Err(error) => Err((error, a)),

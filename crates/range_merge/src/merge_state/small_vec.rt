@@ -1,5 +1,5 @@
 //! A merge that copies what is taken into a list.
-ghost use Rattle.std.specs.Prelude.{◌≡◌, ℕ, ◌+◌, ◌*◌, ◌^◌, ◌<◌, ◌≤◌, Bool, true, false, [], length, map, All, IsOk, IfOk};
+ghost use Rattle.std.specs.Prelude.{◌≡◌, ◌+◌, ◌*◌, ◌^◌, ◌<◌, ◌≤◌, false, [], length, map, All, IsOk, IfOk, ⊤};
 ghost use Rattle.range_merge.specs.Boundaries.{IsAscending};
 ghost use Rattle.range_merge.specs.Changes.{changes, from_left};
 ghost use Rattle.range_merge.specs.Copies.{AreCopies, AreKeptThenCopies};
@@ -8,45 +8,23 @@ ghost use Rattle.range_merge.specs.Runs.{weight};
 ghost use Rattle.range_merge.specs.States.{HasRoomForAll};
 
 use crate::compare::{Compare, Copier};
-use crate::merge_state::sink::{Sink, append_copies};
+use crate::merge_state::output::Output;
+use crate::merge_state::over_slices::SliceMergeState;
+use crate::merge_state::sink::append_copies;
 use crate::merging;
 use crate::operations::MergeOperation;
-use crate::slice_iterator::SliceIterator;
-use crate::states::{MergeState, MergeStateMut};
 use smallvec::SmallVec;
 use std::alloc::{AllocError, Global};
 use std::default::MadeWith;
-use std::marker::Model;
 use std::mem;
 
-/// A state that appends copies of the items that are taken to a list. `L` is the list, by value where a caller makes the state.
-#[derive(Drop)]
-pub struct SmallVecMergeState<'a, K, P: Copier<K>, const M: usize, L: Sink<K> = SmallVec<K, M>> {
-    a: SliceIterator<'a, K>,
-    b: SliceIterator<'a, K>,
-    ac: bool,
-    bc: bool,
-    r: L,
-    // How many items `r` had at first.
-    began: usize,
-    copier: &'a P,
-}
-
-impl<'a, K, P: Copier<K>, const M: usize, L: Sink<K>> Model for SmallVecMergeState<'a, K, P, M, L> {
-    ghost use Rattle.range_merge.specs.States.{Collecting};
-
-    ghost Value = { Collecting K };
-
-    ghost view = { λ s. record {
-      left = s.a;
-      right = s.b;
-      left_on = s.ac;
-      right_on = s.bc;
-      items = L.items s.r;
-      began = s.began;
-      room = L.room s.r;
-    } };
-}
+/// A state that appends copies of the items that are taken to a list.
+pub type SmallVecMergeState<'a, K, P, const M: usize> = SliceMergeState<
+    'a,
+    K,
+    SmallVec<K, M>,
+    Copying<'a, P>,
+>;
 
 impl<'a, K: MadeWith<Global> + Drop, P: Copier<K>, const M: usize> SmallVecMergeState<'a, K, P, M> {
     /// All items of both slices unread, both sides off, and the items of `r` as what was taken so far, from the left.
@@ -57,15 +35,16 @@ impl<'a, K: MadeWith<Global> + Drop, P: Copier<K>, const M: usize> SmallVecMerge
         ensures right { result.right ≡ b.now }
         ensures left_on { result.left_on ≡ false }
         ensures right_on { result.right_on ≡ false }
-        ensures items { result.items ≡ r.items }
+        ensures items { result.taken.items ≡ r.items }
         ensures began { result.began ≡ length r.items }
-        ensures output { AreKeptThenCopies P.alike result.began (map from_left r.items) result.items }
-        ensures at_least_inline { M ≤ result.room }
+        ensures output { AreKeptThenCopies P.alike result.began (map from_left r.items) result.taken.items }
+        ensures at_least_inline { M ≤ result.taken.capacity }
         ensures sure { length r.items + length a.now + length b.now ≤ M → All P.is_sure a.now → All P.is_sure b.now → HasRoomForAll P.is_sure result }
     {
+        // Brings that the capacity is at least M.
         let _inline = r.capacity();
         let began = r.len();
-        Self::over(a, b, r, began, copier)
+        Self::over(a, b, r, Copying { copier, began })
     }
 
     /// Fills the empty list `r` with copies of the items at which the connective of `op` changes between two strictly sorted lists.
@@ -89,120 +68,38 @@ impl<'a, K: MadeWith<Global> + Drop, P: Copier<K>, const M: usize> SmallVecMerge
         ensures comparisons { AddsAtMost (C.count cmp.old) (C.count cmp.new) (2 * weight C.order a.now b.now) }
     {
         let alloc = *r.allocator();
+        // Brings that the capacity is at least M.
         let _inline = r.capacity();
-        let mut state = SmallVecMergeState::<K, P, M, &mut SmallVec<K, M>>::over(
-            a, b, &mut r, 0, copier,
-        );
+        let mut state = SliceMergeState::over(a, b, &mut r, Copying { copier, began: 0 });
         let _went_through = merging::merge(&mut state, op, cmp)?;
-        Ok(mem::replace(state.r, SmallVec::new(alloc)))
+        Ok(mem::replace(state.result(), SmallVec::new(alloc)))
     }
 }
 
-impl<'a, K, P: Copier<K>, const M: usize, L: Sink<K>> SmallVecMergeState<'a, K, P, M, L> {
-    /// The list, with the copies of what was taken at its end.
-    pub fn result(self) -> L
-        ensures { L.items result ≡ self.entry.items }
-    {
-        self.r
-    }
-
-    fn over(a: &'a [K], b: &'a [K], r: L, began: usize, copier: &'a P) -> Self
-        ensures left { result.left ≡ a.now }
-        ensures right { result.right ≡ b.now }
-        ensures left_on { result.left_on ≡ false }
-        ensures right_on { result.right_on ≡ false }
-        ensures items { result.items ≡ L.items r }
-        ensures began { result.began ≡ began }
-        ensures room { result.room ≡ L.room r }
-    {
-        SmallVecMergeState {
-            a: SliceIterator::new(a),
-            b: SliceIterator::new(b),
-            ac: false,
-            bc: false,
-            r,
-            began,
-            copier,
-        }
-    }
+/// How a list is appended to: by copies that the copier makes, behind the items that it had at first.
+#[derive(Drop)]
+pub struct Copying<'a, P> {
+    pub copier: &'a P,
+    pub began: usize,
 }
 
-impl<'a, K, P: Copier<K>, const M: usize, L: Sink<K>> MergeState
-    for SmallVecMergeState<'a, K, P, M, L> {
-    type Item = K;
+impl<'a, K: MadeWith<Global> + Drop, P: Copier<K>, const M: usize> Output<K, Copying<'a, P>>
+    for SmallVec<K, M> {
+    ghost may_be = { λ list began ts. AreKeptThenCopies P.alike began ts list.items };
 
-    ghost left = { λ s. s.left };
-
-    ghost right = { λ s. s.right };
-
-    #[inline(always)]
-    fn a_len(&self) -> usize {
-        self.a.as_slice().len()
-    }
-
-    #[inline(always)]
-    fn b_len(&self) -> usize {
-        self.b.as_slice().len()
-    }
-
-    #[inline(always)]
-    fn a_at(&self, i: usize) -> &K {
-        &self.a.as_slice()[i]
-    }
-
-    #[inline(always)]
-    fn b_at(&self, i: usize) -> &K {
-        &self.b.as_slice()[i]
-    }
-}
-
-impl<'a, K, P: Copier<K>, const M: usize, L: Sink<K>> MergeStateMut
-    for SmallVecMergeState<'a, K, P, M, L> {
-    ghost left_on = { λ s. s.left_on };
-
-    ghost right_on = { λ s. s.right_on };
-
-    ghost output = { λ s ts. AreKeptThenCopies P.alike s.began ts s.items };
-
-    ghost began = { λ s. s.began };
+    ghost began = { λ by. by.began };
 
     ghost can_stop = { false };
 
-    ghost sure = { λ s. HasRoomForAll P.is_sure s };
+    ghost fits = { λ _ _. ⊤ };
+
+    ghost has_room = { λ list n. length list.items + n ≤ list.capacity };
+
+    ghost is_sure = { P.is_sure };
 
     #[inline(always)]
-    fn advance_a(&mut self, n: usize, take: bool) -> Result<bool, AllocError> {
-        self.ac = self.ac != (n % 2 == 1);
-        let front = self.a.take_front(n);
-        append_copies(&mut self.r, front, take, self.copier)?;
+    fn append(&mut self, items: &[K], take: bool, by: &Copying<'a, P>) -> Result<bool, AllocError> {
+        append_copies(self, items, take, by.copier)?;
         Ok(true)
-    }
-
-    #[inline(always)]
-    fn advance_b(&mut self, n: usize, take: bool) -> Result<bool, AllocError> {
-        self.bc = self.bc != (n % 2 == 1);
-        let front = self.b.take_front(n);
-        append_copies(&mut self.r, front, take, self.copier)?;
-        Ok(true)
-    }
-
-    #[inline(always)]
-    fn advance_both(&mut self, take: bool) -> Result<bool, AllocError> {
-        self.ac = !self.ac;
-        self.bc = !self.bc;
-        let front = self.a.take_front(1);
-        self.b.drop_front(1);
-        append_copies(&mut self.r, front, take, self.copier)?;
-        Ok(true)
-    }
-
-    #[inline(always)]
-    fn ac(&self) -> bool {
-        self.ac
-    }
-
-    #[inline(always)]
-    fn bc(&self) -> bool {
-        self.bc
     }
 }

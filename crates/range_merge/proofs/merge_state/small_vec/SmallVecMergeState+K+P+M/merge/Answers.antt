@@ -1,4 +1,4 @@
-use Rattle.std.proofs.Common.{◌≡◌, [], refl, ◌∙◌, arith}
+use Rattle.std.proofs.Common.{◌≡◌, [], refl, ap, ◌∙◌, arith}
 use Rattle.std.proofs.lemmas.Bool.{false≢true}
 use Rattle.range_merge.proofs.Testing.{went_through}
 use Rattle.range_merge.proofs.CopiesLemmas.{AreKeptThenCopies-first, AreCopies-kept}
@@ -24,7 +24,7 @@ returns-in_err-_went_through-clause-succeeds g c = λ fits left right.
     absurd (
     false≢true (
     c.in_err-_went_through.ensures.succeeds (
-    rw (c.over-state.ensures.items, c.over-state.ensures.left, c.over-state.ensures.right, c.over-state.ensures.room, c.requires.empty, ← c.capacity-inline.ensures.value)
+    rw (c.over-state.ensures.taken, c.over-state.ensures.left, c.over-state.ensures.right, c.requires.empty, ← c.capacity-inline.ensures.value)
     (omega (arith, fits, c.capacity-inline.ensures.at_least_inline), left, right)
     )
     )
@@ -40,11 +40,11 @@ returns-clause-copied g c =
     let alike = g.P.Copier.alike in
     let merged = rw (c.over-state.ensures.left, c.over-state.ensures.right) at c.in_ok-_went_through.ensures in
     let went = went_through c.in_ok-_went_through._went_through merged.stopped in
-    let empty : c.over-state.result.items ≡ [] = c.over-state.ensures.items ∙ c.requires.empty in
+    let empty : c.over-state.result.taken.now.items ≡ [] = ap (λ list. list.now.items) c.over-state.ensures.taken ∙ c.requires.empty in
     let kept = merged.taken went [] (rw (empty, c.over-state.ensures.began) (AreKeptThenCopies-first alike [])) in
     let copies = AreCopies-kept alike _ _ (rw (merged.began, c.over-state.ensures.began) at kept) in
-    let items = rw (← c.state.view_is) at copies in
-    rw c.replace.ensures.value items
+    let items = ap (λ list. list.now.items) c.result.ensures in
+    rw (c.replace.ensures.value, items) copies
 
 pub returns-clause-succeeds : goal.returns-clause-succeeds
 returns-clause-succeeds g c = λ _ _ _. refl

@@ -1,9 +1,0 @@
-use Rattle.std.proofs.Common.{length, refl}
-use Rattle.std.proofs.lemmas.Option.{slice_get_read}
-use Rattle.range_merge.proofs.merge_state.bool_op.BoolOpMergeStateMergeState.a_at.Goals as goal
-
-pub returns : goal.returns
-returns g c =
-    let slice = c.as_slice.result.now in
-    let within = rw (← c.self.view_is, ← c.as_slice.ensures) at c.requires in
-    rw (← c.self.view_is, ← c.as_slice.ensures) (slice_get_read slice (length slice) c.args.i c.index-as_slice-i.result refl within c.index-as_slice-i.is)

@@ -1,0 +1,57 @@
+//! What a merge over two slices makes of the items that it takes.
+ghost use Rattle.std.specs.Prelude.{◌≡◌, ℕ, Bool, not, ◌&&◌, ◌+◌, ◌≤◌, List, ◌++◌, length, All, IsOk, OnOk, IfOk};
+ghost use Rattle.range_merge.specs.Changes.{Taken, taken_items};
+ghost use Rattle.range_merge.specs.Copies.{items_if};
+
+use std::alloc::AllocError;
+
+/// What the items that are taken are appended to, by a means such as a copier. From which side they come makes no difference.
+pub trait Output<K, By> {
+    // What was taken so far may be this list, where there were so many items at first.
+    ghost may_be: { Self → ℕ → List (Taken K) → Type 0 };
+
+    // How many items there were at first.
+    ghost began: { By → ℕ };
+
+    // Whether items that are taken stop the merge.
+    ghost can_stop: { Bool };
+
+    // It can take so many more items.
+    ghost fits: { Self → ℕ → Type 0 };
+
+    // So many more items are taken without asking for memory.
+    ghost has_room: { Self → ℕ → Type 0 };
+
+    // This item is never refused where there is room.
+    ghost is_sure: { K → Type 0 };
+
+    /// Appends the items, if they are taken. The answer `false` stops the merge; an error comes where memory or a copy was refused.
+    fn append(&mut self, items: &[K], take: bool, by: &By) -> Result<bool, AllocError>
+        requires some { 1 ≤ length items.now }
+        requires fits { (n : ℕ) × (length items.now ≤ n) × fits self.old n }
+        ensures goes_on { IfOk result (λ more. more ≡ not (can_stop && take)) }
+        ensures output { OnOk result ((first : ℕ) (before ts : List (Taken K)) → taken_items ts ≡ items_if take items.now →
+            may_be self.old first before → may_be self.new first (before ++ ts)) }
+        ensures fits { (m n : ℕ) → length items.now + m ≤ n → fits self.old n → fits self.new m }
+        ensures succeeds { (n : ℕ) → length items.now ≤ n → has_room self.old n → All is_sure items.now → IsOk result }
+        ensures has_room { (m n : ℕ) → length items.now + m ≤ n → has_room self.old n → OnOk result (has_room self.new m) };
+}
+
+impl<K, By, L: Output<K, By>> Output<K, By> for &mut L {
+    ghost may_be = { λ output. L.may_be output.now };
+
+    ghost began = { L.began };
+
+    ghost can_stop = { L.can_stop };
+
+    ghost fits = { λ output. L.fits output.now };
+
+    ghost has_room = { λ output. L.has_room output.now };
+
+    ghost is_sure = { L.is_sure };
+
+    #[inline(always)]
+    fn append(&mut self, items: &[K], take: bool, by: &By) -> Result<bool, AllocError> {
+        (**self).append(items, take, by)
+    }
+}
