@@ -9,8 +9,17 @@ use Rattle.std.specs.declared.cmp.Ordering.TheVariants.{Less, Equal}
 use Rattle.range_merge.specs.Boundaries.{IsAscending, below, member, is_odd}
 use Rattle.range_merge.specs.Changes.{Taken, taken_item, taken_items}
 use Rattle.range_merge.specs.Connective.{Table, Means}
+use Rattle.range_merge.specs.Copies.{AreCopies}
 use Rattle.range_collections.proofs.Ascending.{IsAscending-nil, IsAscending-head, IsAscending-tail, IsAscending-cons}
 use Rattle.range_merge.proofs.Members.{below-cons}
+
+-- what was copied is equal, item by item
+pub copied-equal : {K : Type 0} {order : K → K → Ordering} {is_copy : K → K → Type 0} → ((x y : K) → is_copy x y → order x y ≡ Equal) → (ts : List (Taken K)) (xs : List K) →
+    AreCopies is_copy ts xs → AllZip (λ t x. order (taken_item t) x ≡ Equal) ts xs
+copied-equal equal [] [] h = h
+copied-equal equal [] (x ∷ xs) h = h
+copied-equal equal (t ∷ ts) [] h = h
+copied-equal equal (t ∷ ts) (x ∷ xs) h = (equal (taken_item t) x h.0, copied-equal equal ts xs h.1)
 
 module _ {K : Type 0} {order : K → K → Ordering} (o : IsTotalOrder order) where
   -- what is below every item of a list is below each copy too

@@ -12,12 +12,12 @@ use Rattle.std.specs.declared.cmp.Ordering.TheVariants.{Less, Equal, Greater}
 use Rattle.std.specs.Ordering.{is_le, is_lt, ordering_reverse}
 use Rattle.range_merge.specs.Boundaries.{IsAscending, below, strictly_below, member, is_odd}
 use Rattle.range_merge.specs.Connective.{differ}
-use Rattle.range_merge.proofs.Members.{strictly_below-nil, strictly_below-cons}
+use Rattle.range_merge.proofs.Members.{by_Ordering, strictly_below-nil, strictly_below-cons}
 use Rattle.range_merge.proofs.Orders.{Greater-from_less, Less-from_greater}
 use Rattle.range_merge.proofs.Pairs.{AllPairs-drop}
 use Rattle.range_merge.proofs.Parity.{is_odd-add}
 use Rattle.range_collections.specs.Split.{right_place, split_left, split_right, AgreesBelow, AgreesFrom, IsLeastBelow, IsLeastFrom}
-use Rattle.range_collections.proofs.Ascending.{IsAscending-tail, IsAscending-cons}
+use Rattle.range_collections.proofs.Ascending.{IsAscending-head, IsAscending-tail, IsAscending-cons}
 use Rattle.range_collections.proofs.Below.{below-cons_in, below-found, below-missing}
 use Rattle.range_collections.proofs.Shortest.{is_le-cases, below-append, below-all, below-none, Less-then_le, le-trans, le-from_greater, length-least}
 
@@ -53,13 +53,13 @@ module _ {K : Type 0} (order : K → K → Ordering) where
   right_place-missing x xs i s b = rw (s, b) (plain_missing i)
 
   -- what holds of the first n places holds of the items of the front
-  All-take_within : (P : K → Type 0) (n : ℕ) (xs : List K) → n ≤ length xs → AllWithin P xs 0 n → All P (take n xs)
+  pub All-take_within : (P : K → Type 0) (n : ℕ) (xs : List K) → n ≤ length xs → AllWithin P xs 0 n → All P (take n xs)
   All-take_within P n xs within h k d less =
       let small : k < n = omega (arith, less, length-take-le n xs within) in
       rw (get_or-take n xs k d small) (h k d (omega arith) small)
 
   -- what holds from place n on holds of the items of the end
-  All-drop_within : (P : K → Type 0) (n : ℕ) (xs : List K) → n ≤ length xs → AllWithin P xs n (length xs) → All P (drop n xs)
+  pub All-drop_within : (P : K → Type 0) (n : ℕ) (xs : List K) → n ≤ length xs → AllWithin P xs n (length xs) → All P (drop n xs)
   All-drop_within P n xs within h k d less =
       rw (get_or-drop n xs k d) (h (n + k) d (omega arith) (omega (arith, less, length-drop n xs)))
 
@@ -72,7 +72,7 @@ module _ {K : Type 0} (order : K → K → Ordering) where
         | inr long ↦ rw (take_all n xs long) (up i j d less (subst (λ (ys : List K). j < length ys) (take_all n xs long) within))
       ]
 
-  below-front : (n : ℕ) (xs : List K) (x : K) → below order xs x ≡ below order (take n xs) x + below order (drop n xs) x
+  pub below-front : (n : ℕ) (xs : List K) (x : K) → below order xs x ≡ below order (take n xs) x + below order (drop n xs) x
   below-front n xs x = ap (λ ys. below order ys x) (sym (take-append-drop n xs)) ∙ below-append order (take n xs) (drop n xs) x
 
 module _ {K : Type 0} {order : K → K → Ordering} (o : IsTotalOrder order) where
@@ -163,7 +163,7 @@ module _ {K : Type 0} {order : K → K → Ordering} (o : IsTotalOrder order) wh
         ]
 
     -- what holds of what is equal to the cut and of what is above it holds from the found place on
-    from_found : (P : K → Type 0) → ((y : K) → order y cut ≡ Equal → P y) → ((y : K) → order y cut ≡ Greater → P y) → AllWithin P xs i (length xs)
+    pub from_found : (P : K → Type 0) → ((y : K) → order y cut ≡ Equal → P y) → ((y : K) → order y cut ≡ Greater → P y) → AllWithin P xs i (length xs)
     from_found P same more k d low high =
         elim (cases_lt i k) as (λ _. P (get_or xs k d)) [
           | inl less ↦ more (get_or xs k d) (after_found k d (omega arith) high)
@@ -216,3 +216,49 @@ module _ {K : Type 0} {order : K → K → Ordering} (o : IsTotalOrder order) wh
         IsLeastFrom-drop cut xs (i - i % 2) up (omega arith) (ap (λ m. m == 1) (even_down i))
         (λ k d low high. ap is_le (before k d low (omega arith)))
         (λ k d low high. from k d (omega arith) high)
+
+  -- ---- any cut of a list that ascends
+  within-cons : (P : K → Type 0) (y : K) (ys : List K) (i : ℕ) → P y → AllWithin P ys 0 i → AllWithin P (y ∷ ys) 0 (suc i)
+  within-cons P y ys i p h zero d low high = p
+  within-cons P y ys i p h (suc k) d low high = h k d (omega arith) (omega arith)
+
+  within-behind : (P : K → Type 0) (y : K) (ys : List K) (i n : ℕ) → AllWithin P ys i n → AllWithin P (y ∷ ys) (suc i) (suc n)
+  within-behind P y ys i n h zero d low high = absurd (omega arith)
+  within-behind P y ys i n h (suc k) d low high = h k d (omega arith) (omega arith)
+
+  -- it stands at a place, or else before one
+  by_place : {G : Type 0} (cut : K) (xs : List K) → IsAscending order xs →
+      ((i : ℕ) → i < length xs → HoldsAt (λ y. order y cut ≡ Equal) xs i → G) →
+      ((i : ℕ) → i ≤ length xs → AllWithin (λ y. order y cut ≡ Less) xs 0 i → AllWithin (λ y. order y cut ≡ Greater) xs i (length xs) → G) → G
+  by_place cut [] up found missing = missing 0 (omega arith) (λ k d low high. absurd (omega arith)) (λ k d low high. absurd (omega arith))
+  by_place cut (y ∷ ys) up found missing =
+      by_Ordering (order y cut)
+      (λ l.
+      by_place cut ys (IsAscending-tail order y ys up)
+      (λ i within here. found (suc i) (omega arith) here)
+      (λ i within before from.
+      missing (suc i) (omega arith) (within-cons (λ z. order z cut ≡ Less) y ys i l before)
+      (within-behind (λ z. order z cut ≡ Greater) y ys i (length ys) from)))
+      (λ e. found 0 (omega arith) (λ d. e))
+      (λ g.
+      missing 0 (omega arith) (λ k d low high. absurd (omega arith))
+      (within-cons (λ z. order z cut ≡ Greater) y ys (length ys) g
+      (λ k d low high.
+      Greater-from_less o cut (get_or ys k d)
+      (o.trans cut y (get_or ys k d) (Less-from_greater o y cut g) (IsAscending-head order y ys up k d high)))))
+
+  pub IsLeastBelow-split_left : (cut : K) (xs : List K) → IsAscending order xs → IsLeastBelow order cut (split_left order xs cut) xs
+  IsLeastBelow-split_left cut xs up =
+      let P = λ (part : List K). IsLeastBelow order cut part xs in
+      by_place cut xs up
+      (λ i within here. subst P (sym (split_left-found cut xs i up within here)) (IsLeastBelow-found cut xs i up within here))
+      (λ i within before from.
+      subst P (sym (split_left-missing cut xs i up within before from)) (IsLeastBelow-missing cut xs i up within before from))
+
+  pub IsLeastFrom-split_right : (cut : K) (xs : List K) → IsAscending order xs → IsLeastFrom order cut (split_right order xs cut) xs
+  IsLeastFrom-split_right cut xs up =
+      let P = λ (part : List K). IsLeastFrom order cut part xs in
+      by_place cut xs up
+      (λ i within here. subst P (sym (split_right-found cut xs i up within here)) (IsLeastFrom-found cut xs i up within here))
+      (λ i within before from.
+      subst P (sym (split_right-missing cut xs i up within before from)) (IsLeastFrom-missing cut xs i up within before from))

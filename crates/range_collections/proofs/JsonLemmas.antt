@@ -87,7 +87,7 @@ IsReadingOf-array d vs items h none made = record {
   distinct = made;
 }
 
-Equal-int_cmp : (x y : ℤ) → int_cmp x y ≡ Equal → x ≡ y
+pub Equal-int_cmp : (x y : ℤ) → int_cmp x y ≡ Equal → x ≡ y
 Equal-int_cmp x y e = subst (λ r. MatchOrdering r (x <ℤ y) (x ≡ y) (y <ℤ x)) e (int_ranked x y (int_cmp x y) refl)
 
 -- the numbers of an array made of them

@@ -10,3 +10,7 @@ pub mod RangesLemmas
 pub mod Distinct
 pub mod JsonLemmas
 pub mod Values
+pub mod FirstOf
+pub mod Splices
+pub mod Insertion
+pub mod Combined

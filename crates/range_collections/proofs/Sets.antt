@@ -1,5 +1,5 @@
 -- Answers to questions about two sets, and the laws of the operations on them.
-use Rattle.std.proofs.Common.{◌≡◌, ◌↔◌, IsTrue, refl, sym, ap, ap₂, ◌∙◌, Bool, true, false, not, ◌&&◌, ◌||◌, List, [], ◌∷◌}
+use Rattle.std.proofs.Common.{◌≡◌, ◌↔◌, ◌⊎◌, inl, inr, IsTrue, refl, sym, ap, ap₂, ◌∙◌, Bool, true, false, not, ◌&&◌, ◌||◌, List, [], ◌∷◌}
 use Rattle.std.specs.Cmp.{IsTotalOrder}
 use Rattle.std.specs.Cmp.Lexicographic.{pointwise}
 use Rattle.std.specs.Ordering.{eq_by_cmp, is_eq}
@@ -7,7 +7,7 @@ use Rattle.std.specs.declared.cmp.Ordering.{Ordering}
 use Rattle.std.specs.declared.cmp.Ordering.TheVariants.{Less, Equal, Greater}
 use Rattle.range_merge.specs.Boundaries.{IsAscending, IsSameSet, member}
 use Rattle.range_merge.specs.Changes.{Taken, taken_item, taken_items}
-use Rattle.range_merge.specs.Connective.{Table, Means, intersection_table, difference_table}
+use Rattle.range_merge.specs.Connective.{Table, Means, differ, intersection_table, difference_table}
 use Rattle.range_merge.specs.States.{any_item}
 use Rattle.range_merge.proofs.SameSet.{same_items, IsSameSet-from_items, member-head}
 use Rattle.range_collections.specs.Sets.{IsSubset, Intersects, IsDisjoint, HasMember, AreEqual}
@@ -192,3 +192,47 @@ or-assoc false q t = refl
 pub and-assoc : (p q t : Bool) → ((p && q) && t) ≡ (p && (q && t))
 and-assoc true q t = refl
 and-assoc false q t = refl
+
+-- when r, which one of the four tables makes of p and q, is true
+
+pub true-either : (r p q : Bool) → r ≡ (p || q) → (r ≡ true) ↔ ((p ≡ true) ⊎ (q ≡ true))
+true-either r true q e = (λ _. inl refl, λ _. e)
+true-either r false true e = (λ _. inr refl, λ _. e)
+true-either r false false e = (
+  λ t. absurd (not_both r t e),
+  λ h.
+      elim h as (λ _. r ≡ true) [
+        | inl p ↦ absurd (not_both false p refl)
+        | inr q ↦ absurd (not_both false q refl)
+      ],
+)
+
+pub true-both : (r p q : Bool) → r ≡ (p && q) → (r ≡ true) ↔ ((p ≡ true) × (q ≡ true))
+true-both r true true e = (λ _. (refl, refl), λ _. e)
+true-both r true false e = (λ t. absurd (not_both r t e), λ h. absurd (not_both false h.1 refl))
+true-both r false q e = (λ t. absurd (not_both r t e), λ h. absurd (not_both false h.0 refl))
+
+pub true-first_alone : (r p q : Bool) → r ≡ (p && not q) → (r ≡ true) ↔ ((p ≡ true) × (q ≡ false))
+true-first_alone r true false e = (λ _. (refl, refl), λ _. e)
+true-first_alone r true true e = (λ t. absurd (not_both r t e), λ h. absurd (not_both true refl h.1))
+true-first_alone r false q e = (λ t. absurd (not_both r t e), λ h. absurd (not_both false h.0 refl))
+
+pub true-one_alone : (r p q : Bool) → r ≡ differ p q → (r ≡ true) ↔ (((p ≡ true) × (q ≡ false)) ⊎ ((p ≡ false) × (q ≡ true)))
+true-one_alone r true false e = (λ _. inl (refl, refl), λ _. e)
+true-one_alone r false true e = (λ _. inr (refl, refl), λ _. e)
+true-one_alone r true true e = (
+  λ t. absurd (not_both r t e),
+  λ h.
+      elim h as (λ _. r ≡ true) [
+        | inl left ↦ absurd (not_both true refl left.1)
+        | inr right ↦ absurd (not_both true refl right.0)
+      ],
+)
+true-one_alone r false false e = (
+  λ t. absurd (not_both r t e),
+  λ h.
+      elim h as (λ _. r ≡ true) [
+        | inl left ↦ absurd (not_both false left.0 refl)
+        | inr right ↦ absurd (not_both false right.1 refl)
+      ],
+)

@@ -1,10 +1,9 @@
 -- Sets among values: the least value in front, negation, and lists of values with the same members among them.
-use Rattle.std.proofs.Common.{◌≡◌, ◌≢◌, ◌↔◌, IsTrue, refl, sym, ap, ap₂, ◌∙◌, ℕ, ◌⊎◌, inr, Result, Ok, rules, Bool, true, false, not, ◌&&◌, List, [], ◌∷◌, ◌<◌, length, get_or, drop, arith, All, subst, ◌≤◌, true≢false}
+use Rattle.std.proofs.Common.{◌≡◌, ◌≢◌, ◌↔◌, IsTrue, refl, sym, ap, ap₂, ◌∙◌, Result, Ok, Err, IfOk, rules, Bool, true, false, not, ◌&&◌, List, [], ◌∷◌, ◌<◌, length, get_or, drop, arith, All, subst, ◌≤◌, true≢false}
 use Rattle.std.specs.List.{AllZip, HoldsAt, insert, remove}
 use Rattle.std.specs.Cmp.{IsTotalOrder}
 use Rattle.std.specs.Ordering.{is_le, is_lt}
 use Rattle.std.proofs.lemmas.List.Elements.{All-nil, All-cons, All-head, All-tail, AllZip-get_or, length_all_zip}
-use Rattle.std.proofs.lemmas.Result.{IfOk-weaker}
 use Rattle.std.specs.declared.alloc.AllocError.{AllocError}
 use Rattle.std.specs.declared.cmp.Ordering.{Ordering}
 use Rattle.std.specs.declared.cmp.Ordering.TheVariants.{Less, Equal, Greater}
@@ -14,7 +13,7 @@ use Rattle.range_merge.proofs.Members.{member-nil, member-cons, member-above, by
 use Rattle.range_merge.proofs.Orders.{Greater-from_less, Less-from_greater, Equal-sym, Equal-self, same_left, same_right, Less-then_equal, Less-from_equal}
 use Rattle.range_merge.proofs.SameSet.{same_items, IsSameSet-from_items, member-head, differ-cancel, member-before}
 use Rattle.range_collections.specs.Sets.{AreEqual}
-use Rattle.range_collections.specs.Values.{BeginsAt, BeginsWithValue, Negates, GivesNegation, AreSameAmongValues, IsEverything}
+use Rattle.range_collections.specs.Values.{BeginsAt, BeginsWithValue, HasLeastInFront, EqualsAreValues, Negates, GivesOwnNegation, AreSameAmongValues, IsEverything}
 use Rattle.range_collections.proofs.Ascending.{IsAscending-nil, IsAscending-head, IsAscending-tail, IsAscending-cons}
 use Rattle.range_merge.proofs.Parity.{differ-false}
 use Rattle.range_merge.proofs.ChangesLemmas.{and-false}
@@ -26,7 +25,7 @@ differ-twice true true = refl
 differ-twice true false = refl
 differ-twice false c = refl
 
-not-not : (b : Bool) → not (not b) ≡ b
+pub not-not : (b : Bool) → not (not b) ≡ b
 not-not true = refl
 not-not false = refl
 
@@ -54,7 +53,7 @@ module _ {K : Type 0} {order : K → K → Ordering} (o : IsTotalOrder order) wh
       ∙ up i j d below (omega arith)
 
   -- what equals b equals what b is equal to
-  AreEqual-both : (r a b : List K) → AreEqual order r b → AreEqual order a b → AreEqual order r a
+  pub AreEqual-both : (r a b : List K) → AreEqual order r b → AreEqual order a b → AreEqual order r a
   AreEqual-both [] [] b h k = tt
   AreEqual-both [] (x ∷ xs) [] h k = absurd k
   AreEqual-both [] (x ∷ xs) (y ∷ ys) h k = absurd h
@@ -63,30 +62,72 @@ module _ {K : Type 0} {order : K → K → Ordering} (o : IsTotalOrder order) wh
   AreEqual-both (z ∷ zs) (x ∷ xs) [] h k = absurd h
   AreEqual-both (z ∷ zs) (x ∷ xs) (y ∷ ys) h k = (same_right o x y z k.0 ∙ h.0, AreEqual-both zs xs ys h.1 k.1)
 
-  AreEqual-self : (a : List K) → AreEqual order a a
+  pub AreEqual-self : (a : List K) → AreEqual order a a
   AreEqual-self [] = tt
   AreEqual-self (x ∷ xs) = (Equal-self o x, AreEqual-self xs)
 
-  AreEqual-rest : (a b : List K) → AreEqual order a b → AreEqual order (drop 1 a) (drop 1 b)
+  pub AreEqual-rest : (a b : List K) → AreEqual order a b → AreEqual order (drop 1 a) (drop 1 b)
   AreEqual-rest [] [] h = tt
   AreEqual-rest [] (y ∷ ys) h = absurd h
   AreEqual-rest (x ∷ xs) [] h = absurd h
   AreEqual-rest (x ∷ xs) (y ∷ ys) h = h.1
 
-  BeginsAt-equal : (least : K) (a b : List K) → AreEqual order a b → BeginsAt order least a ↔ BeginsAt order least b
+  pub BeginsAt-equal : (least : K) (a b : List K) → AreEqual order a b → BeginsAt order least a ↔ BeginsAt order least b
   BeginsAt-equal least [] [] h = (λ n. n, λ n. n)
   BeginsAt-equal least [] (y ∷ ys) h = absurd h
   BeginsAt-equal least (x ∷ xs) [] h = absurd h
   BeginsAt-equal least (x ∷ xs) (y ∷ ys) h = (λ e. sym (same_left o x y least h.0) ∙ e, λ e. same_left o x y least h.0 ∙ e)
 
-  -- the first item removed, and an item equal to y put in front
-  AreEqual-removed : (a : List K) → AreEqual order (remove a 0) (drop 1 a)
-  AreEqual-removed [] = tt
-  AreEqual-removed (x ∷ xs) = AreEqual-self xs
+  -- the first item removed, and an item put in front
+  remove-first : (a : List K) → remove a 0 ≡ drop 1 a
+  remove-first [] = refl
+  remove-first (x ∷ xs) = refl
 
-  AreEqual-inserted : (y z : K) (a : List K) → order y z ≡ Equal → AreEqual order (insert a 0 y) (z ∷ a)
-  AreEqual-inserted y z [] e = (e, tt)
-  AreEqual-inserted y z (x ∷ xs) e = (e, AreEqual-self (x ∷ xs))
+  insert-front : (y : K) (a : List K) → insert a 0 y ≡ y ∷ a
+  insert-front y [] = refl
+  insert-front y (x ∷ xs) = refl
+
+  -- a list begins at the least value or it doesn't
+  by_BeginsAt : {G : Type 0} (least : K) (a : List K) → (BeginsAt order least a → G) → (¬ (BeginsAt order least a) → G) → G
+  by_BeginsAt least [] on off = off (λ h. h)
+  by_BeginsAt least (x ∷ xs) on off =
+      by_Ordering (order x least)
+      (λ l. off (λ e. let no : Less ≡ Equal = sym l ∙ e in cc))
+      (λ e. on e)
+      (λ g. off (λ e. let no : Greater ≡ Equal = sym g ∙ e in cc))
+
+  module _ (is_value : K → Type 0) (equals : EqualsAreValues order is_value) where
+    -- a list equal to one of values is one of values
+    All-equal : (r a : List K) → AreEqual order r a → All is_value a → All is_value r
+    All-equal [] [] h v = All-nil is_value
+    All-equal [] (y ∷ ys) h v = absurd h
+    All-equal (x ∷ xs) [] h v = absurd h
+    All-equal (x ∷ xs) (y ∷ ys) h v =
+        All-cons is_value x xs (equals y x (Equal-sym o x y h.0) (All-head is_value y ys v)) (All-equal xs ys h.1 (All-tail is_value y ys v))
+
+    All-rest : (a : List K) → All is_value a → All is_value (drop 1 a)
+    All-rest [] v = All-nil is_value
+    All-rest (x ∷ xs) v = All-tail is_value x xs v
+
+    -- with the least value in front or removed it is one of values still
+    pub IfOk-values : (least : K) → is_value least → (a : List K) (r : Result (List K) AllocError) → All is_value a →
+        (BeginsAt order least a → IfOk r (λ i. AreEqual order i (drop 1 a))) → (¬ (BeginsAt order least a) → IfOk r (λ i. AreEqual order i (least ∷ a))) →
+        IfOk r (λ i. All is_value i)
+    IfOk-values least value a (Err e) v removed put = tt
+    IfOk-values least value a (Ok i) v removed put =
+        by_BeginsAt least a
+        (λ h. All-equal i (drop 1 a) (removed h) (All-rest a v))
+        (λ n. All-equal i (least ∷ a) (put n) (All-cons is_value least a value v))
+
+  -- the set's own items are equal to themselves
+  pub IfOk-removed : (a : List K) (r : Result (List K) AllocError) → IfOk r (λ i. i ≡ drop 1 a) → IfOk r (λ i. AreEqual order i (drop 1 a))
+  IfOk-removed a (Ok i) is = rw is (AreEqual-self (drop 1 a))
+  IfOk-removed a (Err e) is = tt
+
+  pub IfOk-put : (least : K) (a : List K) (r : Result (List K) AllocError) → IfOk r (λ i. HasLeastInFront order least a i) →
+      IfOk r (λ i. AreEqual order i (least ∷ a))
+  IfOk-put least a (Ok i) (x, e, is) = rw is (e, AreEqual-self a)
+  IfOk-put least a (Err e) h = tt
 
   pub IsAscending-one : (x : K) → IsAscending order (x ∷ [])
   IsAscending-one x = IsAscending-cons order x [] (All-nil (λ y. order x y ≡ Less)) (IsAscending-nil order)
@@ -239,28 +280,33 @@ module _ {K : Type 0} {order : K → K → Ordering} (o : IsTotalOrder order) (i
   Negates-inserted y (x ∷ xs) e up v n = Negates-front y (x ∷ xs) e up v n
 
   -- a is the set, l its list, b the list lent, and r the list that is made
-  pub GivesNegation-removed : (sure : Type 0) (a l b r : List K) (t : Bool) → l ≡ a → b ≡ l → IsAscending order l → IsTrue t ↔ BeginsAt order least b →
-      t ≡ true → r ≡ remove l 0 → GivesNegation order is_value least sure a (Ok r)
-  GivesNegation-removed sure a l b r t la bl up says begins is =
+  pub GivesOwnNegation-removed : (sure : Type 0) (a l b r : List K) (t : Bool) → l ≡ a → b ≡ l → IsAscending order l → IsTrue t ↔ BeginsAt order least b →
+      t ≡ true → r ≡ remove l 0 → GivesOwnNegation order is_value least sure a (Ok r)
+  GivesOwnNegation-removed sure a l b r t la bl up says begins is =
       let P : List K → Type 0 = λ m. BeginsAt order least m in
       let here : BeginsAt order least l = subst P bl (says.0 begins) in
+      let own : r ≡ drop 1 a = is ∙ remove-first o l ∙ ap (drop 1) la in
       record {
         negates = rw (← la, is) (Negates-removed l here up);
-        removed = λ _. rw (← la, is) (AreEqual-removed o l);
+        removed = λ _. own;
         put = λ n. absurd (n (subst P la here));
+        values = λ equals v. rw own (All-rest o is_value equals a v);
         succeeds = λ _. search rules;
       }
 
-  pub GivesNegation-inserted : (sure : Type 0) (a l b r : List K) (t : Bool) (y : K) → l ≡ a → b ≡ l → IsAscending order l → IsTrue t ↔ BeginsAt order least b →
-      BeginsWithValue order is_value b → t ≡ false → order y least ≡ Equal → r ≡ insert l 0 y → GivesNegation order is_value least sure a (Ok r)
-  GivesNegation-inserted sure a l b r t y la bl up says v off e is =
+  pub GivesOwnNegation-inserted : (sure : Type 0) (a l b r : List K) (t : Bool) (y : K) → l ≡ a → b ≡ l → IsAscending order l → IsTrue t ↔ BeginsAt order least b →
+      BeginsWithValue order is_value b → t ≡ false → order y least ≡ Equal → r ≡ insert l 0 y →
+      GivesOwnNegation order is_value least sure a (Ok r)
+  GivesOwnNegation-inserted sure a l b r t y la bl up says v off e is =
       let P : List K → Type 0 = λ m. BeginsWithValue order is_value m in
       let Q : List K → Type 0 = λ m. BeginsAt order least m in
       let elsewhere : BeginsAt order least l → ⊥ = λ h. true≢false (sym (says.1 (subst Q (sym bl) h)) ∙ off) in
+      let own : r ≡ y ∷ a = is ∙ insert-front o y l ∙ ap (λ m. y ∷ m) la in
       record {
         negates = rw (← la, is) (Negates-inserted y l e up (subst P bl v) elsewhere);
         removed = λ h. absurd (elsewhere (subst Q (sym la) h));
-        put = λ _. rw (← la, is) (AreEqual-inserted o y least l e);
+        put = λ _. (y, e, own);
+        values = λ equals v. rw own (All-cons is_value y a (equals least y (Equal-sym o y least e) value) v);
         succeeds = λ _. search rules;
       }
 
@@ -277,24 +323,6 @@ module _ {K : Type 0} {order : K → K → Ordering} (o : IsTotalOrder order) (i
   Negates-equal r a b h m = record {
     sorted = m.sorted;
     members = λ z v. m.members z v ∙ ap not (sym (IsSameSet-from_items o a b h z));
-  }
-
-  -- the negation of a copy b of a
-  pub GivesNegation-copied : (n : ℕ) (sure min_sure : Type 0) (a b : List K) (r : Result (List K) AllocError) → AreEqual order a b →
-      GivesNegation order is_value least (BeginsAt order least b ⊎ ((length b < n) × min_sure)) b r →
-      GivesNegation order is_value least ((length a < n) × sure × min_sure) a r
-  GivesNegation-copied n sure min_sure a b r h given = record {
-    negates = IfOk-weaker r (λ i. Negates order is_value i b) (λ i. Negates order is_value i a) (λ i m. Negates-equal i a b h m) given.negates;
-    removed = λ s.
-        IfOk-weaker r (λ i. AreEqual order i (drop 1 b)) (λ i. AreEqual order i (drop 1 a))
-        (λ i m. AreEqual-both o i (drop 1 a) (drop 1 b) m (AreEqual-rest o a b h)) (given.removed ((BeginsAt-equal o least a b h).0 s));
-    put = λ n.
-        IfOk-weaker r (λ i. AreEqual order i (least ∷ b)) (λ i. AreEqual order i (least ∷ a))
-        (λ i m. AreEqual-both o i (least ∷ a) (least ∷ b) m (Equal-self o least, h))
-        (given.put (λ s. n ((BeginsAt-equal o least a b h).1 s)));
-    succeeds = λ s.
-        let same : length a ≡ length b = length_all_zip (λ x y. order x y ≡ Equal) a b h in
-        given.succeeds (inr (let few : length a < n = s.0 in omega arith, s.2));
   }
 
 -- lists of values

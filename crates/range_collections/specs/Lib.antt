@@ -16,3 +16,5 @@ pub mod Json
 pub mod Values
 pub mod Operators
 pub mod InPlace
+pub mod Insertion
+pub mod Splicing

@@ -3,13 +3,19 @@
 --     AreSameAmongValues order is_value a b       both have the same members among values
 --     IsEverything order is_value items           every value is a member
 --     BeginsAt order least a                      the first item of a equals the least value
---     GivesNegation order is_value least sure a r what `!` answers: the negation and its list, or want of memory unless it is sure
-use Rattle.std.specs.Prelude.{◌≡◌, true, cond, not, List, [], ◌∷◌, drop, Result, IsOk, IfOk}
+--     IsFlipped order least xs items              the items are xs with the least value removed from the front, or put there
+--     MeansAmong order is_value f items a b       the members of items are f of the members of a and b, among values where f is on while both sides are off
+--     HasLeastInFront order least rest items      the items are `rest` with an item in front that equals the least value
+--     EqualsAreValues order is_value              whatever equals a value is a value
+--     GivesNegation order is_value least sure a r what `!` answers of a lent set: the negation and its list, or want of memory unless it is sure
+--     GivesOwnNegation ..                         what `!` answers of a set that is handed over: the same, with the set's own items
+use Rattle.std.specs.Prelude.{◌≡◌, true, false, cond, not, List, [], ◌∷◌, drop, All, Result, IsOk, IfOk}
 use Rattle.std.specs.declared.alloc.AllocError.{AllocError}
 use Rattle.std.specs.declared.cmp.Ordering.{Ordering}
 use Rattle.std.specs.declared.cmp.Ordering.TheVariants.{Equal}
 use Rattle.std.specs.Ordering.{is_lt}
 use Rattle.range_merge.specs.Boundaries.{IsAscending, member}
+use Rattle.range_merge.specs.Connective.{Table}
 use Rattle.range_collections.specs.Sets.{AreEqual}
 
 module _ {K : Type 0} (order : K → K → Ordering) where
@@ -22,7 +28,20 @@ module _ {K : Type 0} (order : K → K → Ordering) where
   BeginsAt least [] = ⊥
   BeginsAt least (x ∷ xs) = order x least ≡ Equal
 
+  -- the items are xs with a first item that is the least value removed, or else with the least value in front
+  pub record IsFlipped (least : K) (xs items : List K) : Type 0 where
+    pub removed : BeginsAt least xs → AreEqual order items (drop 1 xs)
+    pub put : ¬ (BeginsAt least xs) → AreEqual order items (least ∷ xs)
+
+  -- the items are `rest` itself, and in front of it an item that equals the least value
+  abbrev pub HasLeastInFront : K → List K → List K → Type 0
+  HasLeastInFront least rest items = (x : K) × (order x least ≡ Equal) × (items ≡ x ∷ rest)
+
   module _ (is_value : K → Type 0) where
+    -- whatever equals a value is a value
+    abbrev pub EqualsAreValues : Type 0
+    EqualsAreValues = (x y : K) → order x y ≡ Equal → is_value x → is_value y
+
     -- the first item, if there is one, is a value
     abbrev pub BeginsWithValue : List K → Type 0
     BeginsWithValue [] = Unit {0}
@@ -33,6 +52,11 @@ module _ {K : Type 0} (order : K → K → Ordering) where
       pub sorted : IsAscending order items
       pub members : (x : K) → is_value x → member order items x ≡ not (member order a x)
 
+    -- the items are strictly sorted, and their members are f of the members of a and of b: among values alone where f is on while both sides are off
+    pub record MeansAmong (f : Table) (items a b : List K) : Type 0 where
+      pub sorted : IsAscending order items
+      pub members : (x : K) → (f false false ≡ true → is_value x) → member order items x ≡ f (member order a x) (member order b x)
+
     -- both have the same members among values
     abbrev pub AreSameAmongValues : List K → List K → Type 0
     AreSameAmongValues a b = (x : K) → is_value x → member order a x ≡ member order b x
@@ -41,9 +65,18 @@ module _ {K : Type 0} (order : K → K → Ordering) where
     abbrev pub IsEverything : List K → Type 0
     IsEverything items = (x : K) → is_value x → member order items x ≡ true
 
-    -- an answer to `!` of a: an Ok is the negation, a first item that is the least value removed and else the least value put in front, and where it is sure it is an Ok
+    -- an answer to `!` of a: an Ok is the negation, a first item that is the least value removed and else the least value put in front; of values it holds values alone, if what equals a value is one; and where it is sure it is an Ok
     pub record GivesNegation (least : K) (sure : Type 0) (a : List K) (r : Result (List K) AllocError) : Type 0 where
       pub negates : IfOk r (λ items. Negates items a)
       pub removed : BeginsAt least a → IfOk r (λ items. AreEqual order items (drop 1 a))
       pub put : ¬ (BeginsAt least a) → IfOk r (λ items. AreEqual order items (least ∷ a))
+      pub values : EqualsAreValues → All is_value a → IfOk r (λ items. All is_value items)
+      pub succeeds : sure → IsOk r
+
+    -- the same of a set that is handed over: the items of a are its own
+    pub record GivesOwnNegation (least : K) (sure : Type 0) (a : List K) (r : Result (List K) AllocError) : Type 0 where
+      pub negates : IfOk r (λ items. Negates items a)
+      pub removed : BeginsAt least a → IfOk r (λ items. items ≡ drop 1 a)
+      pub put : ¬ (BeginsAt least a) → IfOk r (λ items. HasLeastInFront least a items)
+      pub values : EqualsAreValues → All is_value a → IfOk r (λ items. All is_value items)
       pub succeeds : sure → IsOk r

@@ -1,6 +1,5 @@
 //! A counter of comparisons by an element type's own order, and copies by its own clones.
 ghost use Rattle.std.specs.Prelude.{◌≡◌, ℕ};
-ghost use Rattle.std.specs.declared.cmp.Ordering.TheVariants.{Equal};
 
 use range_entry::EntryClone;
 use range_merge::{Compare, Copier};
@@ -61,7 +60,7 @@ impl<T: Ord> Compare<T> for Comparisons {
 pub struct EntryCopier;
 
 impl<T: EntryClone> Copier<T> for EntryCopier {
-    ghost alike = { λ x y. T.cmp x y ≡ Equal };
+    ghost alike = { T.is_copy };
 
     ghost is_sure = { T.is_sure };
 

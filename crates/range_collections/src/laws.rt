@@ -1,8 +1,11 @@
 //! Laws of sets: functions that do nothing, and whose contracts are theorems on the words of the other contracts.
-ghost use Rattle.std.specs.Prelude.{◌≡◌, ◌↔◌, List, []};
-ghost use Rattle.range_merge.specs.Boundaries.{IsAscending, IsSameSet};
+ghost use Rattle.std.specs.Prelude.{◌≡◌, ◌↔◌, ◌⊎◌, ℕ, true, false, List, [], Ok};
+ghost use Rattle.range_merge.specs.Boundaries.{IsAscending, IsSameSet, member};
 ghost use Rattle.range_merge.specs.Connective.{Table, Means, union_table, intersection_table, difference_table, symmetric_difference_table};
+ghost use Rattle.range_collections.specs.Operators.{GivesOperation};
 ghost use Rattle.range_collections.specs.Sets.{IsSubset, IsDisjoint, AreEqual};
+
+use range_entry::EntryClone;
 
 /// Two strictly sorted lists have the same members exactly if they have one length and are equal item by item.
 pub fn same_members_are_equal_items<T: Ord>()
@@ -51,4 +54,22 @@ pub fn disjoint_is_an_empty_intersection<T: Ord>()
 /// A set is a subset of another exactly if the list of their difference is empty.
 pub fn subset_is_an_empty_difference<T: Ord>()
     ensures { (a b r : List T) → Means T.cmp difference_table r a b → IsSubset T.cmp a b ↔ (r ≡ []) }
+{}
+
+/// What an operation that found memory gives, by its members: those of one set or both, of both, of the first alone, of just one of them.
+pub fn operations_give_their_members<T: EntryClone>()
+    ensures sorted { (f : Table) (room : ℕ) (a b items : List T) →
+        GivesOperation T.cmp T.is_copy T.is_sure f room a b (Ok items) → IsAscending T.cmp items }
+    ensures union { (room : ℕ) (a b items : List T) (x : T) →
+        GivesOperation T.cmp T.is_copy T.is_sure union_table room a b (Ok items) →
+        (member T.cmp items x ≡ true) ↔ ((member T.cmp a x ≡ true) ⊎ (member T.cmp b x ≡ true)) }
+    ensures intersection { (room : ℕ) (a b items : List T) (x : T) →
+        GivesOperation T.cmp T.is_copy T.is_sure intersection_table room a b (Ok items) →
+        (member T.cmp items x ≡ true) ↔ ((member T.cmp a x ≡ true) × (member T.cmp b x ≡ true)) }
+    ensures difference { (room : ℕ) (a b items : List T) (x : T) →
+        GivesOperation T.cmp T.is_copy T.is_sure difference_table room a b (Ok items) →
+        (member T.cmp items x ≡ true) ↔ ((member T.cmp a x ≡ true) × (member T.cmp b x ≡ false)) }
+    ensures symmetric_difference { (room : ℕ) (a b items : List T) (x : T) →
+        GivesOperation T.cmp T.is_copy T.is_sure symmetric_difference_table room a b (Ok items) →
+        (member T.cmp items x ≡ true) ↔ (((member T.cmp a x ≡ true) × (member T.cmp b x ≡ false)) ⊎ ((member T.cmp a x ≡ false) × (member T.cmp b x ≡ true))) }
 {}

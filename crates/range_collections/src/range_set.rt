@@ -2,15 +2,18 @@
 ghost use Rattle.std.specs.Prelude.{◌≡◌, ◌↔◌, [], IsSome, IfSome};
 ghost use Rattle.range_merge.specs.Boundaries.{IsAscending};
 
+mod connectives;
 mod constructors;
 mod equality;
 mod in_place;
+mod insertion;
 mod json;
 mod negation;
 mod operations;
 mod operators;
 mod parts;
 mod predicates;
+mod splicing;
 mod text;
 mod unsorted;
 mod values;

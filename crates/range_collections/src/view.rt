@@ -3,6 +3,7 @@ ghost use Rattle.std.specs.Prelude.{◌≡◌, ◌↔◌, [], IsSome, IfSome};
 ghost use Rattle.std.proofs.Props.{props};
 ghost use Rattle.range_merge.specs.Boundaries.{IsAscending};
 
+mod connectives;
 mod equality;
 mod operations;
 mod predicates;

@@ -5,7 +5,7 @@ ghost use Rattle.std.specs.declared.cmp.Ordering.TheVariants.{Equal};
 ghost use Rattle.range_merge.specs.Boundaries.{member};
 ghost use Rattle.range_collections.specs.Ranges.{range_boundaries, IsInRange};
 ghost use Rattle.range_collections.specs.Sets.{AreEqual};
-ghost use Rattle.range_collections.specs.Values.{range_items, IsEverything};
+ghost use Rattle.range_collections.specs.Values.{range_items, HasLeastInFront, IsEverything};
 
 use crate::range_set::RangeSet;
 use crate::range_set_range::RangeSetRange;
@@ -52,11 +52,11 @@ impl<T: Ord + MadeWith<Global> + Drop, const N: usize> RangeSet<T, N> {
 }
 
 impl<T: RangeSetEntry + MadeWith<Global> + Drop, const N: usize> RangeSet<T, N> {
-    /// The values below the end.
+    /// The values below the end: the end itself is a boundary, behind the least value, and where it is that there are none.
     pub fn from_range_until(alloc: Global, range: RangeTo<T>) -> Result<Self, AllocError>
         ensures members { IfOk result (λ set. (x : T) → T.is_value x → member T.cmp set x ≡ is_lt (T.cmp x range.end)) }
         ensures nothing { T.cmp range.end T.least ≡ Equal → result ≡ Ok [] }
-        ensures boundaries { T.cmp range.end T.least ≢ Equal → IfOk result (λ set. AreEqual T.cmp set (T.least ∷ range.end ∷ [])) }
+        ensures boundaries { T.cmp range.end T.least ≢ Equal → IfOk result (λ set. HasLeastInFront T.cmp T.least (range.end ∷ []) set) }
         ensures succeeds { 2 ≤ N → T.is_min_sure → IsOk result }
     {
         let end = range.end;

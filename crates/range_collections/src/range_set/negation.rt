@@ -1,10 +1,13 @@
 //! `!`: the values that are no members.
 ghost use Rattle.std.specs.Prelude.{◌<◌, ◌⊎◌, All, length};
-ghost use Rattle.range_collections.specs.Values.{GivesNegation, BeginsAt};
+ghost use Rattle.range_collections.specs.Values.{GivesNegation, GivesOwnNegation, BeginsAt};
 
+use crate::comparisons::Comparisons;
 use crate::least::begins_at_least;
 use crate::range_set::RangeSet;
+use crate::view::RangeSetRef;
 use range_entry::{EntryClone, RangeSetEntry};
+use range_merge::{Connective, changes_mean_the_opposite};
 use std::alloc::{AllocError, Global};
 use std::default::MadeWith;
 use std::ops::Not;
@@ -12,9 +15,9 @@ use std::ops::Not;
 impl<T: RangeSetEntry + MadeWith<Global> + Drop, const N: usize> Not for RangeSet<T, N> {
     type Output = Result<RangeSet<T, N>, AllocError>;
 
-    ghost not_gives = { λ a r. GivesNegation T.cmp T.is_value T.least (BeginsAt T.cmp T.least a ⊎ ((length a < N) × T.is_min_sure)) a r };
+    ghost not_gives = { λ a r. GivesOwnNegation T.cmp T.is_value T.least (BeginsAt T.cmp T.least a ⊎ ((length a < N) × T.is_min_sure)) a r };
 
-    /// Removes a first boundary that is the least value, else puts the least value in front. The clause says the members among values, and the list, item by item.
+    /// Removes a first boundary that is the least value, else puts the least value in front. The other boundaries are the set's own. The clause says the members among values, and the list, item by item.
     fn not(self) -> Result<RangeSet<T, N>, AllocError> {
         let alloc = self.allocator();
         let mut list = self.into_inner();
@@ -23,6 +26,7 @@ impl<T: RangeSetEntry + MadeWith<Global> + Drop, const N: usize> Not for RangeSe
             return Ok(RangeSet::new_unchecked(list));
         }
         let least = T::min_value(alloc)?;
+        // Brings that the capacity is at least N.
         let _inline = list.capacity();
         list.insert(0, least)?;
         Ok(RangeSet::new_unchecked(list))
@@ -35,9 +39,20 @@ impl<T: RangeSetEntry + EntryClone + MadeWith<Global> + Drop, const N: usize> No
 
     ghost not_gives = { λ a r. GivesNegation T.cmp T.is_value T.least ((length a.now < N) × All T.is_sure a.now × T.is_min_sure) a.now r };
 
-    /// The negation of a clone.
+    /// What the connective "not left" makes of this set and the empty one: it copies the boundaries, and removes a first one that is the least value, else puts the least value in front. It makes at most twice the weight of the two lists in comparisons.
     fn not(self) -> Result<RangeSet<T, N>, AllocError> {
-        let copied = self.clone()?;
-        !copied
+        changes_mean_the_opposite::<T, Comparisons>();
+        let not_left = Connective {
+            neither: true,
+            left: false,
+            right: true,
+            both: false,
+        };
+        self.as_ref().combine(
+            self.allocator(),
+            RangeSetRef::empty(),
+            &not_left,
+            &mut Comparisons::new(),
+        )
     }
 }

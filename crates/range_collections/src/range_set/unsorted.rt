@@ -1,6 +1,6 @@
 //! Sets from lists in any order.
-ghost use Rattle.std.specs.Prelude.{IfOk};
-ghost use Rattle.range_collections.specs.Unsorted.{AreDistinctOf};
+ghost use Rattle.std.specs.Prelude.{◌≤◌, length, IsOk, IfOk};
+ghost use Rattle.range_collections.specs.Unsorted.{AreDistinctOf, AreFirstOf};
 
 use crate::range_set::RangeSet;
 use smallvec::SmallVec;
@@ -8,9 +8,13 @@ use std::alloc::{AllocError, Global};
 use std::default::MadeWith;
 
 impl<T: Ord + MadeWith<Global> + Drop, const N: usize> RangeSet<T, N> {
-    /// The set whose boundaries are the distinct items of the list, in order. Of equal items the one that stood first is kept (shown by tests). The sort takes memory, and where there is none the list is dropped.
+    /// The set whose boundaries are the distinct items of the list, in order. Of equal items the one that stood first is kept.
+    ///
+    /// The sort takes memory beyond 20 items, and where there is none the list is dropped.
     pub fn from_unsorted(list: SmallVec<T, N>) -> Result<Self, AllocError>
-        ensures { IfOk result (AreDistinctOf T.cmp list.items) }
+        ensures distinct { IfOk result (AreDistinctOf T.cmp list.items) }
+        ensures first { IfOk result (AreFirstOf T.cmp list.items) }
+        ensures succeeds { length list.items ≤ 20 → IsOk result }
     {
         let mut items = list;
         let alloc = *items.allocator();

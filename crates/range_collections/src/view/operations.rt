@@ -1,8 +1,12 @@
-//! Operations on two lent sets, each into a new one.
+//! Operations on two lent sets, each into a new one, whose boundaries are copies of theirs. Of two boundaries that are equal, this set's is copied.
 ghost use Rattle.std.specs.Prelude.{◌≡◌, ◌+◌, ◌*◌, ◌^◌, ◌<◌, ◌≤◌, false, length, All, IsOk, IfOk};
-ghost use Rattle.range_merge.specs.Connective.{Means, union_table, intersection_table, difference_table, symmetric_difference_table};
+ghost use Rattle.range_merge.specs.Changes.{changes, taken_items};
+ghost use Rattle.range_merge.specs.Connective.{union_table, intersection_table, difference_table, symmetric_difference_table};
+ghost use Rattle.range_merge.specs.Copies.{AreCopies};
 ghost use Rattle.range_merge.specs.Counting.{AddsAtMost};
 ghost use Rattle.range_merge.specs.Runs.{weight};
+ghost use Rattle.range_collections.specs.Operators.{GivesOperation};
+ghost use Rattle.range_collections.specs.Sets.{AreEqual};
 
 use crate::comparisons::{Comparisons, EntryCopier};
 use crate::range_set::RangeSet;
@@ -10,14 +14,14 @@ use crate::view::RangeSetRef;
 use range_entry::EntryClone;
 use range_merge::{
     DiffOp, IntersectionOp, MergeOperation, SmallVecMergeState, UnionOp, XorOp,
-    changes_mean_the_connective,
+    changes_mean_the_connective, changes_mean_the_opposite,
 };
 use smallvec::SmallVec;
 use std::alloc::{AllocError, Global};
 use std::default::MadeWith;
 
 impl<'a, T: EntryClone + MadeWith<Global> + Drop> RangeSetRef<'a, T> {
-    /// The set whose members the operation tells from the members of both, with its comparisons counted. Of two boundaries that are equal, a copy of this set's is taken (shown by tests; the clauses say the list up to the order's equality).
+    /// The set whose members the operation tells from the members of both, with its comparisons counted.
     pub fn merge_new<O: MergeOperation, const M: usize>(
         &self,
         alloc: Global,
@@ -27,12 +31,32 @@ impl<'a, T: EntryClone + MadeWith<Global> + Drop> RangeSetRef<'a, T> {
     ) -> Result<RangeSet<T, M>, AllocError>
         requires off { O.connective op.now false false ≡ false }
         requires made { count.old < 2 ^ 64 }
-        ensures means { IfOk result (λ set. Means T.cmp (O.connective op.now) set self.now.boundaries.now that.entry.boundaries.now) }
+        ensures gives { GivesOperation T.cmp T.is_copy T.is_sure (O.connective op.now) M self.now.boundaries.now that.entry.boundaries.now result }
+        ensures comparisons { AddsAtMost count.old count.new (2 * weight T.cmp self.now.boundaries.now that.entry.boundaries.now) }
+    {
+        changes_mean_the_connective::<T, Comparisons>();
+        self.merged(alloc, that, op, count)
+    }
+
+    // The set of copies of the boundaries at which the connective changes.
+    pub(super) fn merged<O: MergeOperation, const M: usize>(
+        &self,
+        alloc: Global,
+        that: RangeSetRef<T>,
+        op: &O,
+        count: &mut Comparisons,
+    ) -> Result<RangeSet<T, M>, AllocError>
+        requires made { count.old < 2 ^ 64 }
+        ensures copies { IfOk result (λ set.
+            AreCopies T.is_copy (changes T.cmp (O.connective op.now) self.now.boundaries.now that.entry.boundaries.now) set) }
+        ensures equal { IfOk result (λ set.
+            AreEqual T.cmp (taken_items (changes T.cmp (O.connective op.now) self.now.boundaries.now that.entry.boundaries.now)) set) }
         ensures succeeds { length self.now.boundaries.now + length that.entry.boundaries.now ≤ M →
             All T.is_sure self.now.boundaries.now → All T.is_sure that.entry.boundaries.now → IsOk result }
         ensures comparisons { AddsAtMost count.old count.new (2 * weight T.cmp self.now.boundaries.now that.entry.boundaries.now) }
     {
         changes_mean_the_connective::<T, Comparisons>();
+        changes_mean_the_opposite::<T, Comparisons>();
         let list = SmallVecMergeState::<T, EntryCopier, M>::merge(
             SmallVec::new(alloc),
             self.boundaries,
@@ -50,9 +74,7 @@ impl<'a, T: EntryClone + MadeWith<Global> + Drop> RangeSetRef<'a, T> {
         alloc: Global,
         that: RangeSetRef<T>,
     ) -> Result<RangeSet<T, M>, AllocError>
-        ensures means { IfOk result (λ set. Means T.cmp union_table set self.now.boundaries.now that.entry.boundaries.now) }
-        ensures succeeds { length self.now.boundaries.now + length that.entry.boundaries.now ≤ M →
-            All T.is_sure self.now.boundaries.now → All T.is_sure that.entry.boundaries.now → IsOk result }
+        ensures gives { GivesOperation T.cmp T.is_copy T.is_sure union_table M self.now.boundaries.now that.entry.boundaries.now result }
     {
         self.merge_new(alloc, that, &UnionOp, &mut Comparisons::new())
     }
@@ -63,9 +85,7 @@ impl<'a, T: EntryClone + MadeWith<Global> + Drop> RangeSetRef<'a, T> {
         alloc: Global,
         that: RangeSetRef<T>,
     ) -> Result<RangeSet<T, M>, AllocError>
-        ensures means { IfOk result (λ set. Means T.cmp intersection_table set self.now.boundaries.now that.entry.boundaries.now) }
-        ensures succeeds { length self.now.boundaries.now + length that.entry.boundaries.now ≤ M →
-            All T.is_sure self.now.boundaries.now → All T.is_sure that.entry.boundaries.now → IsOk result }
+        ensures gives { GivesOperation T.cmp T.is_copy T.is_sure intersection_table M self.now.boundaries.now that.entry.boundaries.now result }
     {
         self.merge_new(alloc, that, &IntersectionOp, &mut Comparisons::new())
     }
@@ -76,9 +96,7 @@ impl<'a, T: EntryClone + MadeWith<Global> + Drop> RangeSetRef<'a, T> {
         alloc: Global,
         that: RangeSetRef<T>,
     ) -> Result<RangeSet<T, M>, AllocError>
-        ensures means { IfOk result (λ set. Means T.cmp difference_table set self.now.boundaries.now that.entry.boundaries.now) }
-        ensures succeeds { length self.now.boundaries.now + length that.entry.boundaries.now ≤ M →
-            All T.is_sure self.now.boundaries.now → All T.is_sure that.entry.boundaries.now → IsOk result }
+        ensures gives { GivesOperation T.cmp T.is_copy T.is_sure difference_table M self.now.boundaries.now that.entry.boundaries.now result }
     {
         self.merge_new(alloc, that, &DiffOp, &mut Comparisons::new())
     }
@@ -89,9 +107,7 @@ impl<'a, T: EntryClone + MadeWith<Global> + Drop> RangeSetRef<'a, T> {
         alloc: Global,
         that: RangeSetRef<T>,
     ) -> Result<RangeSet<T, M>, AllocError>
-        ensures means { IfOk result (λ set. Means T.cmp symmetric_difference_table set self.now.boundaries.now that.entry.boundaries.now) }
-        ensures succeeds { length self.now.boundaries.now + length that.entry.boundaries.now ≤ M →
-            All T.is_sure self.now.boundaries.now → All T.is_sure that.entry.boundaries.now → IsOk result }
+        ensures gives { GivesOperation T.cmp T.is_copy T.is_sure symmetric_difference_table M self.now.boundaries.now that.entry.boundaries.now result }
     {
         self.merge_new(alloc, that, &XorOp, &mut Comparisons::new())
     }

@@ -1,6 +1,8 @@
 //! What can be asked of a set and of two, each answered by the members, at every element. Nothing here takes memory.
-ghost use Rattle.std.specs.Prelude.{◌≡◌, ◌↔◌, ◌*◌, ◌<◌, ◌^◌, length, false, IsTrue};
+ghost use Rattle.std.specs.Prelude.{◌≡◌, ◌↔◌, ◌+◌, ◌*◌, ◌<◌, ◌^◌, List, length, false, IsTrue};
 ghost use Rattle.range_merge.specs.Boundaries.{member};
+ghost use Rattle.range_merge.specs.Changes.{changes};
+ghost use Rattle.range_merge.specs.Connective.{Means};
 ghost use Rattle.range_merge.specs.Counting.{AddsAtMost};
 ghost use Rattle.range_merge.specs.Runs.{digits, weight};
 ghost use Rattle.range_collections.specs.Sets.{IsSubset, Intersects, IsDisjoint, HasMember};
@@ -8,7 +10,8 @@ ghost use Rattle.range_collections.specs.Sets.{IsSubset, Intersects, IsDisjoint,
 use crate::comparisons::Comparisons;
 use crate::view::RangeSetRef;
 use range_merge::{
-    BoolOpMergeState, DiffOp, IntersectionOp, MergeOperation, changes_mean_the_connective, search,
+    BoolOpMergeState, CountMergeState, DiffOp, IntersectionOp, MergeOperation,
+    changes_mean_the_connective, search,
 };
 
 impl<'a, T: Ord> RangeSetRef<'a, T> {
@@ -55,6 +58,26 @@ impl<'a, T: Ord> RangeSetRef<'a, T> {
     {
         changes_mean_the_connective::<T, Comparisons>();
         BoolOpMergeState::merge(self.boundaries, that.boundaries, op, count)
+    }
+
+    /// How many boundaries the operation's result has, without making it, with its comparisons counted. Both lengths together have to fit a usize. It makes at most twice the weight of the two lists in comparisons.
+    pub fn merge_len<O: MergeOperation>(
+        &self,
+        that: RangeSetRef<T>,
+        op: &O,
+        count: &mut Comparisons,
+    ) -> usize
+        requires off { O.connective op.now false false ≡ false }
+        requires fits { length self.now.boundaries.now + length that.boundaries.now < 2 ^ 64 }
+        requires made { count.old < 2 ^ 64 }
+        ensures value { result ≡ length (changes T.cmp (O.connective op.now) self.now.boundaries.now that.entry.boundaries.now) }
+
+        // It is the length of every list that the operation may give.
+        ensures means { (items : List T) → Means T.cmp (O.connective op.now) items self.now.boundaries.now that.entry.boundaries.now → length items ≡ result }
+        ensures comparisons { AddsAtMost count.old count.new (2 * weight T.cmp self.now.boundaries.now that.entry.boundaries.now) }
+    {
+        changes_mean_the_connective::<T, Comparisons>();
+        CountMergeState::merge(self.boundaries, that.boundaries, op, count)
     }
 
     /// Whether some element is a member of both.

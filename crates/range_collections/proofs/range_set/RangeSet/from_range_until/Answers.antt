@@ -1,6 +1,5 @@
 use Rattle.std.proofs.Common.{◌∙◌, Ok, ap, refl, rules, sym, true≢false}
 use Rattle.std.proofs.lemmas.Result.{IfOk-from_err}
-use Rattle.range_merge.proofs.Orders.{Equal-self}
 use Rattle.range_collections.proofs.Values.{member-until, nothing_below, Less-least, IsAscending-two}
 use Rattle.range_collections.proofs.range_set.RangeSet.from_range_until.Goals as goal
 
@@ -74,9 +73,7 @@ returns-clause-nothing g c = λ e. absurd (true≢false (sym (c.is_min_value.ens
 
 pub returns-clause-boundaries : goal.returns-clause-boundaries
 returns-clause-boundaries g c =
-    λ _.
-    rw (c.new_unchecked.ensures ∙ c.in_ok-two_items.ensures.items)
-    (c.in_ok-least.ensures.least, (Equal-self g.met.T.Ord.total c.args.range.end, tt))
+    λ _. (c.in_ok-least.least, c.in_ok-least.ensures.least, c.new_unchecked.ensures ∙ c.in_ok-two_items.ensures.items)
 
 pub returns-clause-succeeds : goal.returns-clause-succeeds
 returns-clause-succeeds g c = λ _ _. refl

@@ -1,7 +1,4 @@
 use Rattle.range_collections.proofs.range_set.RangeSet.intersection.Goals as goal
 
-pub returns-clause-means : goal.returns-clause-means
-returns-clause-means g c = rw (← c.as_ref.ensures.same) c.intersection.ensures.means
-
-pub returns-clause-succeeds : goal.returns-clause-succeeds
-returns-clause-succeeds g c = rw (← c.as_ref.ensures.same) c.intersection.ensures.succeeds
+pub returns : goal.returns
+returns g c = record { gives = rw (← c.as_ref.ensures.same) c.intersection.ensures.gives }

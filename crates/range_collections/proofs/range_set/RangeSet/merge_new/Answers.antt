@@ -1,10 +1,7 @@
 use Rattle.range_collections.proofs.range_set.RangeSet.merge_new.Goals as goal
 
-pub returns-clause-means : goal.returns-clause-means
-returns-clause-means g c = rw (← c.as_ref.ensures.same) c.merge_new.ensures.means
-
-pub returns-clause-succeeds : goal.returns-clause-succeeds
-returns-clause-succeeds g c = rw (← c.as_ref.ensures.same) c.merge_new.ensures.succeeds
+pub returns-clause-gives : goal.returns-clause-gives
+returns-clause-gives g c = rw (← c.as_ref.ensures.same) c.merge_new.ensures.gives
 
 pub returns-clause-comparisons : goal.returns-clause-comparisons
 returns-clause-comparisons g c = rw (← c.as_ref.ensures.same) c.merge_new.ensures.comparisons

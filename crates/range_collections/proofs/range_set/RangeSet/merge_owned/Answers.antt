@@ -13,60 +13,51 @@ merge-requires g c = (search rules, (c.self.invariant, (c.into_inner.ensures.sor
 pub new_unchecked-requires : goal.new_unchecked-requires
 new_unchecked-requires g c = (search rules, (search rules, rw c.in-Err.ensures.handed_back c.into_inner.ensures.sorted))
 
-pub returns-clause-means : goal.returns-clause-means
-returns-clause-means g c =
+pub returns-clause-changed : goal.returns-clause-changed
+returns-clause-changed g c =
     let f = g.O.MergeOperation.connective c.args.op.now in
     let a = c.self.inside.list.items in
     let b = c.into_inner.result.items in
     let Meant = Means g.T.Ord.cmp f c.merge.new.a.items c.args.self.now c.args.that in
+    let Own = AreOwnElseOf g.T.Ord.cmp c.args.self.now c.args.that c.merge.new.a.items in
     let meant : OnOk c.merge.result Meant =
     rw (← c.self.view_is, ← c.into_inner.ensures.items)
     (on_ok_weaker c.merge.result
     (λ kept. rw kept (c.changes_mean_the_connective.ensures.means f a b c.requires.off c.self.invariant c.into_inner.ensures.sorted))
     c.merge.ensures.taken) in
-    elim c.match-merge.branch as (λ _. OnOk c.match-merge.result Meant) [
-      | in-Ok w ↦ rw w.result-is (rw w.in-Ok.is at meant)
-      | in-Err w ↦ rw w.result-is tt
-    ]
-
-pub returns-clause-left_own_item : goal.returns-clause-left_own_item
-returns-clause-left_own_item g c =
-    let f = g.O.MergeOperation.connective c.args.op.now in
-    let a = c.self.inside.list.items in
-    let b = c.into_inner.result.items in
-    let Own = AreOwnElseOf g.T.Ord.cmp c.args.self.now c.args.that c.merge.new.a.items in
     let own : OnOk c.merge.result Own =
     rw (← c.self.view_is, ← c.into_inner.ensures.items)
     (on_ok_weaker c.merge.result
     (λ kept. rw kept (AreOwnElseOf-marked g.met.T.Ord.total a b (changes g.T.Ord.cmp f a b)
     (c.changes_are_marked_truly.ensures.marks f a b c.self.invariant c.into_inner.ensures.sorted)))
-    c.merge.ensures.taken) in
-    elim c.match-merge.branch as (λ _. OnOk c.match-merge.result Own) [
-      | in-Ok w ↦ rw w.result-is (rw w.in-Ok.is at own)
-      | in-Err w ↦ rw w.result-is tt
-    ]
-
-pub returns-clause-unchanged : goal.returns-clause-unchanged
-returns-clause-unchanged g c =
-    elim c.match-merge.branch as (λ _. OnErr c.match-merge.result (c.merge.new.a.items ≡ c.args.self.now)) [
-      | in-Ok w ↦ rw w.result-is tt
-      | in-Err w ↦ rw (w.result-is, ← c.self.view_is) w.in-Err.ensures.unchanged
-    ]
-
-pub returns-clause-handed_back : goal.returns-clause-handed_back
-returns-clause-handed_back g c =
-    elim c.match-merge.branch as (λ _. IfErr c.match-merge.result (λ refused. refused.1 ≡ c.args.that)) [
-      | in-Ok w ↦ rw w.result-is tt
-      | in-Err w ↦ rw w.result-is (w.new_unchecked.ensures ∙ w.in-Err.ensures.handed_back ∙ c.into_inner.ensures.items)
-    ]
-
-pub returns-clause-succeeds : goal.returns-clause-succeeds
-returns-clause-succeeds g c =
-    λ few.
-    elim c.match-merge.branch as (λ _. IsOk c.match-merge.result) [
-      | in-Ok w ↦ rw w.result-is refl
-      | in-Err w ↦ absurd (true≢false (sym (w.in-Err.ensures.succeeds (rw (c.self.view_is, c.into_inner.ensures.items) few))))
-    ]
+    c.merge.ensures.taken) in record {
+      means =
+          elim c.match-merge.branch as (λ _. OnOk c.match-merge.result Meant) [
+            | in-Ok w ↦ rw w.result-is (rw w.in-Ok.is at meant)
+            | in-Err w ↦ rw w.result-is tt
+          ];
+      left_own_item =
+          elim c.match-merge.branch as (λ _. OnOk c.match-merge.result Own) [
+            | in-Ok w ↦ rw w.result-is (rw w.in-Ok.is at own)
+            | in-Err w ↦ rw w.result-is tt
+          ];
+      unchanged =
+          elim c.match-merge.branch as (λ _. OnErr c.match-merge.result (c.merge.new.a.items ≡ c.args.self.now)) [
+            | in-Ok w ↦ rw w.result-is tt
+            | in-Err w ↦ rw (w.result-is, ← c.self.view_is) w.in-Err.ensures.unchanged
+          ];
+      handed_back =
+          elim c.match-merge.branch as (λ _. IfErr c.match-merge.result (λ refused. refused.1 ≡ c.args.that)) [
+            | in-Ok w ↦ rw w.result-is tt
+            | in-Err w ↦ rw w.result-is (w.new_unchecked.ensures ∙ w.in-Err.ensures.handed_back ∙ c.into_inner.ensures.items)
+          ];
+      succeeds =
+          λ few.
+          elim c.match-merge.branch as (λ _. IsOk c.match-merge.result) [
+            | in-Ok w ↦ rw w.result-is refl
+            | in-Err w ↦ absurd (true≢false (sym (w.in-Err.ensures.succeeds (rw (c.self.view_is, c.into_inner.ensures.items) few))))
+          ];
+    }
 
 pub returns-clause-comparisons : goal.returns-clause-comparisons
 returns-clause-comparisons g c = rw (← c.self.view_is, ← c.into_inner.ensures.items) c.merge.ensures.comparisons

@@ -1,13 +1,4 @@
 use Rattle.range_collections.proofs.range_set.RangeSet.union_with.Goals as goal
 
-pub returns-clause-means : goal.returns-clause-means
-returns-clause-means g c = c.merge_ref.ensures.means
-
-pub returns-clause-left_own_item : goal.returns-clause-left_own_item
-returns-clause-left_own_item g c = c.merge_ref.ensures.left_own_item
-
-pub returns-clause-unchanged : goal.returns-clause-unchanged
-returns-clause-unchanged g c = c.merge_ref.ensures.unchanged
-
-pub returns-clause-succeeds : goal.returns-clause-succeeds
-returns-clause-succeeds g c = c.merge_ref.ensures.succeeds
+pub returns : goal.returns
+returns g c = record { changed = c.merge_ref.ensures.changed }

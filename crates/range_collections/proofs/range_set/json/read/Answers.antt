@@ -27,4 +27,4 @@ loop-item-preserved g c =
 pub returns : goal.returns
 returns g c =
     let whole = rw (take_all c.loop-item.item-index c.args.items.now c.loop-item-test.false) at c.loop-item.invariant in
-    rw (← whole) c.from_unsorted.ensures
+    rw (← whole) c.from_unsorted.ensures.distinct

@@ -1,7 +1,4 @@
 use Rattle.range_collections.proofs.view.RangeSetRef.difference.Goals as goal
 
-pub returns-clause-means : goal.returns-clause-means
-returns-clause-means g c = c.merge_new.ensures.means
-
-pub returns-clause-succeeds : goal.returns-clause-succeeds
-returns-clause-succeeds g c = c.merge_new.ensures.succeeds
+pub returns : goal.returns
+returns g c = record { gives = c.merge_new.ensures.gives }

@@ -1,7 +1,7 @@
 use Rattle.std.proofs.Common.{◌∙◌, inl, inr, arith, rules, sym, true≢false}
 use Rattle.std.proofs.lemmas.Result.{IfOk-from_err}
 use Rattle.range_collections.specs.Values.{BeginsAt}
-use Rattle.range_collections.proofs.Values.{Negates-removed, GivesNegation-removed, GivesNegation-inserted, IsAscending-inserted}
+use Rattle.range_collections.proofs.Values.{Negates-removed, GivesOwnNegation-removed, GivesOwnNegation-inserted, IsAscending-inserted}
 use Rattle.range_collections.proofs.range_set.negation.RangeSetNot.not.Goals as goal
 
 pub new_unchecked-requires : goal.new_unchecked-requires
@@ -20,7 +20,7 @@ new_unchecked-requires g c =
 pub returns-then-begins_at_least : goal.returns-then-begins_at_least
 returns-then-begins_at_least g c =
     let entry = g.T.RangeSetEntry in
-    GivesNegation-removed g.met.T.Ord.total entry.is_value entry.least g.met.T.RangeSetEntry.least_is_value
+    GivesOwnNegation-removed g.met.T.Ord.total entry.is_value entry.least g.met.T.RangeSetEntry.least_is_value
     g.met.T.RangeSetEntry.least_is_least _ c.args.self c.into_inner-list.result.items c.as_slice.result.now c.new_unchecked.result
     c.begins_at_least.result c.into_inner-list.ensures.items c.as_slice.ensures c.into_inner-list.ensures.sorted c.begins_at_least.ensures.begins
     c.if-begins_at_least.true (rw c.new_unchecked.ensures c.remove-least.ensures.items)
@@ -35,6 +35,7 @@ returns-in_err-least g c =
       negates = IfOk-from_err r _ refused;
       removed = λ _. IfOk-from_err r _ refused;
       put = λ _. IfOk-from_err r _ refused;
+      values = λ _ _. IfOk-from_err r _ refused;
       succeeds = λ sure.
           absurd
           (elim sure as (λ _. ⊥) [
@@ -53,6 +54,7 @@ returns-in_err-insert g c =
       negates = IfOk-from_err r _ refused;
       removed = λ _. IfOk-from_err r _ refused;
       put = λ _. IfOk-from_err r _ refused;
+      values = λ _ _. IfOk-from_err r _ refused;
       succeeds = λ sure.
           absurd
           (elim sure as (λ _. ⊥) [
@@ -80,7 +82,7 @@ new_unchecked-requires-2 g c =
 pub returns : goal.returns
 returns g c =
     let entry = g.T.RangeSetEntry in
-    GivesNegation-inserted g.met.T.Ord.total entry.is_value entry.least g.met.T.RangeSetEntry.least_is_value
+    GivesOwnNegation-inserted g.met.T.Ord.total entry.is_value entry.least g.met.T.RangeSetEntry.least_is_value
     g.met.T.RangeSetEntry.least_is_least _ c.args.self c.into_inner-list.result.items c.as_slice.result.now c.new_unchecked-2.result
     c.begins_at_least.result c.in_ok-least.least c.into_inner-list.ensures.items c.as_slice.ensures c.into_inner-list.ensures.sorted
     c.begins_at_least.ensures.begins c.begins_at_least.ensures.value c.if-begins_at_least.false c.in_ok-least.ensures.least

@@ -1,7 +1,4 @@
 use Rattle.range_collections.proofs.range_set.operators.RefRangeSetBitXor.bitxor.Goals as goal
 
 pub returns : goal.returns
-returns g c = record {
-  means = rw (← c.as_ref.ensures.same) c.symmetric_difference.ensures.means;
-  succeeds = rw (← c.as_ref.ensures.same) c.symmetric_difference.ensures.succeeds;
-}
+returns g c = rw (← c.as_ref.ensures.same) c.symmetric_difference.ensures.gives

@@ -1,0 +1,81 @@
+use Rattle.std.proofs.Common.{inr, refl, sym, ◌∙◌, arith, true≢false}
+use Rattle.std.proofs.lemmas.Bool.{false≢true}
+use Rattle.std.proofs.lemmas.Result.{IfOk-from_err}
+use Rattle.range_merge.specs.Changes.{changes, taken_items}
+use Rattle.range_collections.proofs.Combined.{MeansAmong-merged, IfOk-negated, IfOk-flipped, length-merged}
+use Rattle.range_collections.proofs.view.RangeSetRef.combine.Goals as goal
+
+pub returns-then-flips-clause-means : goal.returns-then-flips-clause-means
+returns-then-flips-clause-means g c =
+    let f = g.O.MergeOperation.connective c.args.op.now in
+    let a = c.args.self.now.boundaries.now in
+    let b = c.args.that.boundaries.now in
+    let on = sym c.when_off-flips.ensures ∙ c.if-flips.true in
+    IfOk-negated g.met.T.Ord.total g.T.RangeSetEntry.is_value f (taken_items (changes g.T.Ord.cmp f a b)) c.in_ok-merged.merged a b c.not.result on
+    c.in_ok-merged.ensures.equal (c.changes_mean_the_opposite.ensures.means f a b on c.args.self.now.sorted c.args.that.sorted) c.not.ensures.negates
+
+pub returns-then-flips-clause-flipped : goal.returns-then-flips-clause-flipped
+returns-then-flips-clause-flipped g c = λ _.
+    let f = g.O.MergeOperation.connective c.args.op.now in
+    let a = c.args.self.now.boundaries.now in
+    let b = c.args.that.boundaries.now in
+    IfOk-flipped g.met.T.Ord.total g.T.RangeSetEntry.least (taken_items (changes g.T.Ord.cmp f a b)) c.in_ok-merged.merged c.not.result
+    c.in_ok-merged.ensures.equal c.not.ensures.removed c.not.ensures.put
+
+pub returns-then-flips-clause-succeeds_flipped : goal.returns-then-flips-clause-succeeds_flipped
+returns-then-flips-clause-succeeds_flipped g c = λ _ room _ _ sure.
+    let f = g.O.MergeOperation.connective c.args.op.now in
+    let a = c.args.self.now.boundaries.now in
+    let b = c.args.that.boundaries.now in
+    c.not.ensures.succeeds (inr (omega (arith, room, c.changes_are_at_most_the_lengths.ensures.at_most f a b, length-merged g.T.Ord.cmp (changes g.T.Ord.cmp f a b) c.in_ok-merged.merged c.in_ok-merged.ensures.equal), sure))
+
+pub returns-else-flips-clause-means : goal.returns-else-flips-clause-means
+returns-else-flips-clause-means g c =
+    let f = g.O.MergeOperation.connective c.args.op.now in
+    let a = c.args.self.now.boundaries.now in
+    let b = c.args.that.boundaries.now in
+    let off = sym c.when_off-flips.ensures ∙ c.if-flips.false in
+    MeansAmong-merged g.met.T.Ord.total g.T.RangeSetEntry.is_value f (taken_items (changes g.T.Ord.cmp f a b)) c.in_ok-merged.merged a b
+    c.in_ok-merged.ensures.equal (c.changes_mean_the_connective.ensures.means f a b off c.args.self.now.sorted c.args.that.sorted)
+
+pub returns-then-flips-clause-left_own_item : goal.returns-then-flips-clause-left_own_item
+returns-then-flips-clause-left_own_item g c = λ off. absurd (true≢false (sym (sym c.when_off-flips.ensures ∙ c.if-flips.true) ∙ off))
+
+pub returns-else-flips-clause-left_own_item : goal.returns-else-flips-clause-left_own_item
+returns-else-flips-clause-left_own_item g c = λ _. c.in_ok-merged.ensures.copies
+
+pub returns-in_err-merged-clause-left_own_item : goal.returns-in_err-merged-clause-left_own_item
+returns-in_err-merged-clause-left_own_item g c = λ off. IfOk-from_err c.from_residual.result _ c.from_residual.ensures.0
+
+pub returns-in_err-merged-clause-succeeds : goal.returns-in_err-merged-clause-succeeds
+returns-in_err-merged-clause-succeeds g c = λ off room left right. absurd (false≢true (c.in_err-merged.ensures.succeeds room left right))
+
+pub returns-in_err-merged-clause-succeeds_flipped : goal.returns-in_err-merged-clause-succeeds_flipped
+returns-in_err-merged-clause-succeeds_flipped g c = λ on room left right sure. absurd (false≢true (c.in_err-merged.ensures.succeeds (omega (arith, room)) left right))
+
+pub returns-in_err-merged-clause-means : goal.returns-in_err-merged-clause-means
+returns-in_err-merged-clause-means g c = IfOk-from_err c.from_residual.result _ c.from_residual.ensures.0
+
+pub returns-in_err-merged-clause-flipped : goal.returns-in_err-merged-clause-flipped
+returns-in_err-merged-clause-flipped g c = λ on. IfOk-from_err c.from_residual.result _ c.from_residual.ensures.0
+
+pub returns-in_err-merged-clause-comparisons : goal.returns-in_err-merged-clause-comparisons
+returns-in_err-merged-clause-comparisons g c = c.merged.ensures.comparisons
+
+pub returns-then-flips-clause-succeeds : goal.returns-then-flips-clause-succeeds
+returns-then-flips-clause-succeeds g c = λ off. absurd (true≢false (sym (sym c.when_off-flips.ensures ∙ c.if-flips.true) ∙ off))
+
+pub returns-then-flips-clause-comparisons : goal.returns-then-flips-clause-comparisons
+returns-then-flips-clause-comparisons g c = c.merged.ensures.comparisons
+
+pub returns-else-flips-clause-flipped : goal.returns-else-flips-clause-flipped
+returns-else-flips-clause-flipped g c = λ on. absurd (true≢false (sym on ∙ sym c.when_off-flips.ensures ∙ c.if-flips.false))
+
+pub returns-else-flips-clause-succeeds : goal.returns-else-flips-clause-succeeds
+returns-else-flips-clause-succeeds g c = λ off room left right. refl
+
+pub returns-else-flips-clause-succeeds_flipped : goal.returns-else-flips-clause-succeeds_flipped
+returns-else-flips-clause-succeeds_flipped g c = λ on. absurd (true≢false (sym on ∙ sym c.when_off-flips.ensures ∙ c.if-flips.false))
+
+pub returns-else-flips-clause-comparisons : goal.returns-else-flips-clause-comparisons
+returns-else-flips-clause-comparisons g c = c.merged.ensures.comparisons

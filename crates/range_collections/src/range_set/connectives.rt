@@ -1,0 +1,43 @@
+//! Any of the sixteen connectives of a set and a lent one, as a new one.
+ghost use Rattle.std.specs.Prelude.{◌≡◌, ◌+◌, ◌*◌, ◌^◌, ◌<◌, ◌≤◌, true, false, length, All, IsOk, IfOk};
+ghost use Rattle.range_merge.specs.Changes.{changes, taken_items};
+ghost use Rattle.range_merge.specs.Copies.{AreCopies};
+ghost use Rattle.range_merge.specs.Counting.{AddsAtMost};
+ghost use Rattle.range_merge.specs.Runs.{weight};
+ghost use Rattle.range_collections.specs.Values.{MeansAmong, IsFlipped};
+
+use crate::comparisons::Comparisons;
+use crate::range_set::RangeSet;
+use crate::view::RangeSetRef;
+use range_entry::{EntryClone, RangeSetEntry};
+use range_merge::MergeOperation;
+use std::alloc::{AllocError, Global};
+use std::default::MadeWith;
+
+impl<T: RangeSetEntry + EntryClone + MadeWith<Global> + Drop, const N: usize> RangeSet<T, N> {
+    /// The set whose members the connective tells from the members of both, with its comparisons counted. It may be on where both sides are off: then the members are told among values.
+    ///
+    /// It takes copies of the boundaries at which the connective changes, this set's of two that are equal. Where the connective is on while both sides are off (then the clauses say the items up to the order's equality), it then removes a first boundary that is the least value, else puts the least value in front. It makes at most twice the weight of the two lists in comparisons, also where it is refused.
+    pub fn combine<O: MergeOperation, const M: usize>(
+        &self,
+        that: RangeSetRef<T>,
+        op: &O,
+        count: &mut Comparisons,
+    ) -> Result<RangeSet<T, M>, AllocError>
+        requires made { count.old < 2 ^ 64 }
+        ensures means { IfOk result (λ set. MeansAmong T.cmp T.is_value (O.connective op.now) set self.now that.entry.boundaries.now) }
+        ensures left_own_item { O.connective op.now false false ≡ false → IfOk result (λ set.
+            AreCopies T.is_copy (changes T.cmp (O.connective op.now) self.now that.entry.boundaries.now) set) }
+
+        // On while both sides are off: the changes, with the least value removed from the front or put there.
+        ensures flipped { O.connective op.now false false ≡ true → IfOk result (λ set.
+            IsFlipped T.cmp T.least (taken_items (changes T.cmp (O.connective op.now) self.now that.entry.boundaries.now)) set) }
+        ensures succeeds { O.connective op.now false false ≡ false → length self.now + length that.entry.boundaries.now ≤ M →
+            All T.is_sure self.now → All T.is_sure that.entry.boundaries.now → IsOk result }
+        ensures succeeds_flipped { O.connective op.now false false ≡ true → length self.now + length that.entry.boundaries.now < M →
+            All T.is_sure self.now → All T.is_sure that.entry.boundaries.now → T.is_min_sure → IsOk result }
+        ensures comparisons { AddsAtMost count.old count.new (2 * weight T.cmp self.now that.entry.boundaries.now) }
+    {
+        self.as_ref().combine(self.allocator(), that, op, count)
+    }
+}
