@@ -1,12 +1,17 @@
--- What `parse` reads of a word at i64 is `number_of` the word.
-use Rattle.std.proofs.Common.{◌≡◌, ℕ, ◌^◌, ℤ, pos, negsuc, Bool, true, false, ◌&&◌, cond, List, Result, Some, None, Ok, Err, refl, sym, ap, ◌∙◌, length}
+-- What `parse` reads of a word at i64 is `number_of` the word, and what words write fits into i64.
+use Rattle.std.proofs.Common.{◌≡◌, ℕ, ◌^◌, ℤ, pos, negsuc, Bool, true, false, ◌&&◌, cond, List, [], ◌∷◌, All, Option, Result, Some, None, Ok, Err, refl, sym, ap, ◌∙◌, length}
 use Rattle.std.specs.Bool.{Decides}
 use Rattle.std.specs.Str.{all_ascii_digits}
 use Rattle.std.specs.Str.Parse.{ParsesSigned, IsNumeral, AllDigits, signed_digits_value, without_leading_sign}
 use Rattle.std.specs.Result.{result_ok}
+use Rattle.std.specs.List.{filter_map, cons_option}
+use Rattle.std.specs.Ordering.{int_cmp}
+use Rattle.std.proofs.lemmas.List.Elements.{All-nil, All-cons}
 use Rattle.std.proofs.lemmas.Bool.Decides.{Decides-ltb, Decides-and}
 use Rattle.std.proofs.lemmas.Str.Parse.{numerals_by_value, tells_all_ascii_digits}
-use Rattle.range_calc.specs.Words.{number_of, is_i64, is_numeral}
+use Rattle.range_collections.specs.Values.{EqualsAreValues}
+use Rattle.range_collections.proofs.JsonLemmas.{Equal-int_cmp}
+use Rattle.range_calc.specs.Words.{number_of, numbers_of, parts_of, is_i64, is_numeral}
 use mir.Syntax.{w64}
 use mir.Val.{SFits}
 
@@ -46,3 +51,21 @@ Some-fits false P v z d e = cc
 pub number_of-fits : (word : List ℕ) (z : ℤ) → number_of word ≡ Some z → SFits w64 z
 unfolding number_of
 number_of-fits word z e = Some-fits _ _ (signed_digits_value 10 word) z (is_number-Decides word) e
+
+-- and so is each number of a list
+All-cons_option : (P : ℤ → Type 0) (read : Option ℤ) (zs : List ℤ) → ((z : ℤ) → read ≡ Some z → P z) → All P zs → All P (cons_option read zs)
+All-cons_option P None zs h all = all
+All-cons_option P (Some z) zs h all = All-cons P z zs (h z refl) all
+
+All-numbers_fit : (parts : List (List ℕ)) → All (SFits w64) (filter_map number_of parts)
+All-numbers_fit [] = All-nil (SFits w64)
+All-numbers_fit (part ∷ parts) =
+    All-cons_option (SFits w64) (number_of part) (filter_map number_of parts) (number_of-fits part) (All-numbers_fit parts)
+
+pub numbers_of-fit : (word : List ℕ) → All (SFits w64) (numbers_of word)
+unfolding numbers_of
+numbers_of-fit word = All-numbers_fit (parts_of word)
+
+-- what equals a number of i64 is that number
+pub equals_of_i64 : EqualsAreValues int_cmp (SFits w64)
+equals_of_i64 x y e fits = rw (← Equal-int_cmp x y e) fits

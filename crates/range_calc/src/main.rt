@@ -6,6 +6,7 @@
 mod answer;
 mod commands;
 mod fault;
+mod laws;
 mod line;
 mod replies;
 mod status;
@@ -14,13 +15,12 @@ mod tests;
 mod words;
 
 use answer::{answer, out_of_memory};
+use status::exit_code;
 use std::env;
 use std::io::{self, ErrorKind};
 use std::process::ExitCode;
 use std::rt::Env;
-
-/// The number that the program ends with where its output failed.
-const OUTPUT_FAILED: u8 = 5;
+use words::stored_words;
 
 fn main(rt: HostRuntime) -> ExitCode {
     let mut out = io::writer(&rt);
@@ -30,21 +30,16 @@ fn main(rt: HostRuntime) -> ExitCode {
         // An argument that is no text is no word of a command.
         Err(_) => answer(rt.alloc(), &[], &mut out),
     };
-    match status {
-        Ok(status) => ExitCode::from(status.code()),
-        Err(_) => ExitCode::from(OUTPUT_FAILED),
-    }
+    ExitCode::from(exit_code(&status))
 }
 
 /// The arguments without the program's name; where there are none, the words of the stored run.
 fn arguments(rt: &(impl Env + AllocGlobal)) -> io::Result<Vec<String>> {
     let mut args = env::args(rt)?;
     let _program = args.next();
-    let mut words: Vec<String> = args.collect(rt.alloc())?;
+    let words: Vec<String> = args.collect(rt.alloc())?;
     if words.is_empty() {
-        for word in ["union", "0,10", "20"] {
-            words.push(String::from_str(rt.alloc(), word)?)?;
-        }
+        return Ok(stored_words(rt.alloc())?);
     }
     Ok(words)
 }

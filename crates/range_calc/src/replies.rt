@@ -9,7 +9,7 @@ use crate::commands::{ListAndNumber, OneList, TwoLists};
 use crate::fault::Fault;
 use crate::line::{array_line, debug_line, parts_line, set_line, truth_line};
 use crate::words::{Request, numbers};
-use range_collections::{RangeSet2, RangeSetEntry, RangeSetRef};
+use range_collections::{RangeSet2, RangeSetRef};
 use serde_json::Value;
 use std::alloc::{AllocError, Global};
 
@@ -37,6 +37,7 @@ fn list_reply(alloc: Global, command: OneList, a: &str) -> Result<String, Fault>
 
 /// The line of a command with one set.
 fn set_reply(alloc: Global, command: OneList, set: RangeSet2<i64>) -> Result<String, AllocError>
+    requires { All (FitsSigned w64) set }
     ensures { IfOk result (IsReplyText (query_on command set)) }
 {
     match command {
@@ -48,20 +49,11 @@ fn set_reply(alloc: Global, command: OneList, set: RangeSet2<i64>) -> Result<Str
 
 /// The line of the numbers that are no members.
 fn negation_reply(alloc: Global, set: RangeSet2<i64>) -> Result<String, AllocError>
+    requires { All (FitsSigned w64) set }
     ensures { IfOk result (IsReplyText (negation set)) }
 {
     let negated = (!set)?;
-    known(negated.boundaries());
     set_line(alloc, negated)
-}
-
-/// Does nothing. A caller learns that all are numbers of i64.
-fn known(items: &[i64])
-    ensures { All (FitsSigned w64) items.now }
-{
-    for n in items {
-        n.known();
-    }
 }
 
 /// The line of a command with two lists.

@@ -1,5 +1,11 @@
 //! How a run of the program ended.
-ghost use Rattle.std.specs.Prelude.{◌≡◌};
+ghost use Rattle.std.specs.Prelude.{◌≡◌, IfOk, IfErr};
+ghost use Rattle.range_calc.specs.Outcome.{code_of};
+
+use std::io;
+
+/// The number that the program ends with where its output failed.
+const OUTPUT_FAILED: u8 = 5;
 
 /// How a run ended.
 #[derive(Clone, Copy, Debug, PartialEq, Eq)]
@@ -17,8 +23,6 @@ pub enum Status {
 }
 
 impl Status {
-    ghost use Rattle.range_calc.specs.Outcome.{code_of};
-
     /// The number that the program ends with.
     pub fn code(&self) -> u8
         ensures { result ≡ code_of self.now }
@@ -30,5 +34,16 @@ impl Status {
             Status::NotSorted => 3,
             Status::BadJson => 4,
         }
+    }
+}
+
+/// The number that the program ends with, by how its answer went.
+pub fn exit_code(answered: &io::Result<Status>) -> u8
+    ensures ok { IfOk answered.now (λ status. result ≡ code_of status) }
+    ensures err { IfErr answered.now (λ _. result ≡ 5) }
+{
+    match answered {
+        Ok(status) => status.code(),
+        Err(_) => OUTPUT_FAILED,
     }
 }

@@ -1,5 +1,5 @@
 //! The words of a command: they are read without memory, and each list of them is built afterwards.
-ghost use Rattle.std.specs.Prelude.{◌≡◌, [], ◌∷◌, IfOk};
+ghost use Rattle.std.specs.Prelude.{◌≡◌, [], ◌∷◌, IfOk, codes};
 ghost use Rattle.std.specs.Option.{option_map, option_and_then};
 ghost use Rattle.range_calc.specs.Words.{number_of, is_list, list_of, numbers_of, one_list, two_lists, list_and_number, query_of_both, query_of, texts};
 ghost use Rattle.range_calc.specs.Requests.{query_asked};
@@ -32,6 +32,16 @@ impl<'a> Request<'a> {
             _ => None,
         }
     }
+}
+
+/// The words of the stored run.
+pub fn stored_words(alloc: Global) -> Result<Vec<String>, AllocError>
+    ensures { IfOk result (λ words. texts words.items ≡ codes "union" ∷ codes "0,10" ∷ codes "20" ∷ []) }
+{
+    let union = String::from_str(alloc, "union")?;
+    let left = String::from_str(alloc, "0,10")?;
+    let right = String::from_str(alloc, "20")?;
+    Ok(vec![in alloc; union, left, right]?)
 }
 
 /// The numbers of a list word, in order.

@@ -6,6 +6,7 @@ use Rattle.range_calc.specs.Requests.{query_on}
 use Rattle.range_calc.specs.Replies.{IsSorted}
 use Rattle.range_calc.specs.declared.commands.OneList.{OneList}
 use Rattle.range_calc.specs.declared.commands.OneList.TheVariants.{Not, Show, ToJson}
+use Rattle.range_calc.proofs.Numbers.{numbers_of-fit}
 use Rattle.range_calc.proofs.Outcomes.{IsReplyTo-no_memory, IsReplyTo-unsorted}
 use Rattle.range_calc.proofs.replies.list_reply.Goals as goal
 
@@ -22,6 +23,9 @@ returns-in_err-set c =
     let is = sorted_on c.args.command (numbers_of c.args.a.now) in
     IsReplyTo-unsorted _ c.from_residual-in_err-set.result c.new.result c.in_err-set.field-0.0 (λ sorted. c.new.ensures.variant.1 (rw c.in_ok-list.ensures (rw is at sorted)))
     c.in_err-set.ensures.value c.from_residual-in_err-set.ensures.1
+
+pub set_reply-requires : goal.set_reply-requires
+set_reply-requires c = rw (rw c.in_ok-set.ensures.ok_part at c.new.ensures.boundaries ∙ c.in_ok-list.ensures) (numbers_of-fit c.args.a.now)
 
 pub returns-in_err-line : goal.returns-in_err-line
 returns-in_err-line c = IsReplyTo-no_memory _ c.from_residual-in_err-line.result c.from_residual-in_err-line.ensures.1

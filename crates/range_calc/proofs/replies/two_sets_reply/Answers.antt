@@ -7,22 +7,22 @@ use Rattle.range_calc.proofs.replies.two_sets_reply.Goals as goal
 pub returns-in_ok-union-in-Union : goal.returns-in_ok-union-in-Union
 returns-in_ok-union-in-Union c =
     let made = c.in_ok-union-in-Union in
-    rw c.in-Union.is (IsReplyText-line c.set_line.result (union c.args.left.now c.args.right.boundaries.now) (list_text made.field-0) (made.field-0, made.ensures.means, refl) c.set_line.ensures)
+    rw c.in-Union.is (IsReplyText-line c.set_line.result (union c.args.left.now c.args.right.boundaries.now) (list_text made.field-0) (made.field-0, made.ensures.gives.means, refl) c.set_line.ensures)
 
 pub returns-in_ok-intersection-in-Intersection : goal.returns-in_ok-intersection-in-Intersection
 returns-in_ok-intersection-in-Intersection c =
     let made = c.in_ok-intersection-in-Intersection in
-    rw c.in-Intersection.is (IsReplyText-line c.set_line-in-Intersection.result (intersection c.args.left.now c.args.right.boundaries.now) (list_text made.field-0) (made.field-0, made.ensures.means, refl) c.set_line-in-Intersection.ensures)
+    rw c.in-Intersection.is (IsReplyText-line c.set_line-in-Intersection.result (intersection c.args.left.now c.args.right.boundaries.now) (list_text made.field-0) (made.field-0, made.ensures.gives.means, refl) c.set_line-in-Intersection.ensures)
 
 pub returns-in_ok-difference-in-Difference : goal.returns-in_ok-difference-in-Difference
 returns-in_ok-difference-in-Difference c =
     let made = c.in_ok-difference-in-Difference in
-    rw c.in-Difference.is (IsReplyText-line c.set_line-in-Difference.result (difference c.args.left.now c.args.right.boundaries.now) (list_text made.field-0) (made.field-0, made.ensures.means, refl) c.set_line-in-Difference.ensures)
+    rw c.in-Difference.is (IsReplyText-line c.set_line-in-Difference.result (difference c.args.left.now c.args.right.boundaries.now) (list_text made.field-0) (made.field-0, made.ensures.gives.means, refl) c.set_line-in-Difference.ensures)
 
 pub returns-in_ok-symmetric_difference-in-SymmetricDifference : goal.returns-in_ok-symmetric_difference-in-SymmetricDifference
 returns-in_ok-symmetric_difference-in-SymmetricDifference c =
     let made = c.in_ok-symmetric_difference-in-SymmetricDifference in
-    rw c.in-SymmetricDifference.is (IsReplyText-line c.set_line-in-SymmetricDifference.result (symmetric_difference c.args.left.now c.args.right.boundaries.now) (list_text made.field-0) (made.field-0, made.ensures.means, refl) c.set_line-in-SymmetricDifference.ensures)
+    rw c.in-SymmetricDifference.is (IsReplyText-line c.set_line-in-SymmetricDifference.result (symmetric_difference c.args.left.now c.args.right.boundaries.now) (list_text made.field-0) (made.field-0, made.ensures.gives.means, refl) c.set_line-in-SymmetricDifference.ensures)
 
 pub returns-in-Disjoint : goal.returns-in-Disjoint
 returns-in-Disjoint c =
