@@ -1,0 +1,69 @@
+//! Keeps track of offsets that are there, as of a file that comes in pieces.
+//!
+//! It reads commands from its input, one a line, and answers each with one line before it reads the next. Its one argument is the most boundaries that there may be.
+#![tactic(auto)]
+
+mod answering;
+mod limit;
+mod line;
+mod numbers;
+mod request;
+mod serving;
+mod status;
+#[cfg(test)]
+mod tests;
+mod writing;
+
+use limit::limit_asked;
+use serving::serve;
+use status::Status;
+use std::env;
+use std::io::{self, BufReader, BufWriter, ErrorKind, Write};
+use std::process::ExitCode;
+use std::rt::Env;
+
+fn main(rt: HostRuntime) -> ExitCode {
+    let status = match run(&rt) {
+        Ok(status) => status,
+        Err(error) if error.kind() == ErrorKind::OutOfMemory => out_of_memory(&rt),
+        Err(_) => Status::Failed,
+    };
+    ExitCode::from(status.code())
+}
+
+/// Answers the lines of the input, or says why it doesn't.
+fn run(rt: &(impl Env + Input + Print + AllocGlobal)) -> io::Result<Status> {
+    let mut out = io::writer(rt);
+    let limit = match arguments(rt) {
+        Ok(words) => limit_asked(words.as_slice()),
+        Err(error) if error.kind() == ErrorKind::OutOfMemory => return Err(error),
+        // An argument that is no text is no limit.
+        Err(_) => None,
+    };
+    let Some(limit) = limit else {
+        out.write_all(b"bad limit\n")?;
+        return Ok(Status::BadLimit);
+    };
+    let reader = BufReader::new(rt.alloc(), rt.reader())?;
+    let mut writer = BufWriter::new(rt.alloc(), out)?;
+    match serve(rt.alloc(), limit, reader, &mut writer) {
+        Ok(()) => Ok(Status::Ended),
+        // The input or the output failed, whatever the kind of its error.
+        Err(_) => Ok(Status::Failed),
+    }
+}
+
+/// Says that there was no memory to begin with, which itself takes none.
+fn out_of_memory(rt: &impl Print) -> Status {
+    match io::writer(rt).write_all(b"out of memory\n") {
+        Ok(()) => Status::NoMemory,
+        Err(_) => Status::Failed,
+    }
+}
+
+/// The arguments without the program's name.
+fn arguments(rt: &(impl Env + AllocGlobal)) -> io::Result<Vec<String>> {
+    let mut args = env::args(rt)?;
+    let _program = args.next();
+    Ok(args.collect(rt.alloc())?)
+}

@@ -1,0 +1,2 @@
+pub mod OffsetsLemmas
+pub mod RepliesLemmas

@@ -1,0 +1,50 @@
+use Rattle.std.proofs.Common.{◌≡◌, refl, sym, ap, ◌∙◌, ℕ, ◌+◌, ◌^◌, ◌<◌, ◌≤◌, List, length, arith, rules}
+use Rattle.std.proofs.lemmas.List.{length-map}
+use Rattle.std.specs.Ordering.{nat_cmp}
+use Rattle.range_merge.specs.Changes.{changes, taken_items, taken_item}
+use Rattle.range_merge.specs.Connective.{Table, Means}
+use Rattle.range_collections.specs.Values.{range_items}
+use Rattle.range_tracker.proofs.OffsetsLemmas.{length-range_items, IsAscending-range_items, IsListOf-from_means, Means-from_list}
+use Rattle.range_tracker.proofs.tracker.Tracker.admit.Goals as goal
+
+pub merge_len-boundaries-requires : goal.merge_len-boundaries-requires
+merge_len-boundaries-requires g c =
+    let range = c.args.range.now in
+    let few = length-range_items range.start range.end in
+    let is = ap length (c.offsets_between.ensures range.start range.end refl) in
+    (search rules, (c.requires, (omega (arith, few, is, c.self.invariant.within, c.self.invariant.room), search rules)))
+
+pub returns-then-boundaries-self-clause-too_many :
+    goal.returns-then-boundaries-self-clause-too_many
+returns-then-boundaries-self-clause-too_many g c =
+    λ n.
+    let f : Table = g.O.MergeOperation.connective c.args.op.now in
+    let range = c.args.range.now in
+    let is = c.offsets_between.ensures range.start range.end refl in
+    let made = c.changes_mean_the_connective.ensures.means f c.self.inside.set (range_items nat_cmp range.start range.end) c.requires c.self.invariant.sorted (IsAscending-range_items range.start range.end) in
+    let items : List ℕ = taken_items (changes nat_cmp f c.self.inside.set (range_items nat_cmp range.start range.end)) in
+    let count = rw is at c.merge_len-boundaries.ensures.means items made in
+    rw (← c.self.view_is) (
+      λ same.
+          let n-is : c.merge_len-boundaries.result ≡ n = cc in
+          ((items, IsListOf-from_means f items c.self.inside.set range made, count ∙ n-is), omega (arith, n-is, c.if-boundaries-self.true)),
+      λ many.
+          let n-is : c.merge_len-boundaries.result ≡ n =
+          sym (rw is at c.merge_len-boundaries.ensures.means many.0.0 (Means-from_list f many.0.0 c.self.inside.set range many.0.1)) ∙ many.0.2 in
+          cc,
+    )
+
+pub returns-else-boundaries-self-clause-too_many :
+    goal.returns-else-boundaries-self-clause-too_many
+returns-else-boundaries-self-clause-too_many g c =
+    λ n.
+    let f : Table = g.O.MergeOperation.connective c.args.op.now in
+    let range = c.args.range.now in
+    let is = c.offsets_between.ensures range.start range.end refl in
+    rw (← c.self.view_is) (
+      λ same. cc,
+      λ many.
+          let n-is : c.merge_len-boundaries.result ≡ n =
+          sym (rw is at c.merge_len-boundaries.ensures.means many.0.0 (Means-from_list f many.0.0 c.self.inside.set range many.0.1)) ∙ many.0.2 in
+          absurd (omega (arith, n-is, many.1, c.if-boundaries-self.false)),
+    )

@@ -1,0 +1,15 @@
+-- What a tracker holds, and what is always so of it.
+use Rattle.std.specs.Prelude.{ℕ, ◌-◌, ◌^◌, ◌≤◌, List, length}
+use Rattle.std.specs.Ordering.{nat_cmp}
+use Rattle.range_merge.specs.Boundaries.{IsAscending}
+
+-- the strictly sorted boundaries of the offsets that are there, and how many boundaries there may be
+pub record Tracked : Type 0 where
+  pub boundaries : List ℕ
+  pub limit : ℕ
+
+-- the boundaries are strictly sorted and no more than the limit, and the limit leaves room for two more
+pub record IsWithinLimit (boundaries : List ℕ) (limit : ℕ) : Type 0 where
+  pub sorted : IsAscending nat_cmp boundaries
+  pub within : length boundaries ≤ limit
+  pub room : limit ≤ 2 ^ 64 - 3

@@ -1,0 +1,10 @@
+//! A tracker of received offsets, as of a file that comes in pieces: which are there, which are missing, and no more boundaries than a limit.
+#![tactic(auto)]
+
+mod command;
+mod track_error;
+mod tracker;
+
+pub use command::Command;
+pub use track_error::TrackError;
+pub use tracker::Tracker;

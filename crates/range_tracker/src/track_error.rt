@@ -1,0 +1,38 @@
+//! Why a tracker refuses a command.
+use std::alloc::AllocError;
+use std::error::Error;
+use std::fmt;
+
+/// Why a tracker refused a command. It is then as it was.
+#[derive(Clone, Copy, Debug, PartialEq, Eq)]
+pub enum TrackError {
+    /// The command would leave more boundaries than the limit.
+    TooMany {
+        /// How many it would leave.
+        boundaries: usize,
+    },
+    /// A growth of memory was refused.
+    OutOfMemory,
+}
+
+impl From<AllocError> for TrackError {
+    ghost use Rattle.std.specs.Prelude.{◌≡◌};
+    ghost use Rattle.range_tracker.specs.declared.track_error.TrackError.TheVariants.{OutOfMemory};
+
+    ghost from_gives = { λ _ error. error ≡ OutOfMemory };
+
+    fn from(_refused: AllocError) -> TrackError {
+        TrackError::OutOfMemory
+    }
+}
+
+impl fmt::Display for TrackError {
+    fn fmt<W: fmt::Write>(&self, f: &mut fmt::Formatter<W>) -> fmt::Result {
+        match self {
+            TrackError::TooMany { boundaries } => write!(f, "too many boundaries: {boundaries}"),
+            TrackError::OutOfMemory => write!(f, "out of memory"),
+        }
+    }
+}
+
+impl Error for TrackError {}

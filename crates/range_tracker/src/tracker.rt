@@ -1,0 +1,157 @@
+//! A tracker of offsets: the strictly sorted list of their boundaries, which never has more of them than a limit.
+//!
+//! A command is first measured, without memory, and refused where it would leave too many boundaries. Then it changes the list where it lies.
+ghost use Rattle.std.specs.Prelude.{◌≡◌, ◌≢◌, ◌↔◌, ◌-◌, ◌<◌, ◌≤◌, ◌&&◌, ℕ, true, false, not, nat_lt, [], ◌∷◌, length, IsTrue, IsOk, IfOk, OnOk, OnErr, Err};
+ghost use Rattle.std.specs.Ordering.{nat_cmp};
+ghost use Rattle.range_merge.specs.Boundaries.{IsAscending};
+ghost use Rattle.range_collections.specs.Values.{range_items};
+ghost use Rattle.range_tracker.specs.Offsets.{IsListOf, HasBoundaries, offsets_of, is_within};
+ghost use Rattle.range_tracker.specs.Commands.{MayAnswer, AreReplies, after_command, after_replies};
+
+use crate::command::Command;
+use crate::track_error::TrackError;
+use range_collections::{
+    Comparisons, DiffOp, Iter, MergeOperation, RangeSet2, RangeSetRef, UnionOp,
+    changes_mean_the_connective,
+};
+use std::alloc::{AllocError, Global};
+use std::marker::Model;
+use std::ops::Range;
+
+/// Which offsets are there. A clause reads it as the strictly sorted list of their boundaries and the limit.
+///
+/// An offset is there where an odd number of boundaries is at or below it. The list never has more boundaries than the limit.
+#[derive(Drop)]
+pub struct Tracker {
+    alloc: Global,
+    set: RangeSet2<u64>,
+    limit: usize,
+}
+
+impl Model for Tracker {
+    ghost use Rattle.range_tracker.specs.Tracked.{Tracked, IsWithinLimit};
+
+    ghost Value = { Tracked };
+
+    ghost view = { λ tracker. record { boundaries = tracker.set; limit = tracker.limit } };
+
+    ghost invariant = { λ tracker. IsWithinLimit tracker.set tracker.limit };
+}
+
+impl Tracker {
+    /// A tracker without offsets that will have at most `limit` boundaries, which are twice as many as ranges. It takes no memory.
+    pub fn new(alloc: Global, limit: usize) -> Tracker
+        requires { limit ≤ usize.MAX - 2 }
+        ensures boundaries { result.boundaries ≡ [] }
+        ensures limit { result.limit ≡ limit }
+    {
+        Tracker {
+            alloc,
+            set: RangeSet2::empty(alloc),
+            limit,
+        }
+    }
+
+    /// The offsets of the range are there from now on. An empty or reversed range changes nothing.
+    ///
+    /// The answer is `TooMany` exactly where the list would have more boundaries than the limit; this is known before memory is asked for. Where the list doesn't grow, and where nothing was there, it isn't `OutOfMemory`. An error leaves the tracker as it was.
+    pub fn record(&mut self, range: Range<u64>) -> Result<(), TrackError>
+        ensures answer { MayAnswer self.old.limit (offsets_of self.old.boundaries) (Command.Add range) result }
+        ensures ok { OnOk result ((n : ℕ) → offsets_of self.new.boundaries n ≡ after_command (Command.Add range) (offsets_of self.old.boundaries) n) }
+        ensures unchanged { OnErr result (self.new ≡ self.old) }
+        ensures limit { self.new.limit ≡ self.old.limit }
+    {
+        self.admit(&range, &UnionOp)?;
+        self.set.insert(range)?;
+        Ok(())
+    }
+
+    /// The offsets of the range aren't there from now on. An empty or reversed range changes nothing.
+    ///
+    /// The answer is `TooMany` exactly where the list would have more boundaries than the limit; this is known before memory is asked for. Where the list doesn't grow, and where nothing was there, it isn't `OutOfMemory`. An error leaves the tracker as it was.
+    pub fn forget(&mut self, range: Range<u64>) -> Result<(), TrackError>
+        ensures answer { MayAnswer self.old.limit (offsets_of self.old.boundaries) (Command.Forget range) result }
+        ensures ok { OnOk result ((n : ℕ) → offsets_of self.new.boundaries n ≡ after_command (Command.Forget range) (offsets_of self.old.boundaries) n) }
+        ensures unchanged { OnErr result (self.new ≡ self.old) }
+        ensures limit { self.new.limit ≡ self.old.limit }
+    {
+        self.admit(&range, &DiffOp)?;
+        self.set.remove(range)?;
+        Ok(())
+    }
+
+    /// Takes each command in turn, goes on after a refusal, and puts each answer at its command's place.
+    pub fn run(&mut self, commands: &[Command], replies: &mut [Result<(), TrackError>])
+        requires { length commands.now ≡ length replies.old }
+        ensures replies { AreReplies self.old.limit (offsets_of self.old.boundaries) commands.now replies.new }
+        ensures offsets { (n : ℕ) → offsets_of self.new.boundaries n ≡ after_replies commands.now replies.new (offsets_of self.old.boundaries) n }
+        ensures limit { self.new.limit ≡ self.old.limit }
+    {
+        for (i, command) in commands.iter().enumerate() {
+            replies[i] = self.apply(command);
+        }
+    }
+
+    /// Whether every offset of the range is there. It is so for an empty or reversed range.
+    pub fn has(&self, range: Range<u64>) -> bool
+        ensures { IsTrue result ↔ ((n : ℕ) → is_within range n ≡ true → offsets_of self.now.boundaries n ≡ true) }
+    {
+        let ends = [range.start, range.end];
+        offsets_between(&ends).is_subset(self.set.as_ref())
+    }
+
+    /// The offsets below `len` that aren't there. The one error is want of memory, and it doesn't come where nothing is there.
+    pub fn missing(&self, len: u64) -> Result<RangeSet2<u64>, AllocError>
+        ensures missing { IfOk result (λ set. IsListOf set (λ n. nat_lt n len && not (offsets_of self.now.boundaries n))) }
+        ensures succeeds { HasBoundaries (offsets_of self.now.boundaries) 0 → IsOk result }
+    {
+        let ends = [0, len];
+        offsets_between(&ends).difference(self.alloc, self.set.as_ref())
+    }
+
+    /// The ranges of the offsets that are there, from the lowest on.
+    pub fn ranges(&self) -> Iter<'_, u64>
+        ensures boundaries { result ≡ self.now.boundaries }
+        ensures sorted { IsAscending nat_cmp self.now.boundaries }
+    {
+        self.set.iter()
+    }
+
+    // Takes one command.
+    fn apply(&mut self, command: &Command) -> Result<(), TrackError>
+        ensures answer { MayAnswer self.old.limit (offsets_of self.old.boundaries) command.now result }
+        ensures ok { OnOk result ((n : ℕ) → offsets_of self.new.boundaries n ≡ after_command command.now (offsets_of self.old.boundaries) n) }
+        ensures unchanged { OnErr result (self.new ≡ self.old) }
+        ensures limit { self.new.limit ≡ self.old.limit }
+    {
+        match command {
+            Command::Add(range) => self.record(range.start..range.end),
+            Command::Forget(range) => self.forget(range.start..range.end),
+        }
+    }
+
+    // Refuses where the operation with the range would leave more boundaries than the limit. It takes no memory.
+    fn admit<O: MergeOperation>(&self, range: &Range<u64>, op: &O) -> Result<(), TrackError>
+        requires { O.connective op.now false false ≡ false }
+        ensures too_many { (n : ℕ) → (result ≡ Err (TrackError.TooMany n)) ↔
+            (HasBoundaries (λ x. O.connective op.now (offsets_of self.now.boundaries x) (is_within range.now x)) n × (self.now.limit < n)) }
+        ensures no_memory { result ≢ Err TrackError.OutOfMemory }
+    {
+        changes_mean_the_connective::<u64, Comparisons>();
+        let ends = [range.start, range.end];
+        let count = &mut Comparisons::new();
+        let boundaries = self.set.merge_len(offsets_between(&ends), op, count);
+        if boundaries > self.limit {
+            Err(TrackError::TooMany { boundaries })
+        } else {
+            Ok(())
+        }
+    }
+}
+
+// The offsets from the first number up to the second, which is out: none where the first isn't below the second.
+fn offsets_between(ends: &[u64; 2]) -> RangeSetRef<'_, u64>
+    ensures { (start end : ℕ) → ends.now ≡ start ∷ end ∷ [] → result.boundaries.now ≡ range_items nat_cmp start end }
+{
+    RangeSetRef::new(ends).unwrap_or(RangeSetRef::empty())
+}
