@@ -1,0 +1,50 @@
+//! Addresses to give out, kept as the set of the free ones.
+ghost use Rattle.std.specs.Prelude.{◌≡◌, ◌+◌, ◌-◌, ◌^◌, ◌<◌, ℕ, true, false, IfOk, IfSome, IfNone, OnOk, OnErr};
+ghost use Rattle.std.specs.Ordering.{nat_cmp};
+ghost use Rattle.range_collections.specs.Values.{range_items};
+ghost use Rattle.range_collections.specs.Boundaries.{member};
+ghost use Rattle.range_collections.specs.Connective.{Means, union_table, difference_table};
+
+use range_collections::RangeSet;
+use std::alloc::AllocError;
+use std::ops::Range;
+
+/// Addresses. Up to four ranges lie in the value itself.
+pub type Addresses = RangeSet<u64, 8>;
+
+/// The lowest free address. It takes no memory.
+pub fn lowest_free(free: &Addresses) -> Option<u64>
+    ensures free { IfSome result (λ at. member nat_cmp free.now at ≡ true) }
+    ensures lowest { IfSome result (λ at. (lower : ℕ) → lower < at → member nat_cmp free.now lower ≡ false) }
+    ensures none { IfNone result ((at : ℕ) → member nat_cmp free.now at ≡ false) }
+{
+    free.boundaries().first().copied()
+}
+
+/// Takes the lowest free address, where there is one. The greatest number of 64 bits is never given out. Where memory is refused, nothing is taken.
+pub fn take_lowest(free: &mut Addresses) -> Result<Option<u64>, AllocError>
+    ensures was_free { IfOk result (λ taken. IfSome taken (λ at. member nat_cmp free.old at ≡ true)) }
+    ensures lowest { IfOk result (λ taken. IfSome taken (λ at.
+        (lower : ℕ) → lower < at → member nat_cmp free.old lower ≡ false)) }
+    ensures means { IfOk result (λ taken. IfSome taken (λ at.
+        Means nat_cmp difference_table free.new free.old (range_items nat_cmp at (at + 1)))) }
+    ensures none { IfOk result (λ taken. IfNone taken ((at : ℕ) → at < 2 ^ 64 - 1 → member nat_cmp free.old at ≡ false)) }
+    ensures kept { IfOk result (λ taken. IfNone taken (free.new ≡ free.old)) }
+    ensures unchanged { OnErr result (free.new ≡ free.old) }
+{
+    match lowest_free(free) {
+        Some(lowest) if lowest < u64::MAX => {
+            free.remove(lowest..lowest + 1)?;
+            Ok(Some(lowest))
+        }
+        _ => Ok(None),
+    }
+}
+
+/// Gives the addresses of the range back. Where memory is refused, the free addresses are as they were.
+pub fn give_back(free: &mut Addresses, given: Range<u64>) -> Result<(), AllocError>
+    ensures means { OnOk result (Means nat_cmp union_table free.new free.old (range_items nat_cmp given.start given.end)) }
+    ensures unchanged { OnErr result (free.new ≡ free.old) }
+{
+    free.insert(given)
+}

@@ -1,0 +1,33 @@
+//! Numbers that come out of order, and the gaps between them.
+ghost use Rattle.std.specs.Prelude.{◌↔◌, IsTrue, IsOk, IfOk};
+ghost use Rattle.std.specs.Ordering.{int_cmp};
+ghost use Rattle.range_collections.specs.Sets.{IsSubset};
+ghost use Rattle.range_collections.specs.Values.{range_items};
+ghost use Rattle.range_collections.specs.Connective.{Means, difference_table};
+
+use range_collections::{RangeSet, RangeSet2};
+use std::alloc::{AllocError, Global};
+use std::ops::Range;
+
+/// Numbers. Up to four ranges lie in the value itself.
+pub type Numbers = RangeSet<i64, 8>;
+
+/// The numbers from the start up to the end that are not there.
+pub fn missing_between(
+    alloc: Global,
+    there: &Numbers,
+    ends: Range<i64>,
+) -> Result<Numbers, AllocError>
+    ensures { IfOk result (λ missing. Means int_cmp difference_table missing (range_items int_cmp ends.start ends.end) there.now) }
+{
+    Numbers::from_range(alloc, ends)?.difference(there.as_ref())
+}
+
+/// Whether each number from the start up to the end is there. A set of one range takes no memory, so this is never refused.
+pub fn has_all(alloc: Global, there: &Numbers, ends: Range<i64>) -> Result<bool, AllocError>
+    ensures all { IfOk result (λ come. IsTrue come ↔ IsSubset int_cmp (range_items int_cmp ends.start ends.end) there.now) }
+    ensures succeeds { IsOk result }
+{
+    let wanted = RangeSet2::from_range(alloc, ends)?;
+    Ok(there.is_superset(wanted.as_ref()))
+}
