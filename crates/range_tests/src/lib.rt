@@ -6,9 +6,15 @@ mod calls;
 #[cfg(test)]
 mod changed;
 #[cfg(test)]
+mod connectives;
+#[cfg(test)]
 mod contains;
 #[cfg(test)]
 mod counted;
+#[cfg(test)]
+mod counts;
+#[cfg(test)]
+mod drawn;
 #[cfg(test)]
 mod elements;
 #[cfg(test)]
@@ -16,7 +22,15 @@ mod entries;
 #[cfg(test)]
 mod flags;
 #[cfg(test)]
+mod flags_of_advances;
+#[cfg(test)]
 mod flags_of_changes;
+#[cfg(test)]
+mod flags_of_clones;
+#[cfg(test)]
+mod flags_of_connectives;
+#[cfg(test)]
+mod flags_of_merges;
 #[cfg(test)]
 mod forms;
 #[cfg(test)]
@@ -24,9 +38,25 @@ mod given;
 #[cfg(test)]
 mod in_place;
 #[cfg(test)]
+mod insertions;
+#[cfg(test)]
 mod json;
 #[cfg(test)]
+mod lengths;
+#[cfg(test)]
 mod letters;
+#[cfg(test)]
+mod made_up;
+#[cfg(test)]
+mod made_up_lengths;
+#[cfg(test)]
+mod made_up_operations;
+#[cfg(test)]
+mod made_up_parts;
+#[cfg(test)]
+mod made_up_questions;
+#[cfg(test)]
+mod made_up_values;
 #[cfg(test)]
 mod merging;
 #[cfg(test)]
@@ -36,6 +66,8 @@ mod operations;
 #[cfg(test)]
 mod parts;
 #[cfg(test)]
+mod properties_of_insertions;
+#[cfg(test)]
 mod questions;
 #[cfg(test)]
 mod ranges;
@@ -44,9 +76,21 @@ mod refusals;
 #[cfg(test)]
 mod refusals_in_place;
 #[cfg(test)]
+mod refusals_of_connectives;
+#[cfg(test)]
 mod refusals_of_copies;
 #[cfg(test)]
+mod refusals_of_insertions;
+#[cfg(test)]
 mod refusals_of_lists;
+#[cfg(test)]
+mod refusals_of_merges;
+#[cfg(test)]
+mod refusals_of_ranges;
+#[cfg(test)]
+mod refused_advances;
+#[cfg(test)]
+mod refusing;
 #[cfg(test)]
 mod searching;
 #[cfg(test)]
@@ -58,6 +102,16 @@ mod tally;
 #[cfg(test)]
 mod tally_of_changes;
 #[cfg(test)]
+mod tally_of_connectives;
+#[cfg(test)]
+mod tally_of_searches;
+#[cfg(test)]
 mod tally_of_sets;
+#[cfg(test)]
+mod tally_of_tests;
+#[cfg(test)]
+mod tracker;
+#[cfg(test)]
+mod tracker_refusals;
 #[cfg(test)]
 mod values;

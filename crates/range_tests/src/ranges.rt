@@ -1,8 +1,9 @@
 //! The ranges of a set, their bounds and clones, and the texts of both.
 use crate::given::{prints, set_of};
 use range_collections::{RangeSet, RangeSet2, RangeSetRange, RangeSetRef};
-use std::alloc::Global;
+use std::alloc::{AllocError, Global};
 use std::ops::Bound;
+use std::test::Fail;
 
 // The ends of a range of numbers.
 fn ends(range: &RangeSetRange<i64>) -> (Option<i64>, Option<i64>) {
@@ -51,6 +52,35 @@ fn set_prints(alloc: Global, items: &[i64], want: &str) -> bool {
     }
 }
 
+// The boundaries of 0..5, 10..15 and so on, below a limit.
+fn fives_below(alloc: Global, limit: i64) -> Result<Vec<i64>, AllocError> {
+    let mut items = Vec::new(alloc);
+    for x in 0..limit {
+        if x % 5 == 0 {
+            items.push(x)?;
+        }
+    }
+    Ok(items)
+}
+
+// Their text.
+fn text_of_fives_below(alloc: Global, limit: i64) -> Result<String, AllocError> {
+    let mut text = String::from_str(alloc, "RangeSet{")?;
+    for x in 0..limit {
+        if x % 10 == 0 && x > 0 {
+            text.push_str(", ")?;
+        }
+        if x % 10 == 0 {
+            text.push_str(format!(in alloc; "{x}..")?.as_str())?;
+        }
+        if x % 10 == 5 {
+            text.push_str(format!(in alloc; "{x}")?.as_str())?;
+        }
+    }
+    text.push_str("}")?;
+    Ok(text)
+}
+
 #[test]
 fn ranges_in_order(rt: HostRuntime) {
     let view = RangeSetRef::new(&[0i64, 2, 4]).unwrap_or_default();
@@ -87,4 +117,21 @@ fn texts(rt: HostRuntime) {
     assert!(rt; prints(alloc, &RangeSet::<i8, 2>::empty(alloc), "RangeSet{}"));
     assert!(rt; prints(alloc, &RangeSetRange::from(2u8..5), "2..5"));
     assert!(rt; prints(alloc, &RangeSetRange::from(2u8..), "2.."));
+}
+
+#[test]
+fn texts_of_three_ranges_and_of_a_hundred(rt: HostRuntime) -> Result<(), Fail> {
+    let alloc = rt.alloc();
+    let text = "RangeSet{0..5, 10..15, 20..25}";
+    assert!(rt; set_prints(alloc, &[0, 5, 10, 15, 20, 25], text));
+    for limit in [30, 1000] {
+        let items = fives_below(alloc, limit)?;
+        let want = text_of_fives_below(alloc, limit)?;
+        assert!(rt; items.len() as i64 == limit / 5, "boundaries below {limit}");
+        assert!(rt;
+            set_prints(alloc, items.as_slice(), want.as_str()),
+            "of the ranges below {limit}"
+        );
+    }
+    Ok(())
 }

@@ -142,4 +142,20 @@ impl Starved {
     {
         self.refuses_a_byte() && self.answer(0, (), &call) == Answer::Right
     }
+
+    // The same with what is made for the call while there is memory.
+    pub(crate) fn is_right_for<T: Drop, M: Fn() -> Option<T>, F: Fn(T) -> Answer>(
+        &mut self,
+        make: M,
+        call: F,
+    ) -> bool
+        requires makes { M.IsAlwaysCallable make }
+        requires calls { F.IsAlwaysCallable call }
+    {
+        self.give_back();
+        match make() {
+            Some(value) => self.refuses_a_byte() && self.answer(0, value, &call) == Answer::Right,
+            None => false,
+        }
+    }
 }

@@ -1,6 +1,8 @@
 //! A number from 0 to 255 in the reversed order, so that 255 is the least value.
 ghost use Rattle.std.specs.Prelude.{◌≡◌, ◌<◌, ◌^◌, ⊤};
 ghost use Rattle.std.proofs.Common.{rules};
+ghost use Rattle.std.specs.Cmp.Rules.{comparing};
+ghost use Rattle.range_entry.specs.Copies.{same-equal};
 
 use range_entry::{EntryClone, RangeSetEntry};
 use std::alloc::{AllocError, Global};
@@ -69,7 +71,11 @@ impl RangeSetEntry for Back {
 impl EntryClone for Back {
     ghost is_sure = { λ _. ⊤ };
 
+    ghost is_copy = { λ x y. y ≡ x };
+
     fn entry_clone(&self) -> Result<Back, AllocError> {
         Ok(*self)
     }
+
+    ghost copy_is_equal = { same-equal Self.cmp (Prim.search (comparing, rules)) };
 }

@@ -5,6 +5,7 @@ ghost use Rattle.std.proofs.Common.{rules};
 ghost use Rattle.std.specs.Cmp.{partial_order_from_own_ties};
 ghost use Rattle.std.specs.Cmp.Rules.{comparing};
 ghost use Rattle.std.specs.Ordering.{int_cmp, int_eq, on, as_partial_cmp};
+ghost use Rattle.range_entry.specs.Copies.{same-equal};
 
 use range_entry::{EntryClone, RangeSetEntry};
 use range_merge::Copier;
@@ -90,6 +91,8 @@ impl RangeSetEntry for Flagged {
 impl EntryClone for Flagged {
     ghost is_sure = { λ item. item.flag ≡ false };
 
+    ghost is_copy = { λ x y. y ≡ x };
+
     fn entry_clone(&self) -> Result<Flagged, AllocError> {
         if self.flag {
             Err(AllocError)
@@ -97,6 +100,8 @@ impl EntryClone for Flagged {
             Ok(*self)
         }
     }
+
+    ghost copy_is_equal = { same-equal Self.cmp (Prim.search (comparing, rules)) };
 }
 
 // Copies such numbers, and refuses where the flag is set.

@@ -4,6 +4,7 @@ ghost use Rattle.std.proofs.Common.{rules};
 ghost use Rattle.std.specs.Cmp.{partial_order_from_own_ties};
 ghost use Rattle.std.specs.Cmp.Rules.{comparing};
 ghost use Rattle.std.specs.Ordering.{int_cmp, int_eq, on, as_partial_cmp};
+ghost use Rattle.range_entry.specs.Copies.{same-equal};
 
 use range_entry::EntryClone;
 use std::alloc::AllocError;
@@ -69,7 +70,11 @@ impl PartialOrd for Lettered {
 impl EntryClone for Lettered {
     ghost is_sure = { λ _. Unit {0} };
 
+    ghost is_copy = { λ x y. y ≡ x };
+
     fn entry_clone(&self) -> Result<Lettered, AllocError> {
         Ok(*self)
     }
+
+    ghost copy_is_equal = { same-equal Self.cmp (Prim.search (comparing, rules)) };
 }

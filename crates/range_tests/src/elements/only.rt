@@ -1,6 +1,8 @@
 //! A type of one value.
 ghost use Rattle.std.specs.Prelude.{◌≡◌, ⊤};
 ghost use Rattle.std.proofs.Common.{rules};
+ghost use Rattle.std.specs.Cmp.Rules.{comparing};
+ghost use Rattle.range_entry.specs.Copies.{same-equal};
 
 use range_entry::{EntryClone, RangeSetEntry};
 use std::alloc::{AllocError, Global};
@@ -33,7 +35,11 @@ impl RangeSetEntry for Only {
 impl EntryClone for Only {
     ghost is_sure = { λ _. ⊤ };
 
+    ghost is_copy = { λ x y. y ≡ x };
+
     fn entry_clone(&self) -> Result<Only, AllocError> {
         Ok(Only)
     }
+
+    ghost copy_is_equal = { same-equal Self.cmp (Prim.search (comparing, rules)) };
 }

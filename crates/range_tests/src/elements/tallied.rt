@@ -1,12 +1,14 @@
 //! A number that adds one to a tally whenever it is compared.
-ghost use Rattle.std.specs.Prelude.{◌≡◌, ⊤, Ok};
+ghost use Rattle.std.specs.Prelude.{◌≡◌, ◌^◌, ◌-◌, ⊤, Ok, None, negsuc, FitsSigned};
+ghost use Rattle.std.specs.Int.{w64};
 ghost use Rattle.std.proofs.Common.{rules};
 ghost use Rattle.std.specs.Cmp.{partial_order_from_own_ties};
 ghost use Rattle.std.specs.Cmp.Rules.{comparing};
 ghost use Rattle.std.specs.Ordering.{int_cmp, int_eq, on, as_partial_cmp};
+ghost use Rattle.range_entry.specs.Copies.{same-equal};
 
-use range_entry::EntryClone;
-use std::alloc::AllocError;
+use range_entry::{EntryClone, RangeSetEntry};
+use std::alloc::{AllocError, Global};
 use std::cell::Cell;
 use std::cmp::Ordering;
 
@@ -78,7 +80,38 @@ impl<'t> PartialOrd for Tallied<'t> {
 impl<'t> EntryClone for Tallied<'t> {
     ghost is_sure = { λ _. ⊤ };
 
+    ghost is_copy = { λ x y. y ≡ x };
+
     fn entry_clone(&self) -> Result<Self, AllocError> {
         Ok(*self)
     }
+
+    ghost copy_is_equal = { same-equal Self.cmp (Prim.search (comparing, rules)) };
+}
+
+impl<'t> RangeSetEntry for Tallied<'t> {
+    ghost is_value = { λ x. FitsSigned w64 x.number };
+
+    ghost least = { record { number = negsuc (2 ^ 63 - 1); tally = None } };
+
+    ghost is_min_sure = { ⊤ };
+
+    fn min_value(_alloc: Global) -> Result<Self, AllocError> {
+        Ok(Tallied {
+            number: i64::MIN,
+            tally: None,
+        })
+    }
+
+    fn is_min_value(&self) -> bool {
+        self.number == i64::MIN
+    }
+
+    fn known(&self) {
+        let _number = self.number;
+    }
+
+    ghost least_is_value = { Prim.search rules };
+
+    ghost least_is_least = { Prim.search (comparing, rules) };
 }

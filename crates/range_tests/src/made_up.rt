@@ -1,0 +1,147 @@
+//! Made-up pairs of lists, and what is expected of them: by membership alone, element by element.
+use crate::forms::Operation;
+use std::alloc::{AllocError, Global};
+
+// How many pairs there are.
+pub(crate) const PAIRS: u64 = 2_000;
+
+// What the lists are made of, in order. No boundary lies between two of these, so a set is the same at all elements from one of them up to the next.
+pub(crate) const POINTS: [i64; 19] = [
+    i64::MIN,
+    -4,
+    -3,
+    -2,
+    -1,
+    0,
+    1,
+    2,
+    3,
+    4,
+    5,
+    6,
+    7,
+    8,
+    9,
+    10,
+    11,
+    12,
+    i64::MAX,
+];
+
+// The operations, by their names.
+pub(crate) const OPERATIONS: [(&str, Operation); 4] = [
+    ("union", Operation::Union),
+    ("intersection", Operation::Intersection),
+    ("difference", Operation::Difference),
+    ("symmetric difference", Operation::SymmetricDifference),
+];
+
+// Two lists of boundaries.
+#[derive(Drop)]
+pub(crate) struct Pair {
+    pub(crate) left: Vec<i64>,
+    pub(crate) right: Vec<i64>,
+}
+
+// A linear congruential generator that always begins alike, so a pair's number names it.
+#[derive(Drop)]
+pub(crate) struct Generator {
+    state: u64,
+}
+
+impl Generator {
+    pub(crate) fn new() -> Generator {
+        Generator { state: 14 }
+    }
+
+    // The high half of the state that comes next.
+    fn bits(&mut self) -> u64 {
+        self.state = self
+            .state
+            .wrapping_mul(6_364_136_223_846_793_005)
+            .wrapping_add(1_442_695_040_888_963_407);
+        self.state / 4_294_967_296
+    }
+
+    // A list with one in sixteen of the points, one in eight, one in four, half of them, or three in four.
+    fn list(&mut self, alloc: Global) -> Result<Vec<i64>, AllocError> {
+        let (some, others) = (self.bits(), self.bits());
+        let few = self.bits() & self.bits();
+        let chosen = match self.bits() % 5 {
+            0 => few & some & others,
+            1 => few & some,
+            2 => few,
+            3 => some,
+            _ => some | others,
+        };
+        points_of(alloc, chosen)
+    }
+
+    // The next pair.
+    pub(crate) fn pair(&mut self, alloc: Global) -> Result<Pair, AllocError> {
+        let left = self.list(alloc)?;
+        let right = self.list(alloc)?;
+        Ok(Pair { left, right })
+    }
+}
+
+// The points whose bit is set, in order.
+fn points_of(alloc: Global, chosen: u64) -> Result<Vec<i64>, AllocError> {
+    let mut items = Vec::new(alloc);
+    let mut bits = chosen;
+    for point in POINTS {
+        if bits % 2 == 1 {
+            items.push(point)?;
+        }
+        bits /= 2;
+    }
+    Ok(items)
+}
+
+// Whether an odd number of boundaries is at or below the element.
+pub(crate) fn member(items: &[i64], x: i64) -> bool {
+    let mut odd = false;
+    for item in items {
+        if *item <= x {
+            odd = !odd;
+        }
+    }
+    odd
+}
+
+// Whether an operation has a member that is in the left set and in the right one as said.
+pub(crate) fn holds(op: Operation, left: bool, right: bool) -> bool {
+    match op {
+        Operation::Union => left || right,
+        Operation::Intersection => left && right,
+        Operation::Difference => left && !right,
+        Operation::SymmetricDifference => left != right,
+    }
+}
+
+// The boundaries of an operation's result: the points at which its membership turns.
+pub(crate) fn wanted(alloc: Global, op: Operation, pair: &Pair) -> Result<Vec<i64>, AllocError> {
+    let (left, right) = (pair.left.as_slice(), pair.right.as_slice());
+    let mut items = Vec::new(alloc);
+    let mut on = false;
+    for point in POINTS {
+        if holds(op, member(left, point), member(right, point)) != on {
+            items.push(point)?;
+            on = !on;
+        }
+    }
+    Ok(items)
+}
+
+// The boundaries of a list's complement.
+pub(crate) fn complement(alloc: Global, list: &[i64]) -> Result<Vec<i64>, AllocError> {
+    let mut items = Vec::new(alloc);
+    let mut on = false;
+    for point in POINTS {
+        if member(list, point) == on {
+            items.push(point)?;
+            on = !on;
+        }
+    }
+    Ok(items)
+}

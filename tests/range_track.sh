@@ -1,0 +1,75 @@
+#!/usr/bin/env bash
+# Runs range_track with limits good and bad, with an output and an input that fail, and over a pipe that stays open.
+#
+#   tests/range_track.sh PROGRAM..   runs these programs
+#
+# It ends with 0 if all is well; else the last line says what was seen.
+set -u
+export LC_ALL=C
+
+fail() {
+    echo "range_track: FAILED: $*"
+    exit 1
+}
+
+[ $# -gt 0 ] || fail "no program was named"
+command -v timeout >/dev/null || fail "the tool timeout is missing"
+
+# Runs the program with these arguments on the input, which is to give this number and these lines.
+row() {
+    local status=$1 input=$2 lines=$3 seen
+    shift 3
+    seen=$(printf "$input" | timeout 20 "$program" "$@" 2>/dev/null; echo "ended with ${PIPESTATUS[1]}")
+    [ "$seen" = "$(printf "$lines"; echo "ended with $status")" ] || fail "$program $*: $seen"
+    rows=$((rows + 1))
+}
+
+# Writes a line into the open pipe, which is to be answered so before another is written.
+line() {
+    local answer
+    echo "$1" >&"${served[1]}" || fail "the pipe takes no line"
+    read -r -t 20 answer <&"${served[0]}" || fail "'$1' isn't answered while the pipe stays open"
+    [ "$answer" = "$2" ] || fail "'$1' over a pipe: $answer"
+}
+
+for program in "$@"; do
+    [ -x "$program" ] || fail "there is no program $program"
+    rows=0
+    row 0 '' '' 4
+    row 0 '+ 0 10\nranges\n' 'ok\n0..10\n' 4
+    row 0 '+ 0 10\nranges' 'ok\n0..10\n' 4
+    row 0 '+ 0 10\n' 'too many 2\n' 0
+    row 0 '+ 0 18446744073709551615\nmissing 18446744073709551615\n' 'ok\n-\n' 18446744073709551613
+    row 2 '+ 0 10\n' 'bad limit\n' 18446744073709551614
+    row 2 '+ 0 10\n' 'bad limit\n' 18446744073709551616
+    row 2 '+ 0 10\n' 'bad limit\n' x
+    row 2 '+ 0 10\n' 'bad limit\n' ''
+    row 2 '+ 0 10\n' 'bad limit\n' -1
+    row 2 '+ 0 10\n' 'bad limit\n' 4 4
+
+    # Without an argument the limit is 1,000,000: 500,000 ranges are taken, and not one more.
+    seen=$(seq 1 500001 | sed 's/.*/+ &0 &5/' | timeout 100 "$program" | sort | uniq -c | tr -s ' ')
+    [ "$seen" = " 500000 ok"$'\n'" 1 too many 1000002" ] || fail "$program without an argument: $seen"
+
+    printf '+ 0 10\n' | timeout 20 "$program" 4 >/dev/full 2>/dev/null
+    status=$?
+    [ $status = 5 ] || fail "$program into a full output ended with $status"
+    timeout 20 "$program" x </dev/null >/dev/full 2>/dev/null
+    status=$?
+    [ $status = 5 ] || fail "$program with a bad limit and a full output ended with $status"
+    timeout 20 "$program" 4 </ >/dev/null 2>&1
+    status=$?
+    [ $status = 5 ] || fail "$program on an input that fails ended with $status"
+
+    coproc served { exec timeout 60 "$program" 4 2>/dev/null; }
+    pid=$served_PID
+    line '+ 0 10' ok
+    line '? 0 11' false
+    line 'bad' 'bad line'
+    line 'ranges' '0..10'
+    exec {served[1]}>&-
+    wait "$pid"
+    status=$?
+    [ $status = 0 ] || fail "$program ended with $status when its pipe was closed"
+    echo "range_track: $program: $rows inputs, the usual limit, 5 where a stream fails, and each line answered at once"
+done
