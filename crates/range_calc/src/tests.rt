@@ -2,7 +2,6 @@
 mod refusals;
 mod rows;
 mod sink;
-mod starved;
 mod writers;
 
 use crate::status::Status;

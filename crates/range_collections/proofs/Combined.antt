@@ -119,10 +119,10 @@ module _ {K : Type 0} {order : K → K → Ordering} (o : IsTotalOrder order) wh
       same_items o a xs up m.sorted
       (λ x. sym (m.members x ∙ ap not (not_left (member order a x) (member order b x)) ∙ not-not (member order a x)))
 
-  pub GivesNegation-combined : (is_value : K → Type 0) (least : K) (sure : Type 0) (xs a b : List K) (r : Result (List K) AllocError) →
+  pub GivesNegation-combined : (is_value : K → Type 0) (least : K) (infallible : Type 0) (xs a b : List K) (r : Result (List K) AllocError) →
       is_value least → AreEqual order a xs → IfOk r (λ i. MeansAmong order is_value (table_of true false true false) i a b) → IfOk r (λ i. IsFlipped order least xs i) →
-      (sure → IsOk r) → GivesNegation order is_value least sure a r
-  GivesNegation-combined is_value least sure xs a b r value h means flipped succeeds = record {
+      (infallible → IsOk r) → GivesNegation order is_value least infallible a r
+  GivesNegation-combined is_value least infallible xs a b r value h means flipped succeeds = record {
     negates =
         IfOk-weaker r (λ i. MeansAmong order is_value (table_of true false true false) i a b) (λ i. Negates order is_value i a)
         (λ i m. (Negates-not_left is_value i a b).1 m) means;

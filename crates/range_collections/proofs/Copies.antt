@@ -6,12 +6,12 @@ use Rattle.std.proofs.lemmas.Cmp.{alike_right}
 use Rattle.std.proofs.lemmas.List.Elements.{All-nil, All-cons, All-head, All-tail}
 use Rattle.std.specs.declared.cmp.Ordering.{Ordering}
 use Rattle.std.specs.declared.cmp.Ordering.TheVariants.{Less, Equal}
-use Rattle.range_merge.specs.Boundaries.{IsAscending, below, member, is_odd}
+use Rattle.range_merge.specs.Boundaries.{IsAscending, count_up_to, member, is_odd}
 use Rattle.range_merge.specs.Changes.{Taken, taken_item, taken_items}
 use Rattle.range_merge.specs.Connective.{Table, Means}
 use Rattle.range_merge.specs.Copies.{AreCopies}
 use Rattle.range_collections.proofs.Ascending.{IsAscending-nil, IsAscending-head, IsAscending-tail, IsAscending-cons}
-use Rattle.range_merge.proofs.Members.{below-cons}
+use Rattle.range_merge.proofs.Members.{count_up_to-cons}
 
 -- what was copied is equal, item by item
 pub copied-equal : {K : Type 0} {order : K → K → Ordering} {is_copy : K → K → Type 0} → ((x y : K) → is_copy x y → order x y ≡ Equal) → (ts : List (Taken K)) (xs : List K) →
@@ -44,17 +44,17 @@ module _ {K : Type 0} {order : K → K → Ordering} (o : IsTotalOrder order) wh
       (All-copies (taken_item t) x ts xs h.0 h.1 (IsAscending-head order (taken_item t) (taken_items ts) up))
       (IsAscending-copies ts xs h.1 (IsAscending-tail order (taken_item t) (taken_items ts) up))
 
-  pub below-copies : (ts : List (Taken K)) (xs : List K) → AllZip (λ t x. order (taken_item t) x ≡ Equal) ts xs →
-      (z : K) → below order xs z ≡ below order (taken_items ts) z
-  below-copies [] [] h z = refl
-  below-copies [] (x ∷ xs) h z = absurd h
-  below-copies (t ∷ ts) [] h z = absurd h
-  below-copies (t ∷ ts) (x ∷ xs) h z =
-      rw (below-cons order x xs z, below-cons order (taken_item t) (taken_items ts) z, o.congr (taken_item t) x z h.0, below-copies ts xs h.1 z)
+  pub count_up_to-copies : (ts : List (Taken K)) (xs : List K) → AllZip (λ t x. order (taken_item t) x ≡ Equal) ts xs →
+      (z : K) → count_up_to order xs z ≡ count_up_to order (taken_items ts) z
+  count_up_to-copies [] [] h z = refl
+  count_up_to-copies [] (x ∷ xs) h z = absurd h
+  count_up_to-copies (t ∷ ts) [] h z = absurd h
+  count_up_to-copies (t ∷ ts) (x ∷ xs) h z =
+      rw (count_up_to-cons order x xs z, count_up_to-cons order (taken_item t) (taken_items ts) z, o.congr (taken_item t) x z h.0, count_up_to-copies ts xs h.1 z)
 
   pub member-copies : (ts : List (Taken K)) (xs : List K) → AllZip (λ t x. order (taken_item t) x ≡ Equal) ts xs →
       (z : K) → member order xs z ≡ member order (taken_items ts) z
-  member-copies ts xs h z = ap is_odd (below-copies ts xs h z)
+  member-copies ts xs h z = ap is_odd (count_up_to-copies ts xs h z)
 
   -- copies mean what their sources mean
   pub Means-copies : (f : Table) (ts : List (Taken K)) (xs a b : List K) → AllZip (λ t x. order (taken_item t) x ≡ Equal) ts xs →

@@ -10,16 +10,16 @@ use Rattle.std.proofs.lemmas.Cmp.{alike_right, tied_itself, tied_back}
 use Rattle.std.specs.declared.cmp.Ordering.{Ordering}
 use Rattle.std.specs.declared.cmp.Ordering.TheVariants.{Less, Equal, Greater}
 use Rattle.std.specs.Ordering.{is_le, is_lt, ordering_reverse}
-use Rattle.range_merge.specs.Boundaries.{IsAscending, below, strictly_below, member, is_odd}
+use Rattle.range_merge.specs.Boundaries.{IsAscending, count_up_to, count_below, member, is_odd}
 use Rattle.range_merge.specs.Connective.{differ}
-use Rattle.range_merge.proofs.Members.{by_Ordering, strictly_below-nil, strictly_below-cons}
+use Rattle.range_merge.proofs.Members.{by_Ordering, count_below-nil, count_below-cons}
 use Rattle.range_merge.proofs.Orders.{Greater-from_less, Less-from_greater}
 use Rattle.range_merge.proofs.Pairs.{AllPairs-drop}
 use Rattle.range_merge.proofs.Parity.{is_odd-add}
 use Rattle.range_collections.specs.Split.{right_place, split_left, split_right, AgreesBelow, AgreesFrom, IsLeastBelow, IsLeastFrom}
 use Rattle.range_collections.proofs.Ascending.{IsAscending-head, IsAscending-tail, IsAscending-cons}
-use Rattle.range_collections.proofs.Below.{below-cons_in, below-found, below-missing}
-use Rattle.range_collections.proofs.Shortest.{is_le-cases, below-append, below-all, below-none, Less-then_le, le-trans, le-from_greater, length-least}
+use Rattle.range_collections.proofs.CountUpTo.{count_up_to-cons_in, count_up_to-found, count_up_to-missing}
+use Rattle.range_collections.proofs.Shortest.{is_le-cases, count_up_to-append, count_up_to-all, count_up_to-none, Less-then_le, le-trans, le-from_greater, length-least}
 
 even_up : (i : ℕ) → (i + i % 2) % 2 ≡ 0
 even_up i = omega arith
@@ -29,16 +29,16 @@ even_down i = omega arith
 
 module _ {K : Type 0} (order : K → K → Ordering) where
   -- the items before place i are below x, and the others are not
-  pub strictly_below-split : (x : K) (xs : List K) (i : ℕ) → i ≤ length xs →
+  pub count_below-split : (x : K) (xs : List K) (i : ℕ) → i ≤ length xs →
       AllWithin (λ y. order y x ≡ Less) xs 0 i → AllWithin (λ y. is_lt (order y x) ≡ false) xs i (length xs) →
-      strictly_below order xs x ≡ i
-  strictly_below-split x [] i within before from = strictly_below-nil order x ∙ omega arith
-  strictly_below-split x (y ∷ ys) zero within before from =
-      rw (strictly_below-cons order y ys x, from 0 y (omega arith) (omega arith))
-      (strictly_below-split x ys zero (omega arith) (λ k d low high. absurd (omega arith)) (λ k d low high. from (suc k) d (omega arith) (omega arith)))
-  strictly_below-split x (y ∷ ys) (suc i) within before from =
-      rw (strictly_below-cons order y ys x, before 0 y (omega arith) (omega arith))
-      (ap suc (strictly_below-split x ys i (omega arith) (λ k d low high. before (suc k) d (omega arith) (omega arith)) (λ k d low high. from (suc k) d (omega arith) (omega arith))))
+      count_below order xs x ≡ i
+  count_below-split x [] i within before from = count_below-nil order x ∙ omega arith
+  count_below-split x (y ∷ ys) zero within before from =
+      rw (count_below-cons order y ys x, from 0 y (omega arith) (omega arith))
+      (count_below-split x ys zero (omega arith) (λ k d low high. absurd (omega arith)) (λ k d low high. from (suc k) d (omega arith) (omega arith)))
+  count_below-split x (y ∷ ys) (suc i) within before from =
+      rw (count_below-cons order y ys x, before 0 y (omega arith) (omega arith))
+      (ap suc (count_below-split x ys i (omega arith) (λ k d low high. before (suc k) d (omega arith) (omega arith)) (λ k d low high. from (suc k) d (omega arith) (omega arith))))
 
   plain_found : (i : ℕ) → cond (is_odd i) (cond (not (i + 1 == i)) (i + 1) (i - 1)) i ≡ i + i % 2
   plain_found i = grind (arith, nat_tests)
@@ -46,10 +46,10 @@ module _ {K : Type 0} (order : K → K → Ordering) where
   plain_missing : (i : ℕ) → cond (is_odd i) (cond (not (i == i)) (i + 1) (i - 1)) i ≡ i - i % 2
   plain_missing i = grind (arith, nat_tests)
 
-  pub right_place-found : (x : K) (xs : List K) (i : ℕ) → strictly_below order xs x ≡ i → below order xs x ≡ i + 1 → right_place order xs x ≡ i + i % 2
+  pub right_place-found : (x : K) (xs : List K) (i : ℕ) → count_below order xs x ≡ i → count_up_to order xs x ≡ i + 1 → right_place order xs x ≡ i + i % 2
   right_place-found x xs i s b = rw (s, b) (plain_found i)
 
-  pub right_place-missing : (x : K) (xs : List K) (i : ℕ) → strictly_below order xs x ≡ i → below order xs x ≡ i → right_place order xs x ≡ i - i % 2
+  pub right_place-missing : (x : K) (xs : List K) (i : ℕ) → count_below order xs x ≡ i → count_up_to order xs x ≡ i → right_place order xs x ≡ i - i % 2
   right_place-missing x xs i s b = rw (s, b) (plain_missing i)
 
   -- what holds of the first n places holds of the items of the front
@@ -72,8 +72,8 @@ module _ {K : Type 0} (order : K → K → Ordering) where
         | inr long ↦ rw (take_all n xs long) (up i j d less (subst (λ (ys : List K). j < length ys) (take_all n xs long) within))
       ]
 
-  pub below-front : (n : ℕ) (xs : List K) (x : K) → below order xs x ≡ below order (take n xs) x + below order (drop n xs) x
-  below-front n xs x = ap (λ ys. below order ys x) (sym (take-append-drop n xs)) ∙ below-append order (take n xs) (drop n xs) x
+  pub count_up_to-front : (n : ℕ) (xs : List K) (x : K) → count_up_to order xs x ≡ count_up_to order (take n xs) x + count_up_to order (drop n xs) x
+  count_up_to-front n xs x = ap (λ ys. count_up_to order ys x) (sym (take-append-drop n xs)) ∙ count_up_to-append order (take n xs) (drop n xs) x
 
 module _ {K : Type 0} {order : K → K → Ordering} (o : IsTotalOrder order) where
   -- the items before place i are below the cut, and the others at or above it: the first are the least list below the cut
@@ -92,11 +92,11 @@ module _ {K : Type 0} {order : K → K → Ordering} (o : IsTotalOrder order) wh
     where
       agrees : AgreesBelow order cut (take i xs) xs
       agrees x low =
-          let none : below order (drop i xs) x ≡ 0 =
-          below-none order x (drop i xs)
+          let none : count_up_to order (drop i xs) x ≡ 0 =
+          count_up_to-none order x (drop i xs)
           (All-drop_within order (λ y. order y x ≡ Greater) i xs within
           (λ k d more less. Greater-from_less o x (get_or xs k d) (Less-then_le o x cut (get_or xs k d) low (from k d more less)))) in
-          sym (ap is_odd (below-front order i xs x ∙ omega (arith, none)))
+          sym (ap is_odd (count_up_to-front order i xs x ∙ omega (arith, none)))
 
   -- a list that ascends from the cut on, but for its first item, is no longer than one with its members there
   length-least_from : (cut : K) (ys : List K) → IsAscending order ys → AllWithin (λ y. order y cut ≡ Greater) ys 1 (length ys) →
@@ -121,7 +121,7 @@ module _ {K : Type 0} {order : K → K → Ordering} (o : IsTotalOrder order) wh
       -- from the cut on it makes no difference whether the first boundary is at the cut or below it
       swapped : is_le (order p cut) ≡ true → (x : K) → is_le (order cut x) ≡ true → member order (p ∷ ps) x ≡ member order (cut ∷ ps) x
       swapped t x far =
-          ap is_odd (below-cons_in order p ps x (le-trans o p cut x t far) ∙ sym (below-cons_in order cut ps x far))
+          ap is_odd (count_up_to-cons_in order p ps x (le-trans o p cut x t far) ∙ sym (count_up_to-cons_in order cut ps x far))
 
   -- an even number j of items at or below the cut, and above it all but the next: the end from j on is the least list from the cut on
   pub IsLeastFrom-drop : (cut : K) (xs : List K) (j : ℕ) → IsAscending order xs → j ≤ length xs → is_odd j ≡ false →
@@ -138,13 +138,13 @@ module _ {K : Type 0} {order : K → K → Ordering} (o : IsTotalOrder order) wh
     where
       agrees : AgreesFrom order cut (drop j xs) xs
       agrees x far =
-          let all : below order (take j xs) x ≡ j =
-          below-all order x (take j xs)
+          let all : count_up_to order (take j xs) x ≡ j =
+          count_up_to-all order x (take j xs)
           (All-take_within order (λ y. is_le (order y x) ≡ true) j xs within
           (λ k d low high. le-trans o (get_or xs k d) cut x (before k d low high) far))
           ∙ length-take-le j xs within in
-          sym (ap is_odd (below-front order j xs x ∙ ap (λ n. n + below order (drop j xs) x) all)
-          ∙ is_odd-add j (below order (drop j xs) x) ∙ ap (λ b. differ b (is_odd (below order (drop j xs) x))) even)
+          sym (ap is_odd (count_up_to-front order j xs x ∙ ap (λ n. n + count_up_to order (drop j xs) x) all)
+          ∙ is_odd-add j (count_up_to order (drop j xs) x) ∙ ap (λ b. differ b (is_odd (count_up_to order (drop j xs) x))) even)
 
   -- ---- what a search found
   module _ (cut : K) (xs : List K) (i : ℕ) (up : IsAscending order xs) (within : i < length xs) (here : HoldsAt (λ y. order y cut ≡ Equal) xs i) where
@@ -170,17 +170,17 @@ module _ {K : Type 0} {order : K → K → Ordering} (o : IsTotalOrder order) wh
           | inr done ↦ let e : k ≡ i = omega arith in subst (λ n. P (get_or xs n d)) (sym e) (same (get_or xs i d) (here d))
         ]
 
-    pub strictly_below-found : strictly_below order xs cut ≡ i
-    strictly_below-found =
-        strictly_below-split order cut xs i (omega arith) before_found
+    pub count_below-found : count_below order xs cut ≡ i
+    count_below-found =
+        count_below-split order cut xs i (omega arith) before_found
         (from_found (λ y. is_lt (order y cut) ≡ false) (λ y e. ap is_lt e) (λ y e. ap is_lt e))
 
     pub split_left-found : split_left order xs cut ≡ take i xs
-    split_left-found = ap (λ n. take n xs) strictly_below-found
+    split_left-found = ap (λ n. take n xs) count_below-found
 
     pub split_right-found : split_right order xs cut ≡ drop (i + i % 2) xs
     split_right-found =
-        ap (λ n. drop n xs) (right_place-found order cut xs i strictly_below-found (below-found order o cut xs i up within here))
+        ap (λ n. drop n xs) (right_place-found order cut xs i count_below-found (count_up_to-found order o cut xs i up within here))
 
     pub IsLeastBelow-found : IsLeastBelow order cut (take i xs) xs
     IsLeastBelow-found =
@@ -196,16 +196,16 @@ module _ {K : Type 0} {order : K → K → Ordering} (o : IsTotalOrder order) wh
   -- ---- what a search did not find
   module _ (cut : K) (xs : List K) (i : ℕ) (up : IsAscending order xs) (within : i ≤ length xs)
       (before : AllWithin (λ y. order y cut ≡ Less) xs 0 i) (from : AllWithin (λ y. order y cut ≡ Greater) xs i (length xs)) where
-    pub strictly_below-missing : strictly_below order xs cut ≡ i
-    strictly_below-missing =
-        strictly_below-split order cut xs i within before (λ k d low high. ap is_lt (from k d low high))
+    pub count_below-missing : count_below order xs cut ≡ i
+    count_below-missing =
+        count_below-split order cut xs i within before (λ k d low high. ap is_lt (from k d low high))
 
     pub split_left-missing : split_left order xs cut ≡ take i xs
-    split_left-missing = ap (λ n. take n xs) strictly_below-missing
+    split_left-missing = ap (λ n. take n xs) count_below-missing
 
     pub split_right-missing : split_right order xs cut ≡ drop (i - i % 2) xs
     split_right-missing =
-        ap (λ n. drop n xs) (right_place-missing order cut xs i strictly_below-missing (below-missing order cut xs i within before from))
+        ap (λ n. drop n xs) (right_place-missing order cut xs i count_below-missing (count_up_to-missing order cut xs i within before from))
 
     pub IsLeastBelow-missing : IsLeastBelow order cut (take i xs) xs
     IsLeastBelow-missing =

@@ -11,7 +11,7 @@ use Rattle.std.proofs.lemmas.Cmp.{tied_back}
 use Rattle.std.specs.declared.cmp.Ordering.{Ordering}
 use Rattle.std.specs.declared.cmp.Ordering.TheVariants.{Less, Equal, Greater}
 use Rattle.std.specs.Ordering.{is_le, is_lt}
-use Rattle.range_merge.specs.Boundaries.{IsAscending, below, member, is_odd}
+use Rattle.range_merge.specs.Boundaries.{IsAscending, count_up_to, member, is_odd}
 use Rattle.range_merge.specs.Connective.{Table, Means, differ, union_table, difference_table}
 use Rattle.range_merge.proofs.Members.{member-nil, by_Ordering}
 use Rattle.range_merge.proofs.Orders.{Greater-from_less, Less-from_greater, Equal-self}
@@ -19,12 +19,11 @@ use Rattle.range_merge.proofs.Pairs.{AllPairs-drop}
 use Rattle.range_merge.proofs.Parity.{is_odd-add, is_odd-suc}
 use Rattle.range_merge.proofs.SameSet.{same_items}
 use Rattle.range_collections.specs.InPlace.{IsOwnElse, AreOwnElseOf}
-use Rattle.range_collections.specs.Insertion.{SucceedsInPlace}
 use Rattle.range_collections.specs.Splicing.{range_table, spliced, IsCut}
-use Rattle.range_collections.specs.Values.{range_items}
+use Rattle.range_collections.specs.Ranges.{range_items}
 use Rattle.range_collections.proofs.Ascending.{IsAscending-nil, IsAscending-head, IsAscending-tail, IsAscending-cons}
-use Rattle.range_collections.proofs.Cut.{IsAscending-take, below-front, All-take_within, All-drop_within, before_found, after_found, le_found, from_found}
-use Rattle.range_collections.proofs.Shortest.{is_le-cases, below-append, below-all, below-none, Less-from_le, Less-then_le, le-trans, le-from_greater}
+use Rattle.range_collections.proofs.Cut.{IsAscending-take, count_up_to-front, All-take_within, All-drop_within, before_found, after_found, le_found, from_found}
+use Rattle.range_collections.proofs.Shortest.{is_le-cases, count_up_to-append, count_up_to-all, count_up_to-none, Less-from_le, Less-then_le, le-trans, le-from_greater}
 use Rattle.range_collections.proofs.Values.{IsAscending-one, member-two}
 
 -- truths
@@ -227,25 +226,25 @@ module _ {K : Type 0} {order : K → K → Ordering} (o : IsTotalOrder order) wh
     pub IsAscending-spliced : IsAscending order (spliced a from to s e)
     IsAscending-spliced = rw in_parts IsAscending-parts
 
-    count_parts : (x : K) → below order (spliced a from to s e) x ≡ below order front x + below order back x
-    count_parts x = ap (λ ys. below order ys x) in_parts ∙ below-append order front back x
+    count_parts : (x : K) → count_up_to order (spliced a from to s e) x ≡ count_up_to order front x + count_up_to order back x
+    count_parts x = ap (λ ys. count_up_to order ys x) in_parts ∙ count_up_to-append order front back x
 
     -- below the end nothing of the back counts
-    none_of_back : (x : K) → order x end ≡ Less → below order back x ≡ 0
+    none_of_back : (x : K) → order x end ≡ Less → count_up_to order back x ≡ 0
     none_of_back x low =
-        below-none order x back (λ k d within. Greater-from_less o x (get_or back k d) (Less-then_le o x end (get_or back k d) low (whole_back_high k d within)))
+        count_up_to-none order x back (λ k d within. Greater-from_less o x (get_or back k d) (Less-then_le o x end (get_or back k d) low (whole_back_high k d within)))
 
     -- from the start on all of the front counts
-    all_of_front : (x : K) → is_le (order start x) ≡ true → below order front x ≡ from + length (option_to_list s)
+    all_of_front : (x : K) → is_le (order start x) ≡ true → count_up_to order front x ≡ from + length (option_to_list s)
     all_of_front x far =
-        below-all order x front (λ k d within. le-trans o (get_or front k d) start x (whole_front_low k d within) far) ∙ length-front
+        count_up_to-all order x front (λ k d within. le-trans o (get_or front k d) start x (whole_front_low k d within) far) ∙ length-front
 
     member-below_start : (x : K) → order x start ≡ Less → member order (spliced a from to s e) x ≡ member order a x
     member-below_start x low =
-        let put : below order (option_to_list s) x ≡ 0 =
-        below-none order x (option_to_list s) (put_start (λ y. order y x ≡ Greater) (Greater-from_less o x start low)) in
-        let rest : below order (drop from a) x ≡ 0 =
-        below-none order x (drop from a)
+        let put : count_up_to order (option_to_list s) x ≡ 0 =
+        count_up_to-none order x (option_to_list s) (put_start (λ y. order y x ≡ Greater) (Greater-from_less o x start low)) in
+        let rest : count_up_to order (drop from a) x ≡ 0 =
+        count_up_to-none order x (drop from a)
         (All-drop_within order (λ y. order y x ≡ Greater) from a p.within
         (λ k d more high. Greater-from_less o x (get_or a k d) (Less-then_le o x start (get_or a k d) low (p.from k d more high)))) in
         ap is_odd
@@ -253,30 +252,30 @@ module _ {K : Type 0} {order : K → K → Ordering} (o : IsTotalOrder order) wh
           arith,
           count_parts x,
           none_of_back x (o.trans x start end low less),
-          below-append order kept_front (option_to_list s) x,
+          count_up_to-append order kept_front (option_to_list s) x,
           put,
-          below-front order from a x,
+          count_up_to-front order from a x,
           rest,
         ))
 
     member-in_range : (x : K) → is_le (order start x) ≡ true → order x end ≡ Less → member order (spliced a from to s e) x ≡ inside
     member-in_range x far low =
-        let n : below order (spliced a from to s e) x ≡ from + length (option_to_list s) = omega (arith, count_parts x, all_of_front x far, none_of_back x low) in
+        let n : count_up_to order (spliced a from to s e) x ≡ from + length (option_to_list s) = omega (arith, count_parts x, all_of_front x far, none_of_back x low) in
         ap is_odd n ∙ p.parity
 
     member-from_end : (x : K) → is_le (order end x) ≡ true → member order (spliced a from to s e) x ≡ member order a x
     member-from_end x far =
-        let r : ℕ = below order (drop to a) x in
+        let r : ℕ = count_up_to order (drop to a) x in
         let m : ℕ = length (option_to_list e) in
         let high : is_le (order start x) ≡ true = ap is_le (Less-then_le o start end x less far) in
-        let put : below order (option_to_list e) x ≡ m = below-all order x (option_to_list e) (put_end (λ y. is_le (order y x) ≡ true) far) in
-        let gone : below order (take to a) x ≡ to =
-        below-all order x (take to a)
+        let put : count_up_to order (option_to_list e) x ≡ m = count_up_to-all order x (option_to_list e) (put_end (λ y. is_le (order y x) ≡ true) far) in
+        let gone : count_up_to order (take to a) x ≡ to =
+        count_up_to-all order x (take to a)
         (All-take_within order (λ y. is_le (order y x) ≡ true) to a q.within (λ k d low more. le-trans o (get_or a k d) end x (q.before k d low more) far))
         ∙ length-take-le to a q.within in
-        let new : below order (spliced a from to s e) x ≡ from + length (option_to_list s) + (m + r) =
-        omega (arith, count_parts x, all_of_front x high, below-append order (option_to_list e) kept_back x, put) in
-        let old : below order a x ≡ to + r = omega (arith, below-front order to a x, gone) in
+        let new : count_up_to order (spliced a from to s e) x ≡ from + length (option_to_list s) + (m + r) =
+        omega (arith, count_parts x, all_of_front x high, count_up_to-append order (option_to_list e) kept_back x, put) in
+        let old : count_up_to order a x ≡ to + r = omega (arith, count_up_to-front order to a x, gone) in
         let regrouped : to + m + (m + r) ≡ (to + r) + m + m = omega arith in
         ap is_odd new
         ∙ is_odd-plus (from + length (option_to_list s)) (to + m) (m + r) same_parity
@@ -362,10 +361,6 @@ module _ {K : Type 0} {order : K → K → Ordering} where
     members = λ x. m.members x ∙ same (member order a x) (member order b x);
   }
 
-  pub SucceedsInPlace-alike : {X E : Type 0} (f g : Table) → ((b c : Bool) → g b c ≡ f b c) → (room : ℕ) (a b : List K) (r : Result X E) →
-      SucceedsInPlace order f room a b r → SucceedsInPlace order g room a b r
-  SucceedsInPlace-alike f g same room a b r h items m few = h items (Means-alike g f same items a b m) few
-
 pub union-alike : (b c : Bool) → range_table true b c ≡ union_table b c
 union-alike true true = refl
 union-alike true false = refl
@@ -377,3 +372,11 @@ difference-alike true true = refl
 difference-alike true false = refl
 difference-alike false true = refl
 difference-alike false false = refl
+
+-- a range without boundaries has no start below its end
+pub not_less-from_no_items : {K : Type 0} (order : K → K → Ordering) (start end : K) → range_items order start end ≡ [] → is_lt (order start end) ≡ false
+not_less-from_no_items {K} order start end none = no_items (is_lt (order start end)) none
+  where
+    no_items : (t : Bool) → cond t (start ∷ end ∷ []) [] ≡ [] → t ≡ false
+    no_items true h = absurd (omega (arith, ap length h))
+    no_items false h = refl

@@ -1,5 +1,5 @@
 pub mod Ascending
-pub mod Below
+pub mod CountUpTo
 pub mod Copies
 pub mod OwnItems
 pub mod Sets
@@ -7,6 +7,8 @@ pub mod Shortest
 pub mod Cut
 pub mod Within
 pub mod RangesLemmas
+pub mod RangesAtEnds
+pub mod Points
 pub mod Distinct
 pub mod JsonLemmas
 pub mod Values
@@ -14,3 +16,9 @@ pub mod FirstOf
 pub mod Splices
 pub mod Insertion
 pub mod Combined
+pub mod Counted
+pub mod Covered
+pub mod Fitted
+pub mod Written
+pub mod Parts
+pub mod PartsLaws

@@ -8,11 +8,11 @@ use Rattle.std.proofs.lemmas.Cmp.{alike_right, tied_itself}
 use Rattle.std.specs.declared.cmp.Ordering.{Ordering}
 use Rattle.std.specs.declared.cmp.Ordering.TheVariants.{Less, Equal, Greater}
 use Rattle.std.specs.Ordering.{is_le}
-use Rattle.range_merge.specs.Boundaries.{IsAscending, below, member, is_odd}
-use Rattle.range_merge.proofs.Members.{by_Ordering, below-nil}
+use Rattle.range_merge.specs.Boundaries.{IsAscending, count_up_to, member, is_odd}
+use Rattle.range_merge.proofs.Members.{by_Ordering, count_up_to-nil}
 use Rattle.range_merge.proofs.Orders.{Less-from_greater}
 use Rattle.range_merge.proofs.Parity.{is_odd-suc}
-use Rattle.range_collections.proofs.Below.{below-cons_in, below-cons_out, below-found}
+use Rattle.range_collections.proofs.CountUpTo.{count_up_to-cons_in, count_up_to-cons_out, count_up_to-found}
 
 pub is_le-cases : {G : Type 0} (r : Ordering) → (is_le r ≡ true → G) → (r ≡ Greater → G) → G
 is_le-cases Less t f = t refl
@@ -20,29 +20,29 @@ is_le-cases Equal t f = t refl
 is_le-cases Greater t f = f refl
 
 module _ {K : Type 0} (order : K → K → Ordering) where
-  pub below-append : (xs ys : List K) (x : K) → below order (xs ++ ys) x ≡ below order xs x + below order ys x
-  unfolding below
-  below-append xs ys x =
+  pub count_up_to-append : (xs ys : List K) (x : K) → count_up_to order (xs ++ ys) x ≡ count_up_to order xs x + count_up_to order ys x
+  unfolding count_up_to
+  count_up_to-append xs ys x =
       ap length (filter-append (λ z. is_le (order z x)) xs ys) ∙ length-append (filter (λ z. is_le (order z x)) xs) (filter (λ z. is_le (order z x)) ys)
 
   -- all items are at or below x
-  pub below-all : (x : K) (xs : List K) → All (λ y. is_le (order y x) ≡ true) xs → below order xs x ≡ length xs
-  below-all x [] h = below-nil order x
-  below-all x (y ∷ ys) h =
-      below-cons_in order y ys x (All-head (λ z. is_le (order z x) ≡ true) y ys h) ∙ ap suc (below-all x ys (All-tail (λ z. is_le (order z x) ≡ true) y ys h))
+  pub count_up_to-all : (x : K) (xs : List K) → All (λ y. is_le (order y x) ≡ true) xs → count_up_to order xs x ≡ length xs
+  count_up_to-all x [] h = count_up_to-nil order x
+  count_up_to-all x (y ∷ ys) h =
+      count_up_to-cons_in order y ys x (All-head (λ z. is_le (order z x) ≡ true) y ys h) ∙ ap suc (count_up_to-all x ys (All-tail (λ z. is_le (order z x) ≡ true) y ys h))
 
   -- all items are above x
-  pub below-none : (x : K) (xs : List K) → All (λ y. order y x ≡ Greater) xs → below order xs x ≡ 0
-  below-none x [] h = below-nil order x
-  below-none x (y ∷ ys) h =
-      below-cons_out order y ys x (ap is_le (All-head (λ z. order z x ≡ Greater) y ys h)) ∙ below-none x ys (All-tail (λ z. order z x ≡ Greater) y ys h)
+  pub count_up_to-none : (x : K) (xs : List K) → All (λ y. order y x ≡ Greater) xs → count_up_to order xs x ≡ 0
+  count_up_to-none x [] h = count_up_to-nil order x
+  count_up_to-none x (y ∷ ys) h =
+      count_up_to-cons_out order y ys x (ap is_le (All-head (λ z. order z x ≡ Greater) y ys h)) ∙ count_up_to-none x ys (All-tail (λ z. order z x ≡ Greater) y ys h)
 
-  pub below-le_length : (x : K) (xs : List K) → below order xs x ≤ length xs
-  below-le_length x [] = omega (arith, below-nil order x)
-  below-le_length x (y ∷ ys) =
+  pub count_up_to-le_length : (x : K) (xs : List K) → count_up_to order xs x ≤ length xs
+  count_up_to-le_length x [] = omega (arith, count_up_to-nil order x)
+  count_up_to-le_length x (y ∷ ys) =
       is_le-cases (order y x)
-      (λ t. omega (arith, below-cons_in order y ys x t, below-le_length x ys))
-      (λ g. omega (arith, below-cons_out order y ys x (ap is_le g), below-le_length x ys))
+      (λ t. omega (arith, count_up_to-cons_in order y ys x t, count_up_to-le_length x ys))
+      (λ g. omega (arith, count_up_to-cons_out order y ys x (ap is_le g), count_up_to-le_length x ys))
 
 module _ {K : Type 0} {order : K → K → Ordering} (o : IsTotalOrder order) where
   pub Less-from_le : (x y z : K) → is_le (order x y) ≡ true → order y z ≡ Less → order x z ≡ Less
@@ -65,16 +65,16 @@ module _ {K : Type 0} {order : K → K → Ordering} (o : IsTotalOrder order) wh
   le-from_greater x y g = ap is_le (Less-from_greater o x y g)
 
   -- no fewer boundaries are at or below the greater of two
-  pub below-mono : (x y : K) → order x y ≡ Less → (zs : List K) → below order zs x ≤ below order zs y
-  below-mono x y l [] = omega (arith, below-nil order x, below-nil order y)
-  below-mono x y l (z ∷ zs) =
+  pub count_up_to-mono : (x y : K) → order x y ≡ Less → (zs : List K) → count_up_to order zs x ≤ count_up_to order zs y
+  count_up_to-mono x y l [] = omega (arith, count_up_to-nil order x, count_up_to-nil order y)
+  count_up_to-mono x y l (z ∷ zs) =
       is_le-cases (order z x)
-      (λ t. omega (arith, below-cons_in order z zs x t, below-cons_in order z zs y (ap is_le (Less-from_le z x y t l)), below-mono x y l zs))
+      (λ t. omega (arith, count_up_to-cons_in order z zs x t, count_up_to-cons_in order z zs y (ap is_le (Less-from_le z x y t l)), count_up_to-mono x y l zs))
       (λ g.
-      let out = below-cons_out order z zs x (ap is_le g) in
+      let out = count_up_to-cons_out order z zs x (ap is_le g) in
       is_le-cases (order z y)
-      (λ t. omega (arith, out, below-cons_in order z zs y t, below-mono x y l zs))
-      (λ h. omega (arith, out, below-cons_out order z zs y (ap is_le h), below-mono x y l zs)))
+      (λ t. omega (arith, out, count_up_to-cons_in order z zs y t, count_up_to-mono x y l zs))
+      (λ h. omega (arith, out, count_up_to-cons_out order z zs y (ap is_le h), count_up_to-mono x y l zs)))
 
   -- a count that has the parity of k + 1 and is at least k is at least k + 1
   step_up : (k n : ℕ) → is_odd n ≡ is_odd (suc k) → k ≤ n → suc k ≤ n
@@ -92,28 +92,28 @@ module _ {K : Type 0} {order : K → K → Ordering} (o : IsTotalOrder order) wh
       not-self false h = cc
 
   -- at an item of an ascending list, that item and those before it are at or below it
-  pub below-item : (ps : List K) → IsAscending order ps → (k : ℕ) (d : K) → k < length ps → below order ps (get_or ps k d) ≡ suc k
-  below-item ps up k d within =
-      below-found order o (get_or ps k d) ps k up within
+  pub count_up_to-item : (ps : List K) → IsAscending order ps → (k : ℕ) (d : K) → k < length ps → count_up_to order ps (get_or ps k d) ≡ suc k
+  count_up_to-item ps up k d within =
+      count_up_to-found order o (get_or ps k d) ps k up within
       (λ e. subst (λ z. order z (get_or ps k d) ≡ Equal) (get_or_default ps k d e within) (tied_itself o (get_or ps k d)))
       ∙ add-one k
 
   -- a list with the members of ps at each item of ps counts up along those items
   climb : (ps : List K) → IsAscending order ps → (other : List K) →
       All (λ p. member order other p ≡ member order ps p) ps → (k : ℕ) (d : K) → k < length ps →
-      suc k ≤ below order other (get_or ps k d)
+      suc k ≤ count_up_to order other (get_or ps k d)
   climb ps up other same zero d within =
-      step_up zero (below order other (get_or ps zero d)) (same zero d within ∙ ap is_odd (below-item ps up zero d within)) (omega arith)
+      step_up zero (count_up_to order other (get_or ps zero d)) (same zero d within ∙ ap is_odd (count_up_to-item ps up zero d within)) (omega arith)
   climb ps up other same (suc k) d within =
-      let before : suc k ≤ below order other (get_or ps k d) = climb ps up other same k d (omega arith) in
-      let rise : below order other (get_or ps k d) ≤ below order other (get_or ps (suc k) d) =
-      below-mono (get_or ps k d) (get_or ps (suc k) d) (up k (suc k) d (omega arith) within) other in
-      step_up (suc k) (below order other (get_or ps (suc k) d))
-      (same (suc k) d within ∙ ap is_odd (below-item ps up (suc k) d within)) (omega (arith, before, rise))
+      let before : suc k ≤ count_up_to order other (get_or ps k d) = climb ps up other same k d (omega arith) in
+      let rise : count_up_to order other (get_or ps k d) ≤ count_up_to order other (get_or ps (suc k) d) =
+      count_up_to-mono (get_or ps k d) (get_or ps (suc k) d) (up k (suc k) d (omega arith) within) other in
+      step_up (suc k) (count_up_to order other (get_or ps (suc k) d))
+      (same (suc k) d within ∙ ap is_odd (count_up_to-item ps up (suc k) d within)) (omega (arith, before, rise))
 
   -- no list with the members of ps at each item of ps is shorter
   pub length-least : (ps : List K) → IsAscending order ps → (other : List K) →
       All (λ p. member order other p ≡ member order ps p) ps → length ps ≤ length other
   length-least [] up other same = omega arith
   length-least (p ∷ ps) up other same =
-      omega (arith, climb (p ∷ ps) up other same (length ps) p (omega arith), below-le_length order (get_or (p ∷ ps) (length ps) p) other)
+      omega (arith, climb (p ∷ ps) up other same (length ps) p (omega arith), count_up_to-le_length order (get_or (p ∷ ps) (length ps) p) other)

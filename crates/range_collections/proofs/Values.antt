@@ -280,9 +280,9 @@ module _ {K : Type 0} {order : K → K → Ordering} (o : IsTotalOrder order) (i
   Negates-inserted y (x ∷ xs) e up v n = Negates-front y (x ∷ xs) e up v n
 
   -- a is the set, l its list, b the list lent, and r the list that is made
-  pub GivesOwnNegation-removed : (sure : Type 0) (a l b r : List K) (t : Bool) → l ≡ a → b ≡ l → IsAscending order l → IsTrue t ↔ BeginsAt order least b →
-      t ≡ true → r ≡ remove l 0 → GivesOwnNegation order is_value least sure a (Ok r)
-  GivesOwnNegation-removed sure a l b r t la bl up says begins is =
+  pub GivesOwnNegation-removed : (infallible : Type 0) (a l b r : List K) (t : Bool) → l ≡ a → b ≡ l → IsAscending order l → IsTrue t ↔ BeginsAt order least b →
+      t ≡ true → r ≡ remove l 0 → GivesOwnNegation order is_value least infallible a (Ok r)
+  GivesOwnNegation-removed infallible a l b r t la bl up says begins is =
       let P : List K → Type 0 = λ m. BeginsAt order least m in
       let here : BeginsAt order least l = subst P bl (says.0 begins) in
       let own : r ≡ drop 1 a = is ∙ remove-first o l ∙ ap (drop 1) la in
@@ -294,10 +294,10 @@ module _ {K : Type 0} {order : K → K → Ordering} (o : IsTotalOrder order) (i
         succeeds = λ _. search rules;
       }
 
-  pub GivesOwnNegation-inserted : (sure : Type 0) (a l b r : List K) (t : Bool) (y : K) → l ≡ a → b ≡ l → IsAscending order l → IsTrue t ↔ BeginsAt order least b →
+  pub GivesOwnNegation-inserted : (infallible : Type 0) (a l b r : List K) (t : Bool) (y : K) → l ≡ a → b ≡ l → IsAscending order l → IsTrue t ↔ BeginsAt order least b →
       BeginsWithValue order is_value b → t ≡ false → order y least ≡ Equal → r ≡ insert l 0 y →
-      GivesOwnNegation order is_value least sure a (Ok r)
-  GivesOwnNegation-inserted sure a l b r t y la bl up says v off e is =
+      GivesOwnNegation order is_value least infallible a (Ok r)
+  GivesOwnNegation-inserted infallible a l b r t y la bl up says v off e is =
       let P : List K → Type 0 = λ m. BeginsWithValue order is_value m in
       let Q : List K → Type 0 = λ m. BeginsAt order least m in
       let elsewhere : BeginsAt order least l → ⊥ = λ h. true≢false (sym (says.1 (subst Q (sym bl) h)) ∙ off) in

@@ -10,8 +10,8 @@ use Rattle.std.specs.declared.cmp.Ordering.TheVariants.{Less, Greater}
 use Rattle.range_merge.specs.Boundaries.{IsAscending, member, is_odd}
 use Rattle.range_merge.proofs.Orders.{Greater-from_less, Less-from_greater, Equal-self}
 use Rattle.range_collections.specs.Intersects.{HasMemberWithin, IsItemBelow}
-use Rattle.range_collections.proofs.Below.{below-split}
-use Rattle.range_collections.proofs.Shortest.{is_le-cases, le-trans, Less-from_le, le-from_greater, below-item}
+use Rattle.range_collections.proofs.CountUpTo.{count_up_to-split}
+use Rattle.range_collections.proofs.Shortest.{is_le-cases, le-trans, Less-from_le, le-from_greater, count_up_to-item}
 
 module _ {K : Type 0} {order : K → K → Ordering} (o : IsTotalOrder order) (xs : List K) (start end : K) (n : ℕ)
     (up : IsAscending order xs) (within : n ≤ length xs)
@@ -20,7 +20,7 @@ module _ {K : Type 0} {order : K → K → Ordering} (o : IsTotalOrder order) (x
   pub HasMemberWithin-start : order start end ≡ Less → n % 2 ≡ 1 → HasMemberWithin order xs start end
   HasMemberWithin-start less odd = (
     start,
-    ap is_odd (below-split order start xs n within before from) ∙ ap (λ m. m == 1) odd,
+    ap is_odd (count_up_to-split order start xs n within before from) ∙ ap (λ m. m == 1) odd,
     ap is_le (Equal-self o start),
     less,
   )
@@ -35,7 +35,7 @@ module _ {K : Type 0} {order : K → K → Ordering} (o : IsTotalOrder order) (x
       there : IsItemBelow order xs n end → HasMemberWithin order xs start end
       there (more, low) = (
         get_or xs n start,
-        ap is_odd (below-item o xs up n start more) ∙ odd_next,
+        ap is_odd (count_up_to-item o xs up n start more) ∙ odd_next,
         le-from_greater o (get_or xs n start) start (from n start (omega arith) more),
         low start,
       )
@@ -43,7 +43,7 @@ module _ {K : Type 0} {order : K → K → Ordering} (o : IsTotalOrder order) (x
       -- with no boundary between start and end, the count at x is that at start
       none_between : (x : K) → is_le (order start x) ≡ true → AllWithin (λ y. order y x ≡ Greater) xs n (length xs) → member order xs x ≡ false
       none_between x far high =
-          ap is_odd (below-split order x xs n within (λ k d low less. le-trans o (get_or xs k d) start x (before k d low less) far) high)
+          ap is_odd (count_up_to-split order x xs n within (λ k d low less. le-trans o (get_or xs k d) start x (before k d low less) far) high)
           ∙ ap (λ m. m == 1) even
 
       back : HasMemberWithin order xs start end → IsItemBelow order xs n end

@@ -1,10 +1,16 @@
 -- A range put into a set or taken out of it.
---     SucceedsInPlace order f room a b r          an Ok where the one list that means f of a and b is no longer than a, or has room
-use Rattle.std.specs.Prelude.{◌⊎◌, ℕ, ◌≤◌, List, length, Result, IsOk}
+--     IsChangedByRange order f room a b new r     the list behind a call that puts a range in or takes it out
+use Rattle.std.specs.Prelude.{◌≡◌, ◌⊎◌, ℕ, ◌≤◌, List, [], length, Result, IsOk, OnOk, OnErr}
+use Rattle.std.specs.declared.alloc.AllocError.{AllocError}
 use Rattle.std.specs.declared.cmp.Ordering.{Ordering}
 use Rattle.range_merge.specs.Connective.{Table, Means}
+use Rattle.range_collections.specs.InPlace.{AreOwnElseOf}
 
--- an Ok where the list that means f of a and b has at most as many items as a, or at most `room`
-abbrev pub SucceedsInPlace : {K X E : Type 0} → (K → K → Ordering) → Table → ℕ → List K → List K → Result X E → Type 0
-SucceedsInPlace {K} order f room a b r =
-    (items : List K) → Means order f items a b → (length items ≤ length a) ⊎ (length items ≤ room) → IsOk r
+module _ {K : Type 0} (order : K → K → Ordering) where
+  -- a list that a call with a range changed from a to new, where b are the range's boundaries: where it went well it means the connective, with its own items where both have one; where memory was refused it is as it was; it goes well where the one list that means the connective is no longer than a, or has room; and a range of nothing changes nothing
+  pub record IsChangedByRange (f : Table) (room : ℕ) (a b new : List K) (r : Result (Unit {0}) AllocError) : Type 0 where
+    pub means : OnOk r (Means order f new a b)
+    pub left_own_item : OnOk r (AreOwnElseOf order a b new)
+    pub unchanged : OnErr r (new ≡ a)
+    pub succeeds : (items : List K) → Means order f items a b → (length items ≤ length a) ⊎ (length items ≤ room) → IsOk r
+    pub empty : b ≡ [] → (new ≡ a) × IsOk r

@@ -1,15 +1,15 @@
 -- The ranges of a set.
 --     ranges_of items             items 2i and 2i+1 as a range, and a last single item as a range without an end
+--     range_items order start end     the boundaries of a range of two ends
 --     range_boundaries order range    the boundaries of a range
 --     range_now range             the range of elements, for a range of references to them
-use Rattle.std.specs.Prelude.{◌≡◌, true, List, [], ◌∷◌}
-use Rattle.std.specs.Ordering.{is_le}
+use Rattle.std.specs.Prelude.{◌≡◌, true, cond, List, [], ◌∷◌}
+use Rattle.std.specs.Ordering.{is_le, is_lt}
 use Rattle.std.specs.Borrow.{Bor}
 use Rattle.std.specs.declared.cmp.Ordering.{Ordering}
 use Rattle.std.specs.declared.cmp.Ordering.TheVariants.{Less, Equal}
 use Rattle.std.specs.declared.ops.Bound.{Bound}
 use Rattle.std.specs.declared.ops.Bound.TheVariants.{Included, Excluded, Unbounded}
-use Rattle.range_collections.specs.Values.{range_items}
 use Rattle.range_collections.specs.declared.range_set_range.RangeSetRange.{RangeSetRange}
 use Rattle.range_collections.specs.declared.range_set_range.RangeSetRange.TheVariants.{Range, RangeFrom}
 
@@ -52,7 +52,11 @@ abbrev pub AllEnds : {K : Type 0} → (K → Type 0) → RangeSetRange K → Typ
 AllEnds P (Range r) = P r.start × P r.end
 AllEnds P (RangeFrom r) = P r.start
 
--- the boundaries of a range: none where it has an end that isn't above its start
+-- the boundaries of a range of two ends: none where its start isn't below its end
+abbrev pub range_items : {K : Type 0} → (K → K → Ordering) → K → K → List K
+range_items order start end = cond (is_lt (order start end)) (start ∷ end ∷ []) []
+
+-- the boundaries of a range
 abbrev pub range_boundaries : {K : Type 0} → (K → K → Ordering) → RangeSetRange K → List K
 range_boundaries order (Range r) = range_items order r.start r.end
 range_boundaries order (RangeFrom r) = r.start ∷ []

@@ -6,16 +6,16 @@ use Rattle.std.specs.Prelude.{◌≡◌, ℕ, ◌+◌, ◌-◌, ◌≤◌, ◌==
 use Rattle.std.specs.declared.cmp.Ordering.{Ordering}
 use Rattle.std.specs.declared.cmp.Ordering.TheVariants.{Less}
 use Rattle.std.specs.Ordering.{is_le}
-use Rattle.range_merge.specs.Boundaries.{IsAscending, below, strictly_below, member, is_odd}
+use Rattle.range_merge.specs.Boundaries.{IsAscending, count_up_to, count_below, member, is_odd}
 
 module _ {K : Type 0} (order : K → K → Ordering) where
   -- the place of the item that is equal to the cut, or else the place where it would go
   abbrev pub place : List K → K → ℕ
-  place items cut = strictly_below order items cut
+  place items cut = count_below order items cut
 
   -- an item is equal to the cut
   abbrev pub is_found : List K → K → Bool
-  is_found items cut = not (below order items cut == strictly_below order items cut)
+  is_found items cut = not (count_up_to order items cut == count_below order items cut)
 
   -- where the right part begins: at an odd place, one later if the cut was found there, and else one earlier
   abbrev pub right_place : List K → K → ℕ

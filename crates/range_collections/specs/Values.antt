@@ -7,22 +7,17 @@
 --     MeansAmong order is_value f items a b       the members of items are f of the members of a and b, among values where f is on while both sides are off
 --     HasLeastInFront order least rest items      the items are `rest` with an item in front that equals the least value
 --     EqualsAreValues order is_value              whatever equals a value is a value
---     GivesNegation order is_value least sure a r what `!` answers of a lent set: the negation and its list, or want of memory unless it is sure
+--     GivesNegation order is_value least infallible a r what `!` answers of a set by reference: the negation and its list, or want of memory unless it is infallible
 --     GivesOwnNegation ..                         what `!` answers of a set that is handed over: the same, with the set's own items
-use Rattle.std.specs.Prelude.{◌≡◌, true, false, cond, not, List, [], ◌∷◌, drop, All, Result, IsOk, IfOk}
+use Rattle.std.specs.Prelude.{◌≡◌, true, false, not, List, [], ◌∷◌, drop, All, Result, IsOk, IfOk}
 use Rattle.std.specs.declared.alloc.AllocError.{AllocError}
 use Rattle.std.specs.declared.cmp.Ordering.{Ordering}
 use Rattle.std.specs.declared.cmp.Ordering.TheVariants.{Equal}
-use Rattle.std.specs.Ordering.{is_lt}
 use Rattle.range_merge.specs.Boundaries.{IsAscending, member}
 use Rattle.range_merge.specs.Connective.{Table}
 use Rattle.range_collections.specs.Sets.{AreEqual}
 
 module _ {K : Type 0} (order : K → K → Ordering) where
-  -- the boundaries of a range: none where its start isn't below its end
-  abbrev pub range_items : K → K → List K
-  range_items start end = cond (is_lt (order start end)) (start ∷ end ∷ []) []
-
   -- the first item equals the least value
   abbrev pub BeginsAt : K → List K → Type 0
   BeginsAt least [] = ⊥
@@ -65,18 +60,18 @@ module _ {K : Type 0} (order : K → K → Ordering) where
     abbrev pub IsEverything : List K → Type 0
     IsEverything items = (x : K) → is_value x → member order items x ≡ true
 
-    -- an answer to `!` of a: an Ok is the negation, a first item that is the least value removed and else the least value put in front; of values it holds values alone, if what equals a value is one; and where it is sure it is an Ok
-    pub record GivesNegation (least : K) (sure : Type 0) (a : List K) (r : Result (List K) AllocError) : Type 0 where
+    -- an answer to `!` of a: an Ok is the negation, a first item that is the least value removed and else the least value put in front; of values it holds values alone, if what equals a value is one; and where it is infallible it is an Ok
+    pub record GivesNegation (least : K) (infallible : Type 0) (a : List K) (r : Result (List K) AllocError) : Type 0 where
       pub negates : IfOk r (λ items. Negates items a)
       pub removed : BeginsAt least a → IfOk r (λ items. AreEqual order items (drop 1 a))
       pub put : ¬ (BeginsAt least a) → IfOk r (λ items. AreEqual order items (least ∷ a))
       pub values : EqualsAreValues → All is_value a → IfOk r (λ items. All is_value items)
-      pub succeeds : sure → IsOk r
+      pub succeeds : infallible → IsOk r
 
     -- the same of a set that is handed over: the items of a are its own
-    pub record GivesOwnNegation (least : K) (sure : Type 0) (a : List K) (r : Result (List K) AllocError) : Type 0 where
+    pub record GivesOwnNegation (least : K) (infallible : Type 0) (a : List K) (r : Result (List K) AllocError) : Type 0 where
       pub negates : IfOk r (λ items. Negates items a)
       pub removed : BeginsAt least a → IfOk r (λ items. items ≡ drop 1 a)
       pub put : ¬ (BeginsAt least a) → IfOk r (λ items. HasLeastInFront least a items)
       pub values : EqualsAreValues → All is_value a → IfOk r (λ items. All is_value items)
-      pub succeeds : sure → IsOk r
+      pub succeeds : infallible → IsOk r

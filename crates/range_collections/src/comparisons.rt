@@ -62,7 +62,7 @@ pub struct EntryCopier;
 impl<T: EntryClone> Copier<T> for EntryCopier {
     ghost alike = { T.is_copy };
 
-    ghost is_sure = { T.is_sure };
+    ghost is_infallible = { T.is_infallible };
 
     #[inline(always)]
     fn copy(&self, item: &T) -> Result<T, AllocError> {

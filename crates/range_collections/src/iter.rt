@@ -1,9 +1,10 @@
-//! The ranges of a set, from the lowest on.
+//! The ranges of a set, from the lowest on and from the highest down.
 ghost use Rattle.std.specs.Prelude.{◌≡◌};
-ghost use Rattle.std.specs.Iterator.{YieldsFirstBy, item_count};
+ghost use Rattle.std.specs.Iterator.{YieldsFirstBy, YieldsLastBy, item_count};
 ghost use Rattle.range_collections.specs.Ranges.{ranges_of, range_now};
 
 use crate::range_set_range::RangeSetRange;
+use std::iter::FusedIterator;
 use std::marker::Model;
 use std::ops::{Range, RangeFrom};
 
@@ -51,4 +52,37 @@ impl<'a, T> Iterator for Iter<'a, T> {
             }
         }
     }
+
+    fn size_hint(&self) -> (usize, Option<usize>) {
+        let left = self.len();
+        (left, Some(left))
+    }
 }
+
+impl<'a, T> DoubleEndedIterator for Iter<'a, T> {
+    ghost next_back_gives = { YieldsLastBy range_now ranges_of };
+
+    fn next_back(&mut self) -> Option<RangeSetRange<&'a T>> {
+        let (last, before) = self.unread.split_last()?;
+        match before.split_last() {
+            Some((start, rest)) if rest.len() % 2 == 0 => {
+                self.unread = rest;
+                Some(RangeSetRange::Range(Range { start, end: last }))
+            }
+            _ => {
+                self.unread = before;
+                Some(RangeSetRange::RangeFrom(RangeFrom { start: last }))
+            }
+        }
+    }
+}
+
+impl<'a, T> ExactSizeIterator for Iter<'a, T> {
+    /// Half as many as the unread boundaries, rounded up.
+    #[inline]
+    fn len(&self) -> usize {
+        self.unread.len().div_ceil(2)
+    }
+}
+
+impl<'a, T> FusedIterator for Iter<'a, T> {}

@@ -2,18 +2,28 @@
 ghost use Rattle.std.specs.Prelude.{◌≡◌, ◌↔◌, [], IsSome, IfSome};
 ghost use Rattle.range_merge.specs.Boundaries.{IsAscending};
 
+mod buffers;
 mod connectives;
 mod constructors;
+mod copies;
+mod counting;
+mod display;
 mod equality;
+mod extent;
+mod fitting;
+mod gaps;
 mod in_place;
 mod insertion;
 mod json;
+mod json_errors;
 mod negation;
 mod operations;
 mod operators;
-mod parts;
+mod points;
 mod predicates;
+mod ranges;
 mod splicing;
+mod split;
 mod text;
 mod unsorted;
 mod values;
@@ -92,7 +102,7 @@ impl<T: Ord, const N: usize> RangeSet<T, N> {
         *self.list.allocator()
     }
 
-    /// The set, lent.
+    /// The view of the set.
     #[inline(always)]
     pub fn as_ref(&self) -> RangeSetRef<'_, T>
         ensures same { result.boundaries.now ≡ self.now }

@@ -2,6 +2,8 @@
 ghost use Rattle.std.specs.Prelude.{◌≡◌, IsOk, IfOk};
 ghost use Rattle.range_collections.specs.Ranges.{range_now, bound_now, range_start, range_end, IsEqualRange, AllEnds};
 
+mod copies;
+mod equality;
 mod text;
 
 use range_entry::EntryClone;
@@ -22,7 +24,7 @@ impl<'a, T: EntryClone + Drop> RangeSetRange<&'a T> {
     /// The range of copies of what the references point to.
     pub fn cloned(&self) -> Result<RangeSetRange<T>, AllocError>
         ensures same { IfOk result (λ copied. IsEqualRange T.cmp (range_now self.now) copied) }
-        ensures succeeds { AllEnds T.is_sure (range_now self.now) → IsOk result }
+        ensures succeeds { AllEnds T.is_infallible (range_now self.now) → IsOk result }
     {
         match self {
             RangeSetRange::Range(range) => {
@@ -42,7 +44,7 @@ impl<T: EntryClone + Drop> RangeSetRange<T> {
     /// A copy of the range, or an error where there is no memory for it.
     pub fn clone(&self) -> Result<RangeSetRange<T>, AllocError>
         ensures same { IfOk result (λ copied. IsEqualRange T.cmp self.now copied) }
-        ensures succeeds { AllEnds T.is_sure self.now → IsOk result }
+        ensures succeeds { AllEnds T.is_infallible self.now → IsOk result }
     {
         match self {
             RangeSetRange::Range(range) => {
@@ -62,6 +64,21 @@ impl<T: EntryClone + Drop> RangeSetRange<T> {
 }
 
 impl<T> RangeSetRange<T> {
+    /// The range of references to the ends.
+    pub fn as_ref(&self) -> RangeSetRange<&T>
+        ensures { range_now result ≡ self.now }
+    {
+        match self {
+            RangeSetRange::Range(range) => RangeSetRange::Range(Range {
+                start: &range.start,
+                end: &range.end,
+            }),
+            RangeSetRange::RangeFrom(range) => RangeSetRange::RangeFrom(RangeFrom {
+                start: &range.start,
+            }),
+        }
+    }
+
     /// The start, which is part of the range.
     pub fn start_bound(&self) -> Bound<&T>
         ensures { bound_now result ≡ Bound.Included (range_start self.now) }

@@ -1,19 +1,27 @@
-//! A set that is lent: a strictly sorted slice of boundaries.
-ghost use Rattle.std.specs.Prelude.{◌≡◌, ◌↔◌, [], IsSome, IfSome};
+//! A view of a set: a strictly sorted slice of boundaries.
+ghost use Rattle.std.specs.Prelude.{◌≡◌, ◌↔◌, [], ◌∷◌, IsSome, IfSome};
+ghost use Rattle.std.specs.Mem.{FitsInMemory};
+ghost use Rattle.std.specs.Ordering.{is_le};
 ghost use Rattle.std.proofs.Props.{props};
-ghost use Rattle.range_merge.specs.Boundaries.{IsAscending};
+ghost use Rattle.range_merge.specs.Boundaries.{IsAscending, member};
 
+mod buffers;
 mod connectives;
+mod counting;
 mod equality;
+mod extent;
+mod fitting;
+mod gaps;
 mod operations;
+mod points;
 mod predicates;
 mod ranges;
 mod split;
 mod values;
-mod walk;
 
 use crate::sortedness::is_ascending;
 use std::alloc::AllocError;
+use std::slice;
 
 /// The set of the elements with an odd number of these boundaries at or below them.
 pub struct RangeSetRef<'a, T: Ord> {
@@ -53,6 +61,18 @@ impl<'a, T: Ord> RangeSetRef<'a, T> {
         ensures { result.boundaries.now ≡ [] }
     {
         RangeSetRef { boundaries: &[] }
+    }
+
+    /// The set of the elements at or above `value`.
+    #[inline]
+    pub fn single(value: &'a T) -> Self
+        requires { FitsInMemory T.row }
+        ensures boundaries { result.boundaries.now ≡ value.now ∷ [] }
+        ensures members { (x : T) → member T.cmp result.boundaries.now x ≡ is_le (T.cmp value.now x) }
+    {
+        RangeSetRef {
+            boundaries: slice::from_ref(value),
+        }
     }
 
     /// The set with these boundaries, or nothing where they are not strictly sorted.

@@ -7,7 +7,7 @@ use std::alloc::AllocError;
 /// An element type whose clones are equal to their source.
 pub trait EntryClone: Ord {
     // A clone of this element is never refused.
-    ghost is_sure: { Self → Type 0 };
+    ghost is_infallible: { Self → Type 0 };
 
     // The second element counts as a copy of the first.
     ghost is_copy: { Self → Self → Type 0 };
@@ -16,7 +16,7 @@ pub trait EntryClone: Ord {
     fn entry_clone(&self) -> Result<Self, AllocError>
         ensures same { IfOk result (λ copied. Self.cmp self.now copied ≡ Equal) }
         ensures copy { IfOk result (λ copied. is_copy self.now copied) }
-        ensures sure { is_sure self.now → IsOk result };
+        ensures succeeds { is_infallible self.now → IsOk result };
 
     // A copy is equal to its source.
     ghost copy_is_equal: { (x y : Self) → is_copy x y → Self.cmp x y ≡ Equal };

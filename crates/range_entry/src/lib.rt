@@ -1,6 +1,7 @@
 //! The element types of range sets: which elements are values, a least value of each type, and clones that are equal to their source.
 #![tactic(auto)]
 
+mod chars;
 mod entry_clone;
 mod lists;
 mod non_zero;

@@ -24,7 +24,7 @@ impl<T: Ord> RangeSetEntry for Vec<T> {
 
     ghost least = { empty_list };
 
-    ghost is_min_sure = { ⊥ };
+    ghost is_min_infallible = { ⊥ };
 
     fn min_value(alloc: Global) -> Result<Vec<T>, AllocError> {
         Ok(Vec::new(alloc))
@@ -42,7 +42,7 @@ impl<T: Ord> RangeSetEntry for Vec<T> {
 }
 
 impl<T: EntryClone + Drop> EntryClone for Vec<T> {
-    ghost is_sure = { λ _. ⊥ };
+    ghost is_infallible = { λ _. ⊥ };
 
     ghost is_copy = { λ xs ys. AllZip T.is_copy xs.items ys.items };
 
@@ -63,7 +63,7 @@ impl<T: Ord> RangeSetEntry for &[T] {
 
     ghost least = { empty_reference };
 
-    ghost is_min_sure = { ⊤ };
+    ghost is_min_infallible = { ⊤ };
 
     fn min_value(_alloc: Global) -> Result<Self, AllocError> {
         Ok(&[])
@@ -81,7 +81,7 @@ impl<T: Ord> RangeSetEntry for &[T] {
 }
 
 impl<T: Ord> EntryClone for &[T] {
-    ghost is_sure = { λ _. ⊤ };
+    ghost is_infallible = { λ _. ⊤ };
 
     ghost is_copy = { λ x y. y ≡ x };
 
@@ -91,7 +91,7 @@ impl<T: Ord> EntryClone for &[T] {
     fn entry_clone(&self) -> Result<Self, AllocError>
         ensures same { IfOk result (λ copied. slice_cmp T.cmp self.now.now copied.now ≡ Equal) }
         ensures copy { IfOk result (λ copied. copied ≡ self.now) }
-        ensures sure { IsOk result }
+        ensures succeeds { IsOk result }
         ensures same_reference { result ≡ Ok self.now }
     {
         Ok(*self)

@@ -35,7 +35,7 @@ impl<T: Number> RangeSetEntry for T {
 
     ghost least = { T.LEAST };
 
-    ghost is_min_sure = { ⊤ };
+    ghost is_min_infallible = { ⊤ };
 
     fn min_value(_alloc: Global) -> Result<T, AllocError> {
         Ok(T::LEAST)
@@ -55,7 +55,7 @@ impl<T: Number> RangeSetEntry for T {
 }
 
 impl<T: Number> EntryClone for T {
-    ghost is_sure = { λ _. ⊤ };
+    ghost is_infallible = { λ _. ⊤ };
 
     ghost is_copy = { λ x y. y ≡ x };
 

@@ -12,7 +12,7 @@ impl<T: Ord> RangeSetEntry for Option<T> {
 
     ghost least = { None };
 
-    ghost is_min_sure = { ⊤ };
+    ghost is_min_infallible = { ⊤ };
 
     fn min_value(_alloc: Global) -> Result<Option<T>, AllocError> {
         Ok(None)
@@ -31,7 +31,7 @@ impl<T: Ord> RangeSetEntry for Option<T> {
 
 /// `None`, or `Some` of a clone of what it holds.
 impl<T: EntryClone> EntryClone for Option<T> {
-    ghost is_sure = { λ x. IfSome x T.is_sure };
+    ghost is_infallible = { λ x. IfSome x T.is_infallible };
 
     ghost is_copy = { IsOptionCopy T.is_copy };
 

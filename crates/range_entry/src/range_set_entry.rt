@@ -15,12 +15,12 @@ pub trait RangeSetEntry: Ord {
     ghost least: { Self };
 
     // `min_value` is never refused.
-    ghost is_min_sure: { Type 0 };
+    ghost is_min_infallible: { Type 0 };
 
     /// The least value, or an error where there is no memory for it.
     fn min_value(alloc: Global) -> Result<Self, AllocError>
         ensures least { IfOk result (λ value. Self.cmp value least ≡ Equal) }
-        ensures succeeds { is_min_sure → IsOk result };
+        ensures succeeds { is_min_infallible → IsOk result };
 
     /// Whether this element equals the least value.
     fn is_min_value(&self) -> bool

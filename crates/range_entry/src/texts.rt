@@ -18,7 +18,7 @@ impl RangeSetEntry for String {
 
     ghost least = { empty_text };
 
-    ghost is_min_sure = { ⊥ };
+    ghost is_min_infallible = { ⊥ };
 
     fn min_value(alloc: Global) -> Result<String, AllocError> {
         Ok(String::new(alloc))
@@ -36,7 +36,7 @@ impl RangeSetEntry for String {
 }
 
 impl EntryClone for String {
-    ghost is_sure = { λ _. ⊥ };
+    ghost is_infallible = { λ _. ⊥ };
 
     ghost is_copy = { λ x y. string_bytes y ≡ string_bytes x };
 
@@ -57,7 +57,7 @@ impl RangeSetEntry for &str {
 
     ghost least = { empty_reference };
 
-    ghost is_min_sure = { ⊤ };
+    ghost is_min_infallible = { ⊤ };
 
     fn min_value(_alloc: Global) -> Result<Self, AllocError> {
         Ok("")
@@ -75,7 +75,7 @@ impl RangeSetEntry for &str {
 }
 
 impl EntryClone for &str {
-    ghost is_sure = { λ _. ⊤ };
+    ghost is_infallible = { λ _. ⊤ };
 
     ghost is_copy = { λ x y. y ≡ x };
 
@@ -85,7 +85,7 @@ impl EntryClone for &str {
     fn entry_clone(&self) -> Result<Self, AllocError>
         ensures same { IfOk result (λ copied. slice_cmp nat_cmp self.now.now copied.now ≡ Equal) }
         ensures copy { IfOk result (λ copied. copied ≡ self.now) }
-        ensures sure { IsOk result }
+        ensures succeeds { IsOk result }
         ensures same_reference { result ≡ Ok self.now }
     {
         Ok(*self)

@@ -1,12 +1,12 @@
 -- The first run of two lists, as one step of a merge.
-use Rattle.std.proofs.Common.{◌≡◌, ◌+◌, ◌≤◌, ◌<◌, List, [], ◌++◌, length, drop, Some, None, slice_get, false, not, refl, sym, ap, ◌∙◌, arith}
-use Rattle.std.proofs.lemmas.List.{nil_from_length}
+use Rattle.std.proofs.Common.{◌≡◌, ◌+◌, ◌≤◌, ◌<◌, true, List, [], ◌∷◌, ◌++◌, length, map, take, drop, Some, None, slice_get, false, not, refl, sym, ap, ◌∙◌, arith}
+use Rattle.std.proofs.lemmas.List.{append-nil, length-take, nil_from_length}
 use Rattle.std.specs.Cmp.{IsTotalOrder}
 use Rattle.std.specs.declared.cmp.Ordering.{Ordering}
 use Rattle.range_merge.specs.Boundaries.{IsAscending}
 use Rattle.range_merge.specs.Connective.{Table, differ}
-use Rattle.range_merge.specs.Changes.{changes, taken_left}
-use Rattle.range_merge.specs.Owners.{owners}
+use Rattle.range_merge.specs.Changes.{changes, from_left, from_right, taken_of, taken_left}
+use Rattle.range_merge.specs.Owners.{left_only, right_only, shared, owners}
 use Rattle.range_merge.specs.Runs.{runs, runs_of, weight}
 use Rattle.range_merge.specs.Walk.{walk}
 use Rattle.range_merge.specs.Steps.{StandsFirst}
@@ -16,8 +16,34 @@ use Rattle.range_merge.proofs.Digits as numbers
 use Rattle.range_merge.proofs.OwnersLemmas.{IsOwners-owners}
 use Rattle.range_merge.proofs.FirstRuns.{FirstLeft, FirstRight, FirstBoth, first_left, first_right, first_both, first_none, digits-one}
 use Rattle.range_merge.proofs.RunsFound as found
+use Rattle.range_merge.proofs.RunsLemmas.{runs_of-map_left_only, runs_of-map_right_only}
 use Rattle.range_merge.proofs.WalkLemmas.{walk-left, walk-right, walk-shared}
 use Rattle.range_merge.proofs.ChangesLemmas as walked
+
+module _ {K : Type 0} where
+  taken_of-left : (xs : List K) → map taken_of (map left_only xs) ≡ map from_left xs
+  taken_of-left [] = refl
+  taken_of-left (x ∷ xs) = ap (λ ts. from_left x ∷ ts) (taken_of-left xs)
+
+  taken_of-right : (xs : List K) → map taken_of (map right_only xs) ≡ map from_right xs
+  taken_of-right [] = refl
+  taken_of-right (x ∷ xs) = ap (λ ts. from_right x ∷ ts) (taken_of-right xs)
+
+  one_run-left : (xs : List K) → 1 ≤ length xs → length (runs_of (map left_only xs)) ≡ 1
+  unfolding runs_of
+  one_run-left [] some = absurd (omega arith)
+  one_run-left (x ∷ xs) some =
+      ap (λ os. length (runs_of os)) (sym (append-nil (map left_only (x ∷ xs)))) ∙ ap length (runs_of-map_left_only x xs [] tt)
+
+  one_run-right : (xs : List K) → 1 ≤ length xs → length (runs_of (map right_only xs)) ≡ 1
+  unfolding runs_of
+  one_run-right [] some = absurd (omega arith)
+  one_run-right (x ∷ xs) some =
+      ap (λ os. length (runs_of os)) (sym (append-nil (map right_only (x ∷ xs)))) ∙ ap length (runs_of-map_right_only x xs [] tt)
+
+  one_run-shared : (x y : K) → length (runs_of (shared x y ∷ [])) ≡ 1
+  unfolding runs_of
+  one_run-shared x y = refl
 
 module _ {K : Type 0} {order : K → K → Ordering} (o : IsTotalOrder order) (a b : List K) (a_ascends : IsAscending order a) (b_ascends : IsAscending order b) where
   pub stands_first : (run : Run) → slice_get (runs order a b) 0 ≡ Some run → StandsFirst order run a b
@@ -26,6 +52,10 @@ module _ {K : Type 0} {order : K → K → Ordering} (o : IsTotalOrder order) (a
       record {
         fits = (first.some, first.within);
         weighs = first.weight_is;
+        its_owners = map left_only (take n a);
+        owners_are = first.owners_are;
+        taken_are = sym (taken_of-left (take n a));
+        one_run = one_run-left (take n a) (simp length-take (omega (arith, first.some, first.within)));
         walked = λ f ac bc. ap (walk f ac bc) first.owners_are ∙ walk-left f ac bc n a _ first.within;
       }
   stands_first (Right n) e =
@@ -33,6 +63,10 @@ module _ {K : Type 0} {order : K → K → Ordering} (o : IsTotalOrder order) (a
       record {
         fits = (first.some, first.within);
         weighs = first.weight_is;
+        its_owners = map right_only (take n b);
+        owners_are = first.owners_are;
+        taken_are = sym (taken_of-right (take n b));
+        one_run = one_run-right (take n b) (simp length-take (omega (arith, first.some, first.within)));
         walked = λ f ac bc. ap (walk f ac bc) first.owners_are ∙ walk-right f ac bc n b _ first.within;
       }
   stands_first Both e =
@@ -40,6 +74,10 @@ module _ {K : Type 0} {order : K → K → Ordering} (o : IsTotalOrder order) (a
       record {
         fits = (first.left_some, first.right_some);
         weighs = omega (arith, first.weight_is, digits-one);
+        its_owners = shared first.left_item first.right_item ∷ [];
+        owners_are = first.owners_are;
+        taken_are = ap (λ l. taken_left true 1 l) first.left_is;
+        one_run = one_run-shared first.left_item first.right_item;
         walked = λ f ac bc.
             ap (walk f ac bc) first.owners_are ∙ walk-shared f ac bc first.left_item first.right_item (drop 1 a) _
             ∙ ap (λ l. taken_left (differ (f ac bc) (f (not ac) (not bc))) 1 l ++ walk f (not ac) (not bc) (owners order (drop 1 a) (drop 1 b))) (sym first.left_is);

@@ -12,6 +12,7 @@ pub mod RunsFound
 pub mod RunsRead
 pub mod Fronts
 pub mod Gallops
+pub mod Ahead
 pub mod WalkLemmas
 pub mod ChangesLemmas
 pub mod SameSet
@@ -26,3 +27,4 @@ pub mod Moves
 pub mod BuildingLemmas
 pub mod TakenInPlace
 pub mod OwnOrCopies
+pub mod Filled

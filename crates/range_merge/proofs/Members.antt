@@ -4,7 +4,7 @@ use Rattle.std.proofs.lemmas.List.Elements.{All-head, All-tail}
 use Rattle.std.specs.declared.cmp.Ordering.{Ordering}
 use Rattle.std.specs.declared.cmp.Ordering.TheVariants.{Less, Equal, Greater}
 use Rattle.std.specs.Ordering.{is_le, is_lt}
-use Rattle.range_merge.specs.Boundaries.{is_odd, below, strictly_below, member}
+use Rattle.range_merge.specs.Boundaries.{is_odd, count_up_to, count_below, member}
 use Rattle.range_merge.specs.Connective.{differ}
 use Rattle.range_merge.proofs.Parity.{is_odd-cond}
 
@@ -13,37 +13,37 @@ length-cond true x xs = refl
 length-cond false x xs = refl
 
 module _ {K : Type 0} (order : K → K → Ordering) where
-  pub below-nil : (x : K) → below order [] x ≡ 0
-  unfolding below
-  below-nil x = refl
+  pub count_up_to-nil : (x : K) → count_up_to order [] x ≡ 0
+  unfolding count_up_to
+  count_up_to-nil x = refl
 
-  pub strictly_below-nil : (x : K) → strictly_below order [] x ≡ 0
-  unfolding strictly_below
-  strictly_below-nil x = refl
+  pub count_below-nil : (x : K) → count_below order [] x ≡ 0
+  unfolding count_below
+  count_below-nil x = refl
 
-  pub below-cons : (y : K) (l : List K) (x : K) → below order (y ∷ l) x ≡ cond (is_le (order y x)) (suc (below order l x)) (below order l x)
-  unfolding below
-  below-cons y l x = length-cond (is_le (order y x)) y (filter (λ z. is_le (order z x)) l)
+  pub count_up_to-cons : (y : K) (l : List K) (x : K) → count_up_to order (y ∷ l) x ≡ cond (is_le (order y x)) (suc (count_up_to order l x)) (count_up_to order l x)
+  unfolding count_up_to
+  count_up_to-cons y l x = length-cond (is_le (order y x)) y (filter (λ z. is_le (order z x)) l)
 
-  pub strictly_below-cons : (y : K) (l : List K) (x : K) → strictly_below order (y ∷ l) x ≡ cond (is_lt (order y x)) (suc (strictly_below order l x)) (strictly_below order l x)
-  unfolding strictly_below
-  strictly_below-cons y l x = length-cond (is_lt (order y x)) y (filter (λ z. is_lt (order z x)) l)
+  pub count_below-cons : (y : K) (l : List K) (x : K) → count_below order (y ∷ l) x ≡ cond (is_lt (order y x)) (suc (count_below order l x)) (count_below order l x)
+  unfolding count_below
+  count_below-cons y l x = length-cond (is_lt (order y x)) y (filter (λ z. is_lt (order z x)) l)
 
   pub member-nil : (x : K) → member order [] x ≡ false
-  member-nil x = ap is_odd (below-nil x)
+  member-nil x = ap is_odd (count_up_to-nil x)
 
   pub member-cons : (y : K) (l : List K) (x : K) → member order (y ∷ l) x ≡ differ (is_le (order y x)) (member order l x)
-  member-cons y l x = ap is_odd (below-cons y l x) ∙ is_odd-cond (is_le (order y x)) (below order l x)
+  member-cons y l x = ap is_odd (count_up_to-cons y l x) ∙ is_odd-cond (is_le (order y x)) (count_up_to order l x)
 
   -- whether an odd number of items is strictly below x
   abbrev pub odd_below : List K → K → Bool
-  odd_below l x = is_odd (strictly_below order l x)
+  odd_below l x = is_odd (count_below order l x)
 
   pub odd_below-nil : (x : K) → odd_below [] x ≡ false
-  odd_below-nil x = ap is_odd (strictly_below-nil x)
+  odd_below-nil x = ap is_odd (count_below-nil x)
 
   pub odd_below-cons : (y : K) (l : List K) (x : K) → odd_below (y ∷ l) x ≡ differ (is_lt (order y x)) (odd_below l x)
-  odd_below-cons y l x = ap is_odd (strictly_below-cons y l x) ∙ is_odd-cond (is_lt (order y x)) (strictly_below order l x)
+  odd_below-cons y l x = ap is_odd (count_below-cons y l x) ∙ is_odd-cond (is_lt (order y x)) (count_below order l x)
 
   -- no item is at or below x where all are above it
   pub member-above : (l : List K) (x : K) → All (λ y. order y x ≡ Greater) l → member order l x ≡ false

@@ -7,7 +7,7 @@ use Rattle.std.specs.Cmp.{IsTotalOrder}
 use Rattle.range_merge.specs.Boundaries.{IsAscending}
 use Rattle.range_merge.specs.Connective.{Table}
 use Rattle.range_merge.specs.Changes.{Taken, StopsAmong}
-use Rattle.range_merge.specs.Owners.{owners}
+use Rattle.range_merge.specs.Owners.{Owner, owners}
 use Rattle.range_merge.specs.Walk.{walk}
 use Rattle.range_merge.specs.Steps.{StandsFirst, RunFits, takes, taken_of_run, left_after, right_after, left_on_after, right_on_after}
 use Rattle.range_merge.specs.declared.runs.Run.{Run}
@@ -20,6 +20,8 @@ pub record Progress {K : Type 0} (order : K → K → Ordering) (f : Table) (l0 
   pub splits : done ++ walk f ac bc (owners order l r) ≡ walk f false false (owners order l0 r0)
   pub appended : (before : List (Taken K)) → old before → new (before ++ done)
   pub none_done : can_stop ≡ true → done ≡ []
+  pub passed : List (Owner K)
+  pub owners_are : owners order l0 r0 ≡ passed ++ owners order l r
 
 -- a state that can stop and goes on did not take
 goes_on-untaken : (s t : Bool) → true ≡ not (s && t) → s ≡ true → t ≡ false
@@ -62,29 +64,39 @@ module _ {K : Type 0} {order : K → K → Ordering} {f : Table} {l0 r0 l r : Li
             let untaken : takes f ac bc run ≡ false = goes_on-untaken can_stop _ goes_on can in
             let nothing : taken ≡ [] = ap (λ t. taken_of_run t run l r) untaken ∙ taken_of_run-false l r run in
             ap (λ ts. ts ++ taken) (so_far.none_done can) ∙ nothing;
+        passed = so_far.passed ++ first.its_owners;
+        owners_are = so_far.owners_are ∙ ap (λ os. so_far.passed ++ os) first.owners_are ∙ sym (append_assoc so_far.passed first.its_owners _);
       }
 
   -- where the state stops, the run stands in front of what is taken in all
   pub StopsAmong-run : (run : Run) (newer : List (Taken K) → Type 0) (first : StandsFirst order run l r) (so_far : Progress order f l0 r0 l r ac bc old new can_stop)
       (stops : false ≡ not (can_stop && takes f ac bc run))
       (appends : (before : List (Taken K)) → new before → newer (before ++ taken_of_run (takes f ac bc run) run l r))
-      → (can_stop ≡ true) × StopsAmong old newer (walk f false false (owners order l0 r0))
+      → (can_stop ≡ true) × StopsAmong (owners order l0 r0) old newer (walk f false false (owners order l0 r0))
   StopsAmong-run run newer first so_far stops appends =
       let both : (can_stop ≡ true) × (takes f ac bc run ≡ true) = stops-both can_stop _ stops in
       let taken : List (Taken K) = taken_of_run (takes f ac bc run) run l r in
       let rest : List (Taken K) = walk f (left_on_after run ac) (right_on_after run bc) (owners order (left_after run l) (right_after run r)) in
       let whole : walk f false false (owners order l0 r0) ≡ taken ++ rest =
       sym so_far.splits ∙ ap (λ ts. ts ++ walk f ac bc (owners order l r)) (so_far.none_done both.0) ∙ first.walked f ac bc in
-      let some : 1 ≤ length taken = subst (λ t. 1 ≤ length (taken_of_run t run l r)) (sym both.1) (length-taken_of_run l r run first.fits) in (
+      let some : 1 ≤ length taken = subst (λ t. 1 ≤ length (taken_of_run t run l r)) (sym both.1) (length-taken_of_run l r run first.fits) in
+      let front : take (length taken) (walk f false false (owners order l0 r0)) ≡ taken = ap (take (length taken)) whole ∙ take_at taken rest _ refl in (
         both.0,
         (
           length taken,
           some,
           (rw whole (simp length-append (omega arith))),
           (λ before holds.
-              let front : take (length taken) (walk f false false (owners order l0 r0)) ≡ taken = ap (take (length taken)) whole ∙ take_at taken rest _ refl in
               let none : before ++ so_far.done ≡ before = ap (λ ts. before ++ ts) (so_far.none_done both.0) ∙ append-nil before in
               subst newer (ap (λ ts. ts ++ taken) none ∙ ap (λ ts. before ++ ts) (sym front)) (appends (before ++ so_far.done) (so_far.appended before holds))),
+          (
+            so_far.passed,
+            first.its_owners,
+            owners order (left_after run l) (right_after run r),
+            so_far.owners_are ∙ ap (λ os. so_far.passed ++ os) first.owners_are,
+            front ∙ ap (λ t. taken_of_run t run l r) both.1 ∙ first.taken_are,
+            first.one_run,
+          ),
         ),
       )
 

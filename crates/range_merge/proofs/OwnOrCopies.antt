@@ -1,8 +1,9 @@
 -- What a merge in place that borrows its right list keeps, run by run: the left's own items, and copies of the right's.
-use Rattle.std.proofs.Common.{◌≡◌, ℕ, zero, suc, ◌≤◌, Bool, true, false, List, [], ◌∷◌, ◌++◌, length, take, drop, map, reverse, refl}
+use Rattle.std.proofs.Common.{◌≡◌, ℕ, zero, suc, Bool, true, false, List, [], ◌∷◌, ◌++◌, take, drop, map, reverse, refl, ap, ◌∙◌}
 use Rattle.std.specs.List.{AllZip}
+use Rattle.std.proofs.lemmas.List.{reverse-append}
 use Rattle.range_merge.specs.Changes.{Taken, taken_left, taken_right, from_left, from_right}
-use Rattle.range_merge.specs.Copies.{items_if, IsOwnOrCopy, AreOwnOrCopies, HasCopies}
+use Rattle.range_merge.specs.Copies.{items_if, IsOwnOrCopy, AreOwnOrCopies}
 use Rattle.range_merge.proofs.CopiesLemmas.{AllZip-append}
 
 module _ {K : Type 0} (alike : K → K → Type 0) where
@@ -20,13 +21,13 @@ module _ {K : Type 0} (alike : K → K → Type 0) where
   AllZip-drop (suc n) (x ∷ xs) [] h = absurd h
   AllZip-drop (suc n) (x ∷ xs) (y ∷ ys) h = AllZip-drop n xs ys h.1
 
-  -- what is left behind the first items and their copies
-  pub HasCopies-drop : (n puts : ℕ) (unread unread' copies copies' : List K) → unread' ≡ drop n unread → reverse copies' ≡ drop n (reverse copies)
-      → AllZip alike unread (reverse copies) → length copies' ≤ puts → HasCopies alike unread' copies' puts
-  HasCopies-drop n puts unread unread' copies copies' items same h enough = record {
-    alike_to = rw (items, same) (AllZip-drop n unread (reverse copies) h);
-    enough = enough;
-  }
+  -- one copy taken from the end
+  pub copy-taken : (unread copies copies' : List K) (y : K) → copies ≡ copies' ++ y ∷ [] → AllZip alike unread (reverse copies)
+      → AllZip alike (take 1 unread) (y ∷ []) × AllZip alike (drop 1 unread) (reverse copies')
+  copy-taken unread copies copies' y last h =
+      let turned : reverse copies ≡ y ∷ reverse copies' = ap reverse last ∙ reverse-append copies' (y ∷ []) in
+      let zipped = rw turned at h in
+      (AllZip-take 1 unread (y ∷ reverse copies') zipped, AllZip-drop 1 unread (y ∷ reverse copies') zipped)
 
   own : (xs : List K) → AreOwnOrCopies alike (map from_left xs) xs
   own [] = tt
@@ -42,16 +43,12 @@ module _ {K : Type 0} (alike : K → K → Type 0) where
   left-if true n left = own (take n left)
   left-if false n left = tt
 
-  right-if : (wanted : Bool) (n : ℕ) (right copies : List K) → AllZip alike right copies → AreOwnOrCopies alike (taken_right wanted n right) (items_if wanted (take n copies))
-  right-if true n right copies h = copied (take n right) (take n copies) (AllZip-take n right copies h)
-  right-if false n right copies h = tt
+  pub AreOwnOrCopies-put : (right kept : List K) (y : K) (ts : List (Taken K)) → AllZip alike (take 1 right) (y ∷ [])
+      → AreOwnOrCopies alike ts kept → AreOwnOrCopies alike (ts ++ taken_right true 1 right) (kept ++ y ∷ [])
+  AreOwnOrCopies-put right kept y ts alike_to so_far =
+      AllZip-append (IsOwnOrCopy alike) ts kept (taken_right true 1 right) (y ∷ []) so_far (copied (take 1 right) (y ∷ []) alike_to)
 
   pub AreOwnOrCopies-left : (wanted : Bool) (n : ℕ) (left kept kept' : List K) (before : List (Taken K)) → kept' ≡ kept ++ items_if wanted (take n left)
       → AreOwnOrCopies alike before kept → AreOwnOrCopies alike (before ++ taken_left wanted n left) kept'
   AreOwnOrCopies-left wanted n left kept kept' before more so_far =
       rw more (AllZip-append (IsOwnOrCopy alike) before kept (taken_left wanted n left) (items_if wanted (take n left)) so_far (left-if wanted n left))
-
-  pub AreOwnOrCopies-right : (wanted : Bool) (n : ℕ) (right copies kept kept' : List K) (before : List (Taken K)) → AllZip alike right copies → kept' ≡ kept ++ items_if wanted (take n copies)
-      → AreOwnOrCopies alike before kept → AreOwnOrCopies alike (before ++ taken_right wanted n right) kept'
-  AreOwnOrCopies-right wanted n right copies kept kept' before alike_to more so_far =
-      rw more (AllZip-append (IsOwnOrCopy alike) before kept (taken_right wanted n right) (items_if wanted (take n copies)) so_far (right-if wanted n right copies alike_to))

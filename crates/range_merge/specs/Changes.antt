@@ -1,12 +1,13 @@
 -- Where a connective changes between two lists, and what a merge takes of them.
 --     changes order f a b         the items at which f's answer differs from f just below
 --     taken_items ts              the items that were taken
-use Rattle.std.specs.Prelude.{◌≢◌, ℕ, ◌≤◌, All, Contains, Bool, true, false, List, [], ◌++◌, length, map, take, filter}
+use Rattle.std.specs.Prelude.{◌≡◌, ◌≢◌, ℕ, ◌≤◌, All, Contains, Bool, true, false, List, [], ◌++◌, length, map, take, filter}
 use Rattle.std.specs.declared.cmp.Ordering.{Ordering}
 use Rattle.std.specs.declared.cmp.Ordering.TheVariants.{Equal}
-use Rattle.range_merge.specs.Boundaries.{is_odd, strictly_below, member}
+use Rattle.range_merge.specs.Boundaries.{is_odd, count_below, member}
 use Rattle.range_merge.specs.Connective.{Table, differ}
 use Rattle.range_merge.specs.Owners.{Owner, left_only, right_only, shared, owners}
+use Rattle.range_merge.specs.Runs.{runs_of}
 
 -- an item, marked by the side that it is taken from
 pub data Taken (K : Type 0) : Type 0 where
@@ -39,10 +40,16 @@ module _ {K : Type 0} where
   taken_right true n items = map from_right (take n items)
   taken_right false n items = []
 
-  -- an output before and after a merge that stopped: some of the items, and at least the first, were appended
-  abbrev pub StopsAmong : (List (Taken K) → Type 0) → (List (Taken K) → Type 0) → List (Taken K) → Type 0
-  StopsAmong old new items =
+  -- these items stand one behind the other among the owners, all in one run
+  abbrev pub AreOfOneRun : List (Owner K) → List (Taken K) → Type 0
+  AreOfOneRun os ts =
+      (earlier these later : List (Owner K)) × (os ≡ earlier ++ (these ++ later)) × (ts ≡ map taken_of these) × (length (runs_of these) ≡ 1)
+
+  -- an output before and after a merge that stopped: a front of the items was appended, one item or more, all of one run
+  abbrev pub StopsAmong : List (Owner K) → (List (Taken K) → Type 0) → (List (Taken K) → Type 0) → List (Taken K) → Type 0
+  StopsAmong os old new items =
       (n : ℕ) × (1 ≤ n) × (n ≤ length items) × ((before : List (Taken K)) → old before → new (before ++ take n items))
+      × AreOfOneRun os (take n items)
 
   -- the mark is true: an item of the left list, or one of the right list that equals none of the left's
   abbrev pub IsMarkedTruly : (K → K → Ordering) → List K → List K → Taken K → Type 0
@@ -56,7 +63,7 @@ module _ {K : Type 0} where
 
     -- f of whether what lies just below x is in a and in b
     abbrev pub answer_just_below : K → Bool
-    answer_just_below x = f (is_odd (strictly_below order a x)) (is_odd (strictly_below order b x))
+    answer_just_below x = f (is_odd (count_below order a x)) (is_odd (count_below order b x))
 
     -- the owners' items at which f's answer changes, in order
     unfoldable pub changes : List (Taken K)

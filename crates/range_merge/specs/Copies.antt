@@ -1,5 +1,5 @@
 -- Copies of items at the end of a list.
-use Rattle.std.specs.Prelude.{◌≡◌, ℕ, ◌≤◌, Bool, true, false, List, [], ◌++◌, length, take, drop, reverse}
+use Rattle.std.specs.Prelude.{◌≡◌, ℕ, ◌≤◌, Bool, true, false, List, [], ◌++◌, length, take, drop}
 use Rattle.std.specs.List.{AllZip}
 use Rattle.range_merge.specs.Changes.{Taken, from_left, from_right, taken_item, taken_items}
 
@@ -34,8 +34,3 @@ module _ {K : Type 0} where
   -- the items that were taken, item by item: the left's own, and copies alike to the right's
   abbrev pub AreOwnOrCopies : (K → K → Type 0) → List (Taken K) → List K → Type 0
   AreOwnOrCopies alike ts items = AllZip (IsOwnOrCopy alike) ts items
-
-  -- the copies, the last one first, are alike to the unread items, and no more than may be put
-  pub record HasCopies (alike : K → K → Type 0) (unread copies : List K) (puts : ℕ) : Type 0 where
-    pub alike_to : AllZip alike unread (reverse copies)
-    pub enough : length copies ≤ puts

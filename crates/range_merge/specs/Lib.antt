@@ -10,3 +10,4 @@ pub mod Galloping
 pub mod States
 pub mod Copies
 pub mod Building
+pub mod Buffers

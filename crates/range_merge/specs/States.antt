@@ -2,7 +2,7 @@
 use Rattle.smallvec.specs.SmallVec.{SmallVec}
 use Rattle.std.specs.Prelude.{ℕ, ◌+◌, ◌≤◌, Bool, true, false, List, [], ◌∷◌, length, All}
 
--- a merge over two slices: the unread items of each side, whether the side is on, what its output holds of what was taken, and how many items that began with
+-- a merge over two slices: the unread items of each side, whether the side is on, what its output holds of what was taken, and a number that no advance changes: how many items that began with, or which slice it fills
 pub record Merging (K : Type 0) (Output : Type 0) : Type 0 where
   pub left : List K
   pub right : List K
@@ -13,8 +13,8 @@ pub record Merging (K : Type 0) (Output : Type 0) : Type 0 where
 
 -- the list has room for what is unread, and no copy of it is refused
 abbrev pub HasRoomForAll : {K : Type 0} → (K → Type 0) → Merging K (SmallVec K) → Type 0
-HasRoomForAll is_sure s =
-    (length s.taken.items + (length s.left + length s.right) ≤ s.taken.capacity) × All is_sure s.left × All is_sure s.right
+HasRoomForAll is_infallible s =
+    (length s.taken.items + (length s.left + length s.right) ≤ s.taken.capacity) × All is_infallible s.left × All is_infallible s.right
 
 -- a builder that works in place: the items that are kept, those that are still unread, and how many may still be put
 pub record Building (K : Type 0) : Type 0 where

@@ -1,11 +1,11 @@
 -- One run of a merge: what it removes from the unread lists, what it takes, and how the two truths change.
-use Rattle.std.specs.Prelude.{◌≡◌, ℕ, ◌≤◌, ◌+◌, Option, Some, None, Bool, true, false, not, List, length, drop, ◌++◌}
+use Rattle.std.specs.Prelude.{◌≡◌, ℕ, ◌≤◌, ◌+◌, Option, Some, None, Bool, true, false, not, List, length, map, drop, get_or, ◌++◌}
 use Rattle.std.specs.declared.cmp.Ordering.{Ordering}
 use Rattle.range_merge.specs.Boundaries.{is_odd}
 use Rattle.range_merge.specs.Connective.{Table, differ}
-use Rattle.range_merge.specs.Owners.{owners}
-use Rattle.range_merge.specs.Changes.{Taken, taken_left, taken_right}
-use Rattle.range_merge.specs.Runs.{weight, digits, run_len}
+use Rattle.range_merge.specs.Owners.{Owner, owners}
+use Rattle.range_merge.specs.Changes.{Taken, taken_of, taken_left, taken_right}
+use Rattle.range_merge.specs.Runs.{weight, digits, run_len, runs_of}
 use Rattle.range_merge.specs.declared.runs.Run.{Run}
 use Rattle.range_merge.specs.declared.runs.Run.TheVariants.{Left, Right, Both}
 use Rattle.range_merge.specs.Walk.{walk}
@@ -58,11 +58,25 @@ module _ {K : Type 0} where
   taken_of_run takes (Right n) a b = taken_right takes n b
   taken_of_run takes Both a b = taken_left takes 1 a
 
-  -- a run stands in front of two lists: it fits, it weighs its digits, and the walk takes it whole or drops it
+  -- a run stands in front of two lists: it fits, it weighs its digits, the walk takes it whole or drops it, and its owners are one run
   pub record StandsFirst (order : K → K → Ordering) (run : Run) (a b : List K) : Type 0 where
     pub fits : RunFits run a b
     pub weighs : weight order a b ≡ digits (run_len run) + weight order (left_after run a) (right_after run b)
+    pub its_owners : List (Owner K)
+    pub owners_are : owners order a b ≡ its_owners ++ owners order (left_after run a) (right_after run b)
+    pub taken_are : taken_of_run true run a b ≡ map taken_of its_owners
+    pub one_run : length (runs_of its_owners) ≡ 1
     pub walked : (f : Table) (ac bc : Bool) →
         walk f ac bc (owners order a b) ≡
         taken_of_run (takes f ac bc run) run a b
         ++ walk f (left_on_after run ac) (right_on_after run bc) (owners order (left_after run a) (right_after run b))
+
+  -- how the first items of two lists stand to one another; none says that one of the lists is empty
+  abbrev pub FirstsStand : (K → K → Ordering) → List K → List K → Option Ordering → Type 0
+  FirstsStand order a b None = 1 ≤ length a → length b ≡ 0
+  FirstsStand order a b (Some how) = (1 ≤ length a) × (1 ≤ length b) × ((d : K) → order (get_or a 0 d) (get_or b 0 d) ≡ how)
+
+-- how many comparisons were made ahead, to know how the first items stand
+abbrev pub ahead_of : Option Ordering → ℕ
+ahead_of None = 0
+ahead_of (Some how) = 1

@@ -34,10 +34,10 @@ pub trait Copier<K> {
     ghost alike: { K → K → Type 0 };
 
     // A copy of this item is never refused.
-    ghost is_sure: { K → Type 0 };
+    ghost is_infallible: { K → Type 0 };
 
     /// A copy of the item, or an error where there is no memory for one.
     fn copy(&self, item: &K) -> Result<K, AllocError>
         ensures alike { IfOk result (λ copied. alike item.now copied) }
-        ensures sure { is_sure item.now → IsOk result };
+        ensures succeeds { is_infallible item.now → IsOk result };
 }

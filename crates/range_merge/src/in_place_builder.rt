@@ -1,11 +1,12 @@
 //! A list that is rebuilt in place: some of its items are kept, some are dropped, and new ones are put between them.
 //!
 //! The kept items stand in front, then a gap of items that were dropped, and then the unread ones. At the first put that the gap cannot hold, the unread items move once into a spare list.
-ghost use Rattle.std.specs.Prelude.{◌≡◌, ℕ, ◌+◌, ◌-◌, ◌≤◌, ◌<◌, Bool, true, false, List, [], ◌++◌, ◌∷◌, length, take, drop, reverse, Some, slice_get, IsOk, IfOk, IfErr};
+ghost use Rattle.std.specs.Prelude.{◌≡◌, ◌+◌, ◌≤◌, ◌<◌, [], ◌++◌, ◌∷◌, length, take, drop, Some, slice_get, IsOk, IfOk, IfErr};
 ghost use Rattle.range_merge.specs.Building.{unread_in, IsLaidOut};
 ghost use Rattle.range_merge.specs.Copies.{items_if};
 
-use crate::place::{Place, move_down, pour, prepared};
+use crate::in_place_memory::prepared;
+use crate::place::{Place, move_down, pour};
 use smallvec::SmallVec;
 use std::alloc::{AllocError, Global};
 use std::default::MadeWith;
@@ -159,27 +160,6 @@ impl<K, const N: usize, L: Place<K>> InPlaceBuilder<K, N, L> {
         );
         self.kept += 1;
         self.puts -= 1;
-    }
-
-    /// Removes the last `n` items of `from`, the last one first, and puts them if they are wanted.
-    #[inline(always)]
-    pub(crate) fn put_from(&mut self, from: &mut L, n: usize, wanted: bool)
-        requires some { n ≤ length (L.items from.old) }
-        requires puts { length (L.items from.old) ≤ self.old.puts_left }
-        ensures kept { self.new.kept ≡ self.old.kept ++ items_if wanted (take n (reverse (L.items from.old))) }
-        ensures unread { self.new.unread ≡ self.old.unread }
-        ensures rest { reverse (L.items from.new) ≡ drop n (reverse (L.items from.old)) }
-        ensures puts { length (L.items from.new) ≤ self.new.puts_left }
-    {
-        if !wanted {
-            let left = from.len() - n;
-            from.truncate(left);
-            return;
-        }
-        for _i in 0..n {
-            let item = from.pop();
-            self.put(item);
-        }
     }
 
     /// The list, with the kept items followed by those that are still unread.

@@ -8,6 +8,12 @@ ghost use Rattle.range_merge.specs.Owners.{Owner, IsOwners, owners};
 ghost use Rattle.range_merge.specs.Runs.{digits, weight};
 
 use crate::compare::{Compare, Copier};
+use crate::merge_state::{
+    BoolOpMergeState, CountMergeState, InPlaceMergeState, InPlaceMergeStateRef, MergeStateMut,
+    SmallVecMergeState,
+};
+use std::alloc::Global;
+use std::default::MadeWith;
 
 /// The owners of two strictly sorted lists are pinned: they ascend, with both lists' items among them, and no other list does so.
 pub fn owners_are_pinned<K, C: Compare<K>>()
@@ -51,4 +57,22 @@ pub fn changes_are_marked_truly<K, C: Compare<K>>()
 pub fn copies_stand_behind_what_was_there<K, P: Copier<K>>()
     ensures behind { (r : List K) (ts : List (Taken K)) (items : List K) →
         AreKeptThenCopies P.alike (length r) (map from_left r ++ ts) items → IsAppended P.alike (taken_items ts) r items }
+{}
+
+/// The items at which a connective changes are no more than both lists have together.
+pub fn changes_are_at_most_the_lengths<K, C: Compare<K>>()
+    ensures at_most { (f : Table) (a b : List K) → length (changes C.order f a b) ≤ length a + length b }
+{}
+
+/// The state that only tests is stopped by what it takes, and no other one is.
+pub fn the_test_alone_stops<
+    K: MadeWith<Global> + Drop + 'static,
+    P: Copier<K> + 'static,
+    const N: usize,
+>()
+    ensures test { ⟦<BoolOpMergeState<'static, K> as MergeStateMut>⟧.can_stop ≡ true }
+    ensures count { ⟦<CountMergeState<'static, K> as MergeStateMut>⟧.can_stop ≡ false }
+    ensures list { ⟦<SmallVecMergeState<'static, K, P, N> as MergeStateMut>⟧.can_stop ≡ false }
+    ensures in_place { ⟦<InPlaceMergeState<K, N> as MergeStateMut>⟧.can_stop ≡ false }
+    ensures in_place_ref { ⟦<InPlaceMergeStateRef<'static, K, P, N> as MergeStateMut>⟧.can_stop ≡ false }
 {}

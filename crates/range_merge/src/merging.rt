@@ -3,13 +3,16 @@ ghost use Rattle.std.specs.Prelude.{◌≡◌, ℕ, ◌+◌, ◌*◌, ◌^◌, �
 ghost use Rattle.range_merge.specs.Boundaries.{IsAscending};
 ghost use Rattle.range_merge.specs.Changes.{Taken, changes, StopsAmong};
 ghost use Rattle.range_merge.specs.Counting.{AddsAtMost};
+ghost use Rattle.range_merge.specs.Owners.{owners};
 ghost use Rattle.range_merge.specs.Runs.{weight, digits, runs, run_len};
 ghost use Rattle.range_merge.specs.Steps.{RunFits, digits_of_run, takes, taken_of_run, left_after, right_after, left_on_after, right_on_after};
+ghost use Rattle.std.specs.Cmp.{IsTotalOrder};
+ghost use Rattle.std.specs.declared.cmp.Ordering.{Ordering as TheOrdering};
 
 use crate::compare::Compare;
+use crate::merge_state::{MergeState, MergeStateMut};
 use crate::operations::MergeOperation;
-use crate::runs::{Run, run_length};
-use crate::states::{MergeState, MergeStateMut};
+use crate::runs::{FirstRun, Run, first_run, order_at};
 use std::alloc::AllocError;
 
 /// Merges the unread lists of `state` by the operation `op`.
@@ -33,47 +36,53 @@ pub fn merge<S: MergeStateMut, O: MergeOperation, C: Compare<S::Item>>(
     ensures taken { IfOk result (λ more. more ≡ true → (before : List (Taken S.Item)) → S.output state.old before
         → S.output state.new (before ++ changes C.order (O.connective op.now) (S.left state.old) (S.right state.old))) }
 
-    // Only a state that can stop does, and it stops exactly where something is taken.
+    // Only a state that can stop does, and it stops exactly where something is taken: with a front of the changes, one or more, all of the run in which the first one lies.
     ensures stopped { IfOk result (λ more. more ≡ false → (S.can_stop ≡ true)
-        × StopsAmong (S.output state.old) (S.output state.new) (changes C.order (O.connective op.now) (S.left state.old) (S.right state.old))) }
+        × StopsAmong (owners C.order (S.left state.old) (S.right state.old)) (S.output state.old) (S.output state.new)
+        (changes C.order (O.connective op.now) (S.left state.old) (S.right state.old))) }
     ensures not_stopped { S.can_stop ≡ true → IfOk result (λ more. more ≡ true
         → changes C.order (O.connective op.now) (S.left state.old) (S.right state.old) ≡ []) }
     ensures began { S.began state.new ≡ S.began state.old }
 
     // A state that never refuses is never refused, and stays so.
-    ensures succeeds { S.sure state.old → IsOk result }
-    ensures still_sure { S.sure state.old → OnOk result (S.sure state.new) }
+    ensures succeeds { S.infallible state.old → IsOk result }
+    ensures still_infallible { S.infallible state.old → OnOk result (S.infallible state.new) }
 
     ensures comparisons { AddsAtMost (C.count cmp.old) (C.count cmp.new) (2 * weight C.order (S.left state.old) (S.right state.old)) }
 {
     // Brings that both lengths are within usize.
     let _lengths = (state.a_len(), state.b_len());
-    while let Some(run) = next_run(state, cmp) {
+    let mut firsts = order_at(state, 0, cmp);
+    while let Some(how) = firsts {
+        let FirstRun { run, behind } = first_run(state, how, cmp);
         if !take_run(state, op, run)? {
             return Ok(false);
         }
+        firsts = behind;
     }
-    Ok(true)
+    let Some(run) = last_run(state) else {
+        return Ok(true);
+    };
+    let more = take_run(state, op, run)?;
+    Ok(more)
 }
 
-// The first run of what is unread, if anything is. The last one needs no comparison.
+// The one run of what is unread, if anything is, where one list is used up. It needs no comparison.
 #[inline(always)]
-fn next_run<S: MergeState, C: Compare<S::Item>>(state: &S, cmp: &mut C) -> Option<Run>
-    requires left_ascending { IsAscending C.order (S.left state.now) }
-    requires right_ascending { IsAscending C.order (S.right state.now) }
-    requires made { C.count cmp.old < 2 ^ 127 }
-    ensures first { slice_get (runs C.order (S.left state.now) (S.right state.now)) 0 ≡ result }
-    ensures comparisons { AddsAtMost (C.count cmp.old) (C.count cmp.new) (2 * digits_of_run result) }
+fn last_run<S: MergeState>(state: &S) -> Option<Run>
+    requires used_up { 1 ≤ length (S.left state.now) → length (S.right state.now) ≡ 0 }
+    ensures first { (order : S.Item → S.Item → TheOrdering) → IsTotalOrder order → IsAscending order (S.left state.now) → IsAscending order (S.right state.now)
+        → slice_get (runs order (S.left state.now) (S.right state.now)) 0 ≡ result }
+    ensures all { IfSome result (λ run. (left_after run (S.left state.now) ≡ []) × (right_after run (S.right state.now) ≡ [])) }
 {
     match (state.a_len(), state.b_len()) {
         (0, 0) => None,
-        (n, 0) => Some(Run::Left(n)),
         (0, n) => Some(Run::Right(n)),
-        _ => Some(run_length(state, cmp)),
+        (n, _) => Some(Run::Left(n)),
     }
 }
 
-// Takes a run or drops it, as the operation says.
+// Takes a run or drops it, as the operation says. Runs of one item have arms of their own, since most runs are.
 #[inline(always)]
 fn take_run<S: MergeStateMut, O: MergeOperation>(
     state: &mut S,
@@ -90,13 +99,21 @@ fn take_run<S: MergeStateMut, O: MergeOperation>(
     ensures output { OnOk result ((before : List (Taken S.Item)) → S.output state.old before → S.output state.new
         (before ++ taken_of_run (takes (O.connective op.now) (S.left_on state.old) (S.right_on state.old) run) run (S.left state.old) (S.right state.old))) }
     ensures began { S.began state.new ≡ S.began state.old }
-    ensures succeeds { S.sure state.old → IsOk result }
-    ensures still_sure { S.sure state.old → OnOk result (S.sure state.new) }
+    ensures succeeds { S.infallible state.old → IsOk result }
+    ensures still_infallible { S.infallible state.old → OnOk result (S.infallible state.new) }
 {
     match run {
+        Run::Left(1) => {
+            let take = op.takes_a(state.bc());
+            state.advance_a(1, take)
+        }
         Run::Left(n) => {
             let take = op.takes_a(state.bc());
             state.advance_a(n, take)
+        }
+        Run::Right(1) => {
+            let take = op.takes_b(state.ac());
+            state.advance_b(1, take)
         }
         Run::Right(n) => {
             let take = op.takes_b(state.ac());

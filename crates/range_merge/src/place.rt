@@ -1,10 +1,9 @@
 //! Where a list lies that is changed in place: by value or borrowed. What moves its items is generic in that.
-ghost use Rattle.std.specs.Prelude.{◌≡◌, ℕ, ◌+◌, ◌-◌, ◌≤◌, ◌<◌, List, [], ◌++◌, ◌∷◌, length, take, drop, reverse, Some, slice_get, slice_set, IsOk, IfOk, OnOk};
+ghost use Rattle.std.specs.Prelude.{◌≡◌, ℕ, ◌+◌, ◌≤◌, ◌<◌, List, [], ◌++◌, ◌∷◌, length, take, drop, reverse, Some, slice_get, slice_set};
 ghost use Rattle.std.specs.List.{swap};
-ghost use Rattle.smallvec.specs.SmallVec.{HasRoomFor};
 
 use smallvec::SmallVec;
-use std::alloc::{AllocError, Global};
+use std::alloc::Global;
 use std::default::MadeWith;
 
 /// A list of items that can be moved within it and taken from its end, and that grows only where there is room.
@@ -180,24 +179,6 @@ pub(crate) fn pour<K, L: Place<K>>(from: &mut L, to: &mut L, n: usize)
     for _i in 0..n {
         to.push(from.pop());
     }
-}
-
-// Asks for room for `extra` more items in the list, and for a spare list that can hold those that it has.
-pub(crate) fn prepared<K: MadeWith<Global> + Drop, const N: usize>(
-    list: &mut SmallVec<K, N>,
-    extra: usize,
-) -> Result<SmallVec<K, N>, AllocError>
-    ensures items { list.new.items ≡ list.old.items }
-    ensures room { OnOk result (HasRoomFor list.new extra) }
-    ensures spare { IfOk result (λ spare. spare.items ≡ []) }
-    ensures spare_room { IfOk result (λ spare. length list.old.items ≤ spare.capacity) }
-    ensures succeeds { length list.old.items + extra ≤ N → IsOk result }
-{
-    // Brings that the capacity is at least N.
-    let _inline = list.capacity();
-    let spare = SmallVec::with_capacity(*list.allocator(), list.len())?;
-    list.reserve(extra)?;
-    Ok(spare)
 }
 
 // Reverses the items of a list.

@@ -1,12 +1,14 @@
 //! The first run of two lists.
-ghost use Rattle.std.specs.Prelude.{◌≡◌, ◌*◌, ◌^◌, ◌<◌, length, Some, slice_get};
+ghost use Rattle.std.specs.Ordering.{ordering_reverse};
+ghost use Rattle.std.specs.Prelude.{option_map, ◌≡◌, ◌+◌, ◌*◌, ◌^◌, ◌<◌, ◌≤◌, drop, length, Some, slice_get};
 ghost use Rattle.range_merge.specs.Boundaries.{IsAscending};
 ghost use Rattle.range_merge.specs.Counting.{AddsAtMost};
 ghost use Rattle.range_merge.specs.Runs.{digits, run_len, runs};
+ghost use Rattle.range_merge.specs.Steps.{FirstsStand, ahead_of, left_after, right_after};
 
 use crate::compare::Compare;
 use crate::galloping::{Side, gallop};
-use crate::states::MergeState;
+use crate::merge_state::MergeState;
 use std::cmp::Ordering;
 
 /// The first run of two strictly sorted lists: the longest stretch of items of one side that all stand before the other side's first item, or an item of each that are equal.
@@ -72,8 +74,82 @@ pub fn run_length<S: MergeState, C: Compare<S::Item>>(state: &S, cmp: &mut C) ->
     let a = state.a_at(0);
     let b = state.b_at(0);
     match cmp.compare(a, b) {
-        Ordering::Less => Run::Left(gallop(&LeftOf(state), b, cmp)),
+        Ordering::Less => Run::Left(gallop(&LeftOf(state), b, cmp).len),
         Ordering::Equal => Run::Both,
-        Ordering::Greater => Run::Right(gallop(&RightOf(state), a, cmp)),
+        Ordering::Greater => Run::Right(gallop(&RightOf(state), a, cmp).len),
+    }
+}
+
+/// The first run of two lists, and how the two items behind it stand to one another, if both lists go on.
+pub(crate) struct FirstRun {
+    pub(crate) run: Run,
+    pub(crate) behind: Option<Ordering>,
+}
+
+/// The first run of the unread lists of `state`, where it is known how their first items stand.
+///
+/// For a run of `n` items it makes at most twice as many comparisons as `n` has binary digits, less one.
+#[inline(always)]
+pub(crate) fn first_run<S: MergeState, C: Compare<S::Item>>(
+    state: &S,
+    how: Ordering,
+    cmp: &mut C,
+) -> FirstRun
+    requires firsts { FirstsStand C.order (S.left state.now) (S.right state.now) (Some how) }
+    requires left_ascending { IsAscending C.order (S.left state.now) }
+    requires right_ascending { IsAscending C.order (S.right state.now) }
+    requires made { C.count cmp.old < 2 ^ 127 }
+    ensures first { slice_get (runs C.order (S.left state.now) (S.right state.now)) 0 ≡ Some result.run }
+    ensures behind { FirstsStand C.order (left_after result.run (S.left state.now)) (right_after result.run (S.right state.now)) result.behind }
+    ensures counted { C.count cmp.old ≤ C.count cmp.new }
+    ensures comparisons { C.count cmp.new + 1 ≤ C.count cmp.old + 2 * digits (run_len result.run) }
+{
+    match how {
+        Ordering::Less => {
+            let front = gallop(&LeftOf(state), state.b_at(0), cmp);
+            FirstRun {
+                run: Run::Left(front.len),
+                behind: front.next,
+            }
+        }
+        Ordering::Equal => FirstRun {
+            run: Run::Both,
+            behind: order_at(state, 1, cmp),
+        },
+        Ordering::Greater => {
+            let front = gallop(&RightOf(state), state.a_at(0), cmp);
+            FirstRun {
+                run: Run::Right(front.len),
+                behind: reversed(front.next),
+            }
+        }
+    }
+}
+
+/// How the two unread items at index `i` stand to one another, if both lists have one.
+#[inline(always)]
+pub(crate) fn order_at<S: MergeState, C: Compare<S::Item>>(
+    state: &S,
+    i: usize,
+    cmp: &mut C,
+) -> Option<Ordering>
+    requires made { C.count cmp.old < 2 ^ 127 }
+    ensures firsts { FirstsStand C.order (drop i (S.left state.now)) (drop i (S.right state.now)) result }
+    ensures comparisons { C.count cmp.new ≡ C.count cmp.old + ahead_of result }
+{
+    if i < state.a_len() && i < state.b_len() {
+        return Some(cmp.compare(state.a_at(i), state.b_at(i)));
+    }
+    None
+}
+
+// How the second of two items stands to the first, where it is known how the first stands to the second.
+#[inline(always)]
+fn reversed(how: Option<Ordering>) -> Option<Ordering>
+    ensures { result ≡ option_map ordering_reverse how }
+{
+    match how {
+        None => None,
+        Some(how) => Some(how.reverse()),
     }
 }

@@ -1,12 +1,12 @@
 //! Each public call at an element type of the tests' own and at numbers, through its bounds.
 ghost use Rattle.std.specs.Prelude.{◌≡◌, false};
 
-use crate::elements::{Lettered, letters_are, with_letter};
+use crate::elements::with_letter;
 use range_collections::{
-    Comparisons, Copier, EntryClone, EntryCopier, IntersectionOp, RangeSet2, RangeSetRef, UnionOp,
+    Comparisons, Copier, EntryClone, EntryCopier, IntersectionOp, RangeSet2, RangeSetRef,
 };
 use smallvec::SmallVec;
-use std::alloc::{AllocError, Global};
+use std::alloc::Global;
 use std::default::MadeWith;
 
 // Whether the calls of a view that begins at `first` answer.
@@ -64,39 +64,6 @@ fn set_of<T: Ord + MadeWith<Global> + Copy>(alloc: Global, items: &[T]) -> Optio
     Some(RangeSet2::new_unchecked(set.into_inner()))
 }
 
-// The numbers and letters of a set's boundaries.
-fn are(made: Result<RangeSet2<Lettered>, AllocError>, want: &[(i64, u8)]) -> bool {
-    match made {
-        Ok(set) => letters_are(set.boundaries(), want),
-        Err(_) => false,
-    }
-}
-
-// Whether the operations of two lettered views give a set, where equal boundaries are the left's.
-fn views_give(alloc: Global, left: RangeSetRef<Lettered>, right: RangeSetRef<Lettered>) -> bool {
-    are(
-        left.merge_new(alloc, right, &UnionOp, &mut Comparisons::new()),
-        &[(1, b'a'), (9, b'b')],
-    ) && are(left.union(alloc, right), &[(1, b'a'), (9, b'b')])
-        && are(left.intersection(alloc, right), &[(1, b'a'), (5, b'a')])
-        && are(left.difference(alloc, right), &[])
-        && are(
-            left.symmetric_difference(alloc, right),
-            &[(5, b'a'), (9, b'b')],
-        )
-}
-
-// The same of a set and a view.
-fn set_gives(left: &RangeSet2<Lettered>, right: RangeSetRef<Lettered>) -> bool {
-    are(
-        left.merge_new(right, &UnionOp, &mut Comparisons::new()),
-        &[(1, b'a'), (9, b'b')],
-    ) && are(left.union(right), &[(1, b'a'), (9, b'b')])
-        && are(left.intersection(right), &[(1, b'a'), (5, b'a')])
-        && are(left.difference(right), &[])
-        && are(left.symmetric_difference(right), &[(5, b'a'), (9, b'b')])
-}
-
 // Whether the calls of two sets that cross, and of their views, answer, of which `left` begins, at `first`, and ends first.
 fn all_answer<T: Ord>(left: &RangeSet2<T>, right: &RangeSet2<T>, first: &T) -> bool {
     view_answers(left.as_ref(), first)
@@ -134,20 +101,4 @@ fn calls_of_crossing_sets_of_numbers(rt: HostRuntime) {
 fn clones_of_elements(rt: HostRuntime) {
     assert!(rt; is_cloned(&-7i64));
     assert!(rt; is_cloned(&with_letter(7, b'a')));
-}
-
-// Whether of two equal boundaries the left side's stays, in views and in sets with a view.
-fn left_stays(alloc: Global, a: &[Lettered], b: &[Lettered]) -> Option<bool> {
-    let left = RangeSetRef::new(a)?;
-    let right = RangeSetRef::new(b)?;
-    let set = set_of(alloc, a)?;
-    Some(views_give(alloc, left, right) && set_gives(&set, right))
-}
-
-#[test]
-fn the_left_boundary_stays(rt: HostRuntime) {
-    let alloc = rt.alloc();
-    let a = [with_letter(1, b'a'), with_letter(5, b'a')];
-    let b = [with_letter(1, b'b'), with_letter(9, b'b')];
-    assert!(rt; left_stays(alloc, &a, &b) == Some(true));
 }

@@ -1,5 +1,6 @@
 //! Any of the sixteen connectives of two sets: worked tables, and every value of a small type against the boundaries' count.
-use crate::drawn::{Lots, SPARSITIES, TABLES, answer, connective, is_on};
+use crate::drawn::{SPARSITIES, TABLES, answer, connective, is_on};
+use crate::made_up::Generator;
 use range_collections::{Comparisons, EntryClone, RangeSet, RangeSet2, RangeSetEntry, RangeSetRef};
 use smallvec::SmallVec;
 use std::alloc::{AllocError, Global};
@@ -145,7 +146,7 @@ fn negation_is_the_connective_not_left(rt: HostRuntime) -> Result<(), Fail> {
 #[test]
 fn every_value_of_made_up_pairs(rt: HostRuntime) -> Result<(), Fail> {
     let alloc = rt.alloc();
-    let mut lots = Lots::new();
+    let mut lots = Generator::new();
     for round in 0..5usize {
         for sparsity in &SPARSITIES {
             let left = lots.boundaries(alloc, *sparsity)?;

@@ -1,8 +1,5 @@
-//! Lists of boundaries drawn by a generator with a fixed seed, and the connectives that are tried on them.
-ghost use Rattle.std.specs.Prelude.{◌≤◌};
-
+//! The sixteen connectives by their tables, and membership by the boundaries' count alone.
 use range_collections::Connective;
-use std::alloc::{AllocError, Global};
 
 // The answers of each connective where neither side is on, the left alone is, the right alone is, and both are.
 pub(crate) const TABLES: [[u8; 4]; 16] = [
@@ -67,37 +64,4 @@ pub(crate) fn is_on_below<T: Ord>(items: &[T], value: &T) -> bool {
         }
     }
     on
-}
-
-// A generator of numbers.
-#[derive(Drop)]
-pub(crate) struct Lots {
-    state: u64,
-}
-
-impl Lots {
-    pub(crate) fn new() -> Lots {
-        Lots { state: 15 }
-    }
-
-    fn draw(&mut self) -> u64 {
-        self.state = self
-            .state
-            .wrapping_mul(6_364_136_223_846_793_005)
-            .wrapping_add(1_442_695_040_888_963_407);
-        self.state >> 33
-    }
-
-    // A strictly sorted list of values, in which about one of so many values is a boundary.
-    pub(crate) fn boundaries(&mut self, alloc: Global, sparsity: u64) -> Result<Vec<u8>, AllocError>
-        requires { 1 ≤ sparsity }
-    {
-        let mut items = Vec::new(alloc);
-        for value in 0..=255u8 {
-            if self.draw() % sparsity == 0 {
-                items.push(value)?;
-            }
-        }
-        Ok(items)
-    }
 }

@@ -1,37 +1,39 @@
 //! Connectives of elements whose clones are refused: a boundary that is copied refuses the call where its flag is set, and no other does.
 use crate::drawn::connective;
 use crate::elements::{Flagged, with_flag};
-use crate::flags::{flagged_at, numbers_are, of_eight, unflagged};
+use crate::flags::{numbers_are, of_eight};
 use range_collections::{Comparisons, RangeSet};
 use std::alloc::{AllocError, Global};
 
-// A table, whether it takes 1, 3, 5 and 7 of the right side, and what it makes of 0, 2, 4 and 6 with these.
-const ROWS: [([u8; 4], [bool; 4], &[i64]); 12] = [
-    ([0, 0, 0, 0], [false; 4], &[]),
-    ([0, 0, 0, 1], [true, false, true, false], &[1, 2, 5, 6]),
-    ([0, 0, 1, 1], [true; 4], &[1, 3, 5, 7]),
-    ([0, 1, 0, 0], [true, false, true, false], &[0, 1, 4, 5]),
-    ([0, 1, 1, 0], [true; 4], &[0, 1, 2, 3, 4, 5, 6, 7]),
-    ([0, 1, 1, 1], [false, true, false, true], &[0, 3, 4, 7]),
-    (
-        [1, 0, 0, 0],
-        [false, true, false, true],
-        &[i64::MIN, 0, 3, 4, 7],
-    ),
-    ([1, 0, 1, 0], [false; 4], &[i64::MIN, 0, 2, 4, 6]),
-    (
-        [1, 0, 1, 1],
-        [true, false, true, false],
-        &[i64::MIN, 0, 1, 4, 5],
-    ),
-    ([1, 1, 0, 0], [true; 4], &[i64::MIN, 1, 3, 5, 7]),
-    (
-        [1, 1, 1, 0],
-        [true, false, true, false],
-        &[i64::MIN, 1, 2, 5, 6],
-    ),
-    ([1, 1, 1, 1], [false; 4], &[i64::MIN]),
+const LEAST: i64 = i64::MIN;
+
+// Each table, and what it makes of the ranges from 0 to 2 and from 4 to 6 with those from 1 to 3 and from 5 to 7.
+const ROWS: [([u8; 4], &[i64]); 16] = [
+    ([0, 0, 0, 0], &[]),
+    ([0, 0, 0, 1], &[1, 2, 5, 6]),
+    ([0, 0, 1, 0], &[2, 3, 6, 7]),
+    ([0, 0, 1, 1], &[1, 3, 5, 7]),
+    ([0, 1, 0, 0], &[0, 1, 4, 5]),
+    ([0, 1, 0, 1], &[0, 2, 4, 6]),
+    ([0, 1, 1, 0], &[0, 1, 2, 3, 4, 5, 6, 7]),
+    ([0, 1, 1, 1], &[0, 3, 4, 7]),
+    ([1, 0, 0, 0], &[LEAST, 0, 3, 4, 7]),
+    ([1, 0, 0, 1], &[LEAST, 0, 1, 2, 3, 4, 5, 6, 7]),
+    ([1, 0, 1, 0], &[LEAST, 0, 2, 4, 6]),
+    ([1, 0, 1, 1], &[LEAST, 0, 1, 4, 5]),
+    ([1, 1, 0, 0], &[LEAST, 1, 3, 5, 7]),
+    ([1, 1, 0, 1], &[LEAST, 2, 3, 6, 7]),
+    ([1, 1, 1, 0], &[LEAST, 1, 2, 5, 6]),
+    ([1, 1, 1, 1], &[LEAST]),
 ];
+
+// The set of these four numbers, with the flag set at one of them, or at none.
+fn flagged(alloc: Global, numbers: [i64; 4], flag: i64) -> Option<RangeSet<Flagged, 8>> {
+    of_eight(
+        alloc,
+        &numbers.map(|number| with_flag(number, number == flag)),
+    )
+}
 
 // The numbers of a set, or nothing where it was refused.
 fn are(made: Result<RangeSet<Flagged, 8>, AllocError>, want: Option<&[i64]>) -> bool {
@@ -42,7 +44,7 @@ fn are(made: Result<RangeSet<Flagged, 8>, AllocError>, want: Option<&[i64]>) -> 
     }
 }
 
-// Whether the connective of two views and of a set and a view answer so, and the sides are then as they were.
+// Whether the connective of two views and of a set and a view answer so.
 fn answers(
     alloc: Global,
     left: &RangeSet<Flagged, 8>,
@@ -56,19 +58,21 @@ fn answers(
         && are(left.combine(b, &op, &mut Comparisons::new()), want)
 }
 
-// Whether a row holds with the flag set at the right side's item of this place, if it has one.
-fn row_holds(alloc: Global, table: [u8; 4], takes: [bool; 4], want: &[i64], place: usize) -> bool {
-    let (Some(left), Some(right)) = (unflagged(alloc), flagged_at(alloc, place)) else {
+// Whether a row holds with the flag at this number: the call is refused exactly if the number is among the result's, and both sides are as they were.
+fn row_holds(alloc: Global, table: [u8; 4], want: &[i64], flag: i64) -> bool {
+    let (Some(left), Some(right)) = (
+        flagged(alloc, [0, 2, 4, 6], flag),
+        flagged(alloc, [1, 3, 5, 7], flag),
+    ) else {
         return false;
     };
-    let is_refused = place < 4 && takes[place];
-    answers(
-        alloc,
-        &left,
-        &right,
-        table,
-        if is_refused { None } else { Some(want) },
-    ) && numbers_are(left.boundaries(), &[0, 2, 4, 6])
+    let want = if want.contains(&flag) {
+        None
+    } else {
+        Some(want)
+    };
+    answers(alloc, &left, &right, table, want)
+        && numbers_are(left.boundaries(), &[0, 2, 4, 6])
         && numbers_are(right.boundaries(), &[1, 3, 5, 7])
 }
 
@@ -84,13 +88,13 @@ fn shared_answers(alloc: Global, left: bool, right: bool, want: Option<&[i64]>) 
 }
 
 #[test]
-fn connectives_of_flagged_items(rt: HostRuntime) {
+fn a_connective_is_refused_where_a_flagged_item_is_copied(rt: HostRuntime) {
     let alloc = rt.alloc();
-    for (table, takes, want) in &ROWS {
-        for place in 0..5usize {
+    for (table, want) in &ROWS {
+        for flag in 0..9i64 {
             assert!(rt;
-                row_holds(alloc, *table, *takes, want, place),
-                "{table:?} with the flag at {place}"
+                row_holds(alloc, *table, want, flag),
+                "{table:?} with the flag at {flag}"
             );
         }
     }

@@ -1,13 +1,24 @@
 //! Merges of lists whose copies are refused: the flag is set at each place of each side. A merge into a new list is refused exactly where it takes the flagged item, and one in place where that is the right list's, also where it would be dropped.
-use crate::elements::{Flagged, FlaggedCopier, with_flag};
-use crate::flags::numbers_are;
-use crate::forms::Operation;
-use range_collections::{
-    Comparisons, DiffOp, IntersectionOp, MergeOperation, RangeSetRef, UnionOp, XorOp,
-};
+use crate::drawn::connective;
+use crate::elements::{Flagged, FlaggedCopier};
+use crate::flags::{flagged, numbers_are};
+use crate::forms::{OPERATIONS, Operation};
+use crate::operations::{ROWS, Row};
+use range_collections::{Comparisons, Connective, RangeSetRef};
 use range_merge::{InPlaceMergeStateRef, SmallVecMergeState, merge};
 use smallvec::SmallVec;
 use std::alloc::{AllocError, Global};
+use std::test::Fail;
+
+// The connective that an operation is.
+fn connective_of(op: Operation) -> Connective {
+    match op {
+        Operation::Union => connective([0, 1, 1, 1]),
+        Operation::Intersection => connective([0, 0, 0, 1]),
+        Operation::Difference => connective([0, 1, 0, 0]),
+        Operation::SymmetricDifference => connective([0, 1, 1, 0]),
+    }
+}
 
 // Two lists, and how many comparisons a merge of them may make.
 #[derive(Clone, Copy, Drop)]
@@ -21,7 +32,7 @@ struct Lists<'a> {
 type Made = (Result<SmallVec<Flagged, 8>, AllocError>, u128);
 
 // The merge into a new list.
-fn merged_anew<O: MergeOperation>(alloc: Global, lists: Lists, op: &O) -> Made {
+fn merged_anew(alloc: Global, lists: Lists, op: &Connective) -> Made {
     let (a, b) = (lists.left.boundaries(), lists.right.boundaries());
     let mut count = Comparisons::new();
     let made = SmallVecMergeState::merge(
@@ -36,7 +47,7 @@ fn merged_anew<O: MergeOperation>(alloc: Global, lists: Lists, op: &O) -> Made {
 }
 
 // The same by a merge of a state, which has to end.
-fn state_merged<O: MergeOperation>(alloc: Global, lists: Lists, op: &O) -> Made {
+fn state_merged(alloc: Global, lists: Lists, op: &Connective) -> Made {
     let (a, b) = (lists.left.boundaries(), lists.right.boundaries());
     let mut count = Comparisons::new();
     let mut state = SmallVecMergeState::new(a, b, SmallVec::new(alloc), &FlaggedCopier);
@@ -50,7 +61,7 @@ fn state_merged<O: MergeOperation>(alloc: Global, lists: Lists, op: &O) -> Made 
 }
 
 // The merge into the left list, which stays as it was where it is refused.
-fn merged_in_place<O: MergeOperation>(alloc: Global, lists: Lists, op: &O) -> Option<Made> {
+fn merged_in_place(alloc: Global, lists: Lists, op: &Connective) -> Option<Made> {
     let (a, b) = (lists.left.boundaries(), lists.right.boundaries());
     let mut list = SmallVec::<Flagged, 8>::from_slice(alloc, a).ok()?;
     let mut count = Comparisons::new();
@@ -88,181 +99,103 @@ fn is_made(made: Made, want: Option<&[i64]>, most: u128) -> bool {
         }
 }
 
-fn gives_anew(op: Operation, alloc: Global, lists: Lists, want: Option<&[i64]>) -> bool {
-    let made = match op {
-        Operation::Union => merged_anew(alloc, lists, &UnionOp),
-        Operation::Intersection => merged_anew(alloc, lists, &IntersectionOp),
-        Operation::Difference => merged_anew(alloc, lists, &DiffOp),
-        Operation::SymmetricDifference => merged_anew(alloc, lists, &XorOp),
-    };
-    is_made(made, want, lists.most)
-}
-
-fn state_gives(op: Operation, alloc: Global, lists: Lists, want: Option<&[i64]>) -> bool {
-    let made = match op {
-        Operation::Union => state_merged(alloc, lists, &UnionOp),
-        Operation::Intersection => state_merged(alloc, lists, &IntersectionOp),
-        Operation::Difference => state_merged(alloc, lists, &DiffOp),
-        Operation::SymmetricDifference => state_merged(alloc, lists, &XorOp),
-    };
-    is_made(made, want, lists.most)
-}
-
-fn gives_in_place(op: Operation, alloc: Global, lists: Lists, want: Option<&[i64]>) -> bool {
-    let made = match op {
-        Operation::Union => merged_in_place(alloc, lists, &UnionOp),
-        Operation::Intersection => merged_in_place(alloc, lists, &IntersectionOp),
-        Operation::Difference => merged_in_place(alloc, lists, &DiffOp),
-        Operation::SymmetricDifference => merged_in_place(alloc, lists, &XorOp),
-    };
-    match made {
-        Some(made) => is_made(made, want, lists.most),
-        None => false,
+// The first merge that answers otherwise: one into a new list is refused where it takes the flagged item, and one in place where that is the right list's.
+fn wrong_merge(
+    alloc: Global,
+    op: &Connective,
+    lists: Lists,
+    want: &[i64],
+    is_taken: bool,
+    is_right: bool,
+) -> Option<&'static str> {
+    let anew = if is_taken { None } else { Some(want) };
+    if !is_made(merged_anew(alloc, lists, op), anew, lists.most) {
+        return Some("into a new list");
+    }
+    if !is_made(state_merged(alloc, lists, op), anew, lists.most) {
+        return Some("over a state");
+    }
+    let in_place = if is_right { None } else { Some(want) };
+    match merged_in_place(alloc, lists, op) {
+        Some(made) => {
+            if is_made(made, in_place, lists.most) {
+                None
+            } else {
+                Some("in place")
+            }
+        }
+        None => Some("in place, whose list changed"),
     }
 }
 
-// An operation of two lists of four, what it takes of the left and of the right one, its answer, and how many comparisons it may make.
-struct Row<'a> {
+// The same with the flag set at this place of the left list and at that one of the right.
+fn wrong_at(
+    alloc: Global,
     op: Operation,
-    left: [i64; 4],
-    right: [i64; 4],
-    from_left: &'a [i64],
-    from_right: &'a [i64],
-    want: &'a [i64],
-    most: u128,
-}
-
-// The list of these numbers, with the flag set at this place.
-fn flagged_at(numbers: [i64; 4], place: usize) -> [Flagged; 4] {
-    [
-        with_flag(numbers[0], place == 0),
-        with_flag(numbers[1], place == 1),
-        with_flag(numbers[2], place == 2),
-        with_flag(numbers[3], place == 3),
-    ]
-}
-
-// Whether the number at this place, if there is one, is taken.
-fn takes(numbers: [i64; 4], place: usize, taken: &[i64]) -> bool {
-    match numbers.get(place) {
-        Some(number) => taken.contains(number),
-        None => false,
-    }
-}
-
-// Whether a row holds with the flag set at this place of the left list and at that one of the right.
-fn row_holds(alloc: Global, row: &Row, left_place: usize, right_place: usize) -> bool {
-    let a = flagged_at(row.left, left_place);
-    let b = flagged_at(row.right, right_place);
-    let (Some(left), Some(right)) = (RangeSetRef::new(&a), RangeSetRef::new(&b)) else {
-        return false;
+    row: &Row,
+    want: &[i64],
+    places: (usize, usize),
+) -> Result<Option<&'static str>, AllocError> {
+    let (at, other) = places;
+    let a = flagged(alloc, row.0, at..at.saturating_add(1))?;
+    let b = flagged(alloc, row.1, other..other.saturating_add(1))?;
+    let (Some(left), Some(right)) = (
+        RangeSetRef::new(a.as_slice()),
+        RangeSetRef::new(b.as_slice()),
+    ) else {
+        return Ok(Some("the lists"));
     };
     let lists = Lists {
         left,
         right,
-        most: row.most,
+        most: row.3,
     };
-    let is_taken = takes(row.left, left_place, row.from_left)
-        || takes(row.right, right_place, row.from_right);
-    let anew = if is_taken { None } else { Some(row.want) };
-    let in_place = if right_place < 4 {
-        None
-    } else {
-        Some(row.want)
-    };
-    gives_anew(row.op, alloc, lists, anew)
-        && state_gives(row.op, alloc, lists, anew)
-        && gives_in_place(row.op, alloc, lists, in_place)
+    let from_left = matches!(row.0.get(at), Some(number) if want.contains(number));
+    let from_right =
+        matches!(row.1.get(other), Some(number) if want.contains(number) && !row.0.contains(number));
+    let is_right = other < row.1.len();
+    Ok(wrong_merge(
+        alloc,
+        &connective_of(op),
+        lists,
+        want,
+        from_left || from_right,
+        is_right,
+    ))
 }
 
-// Lists that cross, and lists that share two items, of which the left's are taken.
-const ROWS: [Row; 8] = [
-    Row {
-        op: Operation::Union,
-        left: [0, 2, 4, 6],
-        right: [1, 3, 5, 7],
-        from_left: &[0, 4],
-        from_right: &[3, 7],
-        want: &[0, 3, 4, 7],
-        most: 16,
-    },
-    Row {
-        op: Operation::Intersection,
-        left: [0, 2, 4, 6],
-        right: [1, 3, 5, 7],
-        from_left: &[2, 6],
-        from_right: &[1, 5],
-        want: &[1, 2, 5, 6],
-        most: 16,
-    },
-    Row {
-        op: Operation::Difference,
-        left: [0, 2, 4, 6],
-        right: [1, 3, 5, 7],
-        from_left: &[0, 4],
-        from_right: &[1, 5],
-        want: &[0, 1, 4, 5],
-        most: 16,
-    },
-    Row {
-        op: Operation::SymmetricDifference,
-        left: [0, 2, 4, 6],
-        right: [1, 3, 5, 7],
-        from_left: &[0, 2, 4, 6],
-        from_right: &[1, 3, 5, 7],
-        want: &[0, 1, 2, 3, 4, 5, 6, 7],
-        most: 16,
-    },
-    Row {
-        op: Operation::Union,
-        left: [0, 2, 4, 6],
-        right: [0, 3, 4, 7],
-        from_left: &[0, 4],
-        from_right: &[3, 7],
-        want: &[0, 3, 4, 7],
-        most: 12,
-    },
-    Row {
-        op: Operation::Intersection,
-        left: [0, 2, 4, 6],
-        right: [0, 3, 4, 7],
-        from_left: &[0, 2, 4, 6],
-        from_right: &[],
-        want: &[0, 2, 4, 6],
-        most: 12,
-    },
-    Row {
-        op: Operation::Difference,
-        left: [0, 2, 4, 6],
-        right: [0, 3, 4, 7],
-        from_left: &[],
-        from_right: &[],
-        want: &[],
-        most: 12,
-    },
-    Row {
-        op: Operation::SymmetricDifference,
-        left: [0, 2, 4, 6],
-        right: [0, 3, 4, 7],
-        from_left: &[2, 6],
-        from_right: &[3, 7],
-        want: &[2, 3, 6, 7],
-        most: 12,
-    },
-];
+// The merge that answers otherwise with the flag at some place of the left list, or at none, or at some place of the right one.
+fn wrong_of_row(
+    alloc: Global,
+    op: Operation,
+    row: &Row,
+    want: &[i64],
+) -> Result<Option<&'static str>, AllocError> {
+    for place in 0..=row.0.len() {
+        if let Some(name) = wrong_at(alloc, op, row, want, (place, usize::MAX))? {
+            return Ok(Some(name));
+        }
+    }
+    for place in 0..row.1.len() {
+        if let Some(name) = wrong_at(alloc, op, row, want, (usize::MAX, place))? {
+            return Ok(Some(name));
+        }
+    }
+    Ok(None)
+}
 
 #[test]
-fn merges_refuse_flagged_items_of_each_side(rt: HostRuntime) {
-    for (number, row) in ROWS.iter().enumerate() {
-        for place in 0..5 {
-            assert!(rt;
-                row_holds(rt.alloc(), row, place, 4),
-                "row {number}, the left's flagged at {place}"
-            );
-            assert!(rt;
-                row_holds(rt.alloc(), row, 4, place),
-                "row {number}, the right's flagged at {place}"
+fn merges_refuse_flagged_items_of_each_side(rt: HostRuntime) -> Result<(), Fail> {
+    for row in &ROWS {
+        for (op, want) in OPERATIONS.iter().zip(&row.2) {
+            assert_eq!(rt;
+                wrong_of_row(rt.alloc(), *op, row, want)?,
+                None,
+                "{op:?} of {:?} and {:?}",
+                row.0,
+                row.1
             );
         }
     }
+    Ok(())
 }

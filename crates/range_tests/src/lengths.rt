@@ -1,8 +1,10 @@
 //! The length of what an operation makes of two sets, without making it, and the number of changes of any connective.
 ghost use Rattle.std.specs.Prelude.{◌≡◌, false};
 
-use crate::drawn::{Lots, SPARSITIES, TABLES, answer, connective, is_on, is_on_below};
+use crate::drawn::{SPARSITIES, TABLES, answer, connective, is_on, is_on_below};
 use crate::given::numbers;
+use crate::made_up::Generator;
+use crate::starved::{Answer, Starved};
 use range_collections::{
     Comparisons, Connective, CountMergeState, DiffOp, EntryClone, IntersectionOp, MergeOperation,
     RangeSet, RangeSet2, RangeSetRef, UnionOp, XorOp,
@@ -241,7 +243,7 @@ fn lengths_of_worked_pairs(rt: HostRuntime) -> Result<(), Fail> {
 #[test]
 fn lengths_of_made_up_pairs(rt: HostRuntime) -> Result<(), Fail> {
     let alloc = rt.alloc();
-    let mut lots = Lots::new();
+    let mut lots = Generator::new();
     for round in 0..5usize {
         for sparsity in &SPARSITIES {
             let left = lots.boundaries(alloc, *sparsity)?;
@@ -302,15 +304,36 @@ const BESIDE_TEN_THOUSAND: [([i64; 1], [usize; 4], [usize; 4]); 3] = [
     ),
 ];
 
+// Whether the length and the test of the ten thousand and one boundary answer so, on either side.
+fn answer_beside(long: &[i64], one: &[i64], after: [usize; 4], before: [usize; 4]) -> bool {
+    lengths_are(long, one, after, 30)
+        && lengths_are(one, long, before, 30)
+        && have_members(long, one, after, 30)
+        && have_members(one, long, before, 30)
+}
+
 #[test]
 fn ten_thousand_boundaries_and_one(rt: HostRuntime) -> Result<(), Fail> {
     let all = numbers(rt.alloc(), 0, 10_000)?;
     let long = all.as_slice();
     for (one, after, before) in &BESIDE_TEN_THOUSAND {
-        assert!(rt; lengths_are(long, one, *after, 30), "{one:?} on the right");
-        assert!(rt; lengths_are(one, long, *before, 30), "{one:?} on the left");
-        assert!(rt; have_members(long, one, *after, 30), "{one:?} on the right");
-        assert!(rt; have_members(one, long, *before, 30), "{one:?} on the left");
+        assert!(rt; answer_beside(long, one, *after, *before), "{one:?}");
+    }
+    Ok(())
+}
+
+#[test]
+fn lengths_and_tests_take_no_memory(rt: HostRuntime) -> Result<(), Fail> {
+    let all = numbers(rt.alloc(), 0, 10_000)?;
+    let long = all.as_slice();
+    let mut starved = Starved::new(rt.alloc())?;
+    for (one, after, before) in &BESIDE_TEN_THOUSAND {
+        assert!(rt;
+            starved.is_right_without_memory(|()| {
+                Answer::right_if(answer_beside(long, one, *after, *before))
+            }),
+            "{one:?}"
+        );
     }
     Ok(())
 }

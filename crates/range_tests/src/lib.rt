@@ -4,8 +4,6 @@
 #[cfg(test)]
 mod calls;
 #[cfg(test)]
-mod changed;
-#[cfg(test)]
 mod connectives;
 #[cfg(test)]
 mod contains;
@@ -20,11 +18,19 @@ mod elements;
 #[cfg(test)]
 mod entries;
 #[cfg(test)]
+mod everyday_chars;
+#[cfg(test)]
+mod everyday_covered;
+#[cfg(test)]
+mod everyday_drawn;
+#[cfg(test)]
+mod everyday_fits;
+#[cfg(test)]
+mod everyday_traits;
+#[cfg(test)]
 mod flags;
 #[cfg(test)]
 mod flags_of_advances;
-#[cfg(test)]
-mod flags_of_changes;
 #[cfg(test)]
 mod flags_of_clones;
 #[cfg(test)]
@@ -44,13 +50,9 @@ mod json;
 #[cfg(test)]
 mod lengths;
 #[cfg(test)]
-mod letters;
-#[cfg(test)]
 mod made_up;
 #[cfg(test)]
 mod made_up_lengths;
-#[cfg(test)]
-mod made_up_operations;
 #[cfg(test)]
 mod made_up_parts;
 #[cfg(test)]
@@ -66,27 +68,19 @@ mod operations;
 #[cfg(test)]
 mod parts;
 #[cfg(test)]
-mod properties_of_insertions;
-#[cfg(test)]
 mod questions;
 #[cfg(test)]
 mod ranges;
 #[cfg(test)]
 mod refusals;
 #[cfg(test)]
-mod refusals_in_place;
-#[cfg(test)]
 mod refusals_of_connectives;
 #[cfg(test)]
 mod refusals_of_copies;
 #[cfg(test)]
-mod refusals_of_insertions;
-#[cfg(test)]
 mod refusals_of_lists;
 #[cfg(test)]
 mod refusals_of_merges;
-#[cfg(test)]
-mod refusals_of_ranges;
 #[cfg(test)]
 mod refused_advances;
 #[cfg(test)]
@@ -96,22 +90,15 @@ mod searching;
 #[cfg(test)]
 mod smoke;
 #[cfg(test)]
-mod starved;
-#[cfg(test)]
 mod tally;
 #[cfg(test)]
-mod tally_of_changes;
-#[cfg(test)]
-mod tally_of_connectives;
-#[cfg(test)]
 mod tally_of_searches;
-#[cfg(test)]
-mod tally_of_sets;
-#[cfg(test)]
-mod tally_of_tests;
 #[cfg(test)]
 mod tracker;
 #[cfg(test)]
 mod tracker_refusals;
 #[cfg(test)]
 mod values;
+
+#[cfg(test)]
+use range_starving as starved;

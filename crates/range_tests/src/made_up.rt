@@ -1,6 +1,11 @@
-//! Made-up pairs of lists, and what is expected of them: by membership alone, element by element.
-use crate::forms::Operation;
+//! Made-up pairs of lists, by one generator that always begins alike, and what is expected of them: by membership alone, element by element.
+ghost use Rattle.std.specs.Prelude.{◌<◌, ◌≤◌};
+
+use crate::forms::{Form, OPERATIONS, Operation};
+use crate::operations::{Case, first_wrong};
 use std::alloc::{AllocError, Global};
+use std::ops::Range;
+use std::test::Fail;
 
 // How many pairs there are.
 pub(crate) const PAIRS: u64 = 2_000;
@@ -28,14 +33,6 @@ pub(crate) const POINTS: [i64; 19] = [
     i64::MAX,
 ];
 
-// The operations, by their names.
-pub(crate) const OPERATIONS: [(&str, Operation); 4] = [
-    ("union", Operation::Union),
-    ("intersection", Operation::Intersection),
-    ("difference", Operation::Difference),
-    ("symmetric difference", Operation::SymmetricDifference),
-];
-
 // Two lists of boundaries.
 #[derive(Drop)]
 pub(crate) struct Pair {
@@ -43,7 +40,7 @@ pub(crate) struct Pair {
     pub(crate) right: Vec<i64>,
 }
 
-// A linear congruential generator that always begins alike, so a pair's number names it.
+// A linear congruential generator that always begins alike, so a number names what it makes.
 #[derive(Drop)]
 pub(crate) struct Generator {
     state: u64,
@@ -61,6 +58,39 @@ impl Generator {
             .wrapping_mul(6_364_136_223_846_793_005)
             .wrapping_add(1_442_695_040_888_963_407);
         self.state / 4_294_967_296
+    }
+
+    // The next number below the limit.
+    pub(crate) fn below(&mut self, limit: u64) -> u64
+        requires { 0 < limit }
+        ensures { result < limit }
+    {
+        self.bits() % limit
+    }
+
+    // The next range of numbers up to 256: mostly a short one, now and then a long, an empty or a reversed one.
+    pub(crate) fn range(&mut self) -> Range<u64> {
+        let start = self.below(256);
+        let length = if self.below(16) == 0 { 200 } else { 12 };
+        let end = (start + self.below(length)).min(256);
+        if self.below(16) == 0 {
+            end..start
+        } else {
+            start..end
+        }
+    }
+
+    // The next strictly sorted list of values, in which about one of so many is a boundary.
+    pub(crate) fn boundaries(&mut self, alloc: Global, sparsity: u64) -> Result<Vec<u8>, AllocError>
+        requires { 1 ≤ sparsity }
+    {
+        let mut items = Vec::new(alloc);
+        for value in 0..=255u8 {
+            if self.bits() % sparsity == 0 {
+                items.push(value)?;
+            }
+        }
+        Ok(items)
     }
 
     // A list with one in sixteen of the points, one in eight, one in four, half of them, or three in four.
@@ -120,7 +150,7 @@ pub(crate) fn holds(op: Operation, left: bool, right: bool) -> bool {
 }
 
 // The boundaries of an operation's result: the points at which its membership turns.
-pub(crate) fn wanted(alloc: Global, op: Operation, pair: &Pair) -> Result<Vec<i64>, AllocError> {
+fn wanted(alloc: Global, op: Operation, pair: &Pair) -> Result<Vec<i64>, AllocError> {
     let (left, right) = (pair.left.as_slice(), pair.right.as_slice());
     let mut items = Vec::new(alloc);
     let mut on = false;
@@ -144,4 +174,35 @@ pub(crate) fn complement(alloc: Global, list: &[i64]) -> Result<Vec<i64>, AllocE
         }
     }
     Ok(items)
+}
+
+// The first operation and form that gives another list, or compares more than twice as often as there are boundaries.
+fn wrong_form(alloc: Global, pair: &Pair) -> Result<Option<(Operation, Form)>, AllocError> {
+    let (left, right) = (pair.left.as_slice(), pair.right.as_slice());
+    let all = left.len().saturating_add(right.len());
+    for op in OPERATIONS {
+        let want = wanted(alloc, op, pair)?;
+        let case = Case {
+            op,
+            left,
+            right,
+            want: want.as_slice(),
+            most: 2 * all as u128,
+        };
+        if let Some(form) = first_wrong(alloc, case) {
+            return Ok(Some((op, form)));
+        }
+    }
+    Ok(None)
+}
+
+#[test]
+fn every_form_of_made_up_pairs(rt: HostRuntime) -> Result<(), Fail> {
+    let alloc = rt.alloc();
+    let mut generator = Generator::new();
+    for number in 0..PAIRS {
+        let pair = generator.pair(alloc)?;
+        assert_eq!(rt; wrong_form(alloc, &pair)?, None, "pair {number}");
+    }
+    Ok(())
 }

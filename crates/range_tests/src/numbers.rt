@@ -36,7 +36,7 @@ pub(crate) struct Copies;
 impl Copier<i64> for Copies {
     ghost alike = { λ x y. x ≡ y };
 
-    ghost is_sure = { λ _. ⊤ };
+    ghost is_infallible = { λ _. ⊤ };
 
     fn copy(&self, item: &i64) -> Result<i64, AllocError> {
         Ok(*item)
@@ -49,7 +49,7 @@ pub(crate) struct NoCopies;
 impl Copier<i64> for NoCopies {
     ghost alike = { λ x y. x ≡ y };
 
-    ghost is_sure = { λ _. ⊥ };
+    ghost is_infallible = { λ _. ⊥ };
 
     fn copy(&self, _item: &i64) -> Result<i64, AllocError> {
         Err(AllocError)

@@ -1,8 +1,8 @@
-//! Copies of texts and lists whose requests for memory are refused in turn: what is copied stays as it was.
-use crate::starved::{Answer, Starved};
-use range_collections::{EntryClone, RangeSetRange};
+//! Copies of elements and of ranges, and sets of ranges, whose requests for memory are refused in turn: what is copied stays as it was.
+use crate::starved::{Answer, Call, Starved};
+use range_collections::{Copier, EntryClone, EntryCopier, RangeSet, RangeSetRange};
 use std::alloc::{AllocError, Global};
-use std::ops::Range;
+use std::ops::{Range, RangeFrom};
 use std::test::Fail;
 
 // Want of memory, if what was copied is as it was.
@@ -14,104 +14,224 @@ fn refused_if(stands: bool) -> Answer {
     }
 }
 
-// What a clone of the text `ab` says.
-fn text_is_cloned(text: &String) -> Answer {
-    match text.entry_clone() {
-        Ok(copied) => Answer::right_if(copied.as_str() == "ab" && text.as_str() == "ab"),
-        Err(_) => refused_if(text.as_str() == "ab"),
-    }
+// An element that is cloned, by a copier or by itself, and one that is equal to it.
+#[derive(Drop)]
+struct Cloned<'a, T> {
+    item: &'a T,
+    again: &'a T,
+    by_copier: bool,
 }
 
-// What a clone of the list of 1 and 2 says.
-fn list_is_cloned(list: &Vec<u8>) -> Answer {
-    let items: &[u8] = &[1, 2];
-    match list.entry_clone() {
-        Ok(copied) => Answer::right_if(copied.as_slice() == items && list.as_slice() == items),
-        Err(_) => refused_if(list.as_slice() == items),
-    }
-}
+impl<'a, T: EntryClone + Drop> Call for Cloned<'a, T> {
+    type Given = ();
 
-// What a clone of a list of texts says.
-fn texts_are_cloned(list: &Vec<String>, again: &Vec<String>) -> Answer {
-    match list.entry_clone() {
-        Ok(copied) => Answer::right_if(copied == *list && *list == *again),
-        Err(_) => refused_if(*list == *again),
+    fn given(&self) -> Option<()> {
+        Some(())
     }
-}
 
-// What a copy of the range from `ab` to `cd` says.
-fn range_is_copied(range: &RangeSetRange<&String>) -> Answer {
-    match range.cloned() {
-        Ok(copied) => Answer::right_if(is_range(&copied)),
-        Err(_) => Answer::Refused,
-    }
-}
-
-// What a clone of the range from `ab` to `cd` says.
-fn range_is_cloned(range: &RangeSetRange<String>) -> Answer {
-    match range.clone() {
-        Ok(copied) => Answer::right_if(is_range(&copied) && is_range(range)),
-        Err(_) => refused_if(is_range(range)),
-    }
-}
-
-// Whether a range is that one.
-fn is_range(range: &RangeSetRange<String>) -> bool {
-    match range {
-        RangeSetRange::Range(Range { start, end }) => {
-            start.as_str() == "ab" && end.as_str() == "cd"
+    fn answer(&self, _given: ()) -> Answer {
+        let made = if self.by_copier {
+            EntryCopier.copy(self.item)
+        } else {
+            self.item.entry_clone()
+        };
+        match made {
+            Ok(made) => Answer::right_if(made == *self.again && *self.item == *self.again),
+            Err(_) => refused_if(*self.item == *self.again),
         }
-        RangeSetRange::RangeFrom(_) => false,
     }
 }
 
-// The list of the texts `ab` and `cd`.
-fn two_texts(alloc: Global) -> Result<Vec<String>, AllocError> {
+// Whether copies of an element, and clones of it, are refused in turn.
+fn copies_refuse<T: EntryClone + Drop>(starved: &mut Starved, item: &T, again: &T) -> bool {
+    starved.refuses(&Cloned {
+        item,
+        again,
+        by_copier: true,
+    }) && starved.refuses(&Cloned {
+        item,
+        again,
+        by_copier: false,
+    })
+}
+
+fn text(alloc: Global, text: &str) -> Result<String, AllocError> {
+    String::from_str(alloc, text)
+}
+
+// The texts `ab` and `cd`, with nothing between them.
+fn options(alloc: Global) -> Result<Vec<Option<String>>, AllocError> {
     let mut list = Vec::new(alloc);
-    list.push(String::from_str(alloc, "ab")?)?;
-    list.push(String::from_str(alloc, "cd")?)?;
+    list.push(Some(text(alloc, "ab")?))?;
+    list.push(None)?;
+    list.push(Some(text(alloc, "cd")?))?;
     Ok(list)
 }
 
 #[test]
-fn clones_of_elements(rt: HostRuntime) -> Result<(), Fail> {
+fn copies_of_elements_are_refused_in_turn(rt: HostRuntime) -> Result<(), Fail> {
     let alloc = rt.alloc();
-    let text = String::from_str(alloc, "ab")?;
-    let list = [1u8, 2].to_vec(alloc)?;
+    let (one, again) = (text(alloc, "ab")?, text(alloc, "ab")?);
+    let (some, some_again) = (Some(text(alloc, "ab")?), Some(text(alloc, "ab")?));
+    let (bytes, bytes_again) = ([1u8, 2].to_vec(alloc)?, [1u8, 2].to_vec(alloc)?);
+    let (list, list_again) = (options(alloc)?, options(alloc)?);
     let mut starved = Starved::new(alloc)?;
-    assert!(rt; starved.refuses_in_turn(|| Some(()), |()| text_is_cloned(&text)));
-    assert!(rt; starved.refuses_in_turn(|| Some(()), |()| list_is_cloned(&list)));
+    assert!(rt; copies_refuse(&mut starved, &one, &again), "a text");
+    assert!(rt;
+        copies_refuse(&mut starved, &some, &some_again),
+        "an option"
+    );
+    assert!(rt;
+        copies_refuse(&mut starved, &bytes, &bytes_again),
+        "a list of bytes"
+    );
+    assert!(rt;
+        copies_refuse(&mut starved, &list, &list_again),
+        "a list of options"
+    );
     Ok(())
 }
 
-#[test]
-fn clones_of_lists_of_texts(rt: HostRuntime) -> Result<(), Fail> {
-    let alloc = rt.alloc();
-    let list = two_texts(alloc)?;
-    let again = two_texts(alloc)?;
-    let mut starved = Starved::new(alloc)?;
-    assert!(rt; starved.refuses_in_turn(|| Some(()), |()| texts_are_cloned(&list, &again)));
-    Ok(())
+// Whether the range is from `ab` to `cd`, or without an end from `ab` on.
+fn is_as(range: &RangeSetRange<String>, has_end: bool) -> bool {
+    match range {
+        RangeSetRange::Range(Range { start, end }) => {
+            has_end && start.as_str() == "ab" && end.as_str() == "cd"
+        }
+        RangeSetRange::RangeFrom(RangeFrom { start }) => !has_end && start.as_str() == "ab",
+    }
+}
+
+// A range of references that is copied, and one of texts that is cloned.
+#[derive(Drop)]
+struct RangeCopied<'a> {
+    ends: RangeSetRange<&'a String>,
+    has_end: bool,
+}
+
+impl<'a> Call for RangeCopied<'a> {
+    type Given = ();
+
+    fn given(&self) -> Option<()> {
+        Some(())
+    }
+
+    fn answer(&self, _given: ()) -> Answer {
+        match self.ends.cloned() {
+            Ok(made) => Answer::right_if(is_as(&made, self.has_end)),
+            Err(_) => Answer::Refused,
+        }
+    }
+}
+
+#[derive(Drop)]
+struct RangeCloned<'a> {
+    range: &'a RangeSetRange<String>,
+    has_end: bool,
+}
+
+impl<'a> Call for RangeCloned<'a> {
+    type Given = ();
+
+    fn given(&self) -> Option<()> {
+        Some(())
+    }
+
+    fn answer(&self, _given: ()) -> Answer {
+        match self.range.clone() {
+            Ok(made) => {
+                Answer::right_if(is_as(&made, self.has_end) && is_as(self.range, self.has_end))
+            }
+            Err(_) => refused_if(is_as(self.range, self.has_end)),
+        }
+    }
 }
 
 #[test]
-fn copies_of_ranges(rt: HostRuntime) -> Result<(), Fail> {
+fn copies_of_ranges_are_refused_in_turn(rt: HostRuntime) -> Result<(), Fail> {
     let alloc = rt.alloc();
-    let start = String::from_str(alloc, "ab")?;
-    let end = String::from_str(alloc, "cd")?;
-    let range = RangeSetRange::from(&start..&end);
+    let (start, end) = (text(alloc, "ab")?, text(alloc, "cd")?);
+    let range = RangeSetRange::from(text(alloc, "ab")?..text(alloc, "cd")?);
+    let endless = RangeSetRange::from(text(alloc, "ab")?..);
     let mut starved = Starved::new(alloc)?;
-    assert!(rt; starved.refuses_in_turn(|| Some(()), |()| range_is_copied(&range)));
+    for (range, ends, has_end) in [
+        (&range, RangeSetRange::from(&start..&end), true),
+        (&endless, RangeSetRange::from(&start..), false),
+    ] {
+        assert!(rt;
+            starved.refuses(&RangeCopied { ends, has_end }),
+            "copied, {has_end}"
+        );
+        assert!(rt;
+            starved.refuses(&RangeCloned { range, has_end }),
+            "cloned, {has_end}"
+        );
+    }
+    assert!(rt; start.as_str() == "ab" && end.as_str() == "cd");
     Ok(())
 }
 
+// What a set that is made of a range says.
+fn set_is<const N: usize>(made: Result<RangeSet<i64, N>, AllocError>, want: &[i64]) -> Answer {
+    match made {
+        Ok(set) => Answer::right_if(set.boundaries() == want),
+        Err(_) => Answer::Refused,
+    }
+}
+
+// A range of numbers that becomes a set with room for none, one or two boundaries in itself.
+#[derive(Drop)]
+struct SetOf {
+    alloc: Global,
+    room: u8,
+    ends: (i64, Option<i64>),
+    want: &'static [i64],
+}
+
+impl Call for SetOf {
+    type Given = RangeSetRange<i64>;
+
+    fn given(&self) -> Option<RangeSetRange<i64>> {
+        Some(match self.ends {
+            (start, Some(end)) => RangeSetRange::from(start..end),
+            (start, None) => RangeSetRange::from(start..),
+        })
+    }
+
+    fn answer(&self, range: RangeSetRange<i64>) -> Answer {
+        let (alloc, want) = (self.alloc, self.want);
+        match self.room {
+            0 => set_is::<0>(RangeSet::from_range_set_range(alloc, range), want),
+            1 => set_is::<1>(RangeSet::from_range_set_range(alloc, range), want),
+            _ => set_is::<2>(RangeSet::from_range_set_range(alloc, range), want),
+        }
+    }
+}
+
+fn set_of_range(
+    alloc: Global,
+    room: u8,
+    start: i64,
+    end: Option<i64>,
+    want: &'static [i64],
+) -> SetOf {
+    SetOf {
+        alloc,
+        room,
+        ends: (start, end),
+        want,
+    }
+}
+
+// What has room in the set asks for none, and neither does a range of nothing.
 #[test]
-fn clones_of_ranges(rt: HostRuntime) -> Result<(), Fail> {
+fn sets_of_ranges_are_refused_where_they_have_no_room(rt: HostRuntime) -> Result<(), Fail> {
     let alloc = rt.alloc();
-    let start = String::from_str(alloc, "ab")?;
-    let end = String::from_str(alloc, "cd")?;
-    let range = RangeSetRange::from(start..end);
     let mut starved = Starved::new(alloc)?;
-    assert!(rt; starved.refuses_in_turn(|| Some(()), |()| range_is_cloned(&range)));
+    assert!(rt; starved.refuses(&set_of_range(alloc, 0, 1, Some(5), &[1, 5])));
+    assert!(rt; starved.refuses(&set_of_range(alloc, 0, 4, None, &[4])));
+    assert!(rt; starved.needs_none(&set_of_range(alloc, 2, 1, Some(5), &[1, 5])));
+    assert!(rt; starved.needs_none(&set_of_range(alloc, 1, 4, None, &[4])));
+    assert!(rt; starved.needs_none(&set_of_range(alloc, 0, 5, Some(1), &[])));
     Ok(())
 }

@@ -1,8 +1,8 @@
 //! Merges of lists, the builder and JSON, whose requests for memory are refused in turn: the lists that were handed in come back as they were.
 use crate::given::{numbers, set_of};
 use crate::numbers::{Copies, Numbers};
-use crate::starved::{Answer, Starved};
-use range_collections::{JsonError, RangeSet2, RangeSetRef};
+use crate::starved::{Answer, Call, Starved};
+use range_collections::{JsonError, RangeSet2};
 use range_merge::{
     InPlaceBuilder, InPlaceMergeState, InPlaceMergeStateRef, SmallVecMergeState, UnionOp,
 };
@@ -11,131 +11,220 @@ use smallvec::SmallVec;
 use std::alloc::{AllocError, Global};
 use std::test::Fail;
 
-// The lists of 0, 10, 20 and of 5, 15, 25.
-fn two_lists(alloc: Global) -> Option<(SmallVec<i64, 2>, SmallVec<i64, 2>)> {
-    let left = list_of(alloc, &[0, 10, 20])?;
-    let right = list_of(alloc, &[5, 15, 25])?;
-    Some((left, right))
-}
+type List = SmallVec<i64, 2>;
 
-// The sets of these boundaries.
-fn two_sets(alloc: Global) -> Option<(RangeSet2<i64>, RangeSet2<i64>)> {
-    let left = set_of(alloc, &[0, 10, 20])?;
-    let right = set_of(alloc, &[5, 15, 25])?;
-    Some((left, right))
-}
+const LEFT: [i64; 3] = [0, 10, 20];
 
-// The list of these numbers.
-fn list_of(alloc: Global, items: &[i64]) -> Option<SmallVec<i64, 2>> {
-    SmallVec::from_slice(alloc, items).ok()
-}
+const RIGHT: [i64; 3] = [5, 15, 25];
 
-// Want of memory, if the list that came back is this one.
-fn refused_with(list: &SmallVec<i64, 2>, want: &[i64]) -> Answer {
-    if list.as_slice() == want {
+const UNION: [i64; 3] = [0, 15, 20];
+
+// Want of memory, if the lists that came back are these.
+fn refused_if(stand: bool) -> Answer {
+    if stand {
         Answer::Refused
     } else {
         Answer::Wrong
     }
 }
 
-// The builder over 1, 2 and 3, with room for two more.
-fn builder_is_made(list: SmallVec<i64, 2>) -> Answer {
-    match InPlaceBuilder::new(list, 2) {
-        Ok(builder) => Answer::right_if(builder.finish().as_slice() == [1, 2, 3].as_slice()),
-        Err((_, list)) => refused_with(&list, &[1, 2, 3]),
-    }
+// What is made of two lists.
+#[derive(Clone, Copy, Debug)]
+enum Made {
+    Builder,
+    State,
+    StateRef,
+    MergeOwned,
+    MergeRef,
+    MergeNew,
 }
 
-// The state over both lists, with the second list owned.
-fn state_is_made(left: SmallVec<i64, 2>, right: SmallVec<i64, 2>) -> Answer {
-    match InPlaceMergeState::new(left, right) {
-        Ok(state) => Answer::right_if(state.result().is_empty()),
-        Err((_, left, right)) => {
-            if right.as_slice() == [5, 15, 25].as_slice() {
-                refused_with(&left, &[0, 10, 20])
-            } else {
-                Answer::Wrong
-            }
+#[derive(Drop)]
+struct OfLists {
+    alloc: Global,
+    made: Made,
+}
+
+impl Call for OfLists {
+    type Given = (List, List);
+
+    fn given(&self) -> Option<(List, List)> {
+        let left = SmallVec::from_slice(self.alloc, &LEFT).ok()?;
+        let right = SmallVec::from_slice(self.alloc, &RIGHT).ok()?;
+        Some((left, right))
+    }
+
+    fn answer(&self, given: (List, List)) -> Answer {
+        let (left, right) = given;
+        match self.made {
+            Made::Builder => builder_is_made(left),
+            Made::State => state_is_made(left, right),
+            Made::StateRef => state_ref_is_made(left, right.as_slice()),
+            Made::MergeOwned => is_merged(left, right),
+            Made::MergeRef => is_merged_ref(left, right.as_slice()),
+            Made::MergeNew => is_merged_anew(self.alloc, left.as_slice(), right.as_slice()),
         }
     }
 }
 
-// The same state, with the second list lent.
-fn lent_state_is_made(left: SmallVec<i64, 2>, right: RangeSetRef<i64>) -> Answer {
-    match InPlaceMergeStateRef::new(left, right.boundaries(), &Copies) {
+fn builder_is_made(list: List) -> Answer {
+    match InPlaceBuilder::new(list, 2) {
+        Ok(builder) => Answer::right_if(builder.finish().as_slice() == LEFT.as_slice()),
+        Err((_, list)) => refused_if(list.as_slice() == LEFT.as_slice()),
+    }
+}
+
+fn state_is_made(left: List, right: List) -> Answer {
+    match InPlaceMergeState::new(left, right) {
         Ok(state) => Answer::right_if(state.result().is_empty()),
-        Err((_, left)) => refused_with(&left, &[0, 10, 20]),
+        Err((_, left, right)) => {
+            refused_if(left.as_slice() == LEFT.as_slice() && right.as_slice() == RIGHT.as_slice())
+        }
+    }
+}
+
+fn state_ref_is_made(left: List, right: &[i64]) -> Answer {
+    match InPlaceMergeStateRef::new(left, right, &Copies) {
+        Ok(state) => Answer::right_if(state.result().is_empty()),
+        Err((_, left)) => refused_if(left.as_slice() == LEFT.as_slice()),
     }
 }
 
 // The union of both in the first list.
-fn is_merged(left: RangeSet2<i64>, right: RangeSet2<i64>) -> Answer {
-    let mut list = left.into_inner();
+fn is_merged(mut left: List, right: List) -> Answer {
     let mut numbers = Numbers { made: 0 };
-    match InPlaceMergeState::merge(&mut list, right.into_inner(), &UnionOp, &mut numbers) {
-        Ok(()) => Answer::right_if(list.as_slice() == [0, 15, 20].as_slice()),
+    match InPlaceMergeState::merge(&mut left, right, &UnionOp, &mut numbers) {
+        Ok(()) => Answer::right_if(left.as_slice() == UNION.as_slice()),
         Err((_, right)) => {
-            if right.as_slice() == [5, 15, 25].as_slice() {
-                refused_with(&list, &[0, 10, 20])
-            } else {
-                Answer::Wrong
-            }
+            refused_if(left.as_slice() == LEFT.as_slice() && right.as_slice() == RIGHT.as_slice())
         }
     }
 }
 
-// The same, with the second list lent.
-fn is_merged_lent(left: RangeSet2<i64>, right: RangeSetRef<i64>) -> Answer {
-    let mut list = left.into_inner();
+// The same, with the second list as a slice.
+fn is_merged_ref(mut left: List, right: &[i64]) -> Answer {
     let mut numbers = Numbers { made: 0 };
-    let right = right.boundaries();
     match InPlaceMergeStateRef::<i64, Copies, 2>::merge(
-        &mut list,
+        &mut left,
         right,
         &Copies,
         &UnionOp,
         &mut numbers,
     ) {
-        Ok(()) => Answer::right_if(list.as_slice() == [0, 15, 20].as_slice()),
-        Err(_) => refused_with(&list, &[0, 10, 20]),
+        Ok(()) => Answer::right_if(left.as_slice() == UNION.as_slice()),
+        Err(_) => refused_if(left.as_slice() == LEFT.as_slice()),
     }
 }
 
 // The same, into a new list.
-fn is_merged_anew(alloc: Global, left: RangeSetRef<i64>, right: RangeSetRef<i64>) -> Answer {
-    let list: SmallVec<i64, 2> = SmallVec::new(alloc);
+fn is_merged_anew(alloc: Global, left: &[i64], right: &[i64]) -> Answer {
+    let list: List = SmallVec::new(alloc);
     let mut numbers = Numbers { made: 0 };
-    let (a, b) = (left.boundaries(), right.boundaries());
-    match SmallVecMergeState::merge(list, a, b, &Copies, &UnionOp, &mut numbers) {
-        Ok(list) => Answer::right_if(list.as_slice() == [0, 15, 20].as_slice()),
-        Err(_) => Answer::Refused,
+    match SmallVecMergeState::merge(list, left, right, &Copies, &UnionOp, &mut numbers) {
+        Ok(list) => Answer::right_if(list.as_slice() == UNION.as_slice()),
+        Err(_) => refused_if(left == LEFT.as_slice() && right == RIGHT.as_slice()),
     }
 }
 
-// The array of 20, 30 and 40, written.
-fn is_written(set: &RangeSet2<i64>) -> Answer {
-    match set.to_json() {
-        Ok(value) => Answer::right_if(matches!(value.as_array(), Some(list) if list.len() == 3)),
-        Err(_) => Answer::Refused,
+#[test]
+fn states_and_merges_are_refused_in_turn(rt: HostRuntime) -> Result<(), Fail> {
+    let alloc = rt.alloc();
+    let mut starved = Starved::new(alloc)?;
+    for made in [
+        Made::Builder,
+        Made::State,
+        Made::StateRef,
+        Made::MergeOwned,
+        Made::MergeRef,
+        Made::MergeNew,
+    ] {
+        assert!(rt; starved.refuses(&OfLists { alloc, made }), "{made:?}");
+    }
+    Ok(())
+}
+
+// The array of a set, written.
+#[derive(Drop)]
+struct Written<'a> {
+    set: &'a RangeSet2<i64>,
+}
+
+impl<'a> Call for Written<'a> {
+    type Given = ();
+
+    fn given(&self) -> Option<()> {
+        Some(())
+    }
+
+    fn answer(&self, _given: ()) -> Answer {
+        match self.set.to_json() {
+            Ok(value) => Answer::right_if(
+                matches!(value.as_array(), Some(list) if list.len() == 3),
+            ),
+            Err(_) => Answer::Refused,
+        }
     }
 }
 
-// The set of a long list, sorted.
-fn is_sorted(list: SmallVec<i64, 2>, want: &[i64]) -> Answer {
-    match RangeSet2::from_unsorted(list) {
-        Ok(set) => Answer::right_if(set.boundaries() == want),
-        Err(_) => Answer::Refused,
+// A value that is read, and the boundaries of its set, or what it is refused for.
+#[derive(Drop)]
+struct Read<'a> {
+    alloc: Global,
+    value: &'a Value,
+    want: Result<&'static [i64], JsonError>,
+}
+
+impl<'a> Call for Read<'a> {
+    type Given = ();
+
+    fn given(&self) -> Option<()> {
+        Some(())
+    }
+
+    fn answer(&self, _given: ()) -> Answer {
+        match (RangeSet2::from_json(self.alloc, self.value), self.want) {
+            (Ok(set), Ok(want)) => Answer::right_if(set.boundaries() == want),
+            (Err(JsonError::OutOfMemory), _) => Answer::Refused,
+            (Err(error), Err(want)) => Answer::right_if(error == want),
+            _ => Answer::Wrong,
+        }
     }
 }
 
-// What a value that is no array of whole numbers is refused for.
-fn is_refused_for(alloc: Global, value: &Value, want: JsonError) -> Answer {
-    match RangeSet2::from_json(alloc, value) {
-        Ok(_) => Answer::Wrong,
-        Err(JsonError::OutOfMemory) => Answer::Refused,
-        Err(error) => Answer::right_if(error == want),
+#[test]
+fn arrays_are_refused_in_turn(rt: HostRuntime) -> Result<(), Fail> {
+    let alloc = rt.alloc();
+    let set = set_of(alloc, &[20, 30, 40]).ok_or("sorted")?;
+    let value = Value::from_str(alloc, "[40,20,30,20]").ok().ok_or("JSON")?;
+    let mut starved = Starved::new(alloc)?;
+    assert!(rt; starved.refuses(&Written { set: &set }));
+    let read = Read {
+        alloc,
+        value: &value,
+        want: Ok(&[20, 30, 40]),
+    };
+    assert!(rt; starved.refuses(&read));
+    Ok(())
+}
+
+// All items are looked at before memory is asked for.
+#[test]
+fn other_values_are_refused_without_memory(rt: HostRuntime) -> Result<(), Fail> {
+    let alloc = rt.alloc();
+    let mut starved = Starved::new(alloc)?;
+    for (text, error) in [
+        ("{}", JsonError::NotArray),
+        ("[1,2.5]", JsonError::NotInteger { index: 1 }),
+    ] {
+        let value = Value::from_str(alloc, text).ok().ok_or("JSON")?;
+        let read = Read {
+            alloc,
+            value: &value,
+            want: Err(error),
+        };
+        assert!(rt; starved.needs_none(&read), "{text}");
     }
+    Ok(())
 }
 
 // The numbers from 32 up to 64, and then those from 0 up to 32.
@@ -147,95 +236,40 @@ fn in_two_runs(alloc: Global) -> Result<Vec<i64>, AllocError> {
     Ok(items)
 }
 
-// The set of an array, read.
-fn is_read(alloc: Global, value: &Value, want: &[i64]) -> Answer {
-    match RangeSet2::from_json(alloc, value) {
-        Ok(set) => Answer::right_if(set.boundaries() == want),
-        Err(JsonError::OutOfMemory) => Answer::Refused,
-        Err(_) => Answer::Wrong,
+// A long list, sorted into a set.
+#[derive(Drop)]
+struct Sorted<'a> {
+    alloc: Global,
+    items: &'a [i64],
+    want: &'a [i64],
+}
+
+impl<'a> Call for Sorted<'a> {
+    type Given = List;
+
+    fn given(&self) -> Option<List> {
+        SmallVec::from_slice(self.alloc, self.items).ok()
+    }
+
+    fn answer(&self, list: List) -> Answer {
+        match RangeSet2::from_unsorted(list) {
+            Ok(set) => Answer::right_if(set.boundaries() == self.want),
+            Err(_) => Answer::Refused,
+        }
     }
 }
 
-// Whether states and the builder are refused in turn.
-fn states_refuse(
-    alloc: Global,
-    starved: &mut Starved,
-    left: RangeSetRef<i64>,
-    right: RangeSetRef<i64>,
-) -> bool {
-    starved.refuses_in_turn(|| list_of(alloc, &[1, 2, 3]), builder_is_made)
-        && starved.refuses_in_turn(
-            || two_lists(alloc),
-            |(list, other)| state_is_made(list, other),
-        )
-        && starved.refuses_in_turn(
-            || list_of(alloc, &[0, 10, 20]),
-            |list| lent_state_is_made(list, right),
-        )
-        && starved.refuses_in_turn(|| Some(()), |()| is_merged_anew(alloc, left, right))
-}
-
-// Whether merges in place are refused in turn.
-fn merges_refuse(alloc: Global, starved: &mut Starved, right: RangeSetRef<i64>) -> bool {
-    starved.refuses_in_turn(
-        || set_of(alloc, &[0, 10, 20]),
-        |left| is_merged_lent(left, right),
-    ) && starved.refuses_in_turn(|| two_sets(alloc), |(left, other)| is_merged(left, other))
-}
-
 #[test]
-fn states(rt: HostRuntime) -> Result<(), Fail> {
-    let alloc = rt.alloc();
-    let left = RangeSetRef::new(&[0i64, 10, 20]).ok_or("sorted")?;
-    let right = RangeSetRef::new(&[5i64, 15, 25]).ok_or("sorted")?;
-    let mut starved = Starved::new(alloc)?;
-    assert!(rt; states_refuse(alloc, &mut starved, left, right));
-    assert!(rt; merges_refuse(alloc, &mut starved, right));
-    Ok(())
-}
-
-#[test]
-fn arrays(rt: HostRuntime) -> Result<(), Fail> {
-    let alloc = rt.alloc();
-    let set = set_of(alloc, &[20, 30, 40]).ok_or("sorted")?;
-    let value = Value::from_str(alloc, "[40,20,30,20]").ok().ok_or("JSON")?;
-    let mut starved = Starved::new(alloc)?;
-    assert!(rt; starved.refuses_in_turn(|| Some(()), |()| is_written(&set)));
-    assert!(rt; starved.refuses_in_turn(|| Some(()), |()| is_read(alloc, &value, &[20, 30, 40])));
-    Ok(())
-}
-
-#[test]
-fn long_lists(rt: HostRuntime) -> Result<(), Fail> {
+fn sorting_a_long_list_is_refused_in_turn(rt: HostRuntime) -> Result<(), Fail> {
     let alloc = rt.alloc();
     let items = in_two_runs(alloc)?;
     let want = numbers(alloc, 0, 64)?;
     let mut starved = Starved::new(alloc)?;
-    assert!(rt;
-        starved.refuses_in_turn(
-            || list_of(alloc, items.as_slice()),
-            |list| is_sorted(list, want.as_slice())
-        )
-    );
-    Ok(())
-}
-
-// All items are looked at before memory is asked for.
-#[test]
-fn other_values(rt: HostRuntime) -> Result<(), Fail> {
-    let alloc = rt.alloc();
-    let object = Value::from_str(alloc, "{}").ok().ok_or("JSON")?;
-    let floats = Value::from_str(alloc, "[1,2.5]").ok().ok_or("JSON")?;
-    let mut starved = Starved::new(alloc)?;
-    assert!(rt;
-        starved.is_right_without_memory(|()| is_refused_for(alloc, &object, JsonError::NotArray))
-    );
-    assert!(rt;
-        starved.is_right_without_memory(|()| is_refused_for(
-            alloc,
-            &floats,
-            JsonError::NotInteger { index: 1 }
-        ))
-    );
+    let sorted = Sorted {
+        alloc,
+        items: items.as_slice(),
+        want: want.as_slice(),
+    };
+    assert!(rt; starved.refuses(&sorted));
     Ok(())
 }

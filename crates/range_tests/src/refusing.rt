@@ -102,7 +102,7 @@ impl<'a, K> MergeStateMut for Refusing<'a, K> {
 
     ghost can_stop = { false };
 
-    ghost sure = { λ _. ⊥ };
+    ghost infallible = { λ _. ⊥ };
 
     fn advance_a(&mut self, n: usize, take: bool) -> Result<bool, AllocError> {
         self.advance(many_if(take, n))?;

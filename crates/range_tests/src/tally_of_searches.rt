@@ -1,7 +1,6 @@
 //! Searches at each boundary, between boundaries and outside: each raises the tally of the elements by exactly what it adds to `made`, which is within the binary digits of the list's length.
 use crate::elements::{Tallied, with_tally};
-use crate::tally::tallied;
-use crate::tally_of_changes::{counted_alike, set_of};
+use crate::tally::{counted_alike, set_of, tallied};
 use range_collections::{Comparisons, RangeSet2, RangeSetRef};
 use range_merge::search;
 use std::alloc::{AllocError, Global};

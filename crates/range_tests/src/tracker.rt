@@ -1,10 +1,11 @@
 //! A tracker of offsets: worked rows, and made-up commands against a bitmap of 256 offsets.
-ghost use Rattle.std.specs.Prelude.{◌<◌};
-
 use crate::given::prints;
+use crate::insertions::{Bitmap, changed, changes_of};
+use crate::made_up::Generator;
 use range_collections::RangeSetRange;
 use range_tracker::{Command, TrackError, Tracker};
 use std::alloc::{AllocError, Global};
+use std::ops::Range;
 
 // Whether the tracker has these ranges alone.
 pub(crate) fn has_ranges(tracker: &Tracker, want: &[(u64, u64)]) -> bool {
@@ -116,116 +117,62 @@ fn refusals_are_printed(rt: HostRuntime) {
     assert!(rt; prints(alloc, &Command::Add(0..10), "Add(0..10)"));
 }
 
-// The offsets that are made up lie below this number.
-const OFFSETS: usize = 256;
-
-// Which of the offsets are there.
-type Bitmap = [bool; OFFSETS];
-
-// Made-up numbers, always the same.
-#[derive(Drop)]
-struct Made {
-    state: u64,
-}
-
-impl Made {
-    // The next number below the limit.
-    fn below(&mut self, limit: u64) -> u64
-        requires { 0 < limit }
-        ensures { result < limit }
-    {
-        self.state = self
-            .state
-            .wrapping_mul(6_364_136_223_846_793_005)
-            .wrapping_add(1_442_695_040_888_963_407);
-        (self.state >> 33) % limit
-    }
-
-    // The next command: short ranges, and now and then a long, an empty or a reversed one.
-    fn command(&mut self) -> Command {
-        let start = self.below(OFFSETS as u64);
-        let length = if self.below(16) == 0 { 200 } else { 12 };
-        let end = (start + self.below(length)).min(OFFSETS as u64);
-        let range = if self.below(16) == 0 {
-            end..start
-        } else {
-            start..end
-        };
-        if self.below(2) == 0 {
-            Command::Add(range)
-        } else {
-            Command::Forget(range)
-        }
-    }
-}
-
-// The offsets after the command.
-fn after(command: &Command, there: &Bitmap) -> Bitmap {
-    let (range, is_there) = match command {
-        Command::Add(range) => (range, true),
-        Command::Forget(range) => (range, false),
-    };
-    let mut left = *there;
-    for (n, bit) in left.iter_mut().enumerate() {
-        if range.start <= n as u64 && (n as u64) < range.end {
-            *bit = is_there;
-        }
-    }
-    left
-}
-
-// At how many offsets the bitmap changes, its end included.
-fn boundaries(there: &Bitmap) -> usize {
-    let mut last = false;
-    let mut changes = 0usize;
-    for bit in there {
-        if *bit != last {
-            changes = changes.saturating_add(1);
-        }
-        last = *bit;
-    }
-    if last {
-        changes.saturating_add(1)
-    } else {
-        changes
-    }
-}
-
 // Whether the tracker has the offsets of the bitmap, in as few ranges as there can be.
-fn is_as(tracker: &Tracker, there: &Bitmap) -> bool {
+fn is_as(alloc: Global, tracker: &Tracker, there: &Bitmap) -> Result<bool, AllocError> {
     let mut ranges = 0usize;
     for _ in tracker.ranges() {
         ranges = ranges.saturating_add(1);
     }
-    let mut same = ranges.saturating_mul(2) == boundaries(there);
+    let mut same = ranges.saturating_mul(2) == changes_of(alloc, there)?.len();
     for (n, bit) in there.iter().enumerate() {
         same = same && tracker.has(n as u64..n as u64 + 1) == *bit;
     }
-    same
+    Ok(same)
 }
 
-// How many of the offsets below a length are missing.
-fn count_missing(tracker: &Tracker, len: u64) -> Result<usize, AllocError> {
+// Whether the offset is there.
+fn has_bit(there: &Bitmap, n: u64) -> bool {
+    there.get(n as usize).is_some_and(|bit| *bit)
+}
+
+// The first offset of which it is not told rightly whether it is missing below the length, if there is one.
+fn first_wrong_of_missing(
+    tracker: &Tracker,
+    there: &Bitmap,
+    len: u64,
+) -> Result<Option<u64>, AllocError> {
     let missing = tracker.missing(len)?;
-    Ok(
-        (0..OFFSETS)
-            .filter(|n| missing.contains(&(*n as u64)))
-            .count(),
-    )
+    Ok((0..300u64).find(|n| missing.contains(n) != (*n < len && !has_bit(there, *n))))
+}
+
+// Whether each offset of the range is there, and whether the tracker says so.
+fn is_asked_rightly(tracker: &Tracker, there: &Bitmap, range: Range<u64>) -> bool {
+    let all = (range.start..range.end).all(|n| has_bit(there, n));
+    tracker.has(range) == all
+}
+
+// The command of a range.
+fn command(range: Range<u64>, put: bool) -> Command {
+    if put {
+        Command::Add(range)
+    } else {
+        Command::Forget(range)
+    }
 }
 
 #[test]
 fn made_up_commands_against_a_bitmap(rt: HostRuntime) -> Result<(), AllocError> {
-    let mut made = Made { state: 20_261_123 };
-    let mut tracker = Tracker::new(rt.alloc(), 24);
-    let mut there = [false; OFFSETS];
+    let alloc = rt.alloc();
+    let mut made = Generator::new();
+    let mut tracker = Tracker::new(alloc, 24);
+    let mut there = [false; 256];
     let mut refused = 0u64;
     for turn in 0..2_000u64 {
-        let command = made.command();
-        let left = after(&command, &there);
-        let many = boundaries(&left);
+        let (range, put, asked) = (made.range(), made.below(2) == 0, made.range());
+        let left = changed(&there, &range, put);
+        let many = changes_of(alloc, &left)?.len();
         let mut reply = [Ok(())];
-        tracker.run(&[command], &mut reply);
+        tracker.run(&[command(range, put)], &mut reply);
         if many > 24 {
             refused = refused.saturating_add(1);
             assert_eq!(rt; reply, [too_many(many)], "turn {turn}");
@@ -233,12 +180,14 @@ fn made_up_commands_against_a_bitmap(rt: HostRuntime) -> Result<(), AllocError> 
             there = left;
             assert_eq!(rt; reply, [Ok(())], "turn {turn}");
         }
-        assert!(rt; is_as(&tracker, &there), "turn {turn}");
+        assert!(rt; is_as(alloc, &tracker, &there)?, "turn {turn}");
         let len = made.below(300);
-        let want = (0..OFFSETS)
-            .filter(|n| (*n as u64) < len && !there[*n])
-            .count();
-        assert_eq!(rt; count_missing(&tracker, len)?, want, "turn {turn}");
+        let wrong = first_wrong_of_missing(&tracker, &there, len)?;
+        assert!(rt;
+            wrong.is_none(),
+            "{wrong:?} missing below {len}, turn {turn}"
+        );
+        assert!(rt; is_asked_rightly(&tracker, &there, asked), "turn {turn}");
     }
     assert!(rt; 100 < refused && refused < 1_900, "{refused} were refused");
     Ok(())

@@ -14,7 +14,7 @@ use Rattle.range_merge.specs.Boundaries.{IsAscending, member}
 use Rattle.range_merge.specs.Connective.{Table, Means}
 use Rattle.range_merge.proofs.Members.{member-nil}
 use Rattle.range_merge.proofs.SameSet.{same_items}
-use Rattle.range_collections.specs.Values.{range_items}
+use Rattle.range_collections.specs.Ranges.{range_items}
 use Rattle.range_collections.proofs.Values.{IsAscending-two, member-two, nothing_between}
 use Rattle.range_collections.proofs.Ascending.{IsAscending-nil}
 use Rattle.range_tracker.specs.Offsets.{Offsets, is_within, offsets_of, IsListOf, HasBoundaries}

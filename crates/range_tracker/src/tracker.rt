@@ -1,18 +1,20 @@
 //! A tracker of offsets: the strictly sorted list of their boundaries, which never has more of them than a limit.
 //!
 //! A command is first measured, without memory, and refused where it would leave too many boundaries. Then it changes the list where it lies.
-ghost use Rattle.std.specs.Prelude.{◌≡◌, ◌≢◌, ◌↔◌, ◌-◌, ◌<◌, ◌≤◌, ◌&&◌, ℕ, true, false, not, nat_lt, [], ◌∷◌, length, IsTrue, IsOk, IfOk, OnOk, OnErr, Err};
+ghost use Rattle.std.specs.Prelude.{◌≡◌, ◌≢◌, ◌↔◌, ◌-◌, ◌^◌, ◌<◌, ◌≤◌, ◌&&◌, ℕ, true, false, not, nat_lt, [], ◌∷◌, length, IsTrue, IsOk, IfOk, OnOk, OnErr, Err};
 ghost use Rattle.std.specs.Ordering.{nat_cmp};
 ghost use Rattle.range_merge.specs.Boundaries.{IsAscending};
-ghost use Rattle.range_collections.specs.Values.{range_items};
+ghost use Rattle.range_collections.specs.Covered.{covered_of};
+ghost use Rattle.range_merge.specs.Connective.{Means, difference_table};
+ghost use Rattle.range_collections.specs.Ranges.{range_items};
 ghost use Rattle.range_tracker.specs.Offsets.{IsListOf, HasBoundaries, offsets_of, is_within};
 ghost use Rattle.range_tracker.specs.Commands.{MayAnswer, AreReplies, after_command, after_replies};
 
 use crate::command::Command;
 use crate::track_error::TrackError;
+use range_collections::laws::changes_mean_the_connective;
 use range_collections::{
-    Comparisons, DiffOp, Iter, MergeOperation, RangeSet2, RangeSetRef, UnionOp,
-    changes_mean_the_connective,
+    Comparisons, DiffOp, Gaps, Iter, MergeOperation, RangeSet2, RangeSetRef, UnionOp,
 };
 use std::alloc::{AllocError, Global};
 use std::marker::Model;
@@ -115,6 +117,20 @@ impl Tracker {
         ensures sorted { IsAscending nat_cmp self.now.boundaries }
     {
         self.set.iter()
+    }
+
+    /// How many offsets are there. `None` stands for a set without an end, which no command makes.
+    pub fn covered(&self) -> Option<u128>
+        ensures { result ≡ covered_of nat_cmp (λ n. n) (2 ^ 64) self.now.boundaries }
+    {
+        self.set.covered()
+    }
+
+    /// The parts of a range that aren't there, from the lowest on: none is empty, and each ends below the start of the next. It takes no memory.
+    pub fn gaps<'a>(&'a self, within: Range<&'a u64>) -> Gaps<'a, u64>
+        ensures { Means nat_cmp difference_table result (range_items nat_cmp within.entry.start.now within.entry.end.now) self.now.boundaries }
+    {
+        self.set.gaps(within)
     }
 
     // Takes one command.

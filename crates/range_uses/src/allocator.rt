@@ -1,9 +1,10 @@
-//! Addresses to give out, kept as the set of the free ones.
-ghost use Rattle.std.specs.Prelude.{◌≡◌, ◌+◌, ◌-◌, ◌^◌, ◌<◌, ℕ, true, false, IfOk, IfSome, IfNone, OnOk, OnErr};
+//! Addresses to give out: one at a time, kept as the set of the free ones, or many that lie together, kept as the set of those that are taken.
+ghost use Rattle.std.specs.Prelude.{◌≡◌, ◌+◌, ◌-◌, ◌^◌, ◌<◌, ◌≤◌, ℕ, true, false, IfOk, IfSome, IfNone, OnOk, OnErr};
 ghost use Rattle.std.specs.Ordering.{nat_cmp};
-ghost use Rattle.range_collections.specs.Values.{range_items};
+ghost use Rattle.range_collections.specs.Ranges.{range_items};
 ghost use Rattle.range_collections.specs.Boundaries.{member};
 ghost use Rattle.range_collections.specs.Connective.{Means, union_table, difference_table};
+ghost use Rattle.range_collections.specs.Fits.{Fits};
 
 use range_collections::RangeSet;
 use std::alloc::AllocError;
@@ -47,4 +48,28 @@ pub fn give_back(free: &mut Addresses, given: Range<u64>) -> Result<(), AllocErr
     ensures unchanged { OnErr result (free.new ≡ free.old) }
 {
     free.insert(given)
+}
+
+/// Takes `len` addresses that lie together, at the lowest place within the bounds where all of them are free, and gives the first of them. Where there is no such place, or memory is refused, nothing is taken.
+pub fn take_run(
+    taken: &mut Addresses,
+    within: Range<u64>,
+    len: u64,
+) -> Result<Option<u64>, AllocError>
+    ensures fits { IfOk result (λ run. IfSome run (Fits nat_cmp (λ n. n) taken.old within.start within.end len)) }
+    ensures lowest { IfOk result (λ run. IfSome run (λ at.
+        (other : ℕ) → Fits nat_cmp (λ n. n) taken.old within.start within.end len other → at ≤ other)) }
+    ensures means { IfOk result (λ run. IfSome run (λ at.
+        Means nat_cmp union_table taken.new taken.old (range_items nat_cmp at (at + len)))) }
+    ensures none { IfOk result (λ run. IfNone run ((at : ℕ) → ¬ (Fits nat_cmp (λ n. n) taken.old within.start within.end len at))) }
+    ensures kept { IfOk result (λ run. IfNone run (taken.new ≡ taken.old)) }
+    ensures unchanged { OnErr result (taken.new ≡ taken.old) }
+{
+    match taken.first_fit(within, len) {
+        Some(first) => {
+            taken.insert(first..first + len)?;
+            Ok(Some(first))
+        }
+        None => Ok(None),
+    }
 }

@@ -1,26 +1,27 @@
-//! A class of characters, by their code points.
-ghost use Rattle.std.specs.Prelude.{◌≡◌, ◌||◌, ◌<◌, ◌^◌, ℕ, not, IfOk};
+//! A class of characters. A clause reads a character as its code.
+ghost use Rattle.std.specs.Prelude.{◌≡◌, ◌||◌, ℕ, not, IfOk};
+ghost use Rattle.std.specs.Char.{IsScalar};
 ghost use Rattle.std.specs.Ordering.{nat_cmp};
 ghost use Rattle.range_collections.specs.Boundaries.{member};
 
 use range_collections::RangeSet;
 use std::alloc::AllocError;
 
-/// Code points. Up to four ranges lie in the value itself.
-pub type CharacterClass = RangeSet<u32, 8>;
+/// Characters. Up to four ranges lie in the value itself.
+pub type CharacterClass = RangeSet<char, 8>;
 
 /// The characters of one class or the other.
 pub fn either(one: &CharacterClass, other: &CharacterClass) -> Result<CharacterClass, AllocError>
-    ensures members { IfOk result (λ class. (point : ℕ) →
-        member nat_cmp class point ≡ (member nat_cmp one.now point || member nat_cmp other.now point)) }
+    ensures members { IfOk result (λ class. (code : ℕ) →
+        member nat_cmp class code ≡ (member nat_cmp one.now code || member nat_cmp other.now code)) }
 {
     one | other
 }
 
-/// What is not in the class, of all numbers of 32 bits.
+/// The characters that are not in the class.
 pub fn negation(class: &CharacterClass) -> Result<CharacterClass, AllocError>
-    ensures members { IfOk result (λ others. (point : ℕ) → point < 2 ^ 32 →
-        member nat_cmp others point ≡ not (member nat_cmp class.now point)) }
+    ensures members { IfOk result (λ others. (code : ℕ) → IsScalar code →
+        member nat_cmp others code ≡ not (member nat_cmp class.now code)) }
 {
     !class
 }
@@ -29,5 +30,5 @@ pub fn negation(class: &CharacterClass) -> Result<CharacterClass, AllocError>
 pub fn has(class: &CharacterClass, c: char) -> bool
     ensures { result ≡ member nat_cmp class.now c }
 {
-    class.contains(&u32::from(c))
+    class.contains(&c)
 }

@@ -2,7 +2,7 @@
 ghost use Rattle.std.specs.Prelude.{◌↔◌, IsTrue, IsOk, IfOk};
 ghost use Rattle.std.specs.Ordering.{int_cmp};
 ghost use Rattle.range_collections.specs.Sets.{IsSubset};
-ghost use Rattle.range_collections.specs.Values.{range_items};
+ghost use Rattle.range_collections.specs.Ranges.{range_items};
 ghost use Rattle.range_collections.specs.Connective.{Means, difference_table};
 
 use range_collections::{RangeSet, RangeSet2};

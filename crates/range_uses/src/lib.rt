@@ -10,7 +10,7 @@ mod hours;
 #[cfg(test)]
 mod tests;
 
-pub use allocator::{Addresses, give_back, lowest_free, take_lowest};
+pub use allocator::{Addresses, give_back, lowest_free, take_lowest, take_run};
 pub use calendar::{Minutes, add_busy, free_slots, is_free};
 pub use character_class::{CharacterClass, either, has, negation};
 pub use downloads::{Offsets, comes_twice, still_missing};

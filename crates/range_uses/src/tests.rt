@@ -2,7 +2,7 @@
 use crate::{
     Addresses, CharacterClass, Minutes, Numbers, Offsets, add_busy, comes_twice, either,
     free_slots, give_back, has, has_all, is_free, lowest_free, missing_between, negation,
-    print_open_hours, still_missing, take_lowest,
+    print_open_hours, still_missing, take_lowest, take_run,
 };
 use std::test::Fail;
 
@@ -36,8 +36,8 @@ fn a_class_has_the_characters_of_its_ranges_and_its_negation_the_others(
     rt: HostRuntime,
 ) -> Result<(), Fail> {
     let alloc = rt.alloc();
-    let digits = CharacterClass::from_range(alloc, 48..58)?;
-    let letters = CharacterClass::from_range(alloc, 97..123)?;
+    let digits = CharacterClass::from_range(alloc, '0'..':')?;
+    let letters = CharacterClass::from_range(alloc, 'a'..'{')?;
     let word = either(&digits, &letters)?;
     let others = negation(&word)?;
     for (c, within) in [('7', true), ('q', true), ('Q', false), ('é', false)] {
@@ -57,6 +57,17 @@ fn an_allocator_takes_the_lowest_address_and_takes_addresses_back(
     assert_eq!(rt; take_lowest(&mut free)?, None);
     give_back(&mut free, 5..7)?;
     assert_eq!(rt; lowest_free(&free), Some(5));
+    Ok(())
+}
+
+#[test]
+fn an_allocator_takes_addresses_that_lie_together(rt: HostRuntime) -> Result<(), Fail> {
+    let mut taken = Addresses::from_range(rt.alloc(), 0..16)?;
+    taken.insert(24..32)?;
+    assert_eq!(rt; take_run(&mut taken, 0..64, 8)?, Some(16));
+    assert_eq!(rt; take_run(&mut taken, 0..64, 8)?, Some(32));
+    assert_eq!(rt; take_run(&mut taken, 0..64, 25)?, None);
+    assert_eq!(rt; taken.boundaries(), [0, 40].as_slice());
     Ok(())
 }
 

@@ -5,7 +5,7 @@ use crate::answer::answer;
 use crate::status::Status;
 use crate::tests::rows::{Memory, Row, rows, words_of};
 use crate::tests::sink::Sink;
-use crate::tests::starved::Starved;
+use range_starving::{Answer, Starved};
 use std::alloc::{AllocError, Global};
 use std::test::Fail;
 
@@ -14,17 +14,6 @@ const ROUNDS: usize = 120;
 
 /// The round from which on there is enough for each row.
 const AMPLE: usize = 100;
-
-/// How words are answered where memory may be refused.
-#[derive(Clone, Copy, PartialEq, Eq)]
-enum Answer {
-    /// With the line that says that memory ran out.
-    Refused,
-    /// With the line and status that they have with ample memory.
-    Right,
-    /// With anything else.
-    Wrong,
-}
 
 /// How the words of a row are answered with this room, and with nothing else left.
 fn with_room(starved: &mut Starved, row: &Row, room: usize) -> Answer
@@ -83,7 +72,7 @@ fn first_wrong<'a>(
     rows: &'a [Row],
     memory: Memory,
 ) -> Result<Option<&'a Row>, AllocError> {
-    let mut starved = Starved::new(alloc, 20_000)?;
+    let mut starved = Starved::with_rounds(alloc, 20_000)?;
     for row in rows {
         if row.reply.memory == memory {
             let right = match memory {

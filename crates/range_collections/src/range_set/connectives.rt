@@ -1,4 +1,4 @@
-//! Any of the sixteen connectives of a set and a lent one, as a new one.
+//! Any of the sixteen connectives of a set and a view, as a new set.
 ghost use Rattle.std.specs.Prelude.{◌≡◌, ◌+◌, ◌*◌, ◌^◌, ◌<◌, ◌≤◌, true, false, length, All, IsOk, IfOk};
 ghost use Rattle.range_merge.specs.Changes.{changes, taken_items};
 ghost use Rattle.range_merge.specs.Copies.{AreCopies};
@@ -33,9 +33,9 @@ impl<T: RangeSetEntry + EntryClone + MadeWith<Global> + Drop, const N: usize> Ra
         ensures flipped { O.connective op.now false false ≡ true → IfOk result (λ set.
             IsFlipped T.cmp T.least (taken_items (changes T.cmp (O.connective op.now) self.now that.entry.boundaries.now)) set) }
         ensures succeeds { O.connective op.now false false ≡ false → length self.now + length that.entry.boundaries.now ≤ M →
-            All T.is_sure self.now → All T.is_sure that.entry.boundaries.now → IsOk result }
+            All T.is_infallible self.now → All T.is_infallible that.entry.boundaries.now → IsOk result }
         ensures succeeds_flipped { O.connective op.now false false ≡ true → length self.now + length that.entry.boundaries.now < M →
-            All T.is_sure self.now → All T.is_sure that.entry.boundaries.now → T.is_min_sure → IsOk result }
+            All T.is_infallible self.now → All T.is_infallible that.entry.boundaries.now → T.is_min_infallible → IsOk result }
         ensures comparisons { AddsAtMost count.old count.new (2 * weight T.cmp self.now that.entry.boundaries.now) }
     {
         self.as_ref().combine(self.allocator(), that, op, count)

@@ -3,9 +3,9 @@ ghost use Rattle.std.specs.Prelude.{◌≡◌, ◌≢◌, ◌↔◌, ◌≤◌, 
 ghost use Rattle.std.specs.Ordering.{is_le, is_lt};
 ghost use Rattle.std.specs.declared.cmp.Ordering.TheVariants.{Equal};
 ghost use Rattle.range_merge.specs.Boundaries.{member};
-ghost use Rattle.range_collections.specs.Ranges.{range_boundaries, IsInRange};
+ghost use Rattle.range_collections.specs.Ranges.{range_boundaries, range_items, IsInRange};
 ghost use Rattle.range_collections.specs.Sets.{AreEqual};
-ghost use Rattle.range_collections.specs.Values.{range_items, HasLeastInFront, IsEverything};
+ghost use Rattle.range_collections.specs.Values.{HasLeastInFront, IsEverything};
 
 use crate::range_set::RangeSet;
 use crate::range_set_range::RangeSetRange;
@@ -57,7 +57,7 @@ impl<T: RangeSetEntry + MadeWith<Global> + Drop, const N: usize> RangeSet<T, N> 
         ensures members { IfOk result (λ set. (x : T) → T.is_value x → member T.cmp set x ≡ is_lt (T.cmp x range.end)) }
         ensures nothing { T.cmp range.end T.least ≡ Equal → result ≡ Ok [] }
         ensures boundaries { T.cmp range.end T.least ≢ Equal → IfOk result (λ set. HasLeastInFront T.cmp T.least (range.end ∷ []) set) }
-        ensures succeeds { 2 ≤ N → T.is_min_sure → IsOk result }
+        ensures succeeds { 2 ≤ N → T.is_min_infallible → IsOk result }
     {
         let end = range.end;
         end.known();
@@ -72,7 +72,7 @@ impl<T: RangeSetEntry + MadeWith<Global> + Drop, const N: usize> RangeSet<T, N> 
     pub fn all(alloc: Global) -> Result<Self, AllocError>
         ensures boundaries { IfOk result (λ set. AreEqual T.cmp set (T.least ∷ [])) }
         ensures members { IfOk result (λ set. IsEverything T.cmp T.is_value set) }
-        ensures succeeds { 1 ≤ N → T.is_min_sure → IsOk result }
+        ensures succeeds { 1 ≤ N → T.is_min_infallible → IsOk result }
     {
         let least = T::min_value(alloc)?;
         Ok(RangeSet::new_unchecked(one_item(alloc, least)?))
@@ -82,7 +82,7 @@ impl<T: RangeSetEntry + MadeWith<Global> + Drop, const N: usize> RangeSet<T, N> 
     pub fn from_range_full(alloc: Global, _range: RangeFull) -> Result<Self, AllocError>
         ensures boundaries { IfOk result (λ set. AreEqual T.cmp set (T.least ∷ [])) }
         ensures members { IfOk result (λ set. IsEverything T.cmp T.is_value set) }
-        ensures succeeds { 1 ≤ N → T.is_min_sure → IsOk result }
+        ensures succeeds { 1 ≤ N → T.is_min_infallible → IsOk result }
     {
         RangeSet::all(alloc)
     }
@@ -92,7 +92,7 @@ impl<T: RangeSetEntry + MadeWith<Global> + Drop, const N: usize> RangeSet<T, N> 
         ensures members { IfOk result (λ set. (x : T) → T.is_value x → member T.cmp set x ≡ everything) }
         ensures boundaries { everything ≡ true → IfOk result (λ set. AreEqual T.cmp set (T.least ∷ [])) }
         ensures nothing { everything ≡ false → result ≡ Ok [] }
-        ensures succeeds { 1 ≤ N → T.is_min_sure → IsOk result }
+        ensures succeeds { 1 ≤ N → T.is_min_infallible → IsOk result }
     {
         if everything {
             Self::all(alloc)

@@ -25,7 +25,7 @@ impl<T: Ord, const N: usize> Eq for RangeSet<T, N> {
 }
 
 impl<T: Ord, const N: usize> RangeSet<T, N> {
-    /// Whether the lent set has the same members.
+    /// Whether the view has the same members.
     pub fn eq_ref(&self, that: RangeSetRef<T>) -> bool
         ensures { IsTrue result ↔ IsSameSet T.cmp self.now that.entry.boundaries.now }
     {

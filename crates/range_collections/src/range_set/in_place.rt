@@ -11,9 +11,9 @@ use crate::comparisons::{Comparisons, EntryCopier};
 use crate::range_set::RangeSet;
 use crate::view::RangeSetRef;
 use range_entry::EntryClone;
+use range_merge::laws::{changes_are_marked_truly, changes_mean_the_connective};
 use range_merge::{
-    DiffOp, InPlaceMergeState, InPlaceMergeStateRef, IntersectionOp, MergeOperation, UnionOp,
-    XorOp, changes_are_marked_truly, changes_mean_the_connective,
+    DiffOp, InPlaceMergeState, InPlaceMergeStateRef, IntersectionOp, MergeOperation, UnionOp, XorOp,
 };
 use std::alloc::{AllocError, Global};
 use std::default::MadeWith;
@@ -28,7 +28,7 @@ impl<T: EntryClone + MadeWith<Global> + Drop, const N: usize> RangeSet<T, N> {
     ) -> Result<(), AllocError>
         requires off { O.connective op.now false false ≡ false }
         requires made { count.old < 2 ^ 64 }
-        ensures changed { IsChangedByView T.cmp T.is_copy T.is_sure (O.connective op.now) N self.old that.entry.boundaries.now self.new result }
+        ensures changed { IsChangedByView T.cmp T.is_copy T.is_infallible (O.connective op.now) N self.old that.entry.boundaries.now self.new result }
         ensures comparisons { AddsAtMost count.old count.new (2 * weight T.cmp self.old that.entry.boundaries.now) }
     {
         changes_mean_the_connective::<T, Comparisons>();
@@ -44,28 +44,28 @@ impl<T: EntryClone + MadeWith<Global> + Drop, const N: usize> RangeSet<T, N> {
 
     /// Keeps the members that are members of both.
     pub fn intersection_with(&mut self, that: RangeSetRef<T>) -> Result<(), AllocError>
-        ensures changed { IsChangedByView T.cmp T.is_copy T.is_sure intersection_table N self.old that.entry.boundaries.now self.new result }
+        ensures changed { IsChangedByView T.cmp T.is_copy T.is_infallible intersection_table N self.old that.entry.boundaries.now self.new result }
     {
         self.merge_ref(that, &IntersectionOp, &mut Comparisons::new())
     }
 
     /// Adds the members of `that`.
     pub fn union_with(&mut self, that: RangeSetRef<T>) -> Result<(), AllocError>
-        ensures changed { IsChangedByView T.cmp T.is_copy T.is_sure union_table N self.old that.entry.boundaries.now self.new result }
+        ensures changed { IsChangedByView T.cmp T.is_copy T.is_infallible union_table N self.old that.entry.boundaries.now self.new result }
     {
         self.merge_ref(that, &UnionOp, &mut Comparisons::new())
     }
 
     /// Takes out the members of `that`.
     pub fn difference_with(&mut self, that: RangeSetRef<T>) -> Result<(), AllocError>
-        ensures changed { IsChangedByView T.cmp T.is_copy T.is_sure difference_table N self.old that.entry.boundaries.now self.new result }
+        ensures changed { IsChangedByView T.cmp T.is_copy T.is_infallible difference_table N self.old that.entry.boundaries.now self.new result }
     {
         self.merge_ref(that, &DiffOp, &mut Comparisons::new())
     }
 
     /// Leaves the members of one of the two that are not members of the other.
     pub fn symmetric_difference_with(&mut self, that: RangeSetRef<T>) -> Result<(), AllocError>
-        ensures changed { IsChangedByView T.cmp T.is_copy T.is_sure symmetric_difference_table N self.old that.entry.boundaries.now self.new result }
+        ensures changed { IsChangedByView T.cmp T.is_copy T.is_infallible symmetric_difference_table N self.old that.entry.boundaries.now self.new result }
     {
         self.merge_ref(that, &XorOp, &mut Comparisons::new())
     }

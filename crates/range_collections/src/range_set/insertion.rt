@@ -1,14 +1,12 @@
 //! One range put into a set or taken out of it, where the set lies.
 //!
 //! The start and the end are searched for, and what lies between gives way to those of the two at which the set changes. The list grows by two boundaries or not at all.
-ghost use Rattle.std.specs.Prelude.{◌≡◌, ◌+◌, ◌*◌, ◌^◌, ◌<◌, false, length, IsOk, OnOk, OnErr};
-ghost use Rattle.std.specs.Ordering.{is_lt};
-ghost use Rattle.range_merge.specs.Connective.{Means, union_table, difference_table};
+ghost use Rattle.std.specs.Prelude.{◌+◌, ◌*◌, ◌^◌, ◌<◌, length};
+ghost use Rattle.range_merge.specs.Connective.{union_table, difference_table};
 ghost use Rattle.range_merge.specs.Counting.{AddsAtMost};
 ghost use Rattle.range_merge.specs.Runs.{digits};
-ghost use Rattle.range_collections.specs.InPlace.{AreOwnElseOf};
-ghost use Rattle.range_collections.specs.Insertion.{SucceedsInPlace};
-ghost use Rattle.range_collections.specs.Values.{range_items};
+ghost use Rattle.range_collections.specs.Insertion.{IsChangedByRange};
+ghost use Rattle.range_collections.specs.Ranges.{range_items};
 
 use crate::comparisons::Comparisons;
 use crate::range_set::RangeSet;
@@ -22,11 +20,7 @@ impl<T: Ord + MadeWith<Global> + Drop, const N: usize> RangeSet<T, N> {
     ///
     /// It asks for memory only where the set grows by two boundaries and has no room for two more, and before it changes anything. Where it is refused, the set is as it was and the range is dropped.
     pub fn insert(&mut self, range: Range<T>) -> Result<(), AllocError>
-        ensures means { OnOk result (Means T.cmp union_table self.new self.old (range_items T.cmp range.start range.end)) }
-        ensures left_own_item { OnOk result (AreOwnElseOf T.cmp self.old (range_items T.cmp range.start range.end) self.new) }
-        ensures unchanged { OnErr result (self.new ≡ self.old) }
-        ensures succeeds { SucceedsInPlace T.cmp union_table N self.old (range_items T.cmp range.start range.end) result }
-        ensures empty { is_lt (T.cmp range.start range.end) ≡ false → (self.new ≡ self.old) × IsOk result }
+        ensures changed { IsChangedByRange T.cmp union_table N self.old (range_items T.cmp range.start range.end) self.new result }
     {
         self.insert_counted(range, &mut Comparisons::new())
     }
@@ -38,11 +32,7 @@ impl<T: Ord + MadeWith<Global> + Drop, const N: usize> RangeSet<T, N> {
         count: &mut Comparisons,
     ) -> Result<(), AllocError>
         requires made { count.old < 2 ^ 64 }
-        ensures means { OnOk result (Means T.cmp union_table self.new self.old (range_items T.cmp range.start range.end)) }
-        ensures left_own_item { OnOk result (AreOwnElseOf T.cmp self.old (range_items T.cmp range.start range.end) self.new) }
-        ensures unchanged { OnErr result (self.new ≡ self.old) }
-        ensures succeeds { SucceedsInPlace T.cmp union_table N self.old (range_items T.cmp range.start range.end) result }
-        ensures empty { is_lt (T.cmp range.start range.end) ≡ false → (self.new ≡ self.old) × IsOk result }
+        ensures changed { IsChangedByRange T.cmp union_table N self.old (range_items T.cmp range.start range.end) self.new result }
         ensures comparisons { AddsAtMost count.old count.new (2 * digits (length self.old) + 1) }
     {
         set_range(&mut self.list, range, true, count)
@@ -52,11 +42,7 @@ impl<T: Ord + MadeWith<Global> + Drop, const N: usize> RangeSet<T, N> {
     ///
     /// It asks for memory only where the set grows by two boundaries and has no room for two more, and before it changes anything. Where it is refused, the set is as it was and the range is dropped.
     pub fn remove(&mut self, range: Range<T>) -> Result<(), AllocError>
-        ensures means { OnOk result (Means T.cmp difference_table self.new self.old (range_items T.cmp range.start range.end)) }
-        ensures left_own_item { OnOk result (AreOwnElseOf T.cmp self.old (range_items T.cmp range.start range.end) self.new) }
-        ensures unchanged { OnErr result (self.new ≡ self.old) }
-        ensures succeeds { SucceedsInPlace T.cmp difference_table N self.old (range_items T.cmp range.start range.end) result }
-        ensures empty { is_lt (T.cmp range.start range.end) ≡ false → (self.new ≡ self.old) × IsOk result }
+        ensures changed { IsChangedByRange T.cmp difference_table N self.old (range_items T.cmp range.start range.end) self.new result }
     {
         self.remove_counted(range, &mut Comparisons::new())
     }
@@ -68,11 +54,7 @@ impl<T: Ord + MadeWith<Global> + Drop, const N: usize> RangeSet<T, N> {
         count: &mut Comparisons,
     ) -> Result<(), AllocError>
         requires made { count.old < 2 ^ 64 }
-        ensures means { OnOk result (Means T.cmp difference_table self.new self.old (range_items T.cmp range.start range.end)) }
-        ensures left_own_item { OnOk result (AreOwnElseOf T.cmp self.old (range_items T.cmp range.start range.end) self.new) }
-        ensures unchanged { OnErr result (self.new ≡ self.old) }
-        ensures succeeds { SucceedsInPlace T.cmp difference_table N self.old (range_items T.cmp range.start range.end) result }
-        ensures empty { is_lt (T.cmp range.start range.end) ≡ false → (self.new ≡ self.old) × IsOk result }
+        ensures changed { IsChangedByRange T.cmp difference_table N self.old (range_items T.cmp range.start range.end) self.new result }
         ensures comparisons { AddsAtMost count.old count.new (2 * digits (length self.old) + 1) }
     {
         set_range(&mut self.list, range, false, count)

@@ -1,4 +1,4 @@
-//! Operations on a set and a lent one, each into a new one, whose boundaries are copies of theirs. Of two boundaries that are equal, this set's is copied.
+//! Operations on a set and a view, each into a new set, whose boundaries are copies of theirs. Of two boundaries that are equal, this set's is copied.
 ghost use Rattle.std.specs.Prelude.{◌≡◌, ◌*◌, ◌^◌, ◌<◌, false};
 ghost use Rattle.range_merge.specs.Connective.{union_table, intersection_table, difference_table, symmetric_difference_table};
 ghost use Rattle.range_merge.specs.Counting.{AddsAtMost};
@@ -23,7 +23,7 @@ impl<T: EntryClone + MadeWith<Global> + Drop, const N: usize> RangeSet<T, N> {
     ) -> Result<RangeSet<T, M>, AllocError>
         requires off { O.connective op.now false false ≡ false }
         requires made { count.old < 2 ^ 64 }
-        ensures gives { GivesOperation T.cmp T.is_copy T.is_sure (O.connective op.now) M self.now that.entry.boundaries.now result }
+        ensures gives { GivesOperation T.cmp T.is_copy T.is_infallible (O.connective op.now) M self.now that.entry.boundaries.now result }
         ensures comparisons { AddsAtMost count.old count.new (2 * weight T.cmp self.now that.entry.boundaries.now) }
     {
         self.as_ref().merge_new(self.allocator(), that, op, count)
@@ -31,7 +31,7 @@ impl<T: EntryClone + MadeWith<Global> + Drop, const N: usize> RangeSet<T, N> {
 
     /// The set of the elements that are members of one of the two, or of both.
     pub fn union<const M: usize>(&self, that: RangeSetRef<T>) -> Result<RangeSet<T, M>, AllocError>
-        ensures gives { GivesOperation T.cmp T.is_copy T.is_sure union_table M self.now that.entry.boundaries.now result }
+        ensures gives { GivesOperation T.cmp T.is_copy T.is_infallible union_table M self.now that.entry.boundaries.now result }
     {
         self.as_ref().union(self.allocator(), that)
     }
@@ -41,7 +41,7 @@ impl<T: EntryClone + MadeWith<Global> + Drop, const N: usize> RangeSet<T, N> {
         &self,
         that: RangeSetRef<T>,
     ) -> Result<RangeSet<T, M>, AllocError>
-        ensures gives { GivesOperation T.cmp T.is_copy T.is_sure intersection_table M self.now that.entry.boundaries.now result }
+        ensures gives { GivesOperation T.cmp T.is_copy T.is_infallible intersection_table M self.now that.entry.boundaries.now result }
     {
         self.as_ref().intersection(self.allocator(), that)
     }
@@ -51,7 +51,7 @@ impl<T: EntryClone + MadeWith<Global> + Drop, const N: usize> RangeSet<T, N> {
         &self,
         that: RangeSetRef<T>,
     ) -> Result<RangeSet<T, M>, AllocError>
-        ensures gives { GivesOperation T.cmp T.is_copy T.is_sure difference_table M self.now that.entry.boundaries.now result }
+        ensures gives { GivesOperation T.cmp T.is_copy T.is_infallible difference_table M self.now that.entry.boundaries.now result }
     {
         self.as_ref().difference(self.allocator(), that)
     }
@@ -61,7 +61,7 @@ impl<T: EntryClone + MadeWith<Global> + Drop, const N: usize> RangeSet<T, N> {
         &self,
         that: RangeSetRef<T>,
     ) -> Result<RangeSet<T, M>, AllocError>
-        ensures gives { GivesOperation T.cmp T.is_copy T.is_sure symmetric_difference_table M self.now that.entry.boundaries.now result }
+        ensures gives { GivesOperation T.cmp T.is_copy T.is_infallible symmetric_difference_table M self.now that.entry.boundaries.now result }
     {
         self.as_ref().symmetric_difference(self.allocator(), that)
     }

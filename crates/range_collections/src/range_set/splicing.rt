@@ -7,9 +7,8 @@ ghost use Rattle.range_merge.specs.Connective.{Means};
 ghost use Rattle.range_merge.specs.Counting.{AddsAtMost};
 ghost use Rattle.range_merge.specs.Runs.{digits};
 ghost use Rattle.range_collections.specs.InPlace.{AreOwnElseOf};
-ghost use Rattle.range_collections.specs.Insertion.{SucceedsInPlace};
 ghost use Rattle.range_collections.specs.Splicing.{IsCut, range_table, spliced};
-ghost use Rattle.range_collections.specs.Values.{range_items};
+ghost use Rattle.range_collections.specs.Ranges.{range_items};
 
 use crate::comparisons::Comparisons;
 use range_merge::{Compare, search};
@@ -31,7 +30,8 @@ pub(crate) fn set_range<T: Ord + MadeWith<Global> + Drop, const N: usize>(
     ensures means { OnOk result (Means T.cmp (range_table inside) list.new.items list.old.items (range_items T.cmp range.start range.end)) }
     ensures left_own_item { OnOk result (AreOwnElseOf T.cmp list.old.items (range_items T.cmp range.start range.end) list.new.items) }
     ensures unchanged { OnErr result (list.new.items ≡ list.old.items) }
-    ensures succeeds { SucceedsInPlace T.cmp (range_table inside) N list.old.items (range_items T.cmp range.start range.end) result }
+    ensures succeeds { (items : List T) → Means T.cmp (range_table inside) items list.old.items (range_items T.cmp range.start range.end) →
+        (length items ≤ length list.old.items) ⊎ (length items ≤ N) → IsOk result }
     ensures empty { is_lt (T.cmp range.start range.end) ≡ false → (list.new.items ≡ list.old.items) × IsOk result }
     ensures comparisons { AddsAtMost count.old count.new (2 * digits (length list.old.items) + 1) }
 {

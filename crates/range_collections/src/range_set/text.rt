@@ -23,7 +23,7 @@ impl<T: Ord + WholeNumber, const N: usize> fmt::Debug for RangeSet<T, N> {
 }
 
 // The ranges, with a comma and a space between them.
-fn write_ranges<T: WholeNumber, W: fmt::Write>(
+pub(super) fn write_ranges<T: WholeNumber, W: fmt::Write>(
     mut ranges: Iter<'_, T>,
     f: &mut fmt::Formatter<W>,
 ) -> fmt::Result

@@ -1,15 +1,9 @@
-//! A clone of a set, and whether a set has every value.
-ghost use Rattle.std.specs.Prelude.{◌≡◌, ◌↔◌, ◌≤◌, IsTrue, IsOk, IfOk, All, length};
-ghost use Rattle.std.specs.List.{AllZip};
-ghost use Rattle.std.specs.declared.cmp.Ordering.TheVariants.{Equal};
-ghost use Rattle.range_collections.specs.Sets.{AreEqual};
+//! Whether a set has every value.
+ghost use Rattle.std.specs.Prelude.{◌↔◌, IsTrue};
 ghost use Rattle.range_collections.specs.Values.{IsEverything};
 
 use crate::range_set::RangeSet;
-use range_entry::{EntryClone, RangeSetEntry};
-use smallvec::SmallVec;
-use std::alloc::{AllocError, Global};
-use std::default::MadeWith;
+use range_entry::RangeSetEntry;
 
 impl<T: RangeSetEntry, const N: usize> RangeSet<T, N> {
     /// Whether every value is a member.
@@ -18,29 +12,4 @@ impl<T: RangeSetEntry, const N: usize> RangeSet<T, N> {
     {
         self.as_ref().is_all()
     }
-}
-
-impl<T: EntryClone + MadeWith<Global> + Drop, const N: usize> RangeSet<T, N> {
-    /// A set of clones of the boundaries.
-    pub fn clone(&self) -> Result<Self, AllocError>
-        ensures equal { IfOk result (λ set. AreEqual T.cmp self.now set) }
-        ensures succeeds { length self.now ≤ N → All T.is_sure self.now → IsOk result }
-    {
-        Ok(RangeSet::new_unchecked(clones(self.allocator(), self.boundaries())?))
-    }
-}
-
-// A list of clones of the items, in their order. It asks for room once.
-fn clones<T: EntryClone + MadeWith<Global> + Drop, const N: usize>(
-    alloc: Global,
-    items: &[T],
-) -> Result<SmallVec<T, N>, AllocError>
-    ensures equal { IfOk result (λ list. AllZip (λ x y. T.cmp x y ≡ Equal) items.now list.items) }
-    ensures succeeds { length items.now ≤ N → All T.is_sure items.now → IsOk result }
-{
-    let mut list = SmallVec::with_capacity(alloc, items.len())?;
-    for item in items {
-        list.push_reserved(item.entry_clone()?);
-    }
-    Ok(list)
 }

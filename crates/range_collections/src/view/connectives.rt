@@ -1,4 +1,4 @@
-//! Any of the sixteen connectives of two lent sets, as a new one.
+//! Any of the sixteen connectives of two views, as a new set.
 ghost use Rattle.std.specs.Prelude.{◌≡◌, ◌+◌, ◌*◌, ◌^◌, ◌<◌, ◌≤◌, true, false, length, All, IsOk, IfOk};
 ghost use Rattle.range_merge.specs.Changes.{changes, taken_items};
 ghost use Rattle.range_merge.specs.Copies.{AreCopies};
@@ -10,9 +10,9 @@ use crate::comparisons::Comparisons;
 use crate::range_set::RangeSet;
 use crate::view::RangeSetRef;
 use range_entry::{EntryClone, RangeSetEntry};
-use range_merge::{
-    MergeOperation, changes_are_at_most_the_lengths, changes_mean_the_connective,
-    changes_mean_the_opposite,
+use range_merge::MergeOperation;
+use range_merge::laws::{
+    changes_are_at_most_the_lengths, changes_mean_the_connective, changes_mean_the_opposite,
 };
 use std::alloc::{AllocError, Global};
 use std::default::MadeWith;
@@ -37,9 +37,9 @@ impl<'a, T: RangeSetEntry + EntryClone + MadeWith<Global> + Drop> RangeSetRef<'a
         ensures flipped { O.connective op.now false false ≡ true → IfOk result (λ set.
             IsFlipped T.cmp T.least (taken_items (changes T.cmp (O.connective op.now) self.now.boundaries.now that.entry.boundaries.now)) set) }
         ensures succeeds { O.connective op.now false false ≡ false → length self.now.boundaries.now + length that.entry.boundaries.now ≤ M →
-            All T.is_sure self.now.boundaries.now → All T.is_sure that.entry.boundaries.now → IsOk result }
+            All T.is_infallible self.now.boundaries.now → All T.is_infallible that.entry.boundaries.now → IsOk result }
         ensures succeeds_flipped { O.connective op.now false false ≡ true → length self.now.boundaries.now + length that.entry.boundaries.now < M →
-            All T.is_sure self.now.boundaries.now → All T.is_sure that.entry.boundaries.now → T.is_min_sure → IsOk result }
+            All T.is_infallible self.now.boundaries.now → All T.is_infallible that.entry.boundaries.now → T.is_min_infallible → IsOk result }
         ensures comparisons { AddsAtMost count.old count.new (2 * weight T.cmp self.now.boundaries.now that.entry.boundaries.now) }
     {
         changes_are_at_most_the_lengths::<T, Comparisons>();

@@ -1,4 +1,4 @@
-//! Operations on two lent sets, each into a new one, whose boundaries are copies of theirs. Of two boundaries that are equal, this set's is copied.
+//! Operations on two views, each into a new set, whose boundaries are copies of theirs. Of two boundaries that are equal, this set's is copied.
 ghost use Rattle.std.specs.Prelude.{◌≡◌, ◌+◌, ◌*◌, ◌^◌, ◌<◌, ◌≤◌, false, length, All, IsOk, IfOk};
 ghost use Rattle.range_merge.specs.Changes.{changes, taken_items};
 ghost use Rattle.range_merge.specs.Connective.{union_table, intersection_table, difference_table, symmetric_difference_table};
@@ -12,10 +12,8 @@ use crate::comparisons::{Comparisons, EntryCopier};
 use crate::range_set::RangeSet;
 use crate::view::RangeSetRef;
 use range_entry::EntryClone;
-use range_merge::{
-    DiffOp, IntersectionOp, MergeOperation, SmallVecMergeState, UnionOp, XorOp,
-    changes_mean_the_connective, changes_mean_the_opposite,
-};
+use range_merge::laws::{changes_mean_the_connective, changes_mean_the_opposite};
+use range_merge::{DiffOp, IntersectionOp, MergeOperation, SmallVecMergeState, UnionOp, XorOp};
 use smallvec::SmallVec;
 use std::alloc::{AllocError, Global};
 use std::default::MadeWith;
@@ -31,7 +29,7 @@ impl<'a, T: EntryClone + MadeWith<Global> + Drop> RangeSetRef<'a, T> {
     ) -> Result<RangeSet<T, M>, AllocError>
         requires off { O.connective op.now false false ≡ false }
         requires made { count.old < 2 ^ 64 }
-        ensures gives { GivesOperation T.cmp T.is_copy T.is_sure (O.connective op.now) M self.now.boundaries.now that.entry.boundaries.now result }
+        ensures gives { GivesOperation T.cmp T.is_copy T.is_infallible (O.connective op.now) M self.now.boundaries.now that.entry.boundaries.now result }
         ensures comparisons { AddsAtMost count.old count.new (2 * weight T.cmp self.now.boundaries.now that.entry.boundaries.now) }
     {
         changes_mean_the_connective::<T, Comparisons>();
@@ -52,7 +50,7 @@ impl<'a, T: EntryClone + MadeWith<Global> + Drop> RangeSetRef<'a, T> {
         ensures equal { IfOk result (λ set.
             AreEqual T.cmp (taken_items (changes T.cmp (O.connective op.now) self.now.boundaries.now that.entry.boundaries.now)) set) }
         ensures succeeds { length self.now.boundaries.now + length that.entry.boundaries.now ≤ M →
-            All T.is_sure self.now.boundaries.now → All T.is_sure that.entry.boundaries.now → IsOk result }
+            All T.is_infallible self.now.boundaries.now → All T.is_infallible that.entry.boundaries.now → IsOk result }
         ensures comparisons { AddsAtMost count.old count.new (2 * weight T.cmp self.now.boundaries.now that.entry.boundaries.now) }
     {
         changes_mean_the_connective::<T, Comparisons>();
@@ -74,7 +72,7 @@ impl<'a, T: EntryClone + MadeWith<Global> + Drop> RangeSetRef<'a, T> {
         alloc: Global,
         that: RangeSetRef<T>,
     ) -> Result<RangeSet<T, M>, AllocError>
-        ensures gives { GivesOperation T.cmp T.is_copy T.is_sure union_table M self.now.boundaries.now that.entry.boundaries.now result }
+        ensures gives { GivesOperation T.cmp T.is_copy T.is_infallible union_table M self.now.boundaries.now that.entry.boundaries.now result }
     {
         self.merge_new(alloc, that, &UnionOp, &mut Comparisons::new())
     }
@@ -85,7 +83,7 @@ impl<'a, T: EntryClone + MadeWith<Global> + Drop> RangeSetRef<'a, T> {
         alloc: Global,
         that: RangeSetRef<T>,
     ) -> Result<RangeSet<T, M>, AllocError>
-        ensures gives { GivesOperation T.cmp T.is_copy T.is_sure intersection_table M self.now.boundaries.now that.entry.boundaries.now result }
+        ensures gives { GivesOperation T.cmp T.is_copy T.is_infallible intersection_table M self.now.boundaries.now that.entry.boundaries.now result }
     {
         self.merge_new(alloc, that, &IntersectionOp, &mut Comparisons::new())
     }
@@ -96,7 +94,7 @@ impl<'a, T: EntryClone + MadeWith<Global> + Drop> RangeSetRef<'a, T> {
         alloc: Global,
         that: RangeSetRef<T>,
     ) -> Result<RangeSet<T, M>, AllocError>
-        ensures gives { GivesOperation T.cmp T.is_copy T.is_sure difference_table M self.now.boundaries.now that.entry.boundaries.now result }
+        ensures gives { GivesOperation T.cmp T.is_copy T.is_infallible difference_table M self.now.boundaries.now that.entry.boundaries.now result }
     {
         self.merge_new(alloc, that, &DiffOp, &mut Comparisons::new())
     }
@@ -107,7 +105,7 @@ impl<'a, T: EntryClone + MadeWith<Global> + Drop> RangeSetRef<'a, T> {
         alloc: Global,
         that: RangeSetRef<T>,
     ) -> Result<RangeSet<T, M>, AllocError>
-        ensures gives { GivesOperation T.cmp T.is_copy T.is_sure symmetric_difference_table M self.now.boundaries.now that.entry.boundaries.now result }
+        ensures gives { GivesOperation T.cmp T.is_copy T.is_infallible symmetric_difference_table M self.now.boundaries.now that.entry.boundaries.now result }
     {
         self.merge_new(alloc, that, &XorOp, &mut Comparisons::new())
     }

@@ -9,9 +9,9 @@ ghost use Rattle.range_collections.specs.Sets.{IsSubset, Intersects, IsDisjoint,
 
 use crate::comparisons::Comparisons;
 use crate::view::RangeSetRef;
+use range_merge::laws::changes_mean_the_connective;
 use range_merge::{
-    BoolOpMergeState, CountMergeState, DiffOp, IntersectionOp, MergeOperation,
-    changes_mean_the_connective, search,
+    BoolOpMergeState, CountMergeState, DiffOp, IntersectionOp, MergeOperation, search,
 };
 
 impl<'a, T: Ord> RangeSetRef<'a, T> {

@@ -1,4 +1,4 @@
-//! A view against one range of elements.
+//! The ranges of a view, and one range of elements against it.
 ghost use Rattle.std.specs.Prelude.{◌≡◌, ◌↔◌, ◌≤◌, ℕ, length, true, IsTrue};
 ghost use Rattle.std.specs.List.{AllWithin};
 ghost use Rattle.std.specs.Ordering.{is_le};
@@ -6,11 +6,20 @@ ghost use Rattle.std.specs.declared.cmp.Ordering.TheVariants.{Greater};
 ghost use Rattle.range_collections.specs.Intersects.{HasMemberWithin, IsItemBelow};
 
 use crate::comparisons::Comparisons;
+use crate::iter::Iter;
 use crate::view::RangeSetRef;
 use range_merge::search;
 use std::ops::Range;
 
 impl<'a, T: Ord> RangeSetRef<'a, T> {
+    /// The ranges of the members, from the lowest on.
+    #[inline]
+    pub fn iter(&self) -> Iter<'a, T>
+        ensures { result ≡ self.now.boundaries.now }
+    {
+        Iter::new(self.boundaries)
+    }
+
     /// Whether some member is at or above the range's start and below its end. No member is in a range whose start is not below its end.
     #[inline]
     pub fn intersects_range(&self, range: Range<T>) -> bool
@@ -30,7 +39,7 @@ impl<'a, T: Ord> RangeSetRef<'a, T> {
 
     // How many boundaries are at or below `value`.
     #[inline(always)]
-    fn at_or_below(&self, value: &T) -> usize
+    pub(super) fn at_or_below(&self, value: &T) -> usize
         ensures within { result ≤ length self.now.boundaries.now }
         ensures before { AllWithin (λ y. is_le (T.cmp y value.now) ≡ true) self.now.boundaries.now 0 result }
         ensures from { AllWithin (λ y. T.cmp y value.now ≡ Greater) self.now.boundaries.now result (length self.now.boundaries.now) }

@@ -53,7 +53,7 @@ impl<'a, K> BoolOpMergeState<'a, K> {
 impl<K> Output<K, ()> for bool {
     ghost may_be = { λ s _ ts. s ≡ any_item ts };
 
-    ghost began = { λ _. 0 };
+    ghost began = { λ _ _. 0 };
 
     ghost can_stop = { true };
 
@@ -61,7 +61,7 @@ impl<K> Output<K, ()> for bool {
 
     ghost has_room = { λ _ _. ⊤ };
 
-    ghost is_sure = { λ _. ⊤ };
+    ghost is_infallible = { λ _. ⊤ };
 
     #[inline(always)]
     fn append(&mut self, _items: &[K], take: bool, _by: &()) -> Result<bool, AllocError> {

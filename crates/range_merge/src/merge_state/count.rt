@@ -54,7 +54,7 @@ impl<'a, K> CountMergeState<'a, K> {
 impl<K> Output<K, ()> for usize {
     ghost may_be = { λ s _ ts. s ≡ length ts };
 
-    ghost began = { λ _. 0 };
+    ghost began = { λ _ _. 0 };
 
     ghost can_stop = { false };
 
@@ -62,7 +62,7 @@ impl<K> Output<K, ()> for usize {
 
     ghost has_room = { λ _ _. ⊤ };
 
-    ghost is_sure = { λ _. ⊤ };
+    ghost is_infallible = { λ _. ⊤ };
 
     #[inline(always)]
     fn append(&mut self, items: &[K], take: bool, _by: &()) -> Result<bool, AllocError> {

@@ -1,48 +1,29 @@
 //! A merge into its own left list, which takes the items of a right list that it owns.
-ghost use Rattle.std.specs.Prelude.{◌≡◌, ℕ, ◌+◌, ◌*◌, ◌^◌, ◌<◌, ◌≤◌, Bool, true, false, [], length, reverse, Some, slice_get, IsOk, IfOk, IfErr, OnOk, OnErr, ⊤};
+ghost use Rattle.std.specs.Prelude.{◌≡◌, ◌+◌, ◌*◌, ◌^◌, ◌<◌, ◌≤◌, false, [], length, reverse, Some, slice_get, IsOk, IfOk, IfErr, OnOk, OnErr};
 ghost use Rattle.range_merge.specs.Boundaries.{IsAscending};
 ghost use Rattle.range_merge.specs.Changes.{changes, taken_items};
 ghost use Rattle.range_merge.specs.Counting.{AddsAtMost};
 ghost use Rattle.range_merge.specs.Runs.{weight};
 
 use crate::compare::Compare;
-use crate::in_place_builder::InPlaceBuilder;
+use crate::in_place_memory::prepared;
+use crate::merge_state::placing::PlacingMergeState;
+use crate::merge_state::right_side::RightSide;
 use crate::merging;
 use crate::operations::MergeOperation;
-use crate::place::{Place, prepared, turn_round};
-use crate::states::{MergeState, MergeStateMut};
+use crate::place::{Place, turn_round};
 use smallvec::SmallVec;
 use std::alloc::{AllocError, Global};
 use std::default::MadeWith;
-use std::marker::Model;
 use std::mem;
 
-/// A state that keeps items of its left list and puts items of its right list between them. Once made it takes no memory and never refuses. `L` is a list, by value where a caller makes the state.
-#[derive(Drop)]
-pub struct InPlaceMergeState<K, const N: usize, L: Place<K> = SmallVec<K, N>> {
-    builder: InPlaceBuilder<K, N, L>,
-    // The right list's unread items, the last one first.
-    right: L,
-    ac: bool,
-    bc: bool,
-}
-
-impl<K, const N: usize, L: Place<K>> Model for InPlaceMergeState<K, N, L> {
-    ghost use Rattle.std.specs.Prelude.{◌≤◌, length, reverse};
-    ghost use Rattle.range_merge.specs.States.{Placing};
-
-    ghost Value = { Placing K };
-
-    ghost view = { λ s. record {
-      left = s.builder.unread;
-      right = reverse (L.items s.right);
-      left_on = s.ac;
-      right_on = s.bc;
-      kept = s.builder.kept;
-    } };
-
-    ghost invariant = { λ s. length (L.items s.right) ≤ s.builder.puts_left };
-}
+/// A state that keeps items of its left list and puts items of its right list between them. Once made it takes no memory and never refuses.
+pub type InPlaceMergeState<K, const N: usize> = PlacingMergeState<
+    K,
+    N,
+    OwnedRight<SmallVec<K, N>>,
+    SmallVec<K, N>,
+>;
 
 impl<K: MadeWith<Global> + Drop, const N: usize> InPlaceMergeState<K, N> {
     /// All items of both lists unread, both sides off, and nothing kept.
@@ -65,7 +46,7 @@ impl<K: MadeWith<Global> + Drop, const N: usize> InPlaceMergeState<K, N> {
         match prepared(&mut a, extra) {
             Ok(spare) => {
                 turn_round(&mut b);
-                Ok(Self::over(a, spare, b, extra))
+                Ok(Self::over(a, spare, OwnedRight { reversed: b }, extra))
             }
             Err(error) => Err((error, a, b)),
         }
@@ -95,8 +76,9 @@ impl<K: MadeWith<Global> + Drop, const N: usize> InPlaceMergeState<K, N> {
         match prepared(a, extra) {
             Ok(mut spare) => {
                 turn_round(&mut b);
-                let mut state = InPlaceMergeState::<K, N, &mut SmallVec<K, N>>::over(
-                    &mut *a, &mut spare, &mut b, extra,
+                let right = OwnedRight { reversed: &mut b };
+                let mut state = PlacingMergeState::<K, N, _, _>::over(
+                    &mut *a, &mut spare, right, extra,
                 );
                 let _ = merging::merge(&mut state, op, cmp);
                 let kept = mem::replace(state.result(), SmallVec::new(alloc));
@@ -108,107 +90,40 @@ impl<K: MadeWith<Global> + Drop, const N: usize> InPlaceMergeState<K, N> {
     }
 }
 
-impl<K, const N: usize, L: Place<K>> InPlaceMergeState<K, N, L> {
-    fn over(list: L, spare: L, right: L, extra: usize) -> Self
-        requires spare_empty { L.items spare ≡ [] }
-        requires room { length (L.items list) + extra ≤ L.room list }
-        requires spare_room { length (L.items list) ≤ L.room spare }
-        requires puts { length (L.items right) ≤ extra }
-        ensures left { result.left ≡ L.items list }
-        ensures right { result.right ≡ reverse (L.items right) }
-        ensures left_on { result.left_on ≡ false }
-        ensures right_on { result.right_on ≡ false }
-        ensures kept { result.kept ≡ [] }
-    {
-        InPlaceMergeState {
-            builder: InPlaceBuilder::over(list, spare, extra),
-            right,
-            ac: false,
-            bc: false,
-        }
-    }
-
-    /// The list, with the items that were taken. What is still unread is dropped.
-    pub fn result(self) -> L
-        ensures { L.items result ≡ self.kept }
-    {
-        self.builder.only_kept()
-    }
+/// A right list that is owned: its unread items, the last one first.
+#[derive(Drop)]
+pub struct OwnedRight<L> {
+    reversed: L,
 }
 
-impl<K, const N: usize, L: Place<K>> MergeState for InPlaceMergeState<K, N, L> {
-    type Item = K;
+impl<K, L: Place<K>> RightSide<K> for OwnedRight<L> {
+    ghost unread = { λ s. reverse (L.items s.reversed) };
 
-    ghost left = { λ s. s.left };
-
-    ghost right = { λ s. s.right };
+    ghost may_be = { λ ts kept. taken_items ts ≡ kept };
 
     #[inline(always)]
-    fn a_len(&self) -> usize {
-        self.builder.unread_len()
+    fn len(&self) -> usize {
+        self.reversed.len()
     }
 
     #[inline(always)]
-    fn b_len(&self) -> usize {
-        self.right.len()
+    fn at(&self, i: usize) -> &K {
+        at_from_end(&self.reversed, i)
     }
 
     #[inline(always)]
-    fn a_at(&self, i: usize) -> &K {
-        self.builder.unread_at(i)
+    fn take_front(&mut self) -> K {
+        self.reversed.pop()
     }
 
     #[inline(always)]
-    fn b_at(&self, i: usize) -> &K {
-        at_from_end(&self.right, i)
-    }
-}
-
-impl<K, const N: usize, L: Place<K>> MergeStateMut for InPlaceMergeState<K, N, L> {
-    ghost left_on = { λ s. s.left_on };
-
-    ghost right_on = { λ s. s.right_on };
-
-    ghost output = { λ s ts. taken_items ts ≡ s.kept };
-
-    ghost began = { λ _. 0 };
-
-    ghost can_stop = { false };
-
-    ghost sure = { λ _. ⊤ };
-
-    #[inline(always)]
-    fn advance_a(&mut self, n: usize, take: bool) -> Result<bool, AllocError> {
-        self.ac = self.ac != (n % 2 == 1);
-        self.builder.keep_if(n, take);
-        Ok(true)
+    fn drop_front(&mut self, n: usize) {
+        let left = self.reversed.len() - n;
+        self.reversed.truncate(left);
     }
 
     #[inline(always)]
-    fn advance_b(&mut self, n: usize, take: bool) -> Result<bool, AllocError> {
-        self.bc = self.bc != (n % 2 == 1);
-        self.builder.put_from(&mut self.right, n, take);
-        Ok(true)
-    }
-
-    #[inline(always)]
-    fn advance_both(&mut self, take: bool) -> Result<bool, AllocError> {
-        self.ac = !self.ac;
-        self.bc = !self.bc;
-        self.builder.keep_if(1, take);
-        self.builder.put_from(&mut self.right, 1, false);
-        Ok(true)
-    }
-
-    #[inline(always)]
-    fn ac(&self) -> bool {
-        self.ac
-    }
-
-    #[inline(always)]
-    fn bc(&self) -> bool {
-        self.bc
-    }
+    fn keeps_own() {}
 }
 
 // The item at index `i` from the end.

@@ -7,11 +7,11 @@ use std::alloc::AllocError;
 
 /// What the items that are taken are appended to, by a means such as a copier. From which side they come makes no difference.
 pub trait Output<K, By> {
-    // What was taken so far may be this list, where there were so many items at first.
+    // What was taken so far may be this list, by the number that no items change.
     ghost may_be: { Self → ℕ → List (Taken K) → Type 0 };
 
-    // How many items there were at first.
-    ghost began: { By → ℕ };
+    // A number that no items change: how many there were at first, or which slice is filled.
+    ghost began: { Self → By → ℕ };
 
     // Whether items that are taken stop the merge.
     ghost can_stop: { Bool };
@@ -23,7 +23,7 @@ pub trait Output<K, By> {
     ghost has_room: { Self → ℕ → Type 0 };
 
     // This item is never refused where there is room.
-    ghost is_sure: { K → Type 0 };
+    ghost is_infallible: { K → Type 0 };
 
     /// Appends the items, if they are taken. The answer `false` stops the merge; an error comes where memory or a copy was refused.
     fn append(&mut self, items: &[K], take: bool, by: &By) -> Result<bool, AllocError>
@@ -32,15 +32,16 @@ pub trait Output<K, By> {
         ensures goes_on { IfOk result (λ more. more ≡ not (can_stop && take)) }
         ensures output { OnOk result ((first : ℕ) (before ts : List (Taken K)) → taken_items ts ≡ items_if take items.now →
             may_be self.old first before → may_be self.new first (before ++ ts)) }
+        ensures began { (means : By) → began self.new means ≡ began self.old means }
         ensures fits { (m n : ℕ) → length items.now + m ≤ n → fits self.old n → fits self.new m }
-        ensures succeeds { (n : ℕ) → length items.now ≤ n → has_room self.old n → All is_sure items.now → IsOk result }
+        ensures succeeds { (n : ℕ) → length items.now ≤ n → has_room self.old n → All is_infallible items.now → IsOk result }
         ensures has_room { (m n : ℕ) → length items.now + m ≤ n → has_room self.old n → OnOk result (has_room self.new m) };
 }
 
 impl<K, By, L: Output<K, By>> Output<K, By> for &mut L {
     ghost may_be = { λ output. L.may_be output.now };
 
-    ghost began = { L.began };
+    ghost began = { λ output means. L.began output.now means };
 
     ghost can_stop = { L.can_stop };
 
@@ -48,7 +49,7 @@ impl<K, By, L: Output<K, By>> Output<K, By> for &mut L {
 
     ghost has_room = { λ output. L.has_room output.now };
 
-    ghost is_sure = { L.is_sure };
+    ghost is_infallible = { L.is_infallible };
 
     #[inline(always)]
     fn append(&mut self, items: &[K], take: bool, by: &By) -> Result<bool, AllocError> {

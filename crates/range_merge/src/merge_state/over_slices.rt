@@ -2,8 +2,8 @@
 ghost use Rattle.std.specs.Prelude.{◌≡◌, ◌+◌, false, length, All};
 
 use crate::merge_state::output::Output;
+use crate::merge_state::{MergeState, MergeStateMut};
 use crate::slice_iterator::SliceIterator;
-use crate::states::{MergeState, MergeStateMut};
 use std::alloc::AllocError;
 use std::marker::Model;
 
@@ -30,7 +30,7 @@ impl<'a, K, O: Output<K, By>, By> Model for SliceMergeState<'a, K, O, By> {
       left_on = s.ac;
       right_on = s.bc;
       taken = s.output;
-      began = O.began s.by;
+      began = O.began s.output s.by;
     } };
 
     ghost invariant = { λ s. O.fits s.output (length s.a + length s.b) };
@@ -45,7 +45,7 @@ impl<'a, K, O: Output<K, By>, By: Drop> SliceMergeState<'a, K, O, By> {
         ensures left_on { result.left_on ≡ false }
         ensures right_on { result.right_on ≡ false }
         ensures taken { result.taken ≡ output }
-        ensures began { result.began ≡ O.began by }
+        ensures began { result.began ≡ O.began output by }
     {
         SliceMergeState {
             a: SliceIterator::new(a),
@@ -104,7 +104,7 @@ impl<'a, K, O: Output<K, By>, By> MergeStateMut for SliceMergeState<'a, K, O, By
 
     ghost can_stop = { O.can_stop };
 
-    ghost sure = { λ s. O.has_room s.taken (length s.left + length s.right) × All O.is_sure s.left × All O.is_sure s.right };
+    ghost infallible = { λ s. O.has_room s.taken (length s.left + length s.right) × All O.is_infallible s.left × All O.is_infallible s.right };
 
     #[inline(always)]
     fn advance_a(&mut self, n: usize, take: bool) -> Result<bool, AllocError> {

@@ -69,7 +69,7 @@ pub(crate) fn append_copies<K, P: Copier<K>, L: Sink<K>>(
     copier: &P,
 ) -> Result<(), AllocError>
     ensures copied { OnOk result (IsAppended P.alike (items_if take items.now) (L.items list.old) (L.items list.new)) }
-    ensures succeeds { length (L.items list.old) + length items.now ≤ L.room list.old → All P.is_sure items.now → IsOk result }
+    ensures succeeds { length (L.items list.old) + length items.now ≤ L.room list.old → All P.is_infallible items.now → IsOk result }
     ensures had_room { OnOk result (length (L.items list.old) + length items.now ≤ L.room list.old → L.room list.new ≡ L.room list.old) }
 {
     if !take {

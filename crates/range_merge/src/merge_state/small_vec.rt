@@ -39,7 +39,7 @@ impl<'a, K: MadeWith<Global> + Drop, P: Copier<K>, const M: usize> SmallVecMerge
         ensures began { result.began ≡ length r.items }
         ensures output { AreKeptThenCopies P.alike result.began (map from_left r.items) result.taken.items }
         ensures at_least_inline { M ≤ result.taken.capacity }
-        ensures sure { length r.items + length a.now + length b.now ≤ M → All P.is_sure a.now → All P.is_sure b.now → HasRoomForAll P.is_sure result }
+        ensures infallible { length r.items + length a.now + length b.now ≤ M → All P.is_infallible a.now → All P.is_infallible b.now → HasRoomForAll P.is_infallible result }
     {
         // Brings that the capacity is at least M.
         let _inline = r.capacity();
@@ -64,7 +64,7 @@ impl<'a, K: MadeWith<Global> + Drop, P: Copier<K>, const M: usize> SmallVecMerge
         requires right_ascending { IsAscending C.order b.now }
         requires made { C.count cmp.old < 2 ^ 64 }
         ensures copied { IfOk result (λ list. AreCopies P.alike (changes C.order (O.connective op.now) a.now b.now) list.items) }
-        ensures succeeds { length a.now + length b.now ≤ M → All P.is_sure a.now → All P.is_sure b.now → IsOk result }
+        ensures succeeds { length a.now + length b.now ≤ M → All P.is_infallible a.now → All P.is_infallible b.now → IsOk result }
         ensures comparisons { AddsAtMost (C.count cmp.old) (C.count cmp.new) (2 * weight C.order a.now b.now) }
     {
         let alloc = *r.allocator();
@@ -87,7 +87,7 @@ impl<'a, K: MadeWith<Global> + Drop, P: Copier<K>, const M: usize> Output<K, Cop
     for SmallVec<K, M> {
     ghost may_be = { λ list began ts. AreKeptThenCopies P.alike began ts list.items };
 
-    ghost began = { λ by. by.began };
+    ghost began = { λ _ by. by.began };
 
     ghost can_stop = { false };
 
@@ -95,7 +95,7 @@ impl<'a, K: MadeWith<Global> + Drop, P: Copier<K>, const M: usize> Output<K, Cop
 
     ghost has_room = { λ list n. length list.items + n ≤ list.capacity };
 
-    ghost is_sure = { P.is_sure };
+    ghost is_infallible = { P.is_infallible };
 
     #[inline(always)]
     fn append(&mut self, items: &[K], take: bool, by: &Copying<'a, P>) -> Result<bool, AllocError> {

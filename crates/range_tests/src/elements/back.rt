@@ -44,7 +44,7 @@ impl RangeSetEntry for Back {
 
     ghost least = { record { number = record { 0 = 255 } } };
 
-    ghost is_min_sure = { ⊤ };
+    ghost is_min_infallible = { ⊤ };
 
     fn min_value(_alloc: Global) -> Result<Back, AllocError> {
         Ok(Back {
@@ -69,7 +69,7 @@ impl RangeSetEntry for Back {
 }
 
 impl EntryClone for Back {
-    ghost is_sure = { λ _. ⊤ };
+    ghost is_infallible = { λ _. ⊤ };
 
     ghost is_copy = { λ x y. y ≡ x };
 

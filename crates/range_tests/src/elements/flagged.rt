@@ -66,7 +66,7 @@ impl RangeSetEntry for Flagged {
 
     ghost least = { record { number = negsuc (2 ^ 63 - 1); flag = false } };
 
-    ghost is_min_sure = { ⊤ };
+    ghost is_min_infallible = { ⊤ };
 
     fn min_value(_alloc: Global) -> Result<Flagged, AllocError> {
         Ok(Flagged {
@@ -89,7 +89,7 @@ impl RangeSetEntry for Flagged {
 }
 
 impl EntryClone for Flagged {
-    ghost is_sure = { λ item. item.flag ≡ false };
+    ghost is_infallible = { λ item. item.flag ≡ false };
 
     ghost is_copy = { λ x y. y ≡ x };
 
@@ -110,7 +110,7 @@ pub(crate) struct FlaggedCopier;
 impl Copier<Flagged> for FlaggedCopier {
     ghost alike = { λ x y. x ≡ y };
 
-    ghost is_sure = { λ item. item.flag ≡ false };
+    ghost is_infallible = { λ item. item.flag ≡ false };
 
     fn copy(&self, item: &Flagged) -> Result<Flagged, AllocError> {
         if item.flag {

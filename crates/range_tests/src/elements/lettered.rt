@@ -68,7 +68,7 @@ impl PartialOrd for Lettered {
 }
 
 impl EntryClone for Lettered {
-    ghost is_sure = { λ _. Unit {0} };
+    ghost is_infallible = { λ _. Unit {0} };
 
     ghost is_copy = { λ x y. y ≡ x };
 

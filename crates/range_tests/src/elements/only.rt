@@ -15,7 +15,7 @@ impl RangeSetEntry for Only {
 
     ghost least = { record {} };
 
-    ghost is_min_sure = { ⊤ };
+    ghost is_min_infallible = { ⊤ };
 
     fn min_value(_alloc: Global) -> Result<Only, AllocError> {
         Ok(Only)
@@ -33,7 +33,7 @@ impl RangeSetEntry for Only {
 }
 
 impl EntryClone for Only {
-    ghost is_sure = { λ _. ⊤ };
+    ghost is_infallible = { λ _. ⊤ };
 
     ghost is_copy = { λ x y. y ≡ x };
 

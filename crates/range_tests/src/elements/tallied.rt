@@ -78,7 +78,7 @@ impl<'t> PartialOrd for Tallied<'t> {
 }
 
 impl<'t> EntryClone for Tallied<'t> {
-    ghost is_sure = { λ _. ⊤ };
+    ghost is_infallible = { λ _. ⊤ };
 
     ghost is_copy = { λ x y. y ≡ x };
 
@@ -94,7 +94,7 @@ impl<'t> RangeSetEntry for Tallied<'t> {
 
     ghost least = { record { number = negsuc (2 ^ 63 - 1); tally = None } };
 
-    ghost is_min_sure = { ⊤ };
+    ghost is_min_infallible = { ⊤ };
 
     fn min_value(_alloc: Global) -> Result<Self, AllocError> {
         Ok(Tallied {

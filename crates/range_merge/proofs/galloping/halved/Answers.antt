@@ -1,10 +1,10 @@
-use Rattle.std.proofs.Common.{◌-◌, arith, rules}
+use Rattle.std.proofs.Common.{◌-◌, arith, rules, sym}
 use Rattle.range_merge.proofs.Digits.{digits-le, digits-half}
 use Rattle.range_merge.proofs.Gallops.{Less-from_test, not_less-from_test, IsHalved-after, IsHalved-before}
 use Rattle.range_merge.proofs.galloping.halved.Goals as goal
 
-pub compare-requires : goal.compare-requires
-compare-requires g c =
+pub compare-how-requires : goal.compare-how-requires
+compare-how-requires g c =
     omega (
       arith,
       digits-le (c.args.window.high - c.args.window.low),
@@ -16,13 +16,13 @@ compare-requires g c =
 pub loop-low-preserved-then-is_lt : goal.loop-low-preserved-then-is_lt
 loop-low-preserved-then-is_lt g c =
     IsHalved-after g.C.Compare.order (g.L.Side.items c.args.side.now) c.args.key.now
-    _ c.at.result.now c.at.ensures _ _ _ _ _ _ _
-    (Less-from_test _ c.compare.result _ c.compare.ensures.answer c.is_lt.ensures (search rules))
-    (omega arith) (omega arith) (omega arith) c.compare.ensures.counted c.loop-low.invariant
+    _ c.at.result.now c.at.ensures _ _ _ _ _ _ _ _
+    (Less-from_test _ c.compare-how.result _ c.compare-how.ensures.answer c.is_lt.ensures (search rules))
+    (omega arith) (omega arith) (omega arith) c.compare-how.ensures.counted c.loop-low.invariant
 
 pub loop-low-preserved : goal.loop-low-preserved
 loop-low-preserved g c =
     IsHalved-before g.C.Compare.order (g.L.Side.items c.args.side.now) c.args.key.now
-    _ c.at.result.now c.at.ensures _ _ _ _ _ _ _
-    (not_less-from_test _ c.compare.result _ c.compare.ensures.answer c.is_lt.ensures (search rules))
-    (omega arith) (omega arith) (omega arith) c.compare.ensures.counted c.loop-low.invariant
+    _ c.at.result.now c.at.ensures _ _ _ _ _ _ _ _ c.compare-how.result (sym c.compare-how.ensures.answer)
+    (not_less-from_test _ c.compare-how.result _ c.compare-how.ensures.answer c.is_lt.ensures (search rules))
+    (omega arith) (omega arith) (omega arith) c.compare-how.ensures.counted c.loop-low.invariant

@@ -5,7 +5,7 @@ use Rattle.range_merge.proofs.galloping.halved.Given as goal
 abbrev pub invariant-loop-low : goal.invariant-loop-low
 invariant-loop-low g l =
     IsHalved g.C.Compare.order (g.L.Side.items l.side) l.key
-    l.fn.window.low (l.fn.window.high - l.fn.window.low) l.low l.high (g.C.Compare.count l.fn.cmp) (g.C.Compare.count l.cmp)
+    l.fn.window.low (l.fn.window.high - l.fn.window.low) l.low l.high l.next (g.C.Compare.count l.fn.cmp) (g.C.Compare.count l.cmp)
 
 abbrev pub decreases-loop-low : goal.decreases-loop-low
 decreases-loop-low g l = l.high - l.low

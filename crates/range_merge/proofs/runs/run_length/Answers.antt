@@ -6,7 +6,7 @@ use Rattle.range_merge.proofs.runs.run_length.Goals as goal
 pub returns-in-Less-clause-first : goal.returns-in-Less-clause-first
 returns-in-Less-clause-first g c =
     first_run-left g.met.C.Compare.total _ _ c.requires.left_ascending c.requires.right_ascending
-    c.gallop.result c.b_at-b.result.now c.b_at-b.ensures c.gallop.ensures.bracket
+    c.gallop.result.len c.b_at-b.result.now c.b_at-b.ensures c.gallop.ensures.bracket
 
 pub returns-in-Less-clause-comparisons : goal.returns-in-Less-clause-comparisons
 returns-in-Less-clause-comparisons g c = record {
@@ -16,7 +16,7 @@ returns-in-Less-clause-comparisons g c = record {
         arith,
         c.compare.ensures.counted,
         c.gallop.ensures.comparisons.at_most,
-        digits-half 0 c.gallop.result (omega (arith, c.gallop.ensures.bracket.some)) (omega arith),
+        digits-half 0 c.gallop.result.len (omega (arith, c.gallop.ensures.bracket.some)) (omega arith),
       );
 }
 
@@ -34,7 +34,7 @@ returns-in-Equal-clause-comparisons g c = record {
 pub returns-in-Greater-clause-first : goal.returns-in-Greater-clause-first
 returns-in-Greater-clause-first g c =
     first_run-right g.met.C.Compare.total _ _ c.requires.left_ascending c.requires.right_ascending
-    c.gallop-in-Greater.result c.a_at-a.result.now c.a_at-a.ensures c.gallop-in-Greater.ensures.bracket
+    c.gallop-in-Greater.result.len c.a_at-a.result.now c.a_at-a.ensures c.gallop-in-Greater.ensures.bracket
 
 pub returns-in-Greater-clause-comparisons : goal.returns-in-Greater-clause-comparisons
 returns-in-Greater-clause-comparisons g c = record {
@@ -44,6 +44,6 @@ returns-in-Greater-clause-comparisons g c = record {
         arith,
         c.compare.ensures.counted,
         c.gallop-in-Greater.ensures.comparisons.at_most,
-        digits-half 0 c.gallop-in-Greater.result (omega (arith, c.gallop-in-Greater.ensures.bracket.some)) (omega arith),
+        digits-half 0 c.gallop-in-Greater.result.len (omega (arith, c.gallop-in-Greater.ensures.bracket.some)) (omega arith),
       );
 }

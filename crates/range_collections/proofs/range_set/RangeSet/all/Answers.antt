@@ -10,7 +10,7 @@ pub returns-in_err-least-clause-members : goal.returns-in_err-least-clause-membe
 returns-in_err-least-clause-members g c = IfOk-from_err c.from_residual.result _ c.from_residual.ensures.0
 
 pub returns-in_err-least-clause-succeeds : goal.returns-in_err-least-clause-succeeds
-returns-in_err-least-clause-succeeds g c = λ _ sure. absurd (true≢false (sym (c.in_err-least.ensures.succeeds sure)))
+returns-in_err-least-clause-succeeds g c = λ _ infallible. absurd (true≢false (sym (c.in_err-least.ensures.succeeds infallible)))
 
 pub returns-in_err-one_item-clause-boundaries : goal.returns-in_err-one_item-clause-boundaries
 returns-in_err-one_item-clause-boundaries g c = IfOk-from_err c.from_residual-in_err-one_item.result _ c.from_residual-in_err-one_item.ensures.0

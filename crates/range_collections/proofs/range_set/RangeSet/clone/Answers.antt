@@ -8,7 +8,7 @@ returns-in_err-clones-clause-equal g c = IfOk-from_err c.from_residual.result _ 
 
 pub returns-in_err-clones-clause-succeeds : goal.returns-in_err-clones-clause-succeeds
 returns-in_err-clones-clause-succeeds g c =
-    λ room sure. absurd (true≢false (sym (c.in_err-clones.ensures.succeeds (rw c.boundaries.ensures.same room) (rw c.boundaries.ensures.same sure))))
+    λ room infallible. absurd (true≢false (sym (c.in_err-clones.ensures.succeeds (rw c.boundaries.ensures.same room) (rw c.boundaries.ensures.same infallible))))
 
 pub new_unchecked-requires : goal.new_unchecked-requires
 new_unchecked-requires g c = (

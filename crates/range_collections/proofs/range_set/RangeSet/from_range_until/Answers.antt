@@ -29,7 +29,7 @@ pub returns-in_err-least-clause-boundaries : goal.returns-in_err-least-clause-bo
 returns-in_err-least-clause-boundaries g c = λ _. IfOk-from_err c.from_residual.result _ c.from_residual.ensures.0
 
 pub returns-in_err-least-clause-succeeds : goal.returns-in_err-least-clause-succeeds
-returns-in_err-least-clause-succeeds g c = λ _ sure. absurd (true≢false (sym (c.in_err-least.ensures.succeeds sure)))
+returns-in_err-least-clause-succeeds g c = λ _ infallible. absurd (true≢false (sym (c.in_err-least.ensures.succeeds infallible)))
 
 pub returns-in_err-two_items-clause-members : goal.returns-in_err-two_items-clause-members
 returns-in_err-two_items-clause-members g c =

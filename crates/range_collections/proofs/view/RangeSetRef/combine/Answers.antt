@@ -23,11 +23,11 @@ returns-then-flips-clause-flipped g c = λ _.
     c.in_ok-merged.ensures.equal c.not.ensures.removed c.not.ensures.put
 
 pub returns-then-flips-clause-succeeds_flipped : goal.returns-then-flips-clause-succeeds_flipped
-returns-then-flips-clause-succeeds_flipped g c = λ _ room _ _ sure.
+returns-then-flips-clause-succeeds_flipped g c = λ _ room _ _ infallible.
     let f = g.O.MergeOperation.connective c.args.op.now in
     let a = c.args.self.now.boundaries.now in
     let b = c.args.that.boundaries.now in
-    c.not.ensures.succeeds (inr (omega (arith, room, c.changes_are_at_most_the_lengths.ensures.at_most f a b, length-merged g.T.Ord.cmp (changes g.T.Ord.cmp f a b) c.in_ok-merged.merged c.in_ok-merged.ensures.equal), sure))
+    c.not.ensures.succeeds (inr (omega (arith, room, c.changes_are_at_most_the_lengths.ensures.at_most f a b, length-merged g.T.Ord.cmp (changes g.T.Ord.cmp f a b) c.in_ok-merged.merged c.in_ok-merged.ensures.equal), infallible))
 
 pub returns-else-flips-clause-means : goal.returns-else-flips-clause-means
 returns-else-flips-clause-means g c =
@@ -51,7 +51,7 @@ pub returns-in_err-merged-clause-succeeds : goal.returns-in_err-merged-clause-su
 returns-in_err-merged-clause-succeeds g c = λ off room left right. absurd (false≢true (c.in_err-merged.ensures.succeeds room left right))
 
 pub returns-in_err-merged-clause-succeeds_flipped : goal.returns-in_err-merged-clause-succeeds_flipped
-returns-in_err-merged-clause-succeeds_flipped g c = λ on room left right sure. absurd (false≢true (c.in_err-merged.ensures.succeeds (omega (arith, room)) left right))
+returns-in_err-merged-clause-succeeds_flipped g c = λ on room left right infallible. absurd (false≢true (c.in_err-merged.ensures.succeeds (omega (arith, room)) left right))
 
 pub returns-in_err-merged-clause-means : goal.returns-in_err-merged-clause-means
 returns-in_err-merged-clause-means g c = IfOk-from_err c.from_residual.result _ c.from_residual.ensures.0

@@ -1,4 +1,4 @@
-use Rattle.range_collections.proofs.Below.{IsTrue-no_members}
+use Rattle.range_collections.proofs.CountUpTo.{IsTrue-no_members}
 use Rattle.range_collections.proofs.view.RangeSetRef.is_empty.Goals as goal
 
 pub returns : goal.returns

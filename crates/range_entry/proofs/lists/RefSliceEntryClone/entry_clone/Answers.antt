@@ -5,8 +5,8 @@ use Rattle.range_entry.proofs.lists.RefSliceEntryClone.entry_clone.Goals as goal
 pub returns-clause-same : goal.returns-clause-same
 returns-clause-same g c = equals_itself g.met.T.Ord.total c.args.self.now.now
 
-pub returns-clause-sure : goal.returns-clause-sure
-returns-clause-sure g c = refl
+pub returns-clause-succeeds : goal.returns-clause-succeeds
+returns-clause-succeeds g c = refl
 
 pub returns-clause-same_reference : goal.returns-clause-same_reference
 returns-clause-same_reference g c = refl

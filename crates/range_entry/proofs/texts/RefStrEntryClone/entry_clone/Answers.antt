@@ -5,8 +5,8 @@ use Rattle.range_entry.proofs.texts.RefStrEntryClone.entry_clone.Goals as goal
 pub returns-clause-same : goal.returns-clause-same
 returns-clause-same c = equal_texts c.args.self.now.now c.args.self.now.now refl
 
-pub returns-clause-sure : goal.returns-clause-sure
-returns-clause-sure c = refl
+pub returns-clause-succeeds : goal.returns-clause-succeeds
+returns-clause-succeeds c = refl
 
 pub returns-clause-same_reference : goal.returns-clause-same_reference
 returns-clause-same_reference c = refl

@@ -31,9 +31,9 @@ loop-item-init g c = record {
 }
 
 pub returns-in_err-copy-clause-succeeds : goal.returns-in_err-copy-clause-succeeds
-returns-in_err-copy-clause-succeeds g c = λ _ sure.
-    let item_sure = rw (← c.item-item.is) at (All-get_or g.P.Copier.is_sure c.args.items.now c.loop-item.item-index c.item-item.result (omega arith) sure) in
-    absurd (false≢true (c.in_err-copy.ensures.sure item_sure))
+returns-in_err-copy-clause-succeeds g c = λ _ infallible.
+    let item_infallible = rw (← c.item-item.is) at (All-get_or g.P.Copier.is_infallible c.args.items.now c.loop-item.item-index c.item-item.result (omega arith) infallible) in
+    absurd (false≢true (c.in_err-copy.ensures.succeeds item_infallible))
 
 pub push-requires : goal.push-requires
 push-requires g c = omega (arith, c.loop-item.invariant.room)

@@ -2,7 +2,7 @@ use Rattle.std.proofs.Common.{◌≡◌, refl, sym, ap, ◌∙◌, ℕ, ◌≤�
 use Rattle.std.proofs.lemmas.Result.{err_from_is_err_and}
 use Rattle.std.specs.Ordering.{nat_cmp}
 use Rattle.range_merge.specs.Connective.{Means, difference_table}
-use Rattle.range_collections.specs.Values.{range_items}
+use Rattle.range_collections.specs.Ranges.{range_items}
 use Rattle.range_tracker.specs.Offsets.{offsets_of}
 use Rattle.range_tracker.proofs.OffsetsLemmas.{length-range_items, IsListOf-from_means, IsListOf-first_forgotten, refused-grows, refused-not_first, length-within}
 use Rattle.range_tracker.proofs.tracker.Tracker.forget.Goals as goal
@@ -24,7 +24,7 @@ returns-in_err-remove-clause-answer c =
     let a : List ℕ = c.self.inside.set in
     let fails : (items : List ℕ) → Means nat_cmp difference_table items a (range_items nat_cmp range.start range.end) →
     (length items ≤ length a) ⊎ (length items ≤ 2) → ⊥ =
-    λ items means room. true≢false (sym (c.in_err-remove.ensures.succeeds items means room)) in
+    λ items means room. true≢false (sym (c.in_err-remove.ensures.changed.succeeds items means room)) in
     rw (p.1, p.2, ← c.self.view_is) (record {
       too_many = λ n. (λ same. cc, λ many. let done = (rw (← c.self.view_is) at c.in_ok-admit.ensures.too_many n).1 many in cc);
       no_growth = λ m n old new few bad. refused-grows difference_table a range fails c.self.invariant.sorted m n old new few;
@@ -33,7 +33,7 @@ returns-in_err-remove-clause-answer c =
 
 pub invariant_of-self-2 : goal.invariant_of-self-2
 invariant_of-self-2 c =
-    let means = c.in_ok-remove.ensures.means in
+    let means = c.in_ok-remove.ensures.changed.means in
     record {
       sorted = means.sorted;
       within = length-within _ c.remove.new.self c.self.inside.limit
@@ -44,4 +44,4 @@ invariant_of-self-2 c =
 
 pub returns-clause-ok : goal.returns-clause-ok
 returns-clause-ok c =
-    rw (← c.self.view_is) (IsListOf-from_means difference_table c.remove.new.self c.self.inside.set c.args.range c.in_ok-remove.ensures.means).offsets
+    rw (← c.self.view_is) (IsListOf-from_means difference_table c.remove.new.self c.self.inside.set c.args.range c.in_ok-remove.ensures.changed.means).offsets

@@ -36,9 +36,9 @@ returns-in_err-least g c =
       removed = λ _. IfOk-from_err r _ refused;
       put = λ _. IfOk-from_err r _ refused;
       values = λ _ _. IfOk-from_err r _ refused;
-      succeeds = λ sure.
+      succeeds = λ infallible.
           absurd
-          (elim sure as (λ _. ⊥) [
+          (elim infallible as (λ _. ⊥) [
             | inl h ↦ elsewhere h
             | inr s ↦ true≢false (sym (c.in_err-least.ensures.succeeds s.1))
           ]);
@@ -55,9 +55,9 @@ returns-in_err-insert g c =
       removed = λ _. IfOk-from_err r _ refused;
       put = λ _. IfOk-from_err r _ refused;
       values = λ _ _. IfOk-from_err r _ refused;
-      succeeds = λ sure.
+      succeeds = λ infallible.
           absurd
-          (elim sure as (λ _. ⊥) [
+          (elim infallible as (λ _. ⊥) [
             | inl h ↦ elsewhere h
             | inr s ↦
                 true≢false (sym (c.in_err-insert.ensures.succeeds

@@ -11,11 +11,11 @@ returns g c =
     let a = c.as_ref.result.boundaries.now in
     let b = c.empty.result.boundaries.now in
     let xs = taken_items (changes g.T.Ord.cmp f a b) in
-    let is_sure = g.T.EntryClone.is_sure in
+    let is_infallible = g.T.EntryClone.is_infallible in
     rw (← c.as_ref.ensures.same)
     (GivesNegation-combined g.met.T.Ord.total g.T.RangeSetEntry.is_value g.T.RangeSetEntry.least _ xs a b c.combine.result
     g.met.T.RangeSetEntry.least_is_value
     (AreEqual-not_left g.met.T.Ord.total xs a b c.as_ref.result.sorted
     (c.changes_mean_the_opposite.ensures.means f a b refl c.as_ref.result.sorted c.empty.result.sorted))
     c.combine.ensures.means (c.combine.ensures.flipped refl)
-    (λ s. c.combine.ensures.succeeds_flipped refl (rw c.empty.ensures (omega (arith, s.0))) s.1 (rw c.empty.ensures (All-nil is_sure)) s.2))
+    (λ s. c.combine.ensures.succeeds_flipped refl (rw c.empty.ensures (omega (arith, s.0))) s.1 (rw c.empty.ensures (All-nil is_infallible)) s.2))

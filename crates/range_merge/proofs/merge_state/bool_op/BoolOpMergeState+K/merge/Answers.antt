@@ -6,4 +6,4 @@ pub returns-clause-value : goal.returns-clause-value
 returns-clause-value g c =
     let merged = rw (c.new-state.ensures.left, c.new-state.ensures.right) at c.merge.ensures in
     c.result.ensures
-    ∙ taken-any_item c.merge.result c.new-state.result.taken c.merge.new.state.taken _ (merged.succeeds (tt, λ _ _ _. tt, λ _ _ _. tt)) c.new-state.ensures.taken merged.taken merged.stopped
+    ∙ taken-any_item c.merge.result c.new-state.result.taken c.merge.new.state.taken _ _ (merged.succeeds (tt, λ _ _ _. tt, λ _ _ _. tt)) c.new-state.ensures.taken merged.taken merged.stopped

@@ -1,5 +1,5 @@
 use Rattle.std.proofs.Common.{◌≡◌, length, reverse, sym, ap, ◌∙◌, arith, refl}
-use Rattle.std.proofs.Math.Nat.{le-add_right, le_refl}
+use Rattle.std.proofs.Math.Nat.{le-add_right, le_of_eq, le_refl}
 use Rattle.std.proofs.lemmas.List.{length-reverse, reverse-reverse}
 use Rattle.range_merge.specs.Changes.{taken_items, changes}
 use Rattle.range_merge.proofs.TakenInPlace.{whole-output}
@@ -7,8 +7,9 @@ use Rattle.range_merge.proofs.merge_state.in_place.InPlaceMergeState+K+N.merge.G
 
 pub over-state-requires : goal.over-state-requires
 over-state-requires g c =
-    let same : length c.turn_round.new.list.items ≡ length c.args.b.items = ap length c.turn_round.ensures.items ∙ length-reverse c.args.b.items in
-    (omega arith, (c.in-Ok.ensures.spare, (c.in-Ok.ensures.room, (rw c.in-Ok.ensures.items c.in-Ok.ensures.spare_room, omega (arith, c.len-extra.ensures.value)))))
+    let turned = c.turn_round.new.list.items in
+    let same : length (reverse turned) ≡ length c.args.b.items = length-reverse turned ∙ ap length c.turn_round.ensures.items ∙ length-reverse c.args.b.items in
+    (omega arith, (c.in-Ok.ensures.spare, (c.in-Ok.ensures.room, (rw c.in-Ok.ensures.items c.in-Ok.ensures.spare_room, le_of_eq (same ∙ sym c.len-extra.ensures.value)))))
 
 pub merge-requires-clause-left_ascending : goal.merge-requires-clause-left_ascending
 merge-requires-clause-left_ascending g c = rw (c.over-state.ensures.left, c.in-Ok.ensures.items) c.requires.left_ascending

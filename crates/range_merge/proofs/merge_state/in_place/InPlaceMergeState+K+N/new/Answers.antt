@@ -1,11 +1,13 @@
-use Rattle.std.proofs.Common.{◌≡◌, length, reverse, ap, ◌∙◌, arith, rules, refl}
+use Rattle.std.proofs.Common.{◌≡◌, length, reverse, sym, ap, ◌∙◌, rules, refl}
+use Rattle.std.proofs.Math.Nat.{le_of_eq}
 use Rattle.std.proofs.lemmas.List.{length-reverse, reverse-reverse}
 use Rattle.range_merge.proofs.merge_state.in_place.InPlaceMergeState+K+N.new.Goals as goal
 
 pub over-requires : goal.over-requires
 over-requires g c =
-    let same : length c.turn_round.new.list.items ≡ length c.args.b.items = ap length c.turn_round.ensures.items ∙ length-reverse c.args.b.items in
-    (search rules, (c.in-Ok.ensures.spare, (c.in-Ok.ensures.room, (rw c.in-Ok.ensures.items c.in-Ok.ensures.spare_room, omega (arith, c.len-extra.ensures.value)))))
+    let turned = c.turn_round.new.list.items in
+    let same : length (reverse turned) ≡ length c.args.b.items = length-reverse turned ∙ ap length c.turn_round.ensures.items ∙ length-reverse c.args.b.items in
+    (search rules, (c.in-Ok.ensures.spare, (c.in-Ok.ensures.room, (rw c.in-Ok.ensures.items c.in-Ok.ensures.spare_room, le_of_eq (same ∙ sym c.len-extra.ensures.value)))))
 
 pub returns-in-Ok-clause-left : goal.returns-in-Ok-clause-left
 returns-in-Ok-clause-left g c = c.over.ensures.left ∙ c.prepared.ensures.items

@@ -9,7 +9,7 @@ pub merge-requires-clause-left_ascending : goal.merge-requires-clause-left_ascen
 merge-requires-clause-left_ascending g c = rw (c.over-state.ensures.left, c.in-Ok.ensures.items) c.requires.left_ascending
 
 pub merge-requires-clause-right_ascending : goal.merge-requires-clause-right_ascending
-merge-requires-clause-right_ascending g c = rw c.over-state.ensures.right c.requires.right_ascending
+merge-requires-clause-right_ascending g c = rw (c.over-state.ensures.right, c.over-right.ensures) c.requires.right_ascending
 
 pub merge-requires-clause-left_off : goal.merge-requires-clause-left_off
 merge-requires-clause-left_off g c = c.over-state.ensures.left_on
@@ -24,7 +24,7 @@ pub returns-in-Ok-clause-taken : goal.returns-in-Ok-clause-taken
 returns-in-Ok-clause-taken g c =
     let alike = g.P.Copier.alike in
     let left : c.over-state.result.left ≡ c.args.a.now.items = c.over-state.ensures.left ∙ c.in-Ok.ensures.items in
-    let right : c.over-state.result.right ≡ c.args.b.now = c.over-state.ensures.right in
+    let right : c.over-state.result.right ≡ c.args.b.now = c.over-state.ensures.right ∙ c.over-right.ensures in
     let merged = rw (left, right) at c.merge.ensures in
     let kept : AreOwnOrCopies alike (changes g.C.Compare.order (g.O.MergeOperation.connective c.args.op.now) c.args.a.now.items c.args.b.now) c.merge.new.state.kept =
     whole-output c.merge.result (λ ts. AreOwnOrCopies alike ts c.over-state.result.kept) (λ ts. AreOwnOrCopies alike ts c.merge.new.state.kept) _ _ (merged.succeeds tt) merged.taken merged.stopped
@@ -40,7 +40,7 @@ returns-in-Ok-clause-succeeds g c = λ _ _. refl
 pub returns-in-Ok-clause-comparisons : goal.returns-in-Ok-clause-comparisons
 returns-in-Ok-clause-comparisons g c =
     let left : c.over-state.result.left ≡ c.args.a.now.items = c.over-state.ensures.left ∙ c.in-Ok.ensures.items in
-    let right : c.over-state.result.right ≡ c.args.b.now = c.over-state.ensures.right in
+    let right : c.over-state.result.right ≡ c.args.b.now = c.over-state.ensures.right ∙ c.over-right.ensures in
     rw (← left, ← right) c.merge.ensures.comparisons
 
 pub returns-in-Err-clause-taken : goal.returns-in-Err-clause-taken

@@ -5,7 +5,7 @@ pub returns-in-Ok-clause-left : goal.returns-in-Ok-clause-left
 returns-in-Ok-clause-left g c = c.over.ensures.left ∙ c.prepared_copies.ensures.items
 
 pub returns-in-Ok-clause-right : goal.returns-in-Ok-clause-right
-returns-in-Ok-clause-right g c = c.over.ensures.right
+returns-in-Ok-clause-right g c = c.over.ensures.right ∙ c.over-right.ensures
 
 pub returns-in-Ok-clause-left_on : goal.returns-in-Ok-clause-left_on
 returns-in-Ok-clause-left_on g c = c.over.ensures.left_on

@@ -47,24 +47,24 @@ pub returns-clause-output : goal.returns-clause-output
 returns-clause-output g c =
     let taken = taken_items-taken_left c.args.take c.args.n c.self.inside.a ∙ ap (items_if c.args.take) (sym c.take_front-front.ensures.front) in
     rw (← c.self.view_is)
-    (on_ok_weaker c.append.result (λ appends before. appends _ before (taken_left c.args.take c.args.n c.self.inside.a) taken) c.append.ensures.output)
+    (on_ok_weaker c.append.result (λ appends before so_far. rw (c.append.ensures.began _) (appends _ before (taken_left c.args.take c.args.n c.self.inside.a) taken so_far)) c.append.ensures.output)
 
 pub returns-clause-began : goal.returns-clause-began
-returns-clause-began g c = rw (← c.self.view_is) refl
+returns-clause-began g c = rw (← c.self.view_is) (c.append.ensures.began _)
 
 pub returns-clause-succeeds : goal.returns-clause-succeeds
 returns-clause-succeeds g c =
     let within = rw (← c.self.view_is) at c.requires.within in
     let whole = length-parted c.args.n c.self.inside.a c.take_front-front.result.now c.take_front-front.new.self within c.take_front-front.ensures.front c.take_front-front.ensures.rest in
     rw (← c.self.view_is)
-    (λ sure. c.append.ensures.succeeds (length c.self.inside.a + length c.self.inside.b) (omega arith) sure.0
-    (All-front g.O.Output.is_sure c.args.n c.self.inside.a c.take_front-front.result.now c.take_front-front.ensures.front sure.1))
+    (λ infallible. c.append.ensures.succeeds (length c.self.inside.a + length c.self.inside.b) (omega arith) infallible.0
+    (All-front g.O.Output.is_infallible c.args.n c.self.inside.a c.take_front-front.result.now c.take_front-front.ensures.front infallible.1))
 
-pub returns-clause-still_sure : goal.returns-clause-still_sure
-returns-clause-still_sure g c =
+pub returns-clause-still_infallible : goal.returns-clause-still_infallible
+returns-clause-still_infallible g c =
     let within = rw (← c.self.view_is) at c.requires.within in
     let whole = length-parted c.args.n c.self.inside.a c.take_front-front.result.now c.take_front-front.new.self within c.take_front-front.ensures.front c.take_front-front.ensures.rest in
     rw (← c.self.view_is)
-    (λ sure. on_ok_weaker c.append.result
-    (λ still. (still, All-rest g.O.Output.is_sure c.args.n c.self.inside.a c.take_front-front.new.self c.take_front-front.ensures.rest sure.1, sure.2))
-    (c.append.ensures.has_room (length c.take_front-front.new.self + length c.self.inside.b) (length c.self.inside.a + length c.self.inside.b) (omega arith) sure.0))
+    (λ infallible. on_ok_weaker c.append.result
+    (λ still. (still, All-rest g.O.Output.is_infallible c.args.n c.self.inside.a c.take_front-front.new.self c.take_front-front.ensures.rest infallible.1, infallible.2))
+    (c.append.ensures.has_room (length c.take_front-front.new.self + length c.self.inside.b) (length c.self.inside.a + length c.self.inside.b) (omega arith) infallible.0))

@@ -27,7 +27,7 @@ pub returns-clause-at_least_inline : goal.returns-clause-at_least_inline
 returns-clause-at_least_inline g c =
     rw (c.over.ensures.taken, ← c.capacity-inline.ensures.value) c.capacity-inline.ensures.at_least_inline
 
-pub returns-clause-sure : goal.returns-clause-sure
-returns-clause-sure g c = λ fits left right.
+pub returns-clause-infallible : goal.returns-clause-infallible
+returns-clause-infallible g c = λ fits left right.
     rw (c.over.ensures.taken, c.over.ensures.left, c.over.ensures.right, ← c.capacity-inline.ensures.value)
     (omega (arith, fits, c.capacity-inline.ensures.at_least_inline), left, right)

@@ -10,8 +10,8 @@ returns-in_err-append_copies-clause-goes_on g c = IfOk-from_err c.from_residual.
 
 pub returns-in_err-append_copies-clause-succeeds : goal.returns-in_err-append_copies-clause-succeeds
 returns-in_err-append_copies-clause-succeeds g c =
-    (λ n within room sure.
-    let refused : false ≡ true = c.in_err-append_copies.ensures.succeeds (omega arith) sure in
+    (λ n within room infallible.
+    let refused : false ≡ true = c.in_err-append_copies.ensures.succeeds (omega arith) infallible in
     absurd (false≢true refused))
 
 pub returns-clause-goes_on : goal.returns-clause-goes_on

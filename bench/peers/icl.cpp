@@ -1,0 +1,137 @@
+// Boost.ICL's interval_set: a tree of ranges.
+#include "held.hpp"
+#include "peers.hpp"
+
+#include <boost/icl/interval_set.hpp>
+
+namespace {
+
+namespace icl = boost::icl;
+using Intervals = icl::interval_set<std::int64_t>;
+using Range = Intervals::interval_type;
+
+Range range(std::int64_t start, std::int64_t end) {
+    return icl::interval<std::int64_t>::right_open(start, end);
+}
+
+std::size_t given(const Intervals& set, Boundaries* out) {
+    if (out != nullptr) {
+        for (const Range& each : set) {
+            out->push_back(each.lower());
+            out->push_back(each.upper());
+        }
+    }
+    return set.iterative_size();
+}
+
+template <Operation operation> void change(Intervals& set, const Intervals& other) {
+    switch (operation) {
+    case Operation::unite:
+        set |= other;
+        break;
+    case Operation::intersect:
+        set &= other;
+        break;
+    case Operation::subtract:
+        set -= other;
+        break;
+    case Operation::differ:
+        set ^= other;
+        break;
+    }
+}
+
+struct Icl {
+    static constexpr const char* name = "Boost.ICL";
+    static constexpr std::int64_t greatest = INT64_MAX;
+    static constexpr unsigned offers = Group::new_sets | Group::in_place | Group::tests | Group::contains |
+                                       Group::iter | Group::changes;
+    using Set = Intervals;
+
+    static Set made(const Boundaries& boundaries) {
+        Intervals set;
+        for (std::size_t i = 0; i + 1 < boundaries.size(); i += 2) {
+            set.insert(set.end(), range(boundaries[i], boundaries[i + 1]));
+        }
+        return set;
+    }
+
+    template <Operation operation>
+    static std::size_t combine(const Set& left, const Set& right, Boundaries* out) {
+        switch (operation) {
+        case Operation::unite:
+            return given(left | right, out);
+        case Operation::intersect:
+            return given(left & right, out);
+        case Operation::subtract:
+            return given(left - right, out);
+        case Operation::differ:
+            return given(left ^ right, out);
+        }
+    }
+
+    static std::size_t copy_one(const Set& left, Boundaries* out) { return given(Intervals(left), out); }
+
+    static std::size_t copy_both(const Set& left, const Set& right, Boundaries* out) {
+        Intervals set = left;
+        Intervals other = right;
+        return given(set, out);
+    }
+
+    template <Operation operation>
+    static std::size_t change_by_lent(const Set& left, const Set& right, Boundaries* out) {
+        Intervals set = left;
+        change<operation>(set, right);
+        return given(set, out);
+    }
+
+    template <Operation operation>
+    static std::size_t change_by_owned(const Set& left, const Set& right, Boundaries* out) {
+        Intervals set = left;
+        Intervals other = right;
+        change<operation>(set, other);
+        return given(set, out);
+    }
+
+    static bool is_disjoint(const Set& left, const Set& right) { return icl::disjoint(left, right); }
+
+    static bool is_subset(const Set& left, const Set& right) { return icl::within(left, right); }
+
+    static std::size_t contains(const Set& set, const Boundaries& values) {
+        std::size_t members = 0;
+        for (std::int64_t value : values) {
+            members += icl::contains(set, value);
+        }
+        return members;
+    }
+
+    static std::size_t iter(const Set& set) {
+        std::size_t members = 0;
+        for (const Range& each : set) {
+            members += static_cast<std::size_t>(each.upper() - each.lower());
+        }
+        return members;
+    }
+
+    static std::size_t insert(const Set& left, const Commands& commands, Boundaries* out) {
+        Intervals set = left;
+        for (std::size_t i = 0; i < commands.starts.size(); i++) {
+            set.insert(range(commands.starts[i], commands.ends[i]));
+        }
+        return given(set, out);
+    }
+
+    static std::size_t remove(const Set& left, const Commands& commands, Boundaries* out) {
+        Intervals set = left;
+        for (std::size_t i = 0; i < commands.starts.size(); i++) {
+            set.erase(range(commands.starts[i], commands.ends[i]));
+        }
+        return given(set, out);
+    }
+};
+
+} // namespace
+
+std::unique_ptr<Peer> icl_peer() {
+    return std::make_unique<Held<Icl>>();
+}

@@ -1,0 +1,19 @@
+#include "peers.hpp"
+
+Peers all_peers() {
+    Peers peers;
+    peers.push_back(library_peer());
+    peers.push_back(vector_peer());
+    peers.push_back(linear_peer());
+#ifdef WITH_ICU
+    peers.push_back(icu_peer());
+#endif
+#ifdef WITH_ICL
+    peers.push_back(icl_peer());
+#endif
+#ifdef WITH_ROARING
+    peers.push_back(roaring_peer());
+#endif
+    peers.push_back(lower_bound_peer());
+    return peers;
+}

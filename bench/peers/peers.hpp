@@ -1,0 +1,12 @@
+// The contenders, one a file.
+#pragma once
+
+#include "peer.hpp"
+
+std::unique_ptr<Peer> library_peer();
+std::unique_ptr<Peer> vector_peer();
+std::unique_ptr<Peer> linear_peer();
+std::unique_ptr<Peer> icu_peer();
+std::unique_ptr<Peer> icl_peer();
+std::unique_ptr<Peer> roaring_peer();
+std::unique_ptr<Peer> lower_bound_peer();

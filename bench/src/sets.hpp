@@ -1,0 +1,52 @@
+// Sets of numbers as sorted lists of boundaries, and the cases that are measured.
+#pragma once
+
+#include <cstddef>
+#include <cstdint>
+#include <string>
+#include <vector>
+
+// A number is a member where an odd number of boundaries is at or below it.
+using Boundaries = std::vector<std::int64_t>;
+
+enum class Operation { unite, intersect, subtract, differ };
+
+// Whether a number is a member of the result, from whether it is one of each side.
+constexpr bool is_on(Operation operation, bool left, bool right) {
+    switch (operation) {
+    case Operation::unite:
+        return left || right;
+    case Operation::intersect:
+        return left && right;
+    case Operation::subtract:
+        return left && !right;
+    case Operation::differ:
+        return left != right;
+    }
+    return false;
+}
+
+struct Pair {
+    Boundaries left;
+    Boundaries right;
+};
+
+// Ranges to put in or take out, in their order: from starts[i] up to ends[i], which is out.
+struct Commands {
+    Boundaries starts;
+    Boundaries ends;
+};
+
+struct Case {
+    std::string shape;
+    std::size_t size = 0;
+    std::vector<Pair> pairs;
+    Boundaries values;
+    Commands commands;
+
+    // How many answers one pass gives.
+    std::size_t answers() const;
+
+    // The greatest number in it, or 0.
+    std::int64_t greatest() const;
+};

@@ -1,0 +1,262 @@
+/* The tests for one type of numbers. Before each include NUMBER is the type, LEAST its least number, MOST its greatest,
+ * CALL(call) the name of a call of the header, and TEST(name) the name of a function here. */
+
+/* A list that lies in memory of its own, so that valgrind sees each read beside it. */
+static NUMBER *TEST(copy)(const NUMBER *items, size_t len)
+{
+    NUMBER *list = malloc(len * sizeof *list + (len == 0));
+    if (list == NULL) fail("no memory");
+    if (len > 0) memcpy(list, items, len * sizeof *list);
+    return list;
+}
+
+/* One call that writes a set, by number, so that each is tried with several rooms. */
+struct TEST(operation) {
+    int which; /* 0 to 3: the operations; 4: negation; 5: insert; 6: remove */
+    const NUMBER *a, *b;
+    size_t a_len, b_len;
+    NUMBER start, end;
+};
+
+static range_set_status TEST(run)(const struct TEST(operation) *o, NUMBER *out, size_t out_len, size_t *written)
+{
+    switch (o->which) {
+    case 0: return CALL(union)(o->a, o->a_len, o->b, o->b_len, out, out_len, written);
+    case 1: return CALL(intersection)(o->a, o->a_len, o->b, o->b_len, out, out_len, written);
+    case 2: return CALL(difference)(o->a, o->a_len, o->b, o->b_len, out, out_len, written);
+    case 3: return CALL(symmetric_difference)(o->a, o->a_len, o->b, o->b_len, out, out_len, written);
+    case 4: return CALL(negation)(o->a, o->a_len, out, out_len, written);
+    case 5: return CALL(insert)(o->a, o->a_len, o->start, o->end, out, out_len, written);
+    default: return CALL(remove)(o->a, o->a_len, o->start, o->end, out, out_len, written);
+    }
+}
+
+static range_set_status TEST(run_len)(const struct TEST(operation) *o, size_t *len)
+{
+    switch (o->which) {
+    case 0: return CALL(union_len)(o->a, o->a_len, o->b, o->b_len, len);
+    case 1: return CALL(intersection_len)(o->a, o->a_len, o->b, o->b_len, len);
+    case 2: return CALL(difference_len)(o->a, o->a_len, o->b, o->b_len, len);
+    default: return CALL(symmetric_difference_len)(o->a, o->a_len, o->b, o->b_len, len);
+    }
+}
+
+/* The call into a room of so many numbers, with guard words on both sides, against the list that it has to write. */
+static void TEST(with_room)(const struct TEST(operation) *o, const NUMBER *wanted, size_t wanted_len, size_t room)
+{
+    enum { GUARD = 4 };
+    const NUMBER guard = (NUMBER)0x5a5a5a5a5a5a5a5a;
+    NUMBER buffer[GUARD + 2 * POINTS + 8 + GUARD];
+    size_t written = 77, all = GUARD + room + GUARD, i;
+    range_set_status status;
+
+    check(all <= sizeof buffer / sizeof *buffer, "the buffer of the test is too short");
+    for (i = 0; i < all; i++) buffer[i] = guard;
+    status = TEST(run)(o, buffer + GUARD, room, &written);
+    check(status == (room < wanted_len ? RANGE_SET_NO_ROOM : RANGE_SET_DONE), "status");
+    check(written == wanted_len, "length");
+    for (i = 0; i < GUARD; i++)
+        check(buffer[i] == guard && buffer[GUARD + room + i] == guard, "a word beside the buffer");
+    if (status != RANGE_SET_DONE) return;
+    check(wanted_len == 0 || memcmp(buffer + GUARD, wanted, wanted_len * sizeof *wanted) == 0, "the list");
+    for (i = wanted_len; i < room; i++) check(buffer[GUARD + i] == guard, "a word behind the list");
+}
+
+static void TEST(with_rooms)(const struct TEST(operation) *o, const NUMBER *wanted, size_t wanted_len)
+{
+    size_t written = 77;
+    TEST(with_room)(o, wanted, wanted_len, wanted_len);
+    if (wanted_len > 0) TEST(with_room)(o, wanted, wanted_len, wanted_len - 1);
+    TEST(with_room)(o, wanted, wanted_len, 0);
+    TEST(with_room)(o, wanted, wanted_len, wanted_len + 3);
+    check(TEST(run)(o, NULL, 0, &written) == (wanted_len > 0 ? RANGE_SET_NO_ROOM : RANGE_SET_DONE), "status at no buffer");
+    check(written == wanted_len, "length at no buffer");
+    if (o->which < 4) {
+        written = 77;
+        check(TEST(run_len)(o, &written) == RANGE_SET_DONE && written == wanted_len, "the length alone");
+    }
+}
+
+/* The boundaries of a bitmap over the points. */
+static size_t TEST(boundaries)(const NUMBER *points, const bool *on, size_t n, NUMBER *list)
+{
+    size_t len = 0, p;
+    for (p = 0; p < n; p++)
+        if (on[p] != (p > 0 && on[p - 1])) list[len++] = points[p];
+    return len;
+}
+
+static void TEST(split_at)(const NUMBER *a, size_t a_len, const NUMBER *points, const bool *on, size_t n)
+{
+    size_t p, i, left_len = 77, right_start = 77, below, up_to;
+    for (p = 0; p < n; p++) {
+        check(CALL(split)(a, a_len, points[p], &left_len, &right_start) == RANGE_SET_DONE, "split: status");
+        for (below = up_to = i = 0; i < a_len; i++) {
+            below += a[i] < points[p];
+            up_to += a[i] <= points[p];
+        }
+        check(left_len == below, "split: the left part");
+        check(right_start == (on[p] ? up_to - 1 : up_to), "split: the right part");
+    }
+}
+
+/* A made-up case: two bitmaps, all calls. */
+static void TEST(made_up)(void)
+{
+    static const NUMBER bases[] = {LEAST, LEAST + 1, LEAST + 1000, MOST - POINTS + 1};
+    NUMBER points[POINTS + 1], a[POINTS + 1], b[POINTS + 1], wanted[POINTS + 1], *list, *other;
+    bool on_a[POINTS + 1], on_b[POINTS + 1], on[POINTS + 1], any = false, only = false, same = true, answer;
+    NUMBER base = bases[random_below(4)];
+    size_t n = 0, p, a_len, b_len;
+    size_t wide = 1 + random_below(POINTS);
+    unsigned sparse = 1 + random_below(6), sparse_b = 1 + random_below(6);
+    struct TEST(operation) o;
+
+    points[n++] = LEAST;
+    for (p = 0; p < wide; p++)
+        if (base + (NUMBER)p != LEAST) points[n++] = base + (NUMBER)p;
+    for (p = 0; p < n; p++) {
+        on_a[p] = (p > 0 && on_a[p - 1]) != (random_below(sparse) == 0);
+        on_b[p] = (p > 0 && on_b[p - 1]) != (random_below(sparse_b) == 0);
+        any = any || (on_a[p] && on_b[p]);
+        only = only || (on_a[p] && !on_b[p]);
+        same = same && on_a[p] == on_b[p];
+    }
+    a_len = TEST(boundaries)(points, on_a, n, a);
+    b_len = TEST(boundaries)(points, on_b, n, b);
+    list = TEST(copy)(a, a_len);
+    other = TEST(copy)(b, b_len);
+    o.a = list, o.a_len = a_len, o.b = other, o.b_len = b_len;
+    o.start = points[random_below((unsigned)n)], o.end = points[random_below((unsigned)n)];
+    for (o.which = 0; o.which < 7; o.which++) {
+        for (p = 0; p < n; p++) {
+            bool in_range = o.start <= points[p] && points[p] < o.end;
+            switch (o.which) {
+            case 0: on[p] = on_a[p] || on_b[p]; break;
+            case 1: on[p] = on_a[p] && on_b[p]; break;
+            case 2: on[p] = on_a[p] && !on_b[p]; break;
+            case 3: on[p] = on_a[p] != on_b[p]; break;
+            case 4: on[p] = !on_a[p]; break;
+            case 5: on[p] = on_a[p] || in_range; break;
+            default: on[p] = on_a[p] && !in_range; break;
+            }
+        }
+        TEST(with_rooms)(&o, wanted, TEST(boundaries)(points, on, n, wanted));
+    }
+    check(CALL(is_sorted)(list, a_len, &answer) == RANGE_SET_DONE && answer, "is_sorted");
+    check(CALL(is_empty)(list, a_len, &answer) == RANGE_SET_DONE && answer == (a_len == 0), "is_empty");
+    check(CALL(intersects)(list, a_len, other, b_len, &answer) == RANGE_SET_DONE && answer == any, "intersects");
+    check(CALL(is_disjoint)(list, a_len, other, b_len, &answer) == RANGE_SET_DONE && answer == !any, "is_disjoint");
+    check(CALL(is_subset)(list, a_len, other, b_len, &answer) == RANGE_SET_DONE && answer == !only, "is_subset");
+    check(CALL(equal)(list, a_len, other, b_len, &answer) == RANGE_SET_DONE && answer == same, "equal");
+    for (p = 0; p < n; p++)
+        check(CALL(contains)(list, a_len, points[p], &answer) == RANGE_SET_DONE && answer == on_a[p], "contains");
+    TEST(split_at)(list, a_len, points, on_a, n);
+    free(list);
+    free(other);
+}
+
+/* Rows with their answers written out. */
+static void TEST(rows)(void)
+{
+    static const NUMBER a[] = {0, 10}, b[] = {5, 20}, open[] = {20}, least[] = {LEAST}, in_two[] = {10, 10};
+    static const NUMBER unions[] = {0, 20}, both[] = {5, 10}, left[] = {0, 5}, one_of[] = {0, 5, 10, 20}, with_open[] = {0, 10, 20};
+    static const NUMBER not_open[] = {LEAST, 20}, put_in[] = {0, 10, 12, 14}, cut[] = {0, 3, 7, 10};
+    struct TEST(operation) o;
+    bool answer = true;
+
+    o.a = a, o.a_len = 2, o.b = b, o.b_len = 2, o.start = 0, o.end = 0;
+    o.which = 0, TEST(with_rooms)(&o, unions, 2);
+    o.which = 1, TEST(with_rooms)(&o, both, 2);
+    o.which = 2, TEST(with_rooms)(&o, left, 2);
+    o.which = 3, TEST(with_rooms)(&o, one_of, 4);
+    o.b = open, o.b_len = 1, o.which = 0, TEST(with_rooms)(&o, with_open, 3);
+    o.b = NULL, o.b_len = 0, o.which = 0, TEST(with_rooms)(&o, a, 2);
+    o.b = a, o.b_len = 2, o.which = 3, TEST(with_rooms)(&o, NULL, 0);
+    o.start = 12, o.end = 14, o.which = 5, TEST(with_rooms)(&o, put_in, 4);
+    o.start = 14, o.end = 12, o.which = 5, TEST(with_rooms)(&o, a, 2);
+    o.start = 3, o.end = 7, o.which = 6, TEST(with_rooms)(&o, cut, 4);
+    o.start = LEAST, o.end = MOST, o.which = 6, TEST(with_rooms)(&o, NULL, 0);
+    o.a = open, o.a_len = 1, o.which = 4, TEST(with_rooms)(&o, not_open, 2);
+    o.a = NULL, o.a_len = 0, o.which = 4, TEST(with_rooms)(&o, least, 1);
+    o.a = least, o.a_len = 1, o.which = 4, TEST(with_rooms)(&o, NULL, 0);
+    check(CALL(is_sorted)(in_two, 2, &answer) == RANGE_SET_DONE && !answer, "is_sorted of a repeated number");
+    check(CALL(is_empty)(NULL, 0, &answer) == RANGE_SET_DONE && answer, "is_empty of a null pointer with length 0");
+    check(CALL(contains)(NULL, 0, 1, &answer) == RANGE_SET_DONE && !answer, "contains of a null pointer with length 0");
+}
+
+/* With a list that is none, each call that goes over it leaves all as it was. */
+static void TEST(refuses)(const NUMBER *a, size_t a_len, const NUMBER *b, size_t b_len, bool left_is_bad, range_set_status wanted)
+{
+    NUMBER out[8] = {1, 2, 3, 4, 5, 6, 7, 8};
+    static const NUMBER as_was[8] = {1, 2, 3, 4, 5, 6, 7, 8};
+    size_t written = 77;
+    bool answer = true;
+    struct TEST(operation) o;
+    o.a = a, o.a_len = a_len, o.b = b, o.b_len = b_len, o.start = 1, o.end = 2;
+    for (o.which = 0; o.which < (left_is_bad ? 7 : 4); o.which++) {
+        check(TEST(run)(&o, out, 8, &written) == wanted, "status of a bad list");
+        check(written == 77 && memcmp(out, as_was, sizeof out) == 0, "a bad list writes");
+        if (o.which < 4) check(TEST(run_len)(&o, &written) == wanted && written == 77, "length of a bad list");
+    }
+    check(CALL(is_disjoint)(a, a_len, b, b_len, &answer) == wanted && answer, "is_disjoint of a bad list");
+    check(CALL(intersects)(a, a_len, b, b_len, &answer) == wanted && answer, "intersects of a bad list");
+    check(CALL(is_subset)(a, a_len, b, b_len, &answer) == wanted && answer, "is_subset of a bad list");
+    check(CALL(equal)(a, a_len, b, b_len, &answer) == wanted && answer, "equal of a bad list");
+}
+
+static void TEST(bad_input)(void)
+{
+    const NUMBER good[] = {1, 2}, turned[] = {3, 2}, repeated[] = {3, 3};
+    NUMBER list[] = {1, 2, 3, 4};
+    size_t n = 77, m = 77;
+    bool answer = true;
+
+    TEST(refuses)(turned, 2, good, 2, true, RANGE_SET_NOT_SORTED);
+    TEST(refuses)(good, 2, turned, 2, false, RANGE_SET_NOT_SORTED);
+    TEST(refuses)(repeated, 2, good, 2, true, RANGE_SET_NOT_SORTED);
+    TEST(refuses)(good, 2, repeated, 2, false, RANGE_SET_NOT_SORTED);
+    TEST(refuses)(NULL, 1, NULL, 0, true, RANGE_SET_BAD_POINTER);
+    TEST(refuses)(NULL, (size_t)1 << 60, NULL, 0, true, RANGE_SET_BAD_POINTER);
+    TEST(refuses)(NULL, SIZE_MAX, NULL, SIZE_MAX, true, RANGE_SET_BAD_POINTER);
+    TEST(refuses)(good, SIZE_MAX, good, 2, true, RANGE_SET_BAD_POINTER);
+    check(CALL(union)(NULL, 0, NULL, (size_t)1 << 60, list, 4, &n) == RANGE_SET_BAD_POINTER, "null on the right");
+    check(CALL(union)(good, 2, good, 2, NULL, 1, &n) == RANGE_SET_BAD_POINTER, "null for the buffer");
+    check(CALL(union)(good, 2, good, 2, list, 4, NULL) == RANGE_SET_BAD_POINTER, "null for the length");
+    check(CALL(union)(list, 2, good, 2, list, 4, &n) == RANGE_SET_BAD_POINTER, "the buffer over the left list");
+    check(CALL(union)(good, 2, list + 3, 1, list, 4, &n) == RANGE_SET_BAD_POINTER, "the buffer over the right list");
+    check(CALL(union)(list, 2, good, 2, list + 1, 2, &n) == RANGE_SET_BAD_POINTER, "the buffer over half of a list");
+    check(CALL(union)(list, 2, good, 2, list + 2, 2, &n) == RANGE_SET_DONE && n == 2, "the buffer beside a list");
+    check(CALL(is_sorted)(NULL, 1, &answer) == RANGE_SET_BAD_POINTER && answer, "is_sorted of null");
+    check(CALL(is_sorted)(good, 2, NULL) == RANGE_SET_BAD_POINTER, "is_sorted into null");
+    check(CALL(contains)(NULL, 1, 1, &answer) == RANGE_SET_BAD_POINTER && answer, "contains of null");
+    check(CALL(is_empty)(NULL, 1, &answer) == RANGE_SET_BAD_POINTER && answer, "is_empty of null");
+    n = 77;
+    check(CALL(split)(NULL, 1, 1, &n, &m) == RANGE_SET_BAD_POINTER && n == 77 && m == 77, "split of null");
+    check(CALL(split)(good, 2, 1, &n, &n) == RANGE_SET_BAD_POINTER && n == 77, "split into one place");
+}
+
+/* Searches in lists that aren't sorted answer something, and stay within the list. */
+static void TEST(unsorted_searches)(void)
+{
+    NUMBER items[POINTS], *list;
+    size_t len = random_below(POINTS), i, left_len = 77, right_start = 77;
+    bool answer;
+    for (i = 0; i < len; i++) items[i] = (NUMBER)random_below(9);
+    list = TEST(copy)(items, len);
+    for (i = 0; i < 10; i++) {
+        check(CALL(contains)(list, len, (NUMBER)i, &answer) == RANGE_SET_DONE, "contains of an unsorted list");
+        check(CALL(split)(list, len, (NUMBER)i, &left_len, &right_start) == RANGE_SET_DONE, "split of an unsorted list");
+        check(left_len <= len && right_start <= len, "split of an unsorted list: places");
+    }
+    free(list);
+}
+
+static void TEST(all)(long cases)
+{
+    long i;
+    TEST(rows)();
+    TEST(bad_input)();
+    for (i = 0; i < cases; i++) TEST(made_up)();
+    for (i = 0; i < cases / 10; i++) TEST(unsorted_searches)();
+}

@@ -1,5 +1,0 @@
-use Rattle.range_collections.proofs.Sets.{AreEqual-same_results}
-use Rattle.range_collections.proofs.laws.results_are_pinned.Goals as goal
-
-pub returns : goal.returns
-returns g c = AreEqual-same_results g.met.T.Ord.total

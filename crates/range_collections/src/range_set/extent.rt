@@ -1,0 +1,56 @@
+//! Where a set begins and ends: its first range, its last one, the range from one to the other, and how many there are.
+ghost use Rattle.std.specs.Prelude.{◌≡◌, [], length, None, Some, MatchOption, slice_get};
+ghost use Rattle.std.specs.List.{last_or};
+ghost use Rattle.range_collections.specs.Extent.{IsSpan};
+ghost use Rattle.range_collections.specs.Ranges.{ranges_of, range_now};
+
+use crate::iter::Iter;
+use crate::range_set::RangeSet;
+use crate::range_set_range::RangeSetRange;
+
+impl<T: Ord, const N: usize> RangeSet<T, N> {
+    /// The first range, or nothing where the set is empty.
+    #[inline]
+    pub fn first(&self) -> Option<RangeSetRange<&T>>
+        ensures { MatchOption result (self.now ≡ []) (λ range. slice_get (ranges_of self.now) 0 ≡ Some (range_now range)) }
+    {
+        self.as_ref().first()
+    }
+
+    /// The last range, or nothing where the set is empty.
+    #[inline]
+    pub fn last(&self) -> Option<RangeSetRange<&T>>
+        ensures { MatchOption result (self.now ≡ []) (λ range. last_or None (ranges_of self.now) ≡ Some (range_now range)) }
+    {
+        self.as_ref().last()
+    }
+
+    /// From the start of the first range to the end of the last one, or without an end where that has none. Nothing where the set is empty.
+    #[inline]
+    pub fn span(&self) -> Option<RangeSetRange<&T>>
+        ensures { MatchOption result (self.now ≡ []) (λ range. IsSpan (ranges_of self.now) (range_now range)) }
+    {
+        self.as_ref().span()
+    }
+
+    /// How many ranges there are.
+    #[inline]
+    pub fn ranges_len(&self) -> usize
+        ensures { result ≡ length (ranges_of self.now) }
+    {
+        self.as_ref().ranges_len()
+    }
+}
+
+impl<'a, T: Ord, const N: usize> IntoIterator for &'a RangeSet<T, N> {
+    type Item = RangeSetRange<&'a T>;
+
+    type IntoIter = Iter<'a, T>;
+
+    ghost into_iter_gives = { λ set it. it ≡ set.now };
+
+    #[inline]
+    fn into_iter(self) -> Iter<'a, T> {
+        self.iter()
+    }
+}

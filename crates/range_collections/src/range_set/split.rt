@@ -1,0 +1,43 @@
+//! A set cut in two at an element.
+ghost use Rattle.std.specs.Prelude.{◌≡◌, ◌<◌, ◌^◌, length};
+ghost use Rattle.range_merge.specs.Counting.{AddsAtMost};
+ghost use Rattle.range_merge.specs.Runs.{digits};
+ghost use Rattle.range_collections.specs.Split.{split_left, split_right, IsLeastBelow, IsLeastFrom};
+
+use crate::comparisons::Comparisons;
+use crate::range_set::RangeSet;
+use crate::view::RangeSetRef;
+
+impl<T: Ord, const N: usize> RangeSet<T, N> {
+    /// The least set with the same members below `at`, and the least one with the same members from `at` on. Both are slices of this set's list.
+    #[inline]
+    pub fn split(&self, at: T) -> (RangeSetRef<'_, T>, RangeSetRef<'_, T>)
+    where
+        T: Drop,
+        ensures left { result.0.boundaries.now ≡ split_left T.cmp self.now at }
+        ensures right { result.1.boundaries.now ≡ split_right T.cmp self.now at }
+        ensures least_below { IsLeastBelow T.cmp at result.0.boundaries.now self.now }
+        ensures least_from { IsLeastFrom T.cmp at result.1.boundaries.now self.now }
+    {
+        self.as_ref().split(at)
+    }
+
+    /// The same, with its comparisons counted: at most as many as the number of boundaries has binary digits.
+    #[inline]
+    pub fn split_counted(
+        &self,
+        at: T,
+        count: &mut Comparisons,
+    ) -> (RangeSetRef<'_, T>, RangeSetRef<'_, T>)
+    where
+        T: Drop,
+        requires { count.old < 2 ^ 64 }
+        ensures left { result.0.boundaries.now ≡ split_left T.cmp self.now at }
+        ensures right { result.1.boundaries.now ≡ split_right T.cmp self.now at }
+        ensures least_below { IsLeastBelow T.cmp at result.0.boundaries.now self.now }
+        ensures least_from { IsLeastFrom T.cmp at result.1.boundaries.now self.now }
+        ensures comparisons { AddsAtMost count.old count.new (digits (length self.now)) }
+    {
+        self.as_ref().split_counted(at, count)
+    }
+}

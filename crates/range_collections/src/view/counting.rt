@@ -1,0 +1,48 @@
+//! How many values are members of a view.
+ghost use Rattle.std.specs.Prelude.{◌≡◌, ◌-◌, ◌<◌, ◌%◌, length};
+ghost use Rattle.std.specs.declared.cmp.Ordering.TheVariants.{Less};
+ghost use Rattle.range_merge.specs.Boundaries.{IsAscending};
+ghost use Rattle.range_collections.specs.Covered.{covered_of, members_below};
+
+use crate::countable::Countable;
+use crate::view::RangeSetRef;
+
+impl<'a, T: Countable> RangeSetRef<'a, T> {
+    /// How many values are members, or `None` where the set has no end. It looks at each boundary once.
+    pub fn covered(&self) -> Option<u128>
+        ensures { result ≡ covered_of T.cmp T.value T.count self.now.boundaries.now }
+    {
+        if self.boundaries.len() % 2 == 1 {
+            return None;
+        }
+        Some(count_members(self.boundaries))
+    }
+}
+
+// How many values are members, of a list of boundaries in pairs.
+fn count_members<T: Countable>(items: &[T]) -> u128
+    requires sorted { IsAscending T.cmp items.now }
+    requires pairs { length items.now % 2 ≡ 0 }
+    ensures { result ≡ members_below T.cmp T.value items.now T.count }
+{
+    let mut count: u128 = 0;
+    let mut i = 0;
+    while i < items.len() {
+        count += between(&items[i], &items[i + 1]);
+        i += 2;
+    }
+    count
+}
+
+// How many values lie from one on, up to another, which is out.
+fn between<T: Countable>(start: &T, end: &T) -> u128
+    requires { T.cmp start.now end.now ≡ Less }
+    ensures value { result ≡ T.place end.now - T.place start.now }
+    ensures ordered { T.place start.now < T.place end.now }
+    ensures start_is_value { T.is_value start.now }
+    ensures end_is_value { T.is_value end.now }
+{
+    start.known();
+    end.known();
+    end.place() - start.place()
+}

@@ -1,0 +1,75 @@
+//! Where a view begins and ends: its first range, its last one, the range from one to the other, and how many there are.
+ghost use Rattle.std.specs.Prelude.{◌≡◌, [], length, None, Some, MatchOption, slice_get};
+ghost use Rattle.std.specs.List.{last_or};
+ghost use Rattle.range_collections.specs.Extent.{IsSpan};
+ghost use Rattle.range_collections.specs.Ranges.{ranges_of, range_now, range_start};
+
+use crate::iter::Iter;
+use crate::range_set_range::RangeSetRange;
+use crate::view::RangeSetRef;
+use std::ops::{Range, RangeFrom};
+
+impl<'a, T: Ord> RangeSetRef<'a, T> {
+    /// The first range, or nothing where the set is empty.
+    #[inline]
+    pub fn first(&self) -> Option<RangeSetRange<&'a T>>
+        ensures { MatchOption result (self.now.boundaries.now ≡ []) (λ range. slice_get (ranges_of self.now.boundaries.now) 0 ≡ Some (range_now range)) }
+    {
+        self.iter().next()
+    }
+
+    /// The last range, or nothing where the set is empty.
+    #[inline]
+    pub fn last(&self) -> Option<RangeSetRange<&'a T>>
+        ensures { MatchOption result (self.now.boundaries.now ≡ []) (λ range. last_or None (ranges_of self.now.boundaries.now) ≡ Some (range_now range)) }
+    {
+        self.iter().next_back()
+    }
+
+    /// From the start of the first range to the end of the last one, or without an end where that has none. Nothing where the set is empty.
+    #[inline]
+    pub fn span(&self) -> Option<RangeSetRange<&'a T>>
+        ensures { MatchOption result (self.now.boundaries.now ≡ []) (λ range. IsSpan (ranges_of self.now.boundaries.now) (range_now range)) }
+    {
+        let start = start_of(self.first()?);
+        match self.last()? {
+            RangeSetRange::Range(range) => Some(RangeSetRange::Range(Range {
+                start,
+                end: range.end,
+            })),
+            RangeSetRange::RangeFrom(_) => Some(RangeSetRange::RangeFrom(RangeFrom { start })),
+        }
+    }
+
+    /// How many ranges there are.
+    #[inline]
+    pub fn ranges_len(&self) -> usize
+        ensures { result ≡ length (ranges_of self.now.boundaries.now) }
+    {
+        self.iter().len()
+    }
+}
+
+impl<'a, T: Ord> IntoIterator for RangeSetRef<'a, T> {
+    type Item = RangeSetRange<&'a T>;
+
+    type IntoIter = Iter<'a, T>;
+
+    ghost into_iter_gives = { λ set it. it ≡ set.boundaries.now };
+
+    #[inline]
+    fn into_iter(self) -> Iter<'a, T> {
+        self.iter()
+    }
+}
+
+// Where the range starts.
+#[inline(always)]
+fn start_of<'a, T>(range: RangeSetRange<&'a T>) -> &'a T
+    ensures { result.now ≡ range_start (range_now range.entry) }
+{
+    match range {
+        RangeSetRange::Range(range) => range.start,
+        RangeSetRange::RangeFrom(range) => range.start,
+    }
+}

@@ -1,0 +1,76 @@
+//! The parts of a range of elements that are in a view, and those that are not.
+ghost use Rattle.std.specs.Prelude.{◌≡◌, ◌+◌, ◌*◌, ◌<◌, ◌^◌, length};
+ghost use Rattle.range_merge.specs.Connective.{Means, intersection_table, difference_table};
+ghost use Rattle.range_merge.specs.Counting.{AddsAtMost};
+ghost use Rattle.range_merge.specs.Runs.{digits};
+ghost use Rattle.range_collections.specs.Ranges.{range_items};
+ghost use Rattle.range_collections.specs.Within.{within_table};
+
+use crate::comparisons::Comparisons;
+use crate::gaps::{Gaps, RangesWithin};
+use crate::view::RangeSetRef;
+use range_merge::Compare;
+use std::ops::Range;
+
+impl<'a, T: Ord> RangeSetRef<'a, T> {
+    /// The parts of `within` that are not in the set, from the lowest on: none is empty, and each ends below the start of the next. A range whose start is not below its end has none.
+    #[inline]
+    pub fn gaps(&self, within: Range<&'a T>) -> Gaps<'a, T>
+        ensures { Means T.cmp difference_table result (range_items T.cmp within.entry.start.now within.entry.end.now) self.now.boundaries.now }
+    {
+        self.gaps_counted(within, &mut Comparisons::new())
+    }
+
+    /// The same, with the comparisons that make the iterator counted: at most twice as many as the number of boundaries has binary digits, and one. Its steps make none.
+    #[inline]
+    pub fn gaps_counted(&self, within: Range<&'a T>, count: &mut Comparisons) -> Gaps<'a, T>
+        requires { count.old < 2 ^ 64 }
+        ensures means { Means T.cmp difference_table result (range_items T.cmp within.entry.start.now within.entry.end.now) self.now.boundaries.now }
+        ensures comparisons { AddsAtMost count.old count.new (2 * digits (length self.now.boundaries.now) + 1) }
+    {
+        self.parts_within(within, false, count)
+    }
+
+    /// The parts of `within` that are in the set, from the lowest on: none is empty, and each ends below the start of the next. A range whose start is not below its end has none.
+    #[inline]
+    pub fn ranges_within(&self, within: Range<&'a T>) -> RangesWithin<'a, T>
+        ensures { Means T.cmp intersection_table result (range_items T.cmp within.entry.start.now within.entry.end.now) self.now.boundaries.now }
+    {
+        self.ranges_within_counted(within, &mut Comparisons::new())
+    }
+
+    /// The same, with the comparisons that make the iterator counted: at most twice as many as the number of boundaries has binary digits, and one. Its steps make none.
+    #[inline]
+    pub fn ranges_within_counted(
+        &self,
+        within: Range<&'a T>,
+        count: &mut Comparisons,
+    ) -> RangesWithin<'a, T>
+        requires { count.old < 2 ^ 64 }
+        ensures means { Means T.cmp intersection_table result (range_items T.cmp within.entry.start.now within.entry.end.now) self.now.boundaries.now }
+        ensures comparisons { AddsAtMost count.old count.new (2 * digits (length self.now.boundaries.now) + 1) }
+    {
+        self.parts_within(within, true, count)
+    }
+
+    // The parts of `within` whose elements are members where `inside` is true, or else no members.
+    fn parts_within(
+        &self,
+        within: Range<&'a T>,
+        inside: bool,
+        count: &mut Comparisons,
+    ) -> RangesWithin<'a, T>
+        requires { count.old < 2 ^ 64 }
+        ensures means { Means T.cmp (within_table inside) result (range_items T.cmp within.entry.start.now within.entry.end.now) self.now.boundaries.now }
+        ensures comparisons { AddsAtMost count.old count.new (2 * digits (length self.now.boundaries.now) + 1) }
+    {
+        if !count.compare(within.start, within.end).is_lt() {
+            return RangesWithin::nothing();
+        }
+        let from = self.count_up_to(within.start, count);
+        let to = self.count_below(within.end, count);
+        let first = ((from % 2 == 1) == inside).then_some(within.start);
+        let last = ((to % 2 == 1) == inside).then_some(within.end);
+        RangesWithin::new(first, &self.boundaries[from..to], last)
+    }
+}

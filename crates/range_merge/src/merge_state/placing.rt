@@ -1,0 +1,167 @@
+//! A merge into its own left list, which leaves what it reads on the right to that side.
+ghost use Rattle.std.specs.Prelude.{◌≡◌, ◌+◌, ◌≤◌, false, List, [], ◌++◌, length, drop, ⊤};
+ghost use Rattle.range_merge.specs.Changes.{Taken, taken_right};
+
+use crate::in_place_builder::InPlaceBuilder;
+use crate::merge_state::right_side::RightSide;
+use crate::merge_state::{MergeState, MergeStateMut};
+use crate::place::Place;
+use std::alloc::AllocError;
+use std::marker::Model;
+
+/// A state that keeps items of its left list, and puts what its right side gives between them. Once made it takes no memory and never refuses. `L` is the list, by value where a caller makes the state.
+#[derive(Drop)]
+pub struct PlacingMergeState<K, const N: usize, R: RightSide<K>, L: Place<K>> {
+    builder: InPlaceBuilder<K, N, L>,
+    right: R,
+    ac: bool,
+    bc: bool,
+}
+
+impl<K, const N: usize, R: RightSide<K>, L: Place<K>> Model for PlacingMergeState<K, N, R, L> {
+    ghost use Rattle.std.specs.Prelude.{◌≤◌, length};
+    ghost use Rattle.range_merge.specs.States.{Placing};
+
+    ghost Value = { Placing K };
+
+    ghost view = { λ s. record {
+      left = s.builder.unread;
+      right = R.unread s.right;
+      left_on = s.ac;
+      right_on = s.bc;
+      kept = s.builder.kept;
+    } };
+
+    ghost invariant = { λ s. length (R.unread s.right) ≤ s.builder.puts_left };
+}
+
+impl<K, const N: usize, R: RightSide<K>, L: Place<K>> PlacingMergeState<K, N, R, L> {
+    // All items of both sides unread, both sides off, and nothing kept.
+    pub(crate) fn over(list: L, spare: L, right: R, extra: usize) -> Self
+        requires spare_empty { L.items spare ≡ [] }
+        requires room { length (L.items list) + extra ≤ L.room list }
+        requires spare_room { length (L.items list) ≤ L.room spare }
+        requires puts { length (R.unread right) ≤ extra }
+        ensures left { result.left ≡ L.items list }
+        ensures right { result.right ≡ R.unread right }
+        ensures left_on { result.left_on ≡ false }
+        ensures right_on { result.right_on ≡ false }
+        ensures kept { result.kept ≡ [] }
+    {
+        PlacingMergeState {
+            builder: InPlaceBuilder::over(list, spare, extra),
+            right,
+            ac: false,
+            bc: false,
+        }
+    }
+
+    /// The list, with the items that were taken. What is still unread is dropped.
+    pub fn result(self) -> L
+        ensures { L.items result ≡ self.kept }
+    {
+        self.builder.only_kept()
+    }
+}
+
+impl<K, const N: usize, R: RightSide<K>, L: Place<K>> MergeState for PlacingMergeState<K, N, R, L> {
+    type Item = K;
+
+    ghost left = { λ s. s.left };
+
+    ghost right = { λ s. s.right };
+
+    #[inline(always)]
+    fn a_len(&self) -> usize {
+        self.builder.unread_len()
+    }
+
+    #[inline(always)]
+    fn b_len(&self) -> usize {
+        self.right.len()
+    }
+
+    #[inline(always)]
+    fn a_at(&self, i: usize) -> &K {
+        self.builder.unread_at(i)
+    }
+
+    #[inline(always)]
+    fn b_at(&self, i: usize) -> &K {
+        self.right.at(i)
+    }
+}
+
+impl<K, const N: usize, R: RightSide<K>, L: Place<K>> MergeStateMut
+    for PlacingMergeState<K, N, R, L> {
+    ghost left_on = { λ s. s.left_on };
+
+    ghost right_on = { λ s. s.right_on };
+
+    ghost output = { λ s ts. R.may_be ts s.kept };
+
+    ghost began = { λ _. 0 };
+
+    ghost can_stop = { false };
+
+    ghost infallible = { λ _. ⊤ };
+
+    #[inline(always)]
+    fn advance_a(&mut self, n: usize, take: bool) -> Result<bool, AllocError> {
+        self.ac = self.ac != (n % 2 == 1);
+        R::keeps_own();
+        self.builder.keep_if(n, take);
+        Ok(true)
+    }
+
+    #[inline(always)]
+    fn advance_b(&mut self, n: usize, take: bool) -> Result<bool, AllocError> {
+        self.bc = self.bc != (n % 2 == 1);
+        put_front(&mut self.builder, &mut self.right, n, take);
+        Ok(true)
+    }
+
+    #[inline(always)]
+    fn advance_both(&mut self, take: bool) -> Result<bool, AllocError> {
+        self.ac = !self.ac;
+        self.bc = !self.bc;
+        R::keeps_own();
+        self.builder.keep_if(1, take);
+        self.right.drop_front(1);
+        Ok(true)
+    }
+
+    #[inline(always)]
+    fn ac(&self) -> bool {
+        self.ac
+    }
+
+    #[inline(always)]
+    fn bc(&self) -> bool {
+        self.bc
+    }
+}
+
+// Removes the first `n` unread items of the right side, and puts what stands for them if they are wanted.
+#[inline(always)]
+fn put_front<K, const N: usize, R: RightSide<K>, L: Place<K>>(
+    builder: &mut InPlaceBuilder<K, N, L>,
+    right: &mut R,
+    n: usize,
+    wanted: bool,
+)
+    requires some { n ≤ length (R.unread right.old) }
+    requires puts { length (R.unread right.old) ≤ builder.old.puts_left }
+    ensures kept { (ts : List (Taken K)) → R.may_be ts builder.old.kept → R.may_be (ts ++ taken_right wanted n (R.unread right.old)) builder.new.kept }
+    ensures unread { builder.new.unread ≡ builder.old.unread }
+    ensures rest { R.unread right.new ≡ drop n (R.unread right.old) }
+    ensures puts { length (R.unread right.new) ≤ builder.new.puts_left }
+{
+    if !wanted {
+        right.drop_front(n);
+        return;
+    }
+    for _i in 0..n {
+        builder.put(right.take_front());
+    }
+}

@@ -1,0 +1,94 @@
+"""Tests of the module: python3 -m unittest, in this folder."""
+
+import random
+import unittest
+from array import array
+
+import range_sets as sets
+
+
+def q(*items):
+    return array("q", items)
+
+
+def members(boundaries, points):
+    return [sum(b <= p for b in boundaries) % 2 == 1 for p in points]
+
+
+class Rows(unittest.TestCase):
+    def test_operations(self):
+        a, b = q(0, 10), q(5, 20)
+        self.assertEqual(sets.union(a, b), q(0, 20))
+        self.assertEqual(sets.intersection(a, b), q(5, 10))
+        self.assertEqual(sets.difference(a, b), q(0, 5))
+        self.assertEqual(sets.symmetric_difference(a, b), q(0, 5, 10, 20))
+        self.assertEqual(sets.union(q(), q()), q())
+
+    def test_one_set(self):
+        self.assertEqual(sets.negation(q(0, 10)), q(-2**63, 0, 10))
+        self.assertEqual(sets.negation(array("Q", [0, 10])), array("Q", [10]))
+        self.assertEqual(sets.insert(q(0, 10), 12, 14), q(0, 10, 12, 14))
+        self.assertEqual(sets.remove(q(0, 10), 3, 7), q(0, 3, 7, 10))
+        self.assertEqual(sets.split(q(0, 10, 20, 30), 25), (3, 2))
+
+    def test_into_a_buffer(self):
+        out = q(7, 7, 7, 7, 7)
+        self.assertEqual(sets.symmetric_difference(q(0, 10), q(5, 20), out), 4)
+        self.assertEqual(out, q(0, 5, 10, 20, 7))
+        with self.assertRaises(sets.NoRoom) as refused:
+            sets.symmetric_difference(q(0, 10), q(5, 20), q(7, 7, 7))
+        self.assertEqual(refused.exception.needed, 4)
+        with self.assertRaises(ValueError):
+            a = q(0, 10)
+            sets.union(a, q(5, 20), a)
+
+    def test_questions(self):
+        a, b = q(0, 10), q(5, 20)
+        self.assertTrue(sets.intersects(a, b) and not sets.is_disjoint(a, b))
+        self.assertTrue(sets.is_subset(q(5, 10), b) and not sets.is_subset(a, b))
+        self.assertTrue(sets.equal(a, q(0, 10)) and not sets.equal(a, b))
+        self.assertTrue(sets.contains(a, 9) and not sets.contains(a, 10))
+        self.assertTrue(sets.is_empty(q()) and not sets.is_empty(a))
+
+    def test_bad_input(self):
+        for bad in (q(3, 2), q(3, 3)):
+            self.assertFalse(sets.is_sorted(bad))
+            for call in (sets.union, sets.difference, sets.is_subset):
+                with self.assertRaises(sets.NotSorted):
+                    call(bad, q(1))
+                with self.assertRaises(sets.NotSorted):
+                    call(q(1), bad)
+        with self.assertRaises(TypeError):
+            sets.union(q(1), array("Q", [1]))
+        with self.assertRaises(TypeError):
+            sets.union(array("i", [1]), array("i", [1]))
+        with self.assertRaises(OverflowError):
+            sets.contains(q(1), 2**63)
+
+    def test_other_buffers(self):
+        frozen = memoryview(q(0, 10)).toreadonly()
+        self.assertEqual(sets.union(frozen, q(5, 20)), q(0, 20))
+        try:
+            import numpy
+        except ImportError:
+            return
+        a = numpy.array([0, 10], dtype=numpy.int64)
+        self.assertEqual(sets.union(a, q(5, 20)), q(0, 20))
+
+
+class MadeUp(unittest.TestCase):
+    def test_members(self):
+        made = random.Random(1)
+        points = range(-1, 21)
+        for _ in range(2000):
+            a, b = (q(*sorted(made.sample(range(20), made.randrange(12)))) for _ in range(2))
+            on_a, on_b = members(a, points), members(b, points)
+            for call, f in ((sets.union, lambda x, y: x or y), (sets.intersection, lambda x, y: x and y),
+                            (sets.difference, lambda x, y: x and not y), (sets.symmetric_difference, lambda x, y: x != y)):
+                result = call(a, b)
+                self.assertTrue(sets.is_sorted(result))
+                self.assertEqual(members(result, points), [f(x, y) for x, y in zip(on_a, on_b)])
+
+
+if __name__ == "__main__":
+    unittest.main()

@@ -1,0 +1,74 @@
+//! The calls, on sets whose answers are written out.
+use range_sets::{NoRoom, RangeSetRef};
+
+fn set(boundaries: &[i64]) -> RangeSetRef<'_, i64> {
+    RangeSetRef::new(boundaries).expect("a strictly sorted list")
+}
+
+#[test]
+fn operations_write_into_a_buffer() {
+    let (a, b) = (set(&[0, 10]), set(&[5, 20]));
+    let mut out = [77; 6];
+    assert_eq!(a.union(b, &mut out).unwrap().boundaries(), [0, 20]);
+    assert_eq!(a.intersection(b, &mut out).unwrap().boundaries(), [5, 10]);
+    assert_eq!(a.difference(b, &mut out).unwrap().boundaries(), [0, 5]);
+    assert_eq!(a.symmetric_difference(b, &mut out).unwrap().boundaries(), [0, 5, 10, 20]);
+    assert_eq!(out[4..], [77, 77]);
+    assert_eq!((a.union_len(b), a.intersection_len(b)), (2, 2));
+    assert_eq!((a.difference_len(b), a.symmetric_difference_len(b)), (2, 4));
+}
+
+#[test]
+fn a_buffer_that_is_too_short_tells_what_is_needed() {
+    let (a, b) = (set(&[0, 10]), set(&[5, 20]));
+    for room in 0..4 {
+        let mut out = [77; 4];
+        assert_eq!(a.symmetric_difference(b, &mut out[..room]), Err(NoRoom { needed: 4 }));
+        assert!(out[room..].iter().all(|&x| x == 77));
+    }
+    assert_eq!(a.intersection(set(&[20]), &mut []).unwrap(), RangeSetRef::empty());
+}
+
+#[test]
+fn only_strictly_sorted_lists_are_sets() {
+    assert!(RangeSetRef::new(&[3i64, 2]).is_none());
+    assert!(RangeSetRef::new(&[3i64, 3]).is_none());
+    assert!(RangeSetRef::new(&[u64::MAX, 0]).is_none());
+    assert!(RangeSetRef::new(&[0, u64::MAX]).is_some());
+}
+
+#[test]
+fn questions() {
+    let (a, b) = (set(&[0, 10]), set(&[5, 20]));
+    assert!(a.contains(0) && a.contains(9) && !a.contains(10) && !a.contains(-1));
+    assert!(a.intersects(b) && !a.is_disjoint(b) && a.is_disjoint(set(&[10])));
+    assert!(set(&[5, 10]).is_subset(b) && b.is_superset(set(&[5, 10])) && !a.is_subset(b));
+    assert!(RangeSetRef::<i64>::empty().is_empty() && !a.is_empty());
+    assert!(a == set(&[0, 10]) && a != b && RangeSetRef::<u64>::default().is_empty());
+}
+
+#[test]
+fn negation_insertion_removal_and_split() {
+    let mut out = [0; 8];
+    assert_eq!(set(&[0, 10]).negation(&mut out).unwrap().boundaries(), [i64::MIN, 0, 10]);
+    assert_eq!(set(&[i64::MIN, 10]).negation(&mut out).unwrap().boundaries(), [10]);
+    assert_eq!(set(&[0, 10]).insert(12, 14, &mut out).unwrap().boundaries(), [0, 10, 12, 14]);
+    assert_eq!(set(&[0, 10]).insert(14, 12, &mut out).unwrap().boundaries(), [0, 10]);
+    assert_eq!(set(&[0, 10]).remove(3, 7, &mut out).unwrap().boundaries(), [0, 3, 7, 10]);
+    let boundaries = [0, 10, 20, 30];
+    let (left, right) = set(&boundaries).split(25);
+    assert_eq!((left.boundaries(), right.boundaries()), (&[0, 10, 20][..], &[20, 30][..]));
+    let mut lowest = [0u64; 2];
+    let none = RangeSetRef::new(&[0u64]).unwrap().negation(&mut lowest).unwrap();
+    assert!(none.is_empty());
+}
+
+#[test]
+fn the_lines_of_the_readme() {
+    let day = RangeSetRef::new(&[9i64, 17]).unwrap();
+    let busy = RangeSetRef::new(&[9, 11, 12, 15]).unwrap();
+    let mut out = [0; 6];
+    let free = day.difference(busy, &mut out).unwrap();
+    assert_eq!(free.boundaries(), [11, 12, 15, 17]);
+    assert!(free.contains(16) && !free.contains(13));
+}
