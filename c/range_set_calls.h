@@ -5,6 +5,11 @@ bool PROVED(is_sorted)(const NUMBER *a, size_t a_len);
 bool PROVED(contains)(const NUMBER *a, size_t a_len, NUMBER value);
 bool PROVED(is_empty)(const NUMBER *a, size_t a_len);
 void PROVED(split)(const NUMBER *a, size_t a_len, NUMBER at, size_t *left_len, size_t *right_start);
+bool PROVED(contains_range)(const NUMBER *a, size_t a_len, NUMBER start, NUMBER end);
+bool PROVED(range_at)(const NUMBER *a, size_t a_len, NUMBER value, NUMBER *start, NUMBER *end, bool *has_end);
+range_set_status PROVED(covered)(const NUMBER *a, size_t a_len, uint64_t *count);
+range_set_status PROVED(gaps)(const NUMBER *a, size_t a_len, NUMBER start, NUMBER end, NUMBER *out, size_t out_len, size_t *written);
+size_t PROVED(from_unsorted)(NUMBER *items, size_t len);
 range_set_status PROVED(union)(const NUMBER *a, size_t a_len, const NUMBER *b, size_t b_len, NUMBER *out, size_t out_len, size_t *written);
 range_set_status PROVED(union_len)(const NUMBER *a, size_t a_len, const NUMBER *b, size_t b_len, size_t *len);
 range_set_status PROVED(intersection)(const NUMBER *a, size_t a_len, const NUMBER *b, size_t b_len, NUMBER *out, size_t out_len, size_t *written);
@@ -35,6 +40,38 @@ range_set_status NAME(contains)(const NUMBER *a, size_t a_len, NUMBER value, boo
 {
     if (!is_list(a, a_len) || !is_result(answer, sizeof *answer, a, a_len)) return RANGE_SET_BAD_POINTER;
     *answer = PROVED(contains)(a ? a : &NAME(nothing), a_len, value);
+    return RANGE_SET_DONE;
+}
+
+range_set_status NAME(contains_range)(const NUMBER *a, size_t a_len, NUMBER start, NUMBER end, bool *answer)
+{
+    if (!is_list(a, a_len) || !is_result(answer, sizeof *answer, a, a_len)) return RANGE_SET_BAD_POINTER;
+    *answer = PROVED(contains_range)(a ? a : &NAME(nothing), a_len, start, end);
+    return RANGE_SET_DONE;
+}
+
+range_set_status NAME(range_at)(const NUMBER *a, size_t a_len, NUMBER value, bool *found, NUMBER *start, NUMBER *end, bool *has_end)
+{
+    if (!is_list(a, a_len) || !is_result(found, sizeof *found, a, a_len) || !is_result(start, sizeof *start, a, a_len)
+        || !is_result(end, sizeof *end, a, a_len) || !is_result(has_end, sizeof *has_end, a, a_len)
+        || overlap(found, sizeof *found, has_end, sizeof *has_end) || overlap(found, sizeof *found, start, sizeof *start)
+        || overlap(found, sizeof *found, end, sizeof *end) || overlap(has_end, sizeof *has_end, start, sizeof *start)
+        || overlap(has_end, sizeof *has_end, end, sizeof *end) || overlap(start, sizeof *start, end, sizeof *end))
+        return RANGE_SET_BAD_POINTER;
+    *found = PROVED(range_at)(a ? a : &NAME(nothing), a_len, value, start, end, has_end);
+    return RANGE_SET_DONE;
+}
+
+range_set_status NAME(covered)(const NUMBER *a, size_t a_len, uint64_t *count)
+{
+    if (!is_list(a, a_len) || !is_result(count, sizeof *count, a, a_len)) return RANGE_SET_BAD_POINTER;
+    return PROVED(covered)(a ? a : &NAME(nothing), a_len, count);
+}
+
+range_set_status NAME(from_unsorted)(NUMBER *items, size_t len, size_t *written)
+{
+    if (!is_list(items, len) || !is_result(written, sizeof *written, items, len)) return RANGE_SET_BAD_POINTER;
+    *written = PROVED(from_unsorted)(items ? items : &NAME(nothing), len);
     return RANGE_SET_DONE;
 }
 
@@ -138,6 +175,13 @@ range_set_status NAME(remove)(const NUMBER *a, size_t a_len, NUMBER start, NUMBE
     if (!is_list(a, a_len) || !is_buffer(out, out_len, a, a_len) || !is_result(written, sizeof *written, a, a_len)
         || !is_result(written, sizeof *written, out, out_len)) return RANGE_SET_BAD_POINTER;
     return PROVED(remove)(a ? a : &NAME(nothing), a_len, start, end, out ? out : &NAME(nothing), out_len, written);
+}
+
+range_set_status NAME(gaps)(const NUMBER *a, size_t a_len, NUMBER start, NUMBER end, NUMBER *out, size_t out_len, size_t *written)
+{
+    if (!is_list(a, a_len) || !is_buffer(out, out_len, a, a_len) || !is_result(written, sizeof *written, a, a_len)
+        || !is_result(written, sizeof *written, out, out_len)) return RANGE_SET_BAD_POINTER;
+    return PROVED(gaps)(a ? a : &NAME(nothing), a_len, start, end, out ? out : &NAME(nothing), out_len, written);
 }
 
 range_set_status NAME(is_disjoint)(const NUMBER *a, size_t a_len, const NUMBER *b, size_t b_len, bool *answer)

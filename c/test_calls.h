@@ -12,7 +12,7 @@ static NUMBER *TEST(copy)(const NUMBER *items, size_t len)
 
 /* One call that writes a set, by number, so that each is tried with several rooms. */
 struct TEST(operation) {
-    int which; /* 0 to 3: the operations; 4: negation; 5: insert; 6: remove */
+    int which; /* 0 to 3: the operations; 4: negation; 5: insert; 6: remove; 7: gaps */
     const NUMBER *a, *b;
     size_t a_len, b_len;
     NUMBER start, end;
@@ -27,7 +27,8 @@ static range_set_status TEST(run)(const struct TEST(operation) *o, NUMBER *out, 
     case 3: return CALL(symmetric_difference)(o->a, o->a_len, o->b, o->b_len, out, out_len, written);
     case 4: return CALL(negation)(o->a, o->a_len, out, out_len, written);
     case 5: return CALL(insert)(o->a, o->a_len, o->start, o->end, out, out_len, written);
-    default: return CALL(remove)(o->a, o->a_len, o->start, o->end, out, out_len, written);
+    case 6: return CALL(remove)(o->a, o->a_len, o->start, o->end, out, out_len, written);
+    default: return CALL(gaps)(o->a, o->a_len, o->start, o->end, out, out_len, written);
     }
 }
 
@@ -100,6 +101,62 @@ static void TEST(split_at)(const NUMBER *a, size_t a_len, const NUMBER *points, 
     }
 }
 
+/* The range at each point, and how many numbers are members, told from the bitmap. */
+static void TEST(points_of)(const NUMBER *a, size_t a_len, const NUMBER *points, const bool *on, size_t n)
+{
+    size_t p, first, next;
+    uint64_t count = 0, told = 77;
+    for (p = 0; p < n; p++) {
+        NUMBER start = 77, end = 78;
+        bool found = !on[p], has_end = (p % 2) == 1, had_end = has_end;
+        check(CALL(range_at)(a, a_len, points[p], &found, &start, &end, &has_end) == RANGE_SET_DONE, "range_at: status");
+        check(found == on[p], "range_at: found");
+        for (first = p; on[p] && first > 0 && on[first - 1]; first--) continue;
+        for (next = p; next < n && on[next]; next++) continue;
+        if (!on[p]) check(start == 77 && end == 78 && has_end == had_end, "range_at of no member writes");
+        else check(start == points[first] && has_end == (next < n) && end == (next < n ? points[next] : 78), "range_at: the range");
+        if (on[p] && p + 1 < n) count += (uint64_t)points[p + 1] - (uint64_t)points[p];
+    }
+    if (n > 0 && on[n - 1]) check(CALL(covered)(a, a_len, &told) == RANGE_SET_NO_END && told == 77, "covered of a set without an end");
+    else check(CALL(covered)(a, a_len, &told) == RANGE_SET_DONE && told == count, "covered");
+}
+
+/* Whether all numbers from one point on, up to another, are members. */
+static void TEST(whole_ranges)(const NUMBER *a, size_t a_len, const NUMBER *points, const bool *on, size_t n)
+{
+    size_t i, from, to, p;
+    for (i = 0; i < 8; i++) {
+        bool all = true, answer = false;
+        from = random_below((unsigned)n), to = random_below((unsigned)n);
+        for (p = from; p < to; p++) all = all && on[p];
+        check(CALL(contains_range)(a, a_len, points[from], points[to], &answer) == RANGE_SET_DONE, "contains_range: status");
+        check(answer == all, "contains_range");
+    }
+}
+
+/* Numbers in any order, some of them several times, between guard words. */
+static void TEST(shuffled)(const NUMBER *points, size_t n)
+{
+    enum { GUARD = 4, MOST_ITEMS = 2 * POINTS };
+    const NUMBER guard = (NUMBER)0x5a5a5a5a5a5a5a5a;
+    NUMBER buffer[GUARD + MOST_ITEMS + GUARD], *items = buffer + GUARD;
+    bool is_there[POINTS + 1] = {false};
+    size_t len = random_below(MOST_ITEMS + 1), written = 77, wanted = 0, i;
+
+    for (i = 0; i < GUARD; i++) buffer[i] = buffer[GUARD + len + i] = guard;
+    for (i = 0; i < len; i++) {
+        size_t p = random_below((unsigned)n);
+        items[i] = points[p];
+        is_there[p] = true;
+    }
+    check(CALL(from_unsorted)(items, len, &written) == RANGE_SET_DONE, "from_unsorted: status");
+    for (i = 0; i < n; i++)
+        if (is_there[i]) check(wanted < written && items[wanted++] == points[i], "from_unsorted: the list");
+    check(written == wanted, "from_unsorted: length");
+    for (i = 0; i < GUARD; i++)
+        check(buffer[i] == guard && buffer[GUARD + len + i] == guard, "from_unsorted: a word beside the buffer");
+}
+
 /* A made-up case: two bitmaps, all calls. */
 static void TEST(made_up)(void)
 {
@@ -128,7 +185,7 @@ static void TEST(made_up)(void)
     other = TEST(copy)(b, b_len);
     o.a = list, o.a_len = a_len, o.b = other, o.b_len = b_len;
     o.start = points[random_below((unsigned)n)], o.end = points[random_below((unsigned)n)];
-    for (o.which = 0; o.which < 7; o.which++) {
+    for (o.which = 0; o.which < 8; o.which++) {
         for (p = 0; p < n; p++) {
             bool in_range = o.start <= points[p] && points[p] < o.end;
             switch (o.which) {
@@ -138,7 +195,8 @@ static void TEST(made_up)(void)
             case 3: on[p] = on_a[p] != on_b[p]; break;
             case 4: on[p] = !on_a[p]; break;
             case 5: on[p] = on_a[p] || in_range; break;
-            default: on[p] = on_a[p] && !in_range; break;
+            case 6: on[p] = on_a[p] && !in_range; break;
+            default: on[p] = !on_a[p] && in_range; break;
             }
         }
         TEST(with_rooms)(&o, wanted, TEST(boundaries)(points, on, n, wanted));
@@ -152,6 +210,9 @@ static void TEST(made_up)(void)
     for (p = 0; p < n; p++)
         check(CALL(contains)(list, a_len, points[p], &answer) == RANGE_SET_DONE && answer == on_a[p], "contains");
     TEST(split_at)(list, a_len, points, on_a, n);
+    TEST(points_of)(list, a_len, points, on_a, n);
+    TEST(whole_ranges)(list, a_len, points, on_a, n);
+    TEST(shuffled)(points, n);
     free(list);
     free(other);
 }
@@ -162,8 +223,12 @@ static void TEST(rows)(void)
     static const NUMBER a[] = {0, 10}, b[] = {5, 20}, open[] = {20}, least[] = {LEAST}, in_two[] = {10, 10};
     static const NUMBER unions[] = {0, 20}, both[] = {5, 10}, left[] = {0, 5}, one_of[] = {0, 5, 10, 20}, with_open[] = {0, 10, 20};
     static const NUMBER not_open[] = {LEAST, 20}, put_in[] = {0, 10, 12, 14}, cut[] = {0, 3, 7, 10};
+    static const NUMBER both_ways[] = {LEAST, MOST}, gap[] = {10, 20}, around[] = {3, 5, 20, 25};
+    NUMBER start = 77, end = 78, mixed[] = {7, 5, 7, MOST, LEAST, 5};
     struct TEST(operation) o;
-    bool answer = true;
+    uint64_t count = 77;
+    size_t written = 77;
+    bool answer = true, has_end = true;
 
     o.a = a, o.a_len = 2, o.b = b, o.b_len = 2, o.start = 0, o.end = 0;
     o.which = 0, TEST(with_rooms)(&o, unions, 2);
@@ -177,12 +242,30 @@ static void TEST(rows)(void)
     o.start = 14, o.end = 12, o.which = 5, TEST(with_rooms)(&o, a, 2);
     o.start = 3, o.end = 7, o.which = 6, TEST(with_rooms)(&o, cut, 4);
     o.start = LEAST, o.end = MOST, o.which = 6, TEST(with_rooms)(&o, NULL, 0);
+    o.start = 5, o.end = 20, o.which = 7, TEST(with_rooms)(&o, gap, 2);
+    o.start = 20, o.end = 5, o.which = 7, TEST(with_rooms)(&o, NULL, 0);
+    o.a = b, o.start = 3, o.end = 25, o.which = 7, TEST(with_rooms)(&o, around, 4);
     o.a = open, o.a_len = 1, o.which = 4, TEST(with_rooms)(&o, not_open, 2);
     o.a = NULL, o.a_len = 0, o.which = 4, TEST(with_rooms)(&o, least, 1);
     o.a = least, o.a_len = 1, o.which = 4, TEST(with_rooms)(&o, NULL, 0);
     check(CALL(is_sorted)(in_two, 2, &answer) == RANGE_SET_DONE && !answer, "is_sorted of a repeated number");
     check(CALL(is_empty)(NULL, 0, &answer) == RANGE_SET_DONE && answer, "is_empty of a null pointer with length 0");
     check(CALL(contains)(NULL, 0, 1, &answer) == RANGE_SET_DONE && !answer, "contains of a null pointer with length 0");
+    check(CALL(contains_range)(a, 2, 3, 10, &answer) == RANGE_SET_DONE && answer, "contains_range up to the end");
+    check(CALL(contains_range)(a, 2, 3, 11, &answer) == RANGE_SET_DONE && !answer, "contains_range past the end");
+    check(CALL(contains_range)(NULL, 0, 3, 3, &answer) == RANGE_SET_DONE && answer, "contains_range of no number");
+    check(CALL(range_at)(a, 2, 9, &answer, &start, &end, &has_end) == RANGE_SET_DONE && answer && has_end && start == 0 && end == 10, "range_at");
+    end = 78;
+    check(CALL(range_at)(open, 1, MOST, &answer, &start, &end, &has_end) == RANGE_SET_DONE && answer && !has_end && start == 20 && end == 78, "range_at without an end");
+    check(CALL(range_at)(a, 2, 10, &answer, &start, &end, &has_end) == RANGE_SET_DONE && !answer && start == 20, "range_at of no member");
+    check(CALL(covered)(a, 2, &count) == RANGE_SET_DONE && count == 10, "covered");
+    check(CALL(covered)(both_ways, 2, &count) == RANGE_SET_DONE && count == UINT64_MAX, "covered of all but the greatest number");
+    check(CALL(covered)(NULL, 0, &count) == RANGE_SET_DONE && count == 0, "covered of a null pointer with length 0");
+    check(CALL(covered)(open, 1, &count) == RANGE_SET_NO_END && count == 0, "covered without an end");
+    check(CALL(covered)(in_two, 2, &count) == RANGE_SET_NOT_SORTED && count == 0, "covered of a repeated number");
+    check(CALL(from_unsorted)(mixed, 6, &written) == RANGE_SET_DONE && written == 4, "from_unsorted: length");
+    check(mixed[0] == LEAST && mixed[1] == 5 && mixed[2] == 7 && mixed[3] == MOST, "from_unsorted: the list");
+    check(CALL(from_unsorted)(NULL, 0, &written) == RANGE_SET_DONE && written == 0, "from_unsorted of a null pointer with length 0");
 }
 
 /* With a list that is none, each call that goes over it leaves all as it was. */
@@ -194,7 +277,7 @@ static void TEST(refuses)(const NUMBER *a, size_t a_len, const NUMBER *b, size_t
     bool answer = true;
     struct TEST(operation) o;
     o.a = a, o.a_len = a_len, o.b = b, o.b_len = b_len, o.start = 1, o.end = 2;
-    for (o.which = 0; o.which < (left_is_bad ? 7 : 4); o.which++) {
+    for (o.which = 0; o.which < (left_is_bad ? 8 : 4); o.which++) {
         check(TEST(run)(&o, out, 8, &written) == wanted, "status of a bad list");
         check(written == 77 && memcmp(out, as_was, sizeof out) == 0, "a bad list writes");
         if (o.which < 4) check(TEST(run_len)(&o, &written) == wanted && written == 77, "length of a bad list");
@@ -208,9 +291,10 @@ static void TEST(refuses)(const NUMBER *a, size_t a_len, const NUMBER *b, size_t
 static void TEST(bad_input)(void)
 {
     const NUMBER good[] = {1, 2}, turned[] = {3, 2}, repeated[] = {3, 3};
-    NUMBER list[] = {1, 2, 3, 4};
+    NUMBER list[] = {1, 2, 3, 4}, start = 77, end = 77;
     size_t n = 77, m = 77;
-    bool answer = true;
+    uint64_t count = 77;
+    bool answer = true, has_end = true;
 
     TEST(refuses)(turned, 2, good, 2, true, RANGE_SET_NOT_SORTED);
     TEST(refuses)(good, 2, turned, 2, false, RANGE_SET_NOT_SORTED);
@@ -234,6 +318,19 @@ static void TEST(bad_input)(void)
     n = 77;
     check(CALL(split)(NULL, 1, 1, &n, &m) == RANGE_SET_BAD_POINTER && n == 77 && m == 77, "split of null");
     check(CALL(split)(good, 2, 1, &n, &n) == RANGE_SET_BAD_POINTER && n == 77, "split into one place");
+    check(CALL(contains_range)(NULL, 1, 1, 2, &answer) == RANGE_SET_BAD_POINTER && answer, "contains_range of null");
+    check(CALL(contains_range)(good, 2, 1, 2, NULL) == RANGE_SET_BAD_POINTER, "contains_range into null");
+    check(CALL(range_at)(NULL, 1, 1, &answer, &start, &end, &has_end) == RANGE_SET_BAD_POINTER && answer, "range_at of null");
+    check(CALL(range_at)(good, 2, 1, &answer, NULL, &end, &has_end) == RANGE_SET_BAD_POINTER && answer, "range_at into null");
+    check(CALL(range_at)(good, 2, 1, &answer, &start, &start, &has_end) == RANGE_SET_BAD_POINTER && start == 77, "range_at into one number");
+    check(CALL(range_at)(good, 2, 1, &answer, &start, &end, &answer) == RANGE_SET_BAD_POINTER && start == 77, "range_at into one truth");
+    check(CALL(range_at)(list, 2, 1, &answer, list + 1, &end, &has_end) == RANGE_SET_BAD_POINTER && list[1] == 2, "range_at into the list");
+    check(CALL(covered)(NULL, 1, &count) == RANGE_SET_BAD_POINTER && count == 77, "covered of null");
+    check(CALL(covered)(good, 2, NULL) == RANGE_SET_BAD_POINTER, "covered into null");
+    check(CALL(from_unsorted)(NULL, 1, &n) == RANGE_SET_BAD_POINTER && n == 77, "from_unsorted of null");
+    check(CALL(from_unsorted)(list, 4, NULL) == RANGE_SET_BAD_POINTER, "from_unsorted into null");
+    check(CALL(from_unsorted)(list, SIZE_MAX, &n) == RANGE_SET_BAD_POINTER && n == 77, "from_unsorted of too many");
+    check(CALL(from_unsorted)(list, 4, (size_t *)(list + 1)) == RANGE_SET_BAD_POINTER && list[1] == 2, "from_unsorted into the list");
 }
 
 /* Searches in lists that aren't sorted answer something, and stay within the list. */
@@ -241,13 +338,16 @@ static void TEST(unsorted_searches)(void)
 {
     NUMBER items[POINTS], *list;
     size_t len = random_below(POINTS), i, left_len = 77, right_start = 77;
-    bool answer;
+    NUMBER start = 77, end = 77;
+    bool answer, has_end = false;
     for (i = 0; i < len; i++) items[i] = (NUMBER)random_below(9);
     list = TEST(copy)(items, len);
     for (i = 0; i < 10; i++) {
         check(CALL(contains)(list, len, (NUMBER)i, &answer) == RANGE_SET_DONE, "contains of an unsorted list");
         check(CALL(split)(list, len, (NUMBER)i, &left_len, &right_start) == RANGE_SET_DONE, "split of an unsorted list");
         check(left_len <= len && right_start <= len, "split of an unsorted list: places");
+        check(CALL(contains_range)(list, len, (NUMBER)i, (NUMBER)(i + 2), &answer) == RANGE_SET_DONE, "contains_range of an unsorted list");
+        check(CALL(range_at)(list, len, (NUMBER)i, &answer, &start, &end, &has_end) == RANGE_SET_DONE, "range_at of an unsorted list");
     }
     free(list);
 }

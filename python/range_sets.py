@@ -11,7 +11,7 @@ import ctypes
 import os
 from array import array
 
-_DONE, _NOT_SORTED, _NO_ROOM, _BAD_POINTER = range(4)
+_DONE, _NOT_SORTED, _NO_ROOM, _BAD_POINTER, _NO_END = range(5)
 _path = os.environ.get("RANGE_SET_LIBRARY") or os.path.join(
     os.path.dirname(os.path.abspath(__file__)), "..", "dist", "librange_set.so")
 _library = ctypes.CDLL(_path)
@@ -165,6 +165,25 @@ def remove(a, start, end, out=None):
     return _write("remove", lists, numbers, lists[0].length + 2, out)
 
 
+def gaps(a, start, end, out=None):
+    """The numbers from start to below end that are no members."""
+    lists = _lists(a)
+    numbers = (_number(lists[0].code, start), _number(lists[0].code, end))
+    return _write("gaps", lists, numbers, lists[0].length + 2, out)
+
+
+def from_unsorted(items):
+    """The set whose boundaries are the distinct ones of these numbers, which stand in any order: a new array."""
+    view = memoryview(items)
+    code = _code(view)
+    out = array(code, view.tobytes())
+    into = _List(out, writable=True)
+    written = ctypes.c_size_t()
+    _check(_call(code, "from_unsorted", _POINTER, _SIZE, _LEN)(into.pointer, into.length, ctypes.byref(written)))
+    del into
+    return out[:written.value]
+
+
 def is_sorted(a):
     """Whether the list is strictly sorted."""
     return _ask("is_sorted", _lists(a))
@@ -179,6 +198,42 @@ def contains(a, value):
     """Whether the number is a member of the set, whose list has to be strictly sorted."""
     lists = _lists(a)
     return _ask("contains", lists, _number(lists[0].code, value))
+
+
+def contains_range(a, start, end):
+    """Whether each number from start on, up to below end, is a member of the set, whose list has to be strictly sorted."""
+    lists = _lists(a)
+    return _ask("contains_range", lists, _number(lists[0].code, start), _number(lists[0].code, end))
+
+
+def range_at(a, value):
+    """The range that holds the number, as its start and its end, which is None where it has none; None if it is no member.
+
+    The list has to be strictly sorted.
+    """
+    lists = _lists(a)
+    code = lists[0].code
+    number = _NUMBERS[code][1]
+    found, start, end, has_end = ctypes.c_bool(), number(), number(), ctypes.c_bool()
+    to_number = ctypes.POINTER(number)
+    call = _call(code, "range_at", _POINTER, _SIZE, number, _BOOL, to_number, to_number, _BOOL)
+    _check(call(lists[0].pointer, lists[0].length, _number(code, value), ctypes.byref(found), ctypes.byref(start),
+                ctypes.byref(end), ctypes.byref(has_end)))
+    if not found.value:
+        return None
+    return start.value, end.value if has_end.value else None
+
+
+def covered(a):
+    """How many numbers are members, or None where the set has no end."""
+    lists = _lists(a)
+    count = ctypes.c_uint64()
+    call = _call(lists[0].code, "covered", _POINTER, _SIZE, ctypes.POINTER(ctypes.c_uint64))
+    status = call(lists[0].pointer, lists[0].length, ctypes.byref(count))
+    if status == _NO_END:
+        return None
+    _check(status)
+    return count.value
 
 
 def is_disjoint(a, b):

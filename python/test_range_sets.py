@@ -31,6 +31,21 @@ class Rows(unittest.TestCase):
         self.assertEqual(sets.remove(q(0, 10), 3, 7), q(0, 3, 7, 10))
         self.assertEqual(sets.split(q(0, 10, 20, 30), 25), (3, 2))
 
+    def test_ranges_gaps_and_counts(self):
+        a = q(0, 10, 20)
+        self.assertEqual([sets.range_at(a, x) for x in (9, 10, 20)], [(0, 10), None, (20, None)])
+        self.assertTrue(sets.contains_range(a, 3, 10) and not sets.contains_range(a, 3, 11))
+        self.assertEqual([sets.covered(x) for x in (a, q(0, 10), q(-2**63, 2**63 - 1))], [None, 10, 2**64 - 1])
+        self.assertEqual(sets.gaps(a, -5, 15), q(-5, 0, 10, 15))
+        with self.assertRaises(sets.NotSorted):
+            sets.covered(q(3, 3))
+
+    def test_numbers_in_any_order(self):
+        given = q(7, -2, 7, 5)
+        self.assertEqual(sets.from_unsorted(given), q(-2, 5, 7))
+        self.assertEqual(given, q(7, -2, 7, 5))
+        self.assertEqual(sets.from_unsorted(array("Q")), array("Q"))
+
     def test_into_a_buffer(self):
         out = q(7, 7, 7, 7, 7)
         self.assertEqual(sets.symmetric_difference(q(0, 10), q(5, 20), out), 4)
@@ -88,6 +103,11 @@ class MadeUp(unittest.TestCase):
                 result = call(a, b)
                 self.assertTrue(sets.is_sorted(result))
                 self.assertEqual(members(result, points), [f(x, y) for x, y in zip(on_a, on_b)])
+            start, end = made.randrange(-1, 21), made.randrange(-1, 21)
+            inside = [start <= p < end for p in points]
+            self.assertEqual(members(sets.gaps(a, start, end), points), [x and not y for x, y in zip(inside, on_a)])
+            self.assertEqual(sets.contains_range(a, start, end), all(y for x, y in zip(inside, on_a) if x))
+            self.assertEqual(sets.covered(a), None if len(a) % 2 else sum(on_a))
 
 
 if __name__ == "__main__":

@@ -1,6 +1,6 @@
 #!/usr/bin/env bash
 # Builds the static library for C anew and compares it with the one in dist/, compiles the header as C99 and as C++11
-# without a warning, and runs the tests and the example in C, under valgrind too.
+# without a warning, and runs the tests, the example and the lines of the pages in C, under valgrind too.
 #
 #   tests/c.sh
 #
@@ -55,9 +55,17 @@ for built in example example.dist; do
     "$work/$built" >"$work/seen" || fail "$built"
     printf 'busy: 9..11 12..15\nfree: 11..12 15..17\nneeds: 4\n' | cmp -s - "$work/seen" || fail "$built prints $(cat "$work/seen")"
 done
+
+# The lines in C of a page, word for word, as a program of their own.
+for page in README.md c/README.md; do
+    awk '/^```/ { on = $0 == "```c"; next } on' "$page" >"$work/page.c"
+    [ -s "$work/page.c" ] || fail "$page has no lines in C"
+    gcc -std=c99 -O2 $strict "$work/page.c" dist/librange_set.a -o "$work/page" || fail "the lines in C of $page"
+    valgrind -q --error-exitcode=9 "$work/page" || fail "the lines in C of $page end with an error"
+done
 valgrind -q --error-exitcode=9 --leak-check=full "$work/test" 1000 || fail "valgrind reports an error"
 if command -v clang >/dev/null; then
     clang -std=c99 -O1 -g -fsanitize=address,undefined $strict c/test.c c/range_set.c "$proved" -o "$work/sane" 2>/dev/null &&
         { "$work/sane" 2000 || fail "the address sanitizer reports an error"; }
 fi
-echo "c: the header, the tests, the example and valgrind pass"
+echo "c: the header, the tests, the example, the pages and valgrind pass"

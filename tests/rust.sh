@@ -1,5 +1,5 @@
 #!/usr/bin/env bash
-# Runs the tests of the Rust crate over the static library in dist/.
+# Runs the tests of the Rust crate over the static library in dist/, and the lines of the pages in Rust.
 #
 #   tests/rust.sh
 #
@@ -16,5 +16,16 @@ command -v cargo >/dev/null || fail "cargo is missing; on Debian the package car
 command -v cc >/dev/null || fail "cc is missing; on Debian the package gcc brings it"
 target=$(mktemp -d) || fail "no folder for the build"
 trap 'rm -rf "$target"' EXIT
-CARGO_TARGET_DIR=$target cargo test --offline --quiet || fail "cargo test"
-echo "rust: the tests pass"
+export CARGO_TARGET_DIR=$target/built
+cargo test --offline --quiet || fail "cargo test"
+
+# The block of a page that begins with a use of the crate, word for word, as a program of their own.
+mkdir -p "$target/page/src" || fail "no folder for the pages"
+printf '[package]\nname = "page"\nedition = "2021"\n\n[dependencies]\nrange-sets = { path = "%s" }\n' "$PWD" >"$target/page/Cargo.toml"
+for page in ../README.md README.md; do
+    awk '/^```/ { on = 0; next_is_first = $0 == "```rust"; next } next_is_first { on = $0 ~ /^use range_sets/; next_is_first = 0 } on' "$page" \
+        >"$target/page/src/main.rs"
+    [ -s "$target/page/src/main.rs" ] || fail "$page has no lines in Rust"
+    (cd "$target/page" && cargo run --offline --quiet) || fail "the lines in Rust of $page"
+done
+echo "rust: the tests and the pages pass"

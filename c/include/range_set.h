@@ -14,11 +14,15 @@
  *                          stands in the buffer. No byte outside it was written.
  *   RANGE_SET_BAD_POINTER  a null pointer with a length above 0, a null result, a length that no array has, or a buffer
  *                          or result that overlaps another argument: nothing was written.
+ *   RANGE_SET_NO_END       the set has no end, so that its members can't be counted: nothing was written.
  *
  * A call that writes a set takes a buffer `out` of `out_len` numbers and `written`. Where it is done, `written` is how
  * many boundaries stand at the front of `out`, and behind them `out` is as it was. The set of no boundaries needs no
  * buffer: `out` may be null with length 0, which also asks for the length alone. The result of an operation has at most
  * as many boundaries as both sets together, so that a buffer of that length is never too short.
+ *
+ * A call that makes a set of a list in any order does so in place: it takes `items` of `len` numbers, all of which it may
+ * change, and `written`. The set then stands at the front of `items`.
  *
  * Costs: a call on two sets goes over both once to see that they are sorted, and then makes at most
  * 2 * (a_len + b_len) comparisons, and few where long parts of one lie between two boundaries of the other.
@@ -40,6 +44,7 @@ extern "C" {
 #define RANGE_SET_NOT_SORTED 1u
 #define RANGE_SET_NO_ROOM 2u
 #define RANGE_SET_BAD_POINTER 3u
+#define RANGE_SET_NO_END 4u
 
 typedef uint32_t range_set_status;
 
@@ -51,6 +56,25 @@ range_set_status range_set_i64_is_sorted(const int64_t *a, size_t a_len, bool *a
 /* Whether `value` is a member. The list has to be strictly sorted, which is not checked: where it isn't, the answer
  * means nothing, and nothing outside the list is read. At most as many comparisons as a_len has binary digits. */
 range_set_status range_set_i64_contains(const int64_t *a, size_t a_len, int64_t value, bool *answer);
+
+/* Whether each number from `start` on, up to below `end`, is a member; it is true where end <= start. The list has to be
+ * strictly sorted, which is not checked: where it isn't, the answer means nothing, and nothing outside the list is read.
+ * At most twice as many comparisons as a_len has binary digits, and one. */
+range_set_status range_set_i64_contains_range(const int64_t *a, size_t a_len, int64_t start, int64_t end, bool *answer);
+
+/* Whether `value` is a member, and then the range of the set that holds it: its `start`, whether it has an end, and that
+ * `end`. Where `value` is no member only `found` is written, and without an end `end` is as it was. The list has to be
+ * strictly sorted, which is not checked: where it isn't, what is written means nothing, and nothing outside the list is
+ * read. At most as many comparisons as a_len has binary digits. */
+range_set_status range_set_i64_range_at(const int64_t *a, size_t a_len, int64_t value, bool *found, int64_t *start, int64_t *end, bool *has_end);
+
+/* Writes how many numbers are members, which always fits: RANGE_SET_NO_END where the set has no end, so where a_len is odd.
+ * Goes over the list twice. */
+range_set_status range_set_i64_covered(const int64_t *a, size_t a_len, uint64_t *count);
+
+/* Makes a set of numbers in any order, in place: `items` begins with the `written` distinct ones of its numbers in order,
+ * and nothing is said of what stands behind them. Sorts without memory, in some len * log(len) steps. */
+range_set_status range_set_i64_from_unsorted(int64_t *items, size_t len, size_t *written);
 
 /* Whether no number is a member: whether there is no boundary. The list has to be strictly sorted, which is not checked. */
 range_set_status range_set_i64_is_empty(const int64_t *a, size_t a_len, bool *answer);
@@ -94,6 +118,10 @@ range_set_status range_set_i64_insert(const int64_t *a, size_t a_len, int64_t st
 /* Writes the set with the numbers from `start` to below `end` taken out. */
 range_set_status range_set_i64_remove(const int64_t *a, size_t a_len, int64_t start, int64_t end, int64_t *out, size_t out_len, size_t *written);
 
+/* Writes the set of the numbers from `start` to below `end` that are no members: the gaps of the set between the two. It has
+ * at most a_len + 2 boundaries. */
+range_set_status range_set_i64_gaps(const int64_t *a, size_t a_len, int64_t start, int64_t end, int64_t *out, size_t out_len, size_t *written);
+
 /* Writes whether no number is a member of both. */
 range_set_status range_set_i64_is_disjoint(const int64_t *a, size_t a_len, const int64_t *b, size_t b_len, bool *answer);
 
@@ -114,6 +142,25 @@ range_set_status range_set_u64_is_sorted(const uint64_t *a, size_t a_len, bool *
 /* Whether `value` is a member. The list has to be strictly sorted, which is not checked: where it isn't, the answer
  * means nothing, and nothing outside the list is read. At most as many comparisons as a_len has binary digits. */
 range_set_status range_set_u64_contains(const uint64_t *a, size_t a_len, uint64_t value, bool *answer);
+
+/* Whether each number from `start` on, up to below `end`, is a member; it is true where end <= start. The list has to be
+ * strictly sorted, which is not checked: where it isn't, the answer means nothing, and nothing outside the list is read.
+ * At most twice as many comparisons as a_len has binary digits, and one. */
+range_set_status range_set_u64_contains_range(const uint64_t *a, size_t a_len, uint64_t start, uint64_t end, bool *answer);
+
+/* Whether `value` is a member, and then the range of the set that holds it: its `start`, whether it has an end, and that
+ * `end`. Where `value` is no member only `found` is written, and without an end `end` is as it was. The list has to be
+ * strictly sorted, which is not checked: where it isn't, what is written means nothing, and nothing outside the list is
+ * read. At most as many comparisons as a_len has binary digits. */
+range_set_status range_set_u64_range_at(const uint64_t *a, size_t a_len, uint64_t value, bool *found, uint64_t *start, uint64_t *end, bool *has_end);
+
+/* Writes how many numbers are members, which always fits: RANGE_SET_NO_END where the set has no end, so where a_len is odd.
+ * Goes over the list twice. */
+range_set_status range_set_u64_covered(const uint64_t *a, size_t a_len, uint64_t *count);
+
+/* Makes a set of numbers in any order, in place: `items` begins with the `written` distinct ones of its numbers in order,
+ * and nothing is said of what stands behind them. Sorts without memory, in some len * log(len) steps. */
+range_set_status range_set_u64_from_unsorted(uint64_t *items, size_t len, size_t *written);
 
 /* Whether no number is a member: whether there is no boundary. The list has to be strictly sorted, which is not checked. */
 range_set_status range_set_u64_is_empty(const uint64_t *a, size_t a_len, bool *answer);
@@ -156,6 +203,10 @@ range_set_status range_set_u64_insert(const uint64_t *a, size_t a_len, uint64_t 
 
 /* Writes the set with the numbers from `start` to below `end` taken out. */
 range_set_status range_set_u64_remove(const uint64_t *a, size_t a_len, uint64_t start, uint64_t end, uint64_t *out, size_t out_len, size_t *written);
+
+/* Writes the set of the numbers from `start` to below `end` that are no members: the gaps of the set between the two. It has
+ * at most a_len + 2 boundaries. */
+range_set_status range_set_u64_gaps(const uint64_t *a, size_t a_len, uint64_t start, uint64_t end, uint64_t *out, size_t out_len, size_t *written);
 
 /* Writes whether no number is a member of both. */
 range_set_status range_set_u64_is_disjoint(const uint64_t *a, size_t a_len, const uint64_t *b, size_t b_len, bool *answer);

@@ -49,6 +49,13 @@ impl<'a, T: Number> RangeSetRef<'a, T> {
         T::is_sorted(boundaries).then_some(RangeSetRef { boundaries })
     }
 
+    /// The set whose boundaries are the distinct ones of these numbers, in order: they are sorted in place, without memory,
+    /// and the set is their front.
+    pub fn from_unsorted(items: &'a mut [T]) -> Self {
+        let written = T::from_unsorted(items);
+        RangeSetRef { boundaries: &items[..written] }
+    }
+
     /// The boundaries, strictly sorted.
     pub const fn boundaries(&self) -> &'a [T] {
         self.boundaries
@@ -62,6 +69,21 @@ impl<'a, T: Number> RangeSetRef<'a, T> {
     /// Whether the number is a member.
     pub fn contains(&self, value: T) -> bool {
         T::contains(self.boundaries, value)
+    }
+
+    /// Whether each number from `start` on, up to below `end`, is a member. It is true where `end` isn't above `start`.
+    pub fn contains_range(&self, start: T, end: T) -> bool {
+        T::contains_range(self.boundaries, start, end)
+    }
+
+    /// The range that holds the number, as its start and the end that it has, or nothing where the number is no member.
+    pub fn range_at(&self, value: T) -> Option<(T, Option<T>)> {
+        T::range_at(self.boundaries, value)
+    }
+
+    /// How many numbers are members, or nothing where the set has no end.
+    pub fn covered(&self) -> Option<u64> {
+        T::covered(self.boundaries)
     }
 
     /// Whether no number is a member of both.
@@ -151,6 +173,12 @@ impl<'a, T: Number> RangeSetRef<'a, T> {
     /// Writes the set with the numbers from `start` to below `end` taken out.
     pub fn remove<'o>(&self, start: T, end: T, out: &'o mut [T]) -> Result<RangeSetRef<'o, T>, NoRoom> {
         let written = T::remove(self.boundaries, start, end, out)?;
+        Ok(RangeSetRef { boundaries: &out[..written] })
+    }
+
+    /// Writes the numbers from `start` to below `end` that are no members.
+    pub fn gaps<'o>(&self, start: T, end: T, out: &'o mut [T]) -> Result<RangeSetRef<'o, T>, NoRoom> {
+        let written = T::gaps(self.boundaries, start, end, out)?;
         Ok(RangeSetRef { boundaries: &out[..written] })
     }
 

@@ -3,6 +3,7 @@ use crate::NoRoom;
 
 const DONE: u32 = 0;
 const NO_ROOM: u32 = 2;
+const NO_END: u32 = 4;
 
 /// A call that writes a set made of two.
 #[derive(Clone, Copy)]
@@ -22,11 +23,15 @@ pub enum Question {
     Equal,
 }
 
-/// The calls. All but `is_sorted` take strictly sorted lists.
+/// The calls. All but `is_sorted` and `from_unsorted` take strictly sorted lists.
 pub trait Calls: Copy + std::fmt::Debug + 'static {
     fn is_sorted(a: &[Self]) -> bool;
     fn is_empty(a: &[Self]) -> bool;
     fn contains(a: &[Self], value: Self) -> bool;
+    fn contains_range(a: &[Self], start: Self, end: Self) -> bool;
+    fn range_at(a: &[Self], value: Self) -> Option<(Self, Option<Self>)>;
+    fn covered(a: &[Self]) -> Option<u64>;
+    fn from_unsorted(items: &mut [Self]) -> usize;
     fn ask(question: Question, a: &[Self], b: &[Self]) -> bool;
     fn split(a: &[Self], at: Self) -> (usize, usize);
     fn merge(operation: Operation, a: &[Self], b: &[Self], out: &mut [Self]) -> Result<usize, NoRoom>;
@@ -34,6 +39,7 @@ pub trait Calls: Copy + std::fmt::Debug + 'static {
     fn negation(a: &[Self], out: &mut [Self]) -> Result<usize, NoRoom>;
     fn insert(a: &[Self], start: Self, end: Self, out: &mut [Self]) -> Result<usize, NoRoom>;
     fn remove(a: &[Self], start: Self, end: Self, out: &mut [Self]) -> Result<usize, NoRoom>;
+    fn gaps(a: &[Self], start: Self, end: Self, out: &mut [Self]) -> Result<usize, NoRoom>;
 }
 
 /// What a call that writes a set answers. The lists were sorted and the slices are Rust's, so that no other status comes.
@@ -46,12 +52,18 @@ fn answered(status: u32, written: usize) -> Result<usize, NoRoom> {
 }
 
 macro_rules! calls {
-    ($number:ty, $is_sorted:ident, $is_empty:ident, $contains:ident, $split:ident, $negation:ident,
+    ($number:ty, $is_sorted:ident, $is_empty:ident, $contains:ident, $contains_range:ident, $range_at:ident, $covered:ident,
+     $from_unsorted:ident, $split:ident, $negation:ident,
      [$($range_call:ident $range_name:ident),*], [$($question:ident $asks:ident),*], [$($operation:ident $writes:ident $counts:ident),*]) => {
         extern "C" {
             fn $is_sorted(a: *const $number, a_len: usize, answer: *mut bool) -> u32;
             fn $is_empty(a: *const $number, a_len: usize, answer: *mut bool) -> u32;
             fn $contains(a: *const $number, a_len: usize, value: $number, answer: *mut bool) -> u32;
+            fn $contains_range(a: *const $number, a_len: usize, start: $number, end: $number, answer: *mut bool) -> u32;
+            fn $range_at(a: *const $number, a_len: usize, value: $number, found: *mut bool, start: *mut $number,
+                end: *mut $number, has_end: *mut bool) -> u32;
+            fn $covered(a: *const $number, a_len: usize, count: *mut u64) -> u32;
+            fn $from_unsorted(items: *mut $number, len: usize, written: *mut usize) -> u32;
             fn $split(a: *const $number, a_len: usize, at: $number, left_len: *mut usize, right_start: *mut usize) -> u32;
             fn $negation(a: *const $number, a_len: usize, out: *mut $number, out_len: usize, written: *mut usize) -> u32;
             $(fn $range_call(a: *const $number, a_len: usize, start: $number, end: $number,
@@ -85,6 +97,42 @@ macro_rules! calls {
                 let status = unsafe { $contains(a.as_ptr(), a.len(), value, &mut answer) };
                 assert_eq!(status, DONE);
                 answer
+            }
+
+            fn contains_range(a: &[Self], start: Self, end: Self) -> bool {
+                let mut answer = false;
+                // SAFETY: as above.
+                let status = unsafe { $contains_range(a.as_ptr(), a.len(), start, end, &mut answer) };
+                assert_eq!(status, DONE);
+                answer
+            }
+
+            fn range_at(a: &[Self], value: Self) -> Option<(Self, Option<Self>)> {
+                let (mut found, mut start, mut end, mut has_end) = (false, value, value, false);
+                // SAFETY: as above; the range is written to locals of their own.
+                let status = unsafe {
+                    $range_at(a.as_ptr(), a.len(), value, &mut found, &mut start, &mut end, &mut has_end)
+                };
+                assert_eq!(status, DONE);
+                found.then_some((start, has_end.then_some(end)))
+            }
+
+            fn covered(a: &[Self]) -> Option<u64> {
+                let mut count = 0;
+                // SAFETY: the pointer and the length are those of a slice, and the count is a local of its own.
+                match unsafe { $covered(a.as_ptr(), a.len(), &mut count) } {
+                    DONE => Some(count),
+                    NO_END => None,
+                    other => unreachable!("status {other}"),
+                }
+            }
+
+            fn from_unsorted(items: &mut [Self]) -> usize {
+                let mut written = 0;
+                // SAFETY: the pointer and the length are those of a slice that is borrowed for writing.
+                let status = unsafe { $from_unsorted(items.as_mut_ptr(), items.len(), &mut written) };
+                assert_eq!(status, DONE);
+                written
             }
 
             fn ask(question: Question, a: &[Self], b: &[Self]) -> bool {
@@ -144,8 +192,9 @@ macro_rules! calls {
     };
 }
 
-calls!(i64, range_set_i64_is_sorted, range_set_i64_is_empty, range_set_i64_contains, range_set_i64_split, range_set_i64_negation,
-    [range_set_i64_insert insert, range_set_i64_remove remove],
+calls!(i64, range_set_i64_is_sorted, range_set_i64_is_empty, range_set_i64_contains, range_set_i64_contains_range,
+    range_set_i64_range_at, range_set_i64_covered, range_set_i64_from_unsorted, range_set_i64_split, range_set_i64_negation,
+    [range_set_i64_insert insert, range_set_i64_remove remove, range_set_i64_gaps gaps],
     [IsDisjoint range_set_i64_is_disjoint, Intersects range_set_i64_intersects, IsSubset range_set_i64_is_subset,
      Equal range_set_i64_equal],
     [Union range_set_i64_union range_set_i64_union_len,
@@ -153,8 +202,9 @@ calls!(i64, range_set_i64_is_sorted, range_set_i64_is_empty, range_set_i64_conta
      Difference range_set_i64_difference range_set_i64_difference_len,
      SymmetricDifference range_set_i64_symmetric_difference range_set_i64_symmetric_difference_len]);
 
-calls!(u64, range_set_u64_is_sorted, range_set_u64_is_empty, range_set_u64_contains, range_set_u64_split, range_set_u64_negation,
-    [range_set_u64_insert insert, range_set_u64_remove remove],
+calls!(u64, range_set_u64_is_sorted, range_set_u64_is_empty, range_set_u64_contains, range_set_u64_contains_range,
+    range_set_u64_range_at, range_set_u64_covered, range_set_u64_from_unsorted, range_set_u64_split, range_set_u64_negation,
+    [range_set_u64_insert insert, range_set_u64_remove remove, range_set_u64_gaps gaps],
     [IsDisjoint range_set_u64_is_disjoint, Intersects range_set_u64_intersects, IsSubset range_set_u64_is_subset,
      Equal range_set_u64_equal],
     [Union range_set_u64_union range_set_u64_union_len,

@@ -64,11 +64,22 @@ fn negation_insertion_removal_and_split() {
 }
 
 #[test]
-fn the_lines_of_the_readme() {
-    let day = RangeSetRef::new(&[9i64, 17]).unwrap();
-    let busy = RangeSetRef::new(&[9, 11, 12, 15]).unwrap();
-    let mut out = [0; 6];
-    let free = day.difference(busy, &mut out).unwrap();
-    assert_eq!(free.boundaries(), [11, 12, 15, 17]);
-    assert!(free.contains(16) && !free.contains(13));
+fn ranges_gaps_and_counts() {
+    let a = set(&[0, 10, 20]);
+    assert_eq!(a.range_at(9), Some((0, Some(10))));
+    assert_eq!((a.range_at(10), a.range_at(20)), (None, Some((20, None))));
+    assert!(a.contains_range(3, 10) && !a.contains_range(3, 11) && a.contains_range(11, 3));
+    assert_eq!((a.covered(), set(&[0, 10]).covered()), (None, Some(10)));
+    assert_eq!(set(&[i64::MIN, i64::MAX]).covered(), Some(u64::MAX));
+    let mut out = [77; 4];
+    assert_eq!(a.gaps(5, 30, &mut out).unwrap().boundaries(), [10, 20]);
+    assert_eq!(a.gaps(-5, 15, &mut out).unwrap().boundaries(), [-5, 0, 10, 15]);
+    assert_eq!(a.gaps(-5, 15, &mut out[..3]), Err(NoRoom { needed: 4 }));
+}
+
+#[test]
+fn a_set_of_numbers_in_any_order_stands_in_their_place() {
+    let mut items = [7, -2, 7, i64::MAX, -2];
+    assert_eq!(RangeSetRef::from_unsorted(&mut items).boundaries(), [-2, 7, i64::MAX]);
+    assert!(RangeSetRef::<u64>::from_unsorted(&mut []).is_empty());
 }

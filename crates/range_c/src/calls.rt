@@ -1,5 +1,5 @@
 //! What the exports do, for numbers of any type.
-ghost use Rattle.std.specs.Prelude.{◌≡◌, ◌↔◌, ◌+◌, ◌<◌, ◌^◌, length, take, drop, false, IsTrue, IsSome, IfSome};
+ghost use Rattle.std.specs.Prelude.{◌≡◌, ◌↔◌, ◌+◌, ◌<◌, ◌≤◌, ◌^◌, [], ◌∷◌, length, take, drop, false, IsTrue, IsSome, IfSome};
 ghost use Rattle.range_collections.specs.Boundaries.{IsAscending, IsSameSet};
 ghost use Rattle.range_collections.specs.Sets.{IsSubset, Intersects, IsDisjoint};
 ghost use Rattle.range_collections.specs.Split.{split_left, split_right};
@@ -14,6 +14,8 @@ pub(crate) const DONE: u32 = 0;
 pub(crate) const NOT_SORTED: u32 = 1;
 /// The buffer is too short.
 pub(crate) const NO_ROOM: u32 = 2;
+/// The set has no end.
+pub(crate) const NO_END: u32 = 4;
 
 // Both sets, where both lists are strictly sorted.
 fn both<'a, T: Ord>(a: &'a [T], b: &'a [T]) -> Option<(RangeSetRef<'a, T>, RangeSetRef<'a, T>)>
@@ -109,24 +111,13 @@ pub(crate) fn equal<T: Ord>(a: &[T], b: &[T], answer: &mut bool) -> u32
     DONE
 }
 
-// Writes what the operation makes of the set and of the range from `start` to below `end`.
-pub(crate) fn merge_range<T: Ord + Copy + Drop, O: MergeOperation>(
-    a: &[T],
-    start: T,
-    end: T,
-    op: &O,
-    out: &mut [T],
-    written: &mut usize,
-) -> u32
-    requires off { O.connective op.now false false ≡ false }
-    requires fits { length a.now + 2 < 2 ^ 64 }
-    ensures { AnswersList T.cmp (O.connective op.now) a.now (range_items T.cmp start end) out.old out.new written.new result }
+// The boundaries of the range from the first number to below the second.
+pub(crate) fn range_of<'a, T: Ord>(ends: &'a [T; 2]) -> &'a [T]
+    ensures boundaries { (start end : T) → ends.now ≡ start ∷ end ∷ [] → result.now ≡ range_items T.cmp start end }
+    ensures len { length result.now ≤ 2 }
 {
-    if start.cmp(&end).is_lt() {
-        let ends = [start, end];
-        return merge(a, &ends, op, out, written);
-    }
-    merge(a, &[], op, out, written)
+    let [start, end] = ends;
+    if start.cmp(end).is_lt() { ends } else { &[] }
 }
 
 // Writes how many boundaries the part below `at` has, and where the part from it on begins.

@@ -4,5 +4,7 @@
 #![tactic(auto)]
 
 mod calls;
+mod points;
 mod signed;
 mod unsigned;
+mod unsorted;

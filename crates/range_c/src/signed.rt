@@ -1,17 +1,21 @@
 //! The exports for `i64`.
-ghost use Rattle.std.specs.Prelude.{◌≡◌, ◌↔◌, ◌+◌, ◌<◌, ◌^◌, [], ◌∷◌, length, take, drop, false, IsTrue, ℤ};
+ghost use Rattle.std.specs.Prelude.{◌≡◌, ◌↔◌, ◌+◌, ◌<◌, ◌≤◌, ◌^◌, [], ◌∷◌, length, take, drop, false, IsTrue, Contains, ℤ};
 ghost use Rattle.std.specs.Ordering.{int_cmp};
 ghost use Rattle.range_collections.specs.Boundaries.{IsAscending, IsSameSet, member};
 ghost use Rattle.range_collections.specs.Connective.{union_table, intersection_table, difference_table, symmetric_difference_table};
 ghost use Rattle.range_collections.specs.Sets.{IsSubset, Intersects, IsDisjoint};
-ghost use Rattle.range_collections.specs.Ranges.{range_items};
+ghost use Rattle.range_collections.specs.Ranges.{range_items, ranges_of, IsInRange};
+ghost use Rattle.range_collections.specs.Extent.{HasAllWithin};
+ghost use Rattle.range_collections.specs.Unsorted.{AreDistinctOf};
+ghost use Rattle.range_collections.specs.Countable.{signed_value};
 ghost use Rattle.range_collections.specs.Split.{split_left, split_right};
 ghost use Rattle.range_c.specs.Answers.{AnswersList, AnswersLength, AnswersQuestion};
+ghost use Rattle.range_c.specs.Points.{range_told, AnswersCount};
 ghost use Rattle.std.specs.Prelude.{◌-◌, negsuc};
 
-use crate::calls::{
-    equal, intersects, is_disjoint, is_subset, merge, merge_len, merge_range, split,
-};
+use crate::calls::{equal, intersects, is_disjoint, is_subset, merge, merge_len, range_of, split};
+use crate::points::{covered, range_at};
+use crate::unsorted::from_unsorted;
 use range_collections::{DiffOp, IntersectionOp, RangeSetRef, UnionOp, XorOp};
 
 /// Whether the list is strictly sorted.
@@ -156,7 +160,7 @@ pub extern "C" fn proved_range_set_i64_insert(
     requires fits { length a.now + 2 < 2 ^ 64 }
     ensures { AnswersList int_cmp union_table a.now (range_items int_cmp start end) out.old out.new written.new result }
 {
-    merge_range(a, start, end, &UnionOp, out, written)
+    merge(a, range_of(&[start, end]), &UnionOp, out, written)
 }
 
 /// Writes the set with the numbers from `start` to below `end` taken out.
@@ -171,7 +175,7 @@ pub extern "C" fn proved_range_set_i64_remove(
     requires fits { length a.now + 2 < 2 ^ 64 }
     ensures { AnswersList int_cmp difference_table a.now (range_items int_cmp start end) out.old out.new written.new result }
 {
-    merge_range(a, start, end, &DiffOp, out, written)
+    merge(a, range_of(&[start, end]), &DiffOp, out, written)
 }
 
 /// Writes whether no number is a member of both.
@@ -228,4 +232,64 @@ pub extern "C" fn proved_range_set_i64_split(
     ensures right { drop right_start.new a.now ≡ split_right int_cmp a.now at }
 {
     split(a, at, left_len, right_start)
+}
+
+/// Whether each number from `start` on, up to below `end`, is a member. The list has to be strictly sorted.
+#[unsafe(no_mangle)]
+pub extern "C" fn proved_range_set_i64_contains_range(a: &[i64], start: i64, end: i64) -> bool
+    requires { IsAscending int_cmp a.now }
+    ensures { IsTrue result ↔ HasAllWithin int_cmp a.now start end }
+{
+    RangeSetRef::new_unchecked(a).contains_range(start..end)
+}
+
+/// Whether the number is a member, and then writes the range that holds it: its start, whether it has an end, and that. The list has to be strictly sorted.
+#[unsafe(no_mangle)]
+pub extern "C" fn proved_range_set_i64_range_at(
+    a: &[i64],
+    value: i64,
+    start: &mut i64,
+    end: &mut i64,
+    has_end: &mut bool,
+) -> bool
+    requires { IsAscending int_cmp a.now }
+    ensures member { result ≡ member int_cmp a.now value }
+    ensures of_set { IsTrue result → Contains (ranges_of a.now) (range_told start.new end.new has_end.new) }
+    ensures holds { IsTrue result → IsInRange int_cmp (range_told start.new end.new has_end.new) value }
+    ensures none { result ≡ false → (start.new ≡ start.old) × (end.new ≡ end.old) × (has_end.new ≡ has_end.old) }
+    ensures no_end { has_end.new ≡ false → end.new ≡ end.old }
+{
+    range_at(a, &value, start, end, has_end)
+}
+
+/// Writes how many numbers are members, of a set with an end.
+#[unsafe(no_mangle)]
+pub extern "C" fn proved_range_set_i64_covered(a: &[i64], count: &mut u64) -> u32
+    ensures { AnswersCount int_cmp (signed_value (2 ^ 63)) (2 ^ 64) a.now count.old count.new result }
+{
+    covered(a, count)
+}
+
+/// Writes the numbers from `start` to below `end` that aren't members.
+#[unsafe(no_mangle)]
+pub extern "C" fn proved_range_set_i64_gaps(
+    a: &[i64],
+    start: i64,
+    end: i64,
+    out: &mut [i64],
+    written: &mut usize,
+) -> u32
+    requires fits { length a.now + 2 < 2 ^ 64 }
+    ensures { AnswersList int_cmp difference_table (range_items int_cmp start end) a.now out.old out.new written.new result }
+{
+    merge(range_of(&[start, end]), a, &DiffOp, out, written)
+}
+
+/// Sorts the numbers, in any order, and moves the distinct ones to the front, as many as it answers.
+#[unsafe(no_mangle)]
+pub extern "C" fn proved_range_set_i64_from_unsorted(items: &mut [i64]) -> usize
+    ensures within { result ≤ length items.old }
+    ensures distinct { AreDistinctOf int_cmp items.old (take result items.new) }
+{
+    from_unsorted(items)
 }

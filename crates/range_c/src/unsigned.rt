@@ -1,16 +1,19 @@
 //! The exports for `u64`.
-ghost use Rattle.std.specs.Prelude.{◌≡◌, ◌↔◌, ◌+◌, ◌<◌, ◌^◌, [], ◌∷◌, length, take, drop, false, IsTrue, ℕ};
+ghost use Rattle.std.specs.Prelude.{◌≡◌, ◌↔◌, ◌+◌, ◌<◌, ◌≤◌, ◌^◌, [], ◌∷◌, length, take, drop, false, IsTrue, Contains, ℕ};
 ghost use Rattle.std.specs.Ordering.{nat_cmp};
 ghost use Rattle.range_collections.specs.Boundaries.{IsAscending, IsSameSet, member};
 ghost use Rattle.range_collections.specs.Connective.{union_table, intersection_table, difference_table, symmetric_difference_table};
 ghost use Rattle.range_collections.specs.Sets.{IsSubset, Intersects, IsDisjoint};
-ghost use Rattle.range_collections.specs.Ranges.{range_items};
+ghost use Rattle.range_collections.specs.Ranges.{range_items, ranges_of, IsInRange};
+ghost use Rattle.range_collections.specs.Extent.{HasAllWithin};
+ghost use Rattle.range_collections.specs.Unsorted.{AreDistinctOf};
 ghost use Rattle.range_collections.specs.Split.{split_left, split_right};
 ghost use Rattle.range_c.specs.Answers.{AnswersList, AnswersLength, AnswersQuestion};
+ghost use Rattle.range_c.specs.Points.{range_told, AnswersCount};
 
-use crate::calls::{
-    equal, intersects, is_disjoint, is_subset, merge, merge_len, merge_range, split,
-};
+use crate::calls::{equal, intersects, is_disjoint, is_subset, merge, merge_len, range_of, split};
+use crate::points::{covered, range_at};
+use crate::unsorted::from_unsorted;
 use range_collections::{DiffOp, IntersectionOp, RangeSetRef, UnionOp, XorOp};
 
 /// Whether the list is strictly sorted.
@@ -155,7 +158,7 @@ pub extern "C" fn proved_range_set_u64_insert(
     requires fits { length a.now + 2 < 2 ^ 64 }
     ensures { AnswersList nat_cmp union_table a.now (range_items nat_cmp start end) out.old out.new written.new result }
 {
-    merge_range(a, start, end, &UnionOp, out, written)
+    merge(a, range_of(&[start, end]), &UnionOp, out, written)
 }
 
 /// Writes the set with the numbers from `start` to below `end` taken out.
@@ -170,7 +173,7 @@ pub extern "C" fn proved_range_set_u64_remove(
     requires fits { length a.now + 2 < 2 ^ 64 }
     ensures { AnswersList nat_cmp difference_table a.now (range_items nat_cmp start end) out.old out.new written.new result }
 {
-    merge_range(a, start, end, &DiffOp, out, written)
+    merge(a, range_of(&[start, end]), &DiffOp, out, written)
 }
 
 /// Writes whether no number is a member of both.
@@ -227,4 +230,64 @@ pub extern "C" fn proved_range_set_u64_split(
     ensures right { drop right_start.new a.now ≡ split_right nat_cmp a.now at }
 {
     split(a, at, left_len, right_start)
+}
+
+/// Whether each number from `start` on, up to below `end`, is a member. The list has to be strictly sorted.
+#[unsafe(no_mangle)]
+pub extern "C" fn proved_range_set_u64_contains_range(a: &[u64], start: u64, end: u64) -> bool
+    requires { IsAscending nat_cmp a.now }
+    ensures { IsTrue result ↔ HasAllWithin nat_cmp a.now start end }
+{
+    RangeSetRef::new_unchecked(a).contains_range(start..end)
+}
+
+/// Whether the number is a member, and then writes the range that holds it: its start, whether it has an end, and that. The list has to be strictly sorted.
+#[unsafe(no_mangle)]
+pub extern "C" fn proved_range_set_u64_range_at(
+    a: &[u64],
+    value: u64,
+    start: &mut u64,
+    end: &mut u64,
+    has_end: &mut bool,
+) -> bool
+    requires { IsAscending nat_cmp a.now }
+    ensures member { result ≡ member nat_cmp a.now value }
+    ensures of_set { IsTrue result → Contains (ranges_of a.now) (range_told start.new end.new has_end.new) }
+    ensures holds { IsTrue result → IsInRange nat_cmp (range_told start.new end.new has_end.new) value }
+    ensures none { result ≡ false → (start.new ≡ start.old) × (end.new ≡ end.old) × (has_end.new ≡ has_end.old) }
+    ensures no_end { has_end.new ≡ false → end.new ≡ end.old }
+{
+    range_at(a, &value, start, end, has_end)
+}
+
+/// Writes how many numbers are members, of a set with an end.
+#[unsafe(no_mangle)]
+pub extern "C" fn proved_range_set_u64_covered(a: &[u64], count: &mut u64) -> u32
+    ensures { AnswersCount nat_cmp (λ n. n) (2 ^ 64) a.now count.old count.new result }
+{
+    covered(a, count)
+}
+
+/// Writes the numbers from `start` to below `end` that aren't members.
+#[unsafe(no_mangle)]
+pub extern "C" fn proved_range_set_u64_gaps(
+    a: &[u64],
+    start: u64,
+    end: u64,
+    out: &mut [u64],
+    written: &mut usize,
+) -> u32
+    requires fits { length a.now + 2 < 2 ^ 64 }
+    ensures { AnswersList nat_cmp difference_table (range_items nat_cmp start end) a.now out.old out.new written.new result }
+{
+    merge(range_of(&[start, end]), a, &DiffOp, out, written)
+}
+
+/// Sorts the numbers, in any order, and moves the distinct ones to the front, as many as it answers.
+#[unsafe(no_mangle)]
+pub extern "C" fn proved_range_set_u64_from_unsorted(items: &mut [u64]) -> usize
+    ensures within { result ≤ length items.old }
+    ensures distinct { AreDistinctOf nat_cmp items.old (take result items.new) }
+{
+    from_unsorted(items)
 }

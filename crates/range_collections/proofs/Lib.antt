@@ -22,3 +22,5 @@ pub mod Fitted
 pub mod Written
 pub mod Parts
 pub mod PartsLaws
+pub mod FirstParts
+pub mod Unions

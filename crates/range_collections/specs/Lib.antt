@@ -26,3 +26,4 @@ pub mod InPlace
 pub mod Insertion
 pub mod Splicing
 pub mod Buffers
+pub mod Unions

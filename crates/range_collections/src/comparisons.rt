@@ -1,5 +1,6 @@
 //! A counter of comparisons by an element type's own order, and copies by its own clones.
 ghost use Rattle.std.specs.Prelude.{◌≡◌, ℕ};
+ghost use Rattle.range_merge.specs.Counting.{AddsAtMost};
 
 use range_entry::EntryClone;
 use range_merge::{Compare, Copier};
@@ -34,6 +35,13 @@ impl Comparisons {
         ensures { result ≡ self.now }
     {
         self.made
+    }
+
+    // Adds what another counter has counted. The count stays at u128::MAX where it would be more.
+    pub(crate) fn add(&mut self, others: &Comparisons)
+        ensures { AddsAtMost self.old self.new others.now }
+    {
+        self.made = self.made.saturating_add(others.made);
     }
 }
 

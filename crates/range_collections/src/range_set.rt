@@ -14,6 +14,7 @@ mod fitting;
 mod gaps;
 mod in_place;
 mod insertion;
+mod joining;
 mod json;
 mod json_errors;
 mod negation;
@@ -25,6 +26,7 @@ mod ranges;
 mod splicing;
 mod split;
 mod text;
+mod unions;
 mod unsorted;
 mod values;
 

@@ -1,20 +1,22 @@
 -- The first run of two lists, as one step of a merge.
-use Rattle.std.proofs.Common.{◌≡◌, ◌+◌, ◌≤◌, ◌<◌, true, List, [], ◌∷◌, ◌++◌, length, map, take, drop, Some, None, slice_get, false, not, refl, sym, ap, ◌∙◌, arith}
+use Rattle.std.proofs.Common.{◌≡◌, ◌+◌, ◌≤◌, ◌<◌, true, List, [], ◌∷◌, ◌++◌, length, map, take, drop, Some, None, Option, ℕ, get_or, slice_get, false, not, refl, sym, ap, ◌∙◌, arith}
 use Rattle.std.proofs.lemmas.List.{append-nil, length-take, nil_from_length}
 use Rattle.std.specs.Cmp.{IsTotalOrder}
 use Rattle.std.specs.declared.cmp.Ordering.{Ordering}
+use Rattle.std.specs.declared.cmp.Ordering.TheVariants.{Less, Equal, Greater}
 use Rattle.range_merge.specs.Boundaries.{IsAscending}
 use Rattle.range_merge.specs.Connective.{Table, differ}
 use Rattle.range_merge.specs.Changes.{changes, from_left, from_right, taken_of, taken_left}
 use Rattle.range_merge.specs.Owners.{left_only, right_only, shared, owners}
-use Rattle.range_merge.specs.Runs.{runs, runs_of, weight}
+use Rattle.range_merge.specs.Runs.{runs, runs_of, run_len, weight}
 use Rattle.range_merge.specs.Walk.{walk}
-use Rattle.range_merge.specs.Steps.{StandsFirst}
+use Rattle.range_merge.specs.Steps.{RunFits, StandsInFront, StandsFirst, FirstsStand, one_of_run}
 use Rattle.range_merge.specs.declared.runs.Run.{Run}
 use Rattle.range_merge.specs.declared.runs.Run.TheVariants.{Left, Right, Both}
 use Rattle.range_merge.proofs.Digits as numbers
 use Rattle.range_merge.proofs.OwnersLemmas.{IsOwners-owners}
 use Rattle.range_merge.proofs.FirstRuns.{FirstLeft, FirstRight, FirstBoth, first_left, first_right, first_both, first_none, digits-one}
+use Rattle.range_merge.proofs.Orders.{Less-from_greater}
 use Rattle.range_merge.proofs.RunsFound as found
 use Rattle.range_merge.proofs.RunsLemmas.{runs_of-map_left_only, runs_of-map_right_only}
 use Rattle.range_merge.proofs.WalkLemmas.{walk-left, walk-right, walk-shared}
@@ -45,46 +47,80 @@ module _ {K : Type 0} where
   unfolding runs_of
   one_run-shared x y = refl
 
+  run_len-some : (run : Run) (a b : List K) → RunFits run a b → 1 ≤ run_len run
+  run_len-some (Left n) a b fits = fits.0
+  run_len-some (Right n) a b fits = fits.0
+  run_len-some Both a b fits = omega arith
+
 module _ {K : Type 0} {order : K → K → Ordering} (o : IsTotalOrder order) (a b : List K) (a_ascends : IsAscending order a) (b_ascends : IsAscending order b) where
+  front_left : (n : ℕ) → 1 ≤ n → n ≤ length a → owners order a b ≡ map left_only (take n a) ++ owners order (drop n a) b → StandsInFront order (Left n) a b
+  front_left n some within are = record {
+    fits = (some, within);
+    its_owners = map left_only (take n a);
+    owners_are = are;
+    taken_are = sym (taken_of-left (take n a));
+    one_run = one_run-left (take n a) (simp length-take (omega (arith, some, within)));
+    walked = λ f ac bc. ap (walk f ac bc) are ∙ walk-left f ac bc n a _ within;
+  }
+
+  front_right : (n : ℕ) → 1 ≤ n → n ≤ length b → owners order a b ≡ map right_only (take n b) ++ owners order a (drop n b) → StandsInFront order (Right n) a b
+  front_right n some within are = record {
+    fits = (some, within);
+    its_owners = map right_only (take n b);
+    owners_are = are;
+    taken_are = sym (taken_of-right (take n b));
+    one_run = one_run-right (take n b) (simp length-take (omega (arith, some, within)));
+    walked = λ f ac bc. ap (walk f ac bc) are ∙ walk-right f ac bc n b _ within;
+  }
+
   pub stands_first : (run : Run) → slice_get (runs order a b) 0 ≡ Some run → StandsFirst order run a b
   stands_first (Left n) e =
       let first : FirstLeft order a b n = first_left o a b a_ascends b_ascends n e in
-      record {
-        fits = (first.some, first.within);
-        weighs = first.weight_is;
-        its_owners = map left_only (take n a);
-        owners_are = first.owners_are;
-        taken_are = sym (taken_of-left (take n a));
-        one_run = one_run-left (take n a) (simp length-take (omega (arith, first.some, first.within)));
-        walked = λ f ac bc. ap (walk f ac bc) first.owners_are ∙ walk-left f ac bc n a _ first.within;
-      }
+      record { in_front = front_left n first.some first.within first.owners_are; weighs = first.weight_is }
   stands_first (Right n) e =
       let first : FirstRight order a b n = first_right o a b a_ascends b_ascends n e in
-      record {
-        fits = (first.some, first.within);
-        weighs = first.weight_is;
-        its_owners = map right_only (take n b);
-        owners_are = first.owners_are;
-        taken_are = sym (taken_of-right (take n b));
-        one_run = one_run-right (take n b) (simp length-take (omega (arith, first.some, first.within)));
-        walked = λ f ac bc. ap (walk f ac bc) first.owners_are ∙ walk-right f ac bc n b _ first.within;
-      }
+      record { in_front = front_right n first.some first.within first.owners_are; weighs = first.weight_is }
   stands_first Both e =
       let first : FirstBoth order a b = first_both o a b a_ascends b_ascends e in
       record {
-        fits = (first.left_some, first.right_some);
+        in_front = record {
+          fits = (first.left_some, first.right_some);
+          its_owners = shared first.left_item first.right_item ∷ [];
+          owners_are = first.owners_are;
+          taken_are = ap (λ l. taken_left true 1 l) first.left_is;
+          one_run = one_run-shared first.left_item first.right_item;
+          walked = λ f ac bc.
+              ap (walk f ac bc) first.owners_are ∙ walk-shared f ac bc first.left_item first.right_item (drop 1 a) _
+              ∙ ap (λ l. taken_left (differ (f ac bc) (f (not ac) (not bc))) 1 l ++ walk f (not ac) (not bc) (owners order (drop 1 a) (drop 1 b))) (sym first.left_is);
+        };
         weighs = omega (arith, first.weight_is, digits-one);
-        its_owners = shared first.left_item first.right_item ∷ [];
-        owners_are = first.owners_are;
-        taken_are = ap (λ l. taken_left true 1 l) first.left_is;
-        one_run = one_run-shared first.left_item first.right_item;
-        walked = λ f ac bc.
-            ap (walk f ac bc) first.owners_are ∙ walk-shared f ac bc first.left_item first.right_item (drop 1 a) _
-            ∙ ap (λ l. taken_left (differ (f ac bc) (f (not ac) (not bc))) 1 l ++ walk f (not ac) (not bc) (owners order (drop 1 a) (drop 1 b))) (sym first.left_is);
       }
 
   pub used_up : slice_get (runs order a b) 0 ≡ None → (a ≡ []) × (b ≡ [])
   used_up e = first_none o a b a_ascends b_ascends e
+
+  weight-some_at : (first : Option Run) → slice_get (runs order a b) 0 ≡ first → 1 ≤ length a → 1 ≤ weight order a b
+  weight-some_at None e some = absurd (omega (arith, some, ap length (used_up e).0))
+  weight-some_at (Some run) e some =
+      let first : StandsFirst order run a b = stands_first run e in
+      omega (arith, first.weighs, numbers.digits-half 0 (run_len run) (run_len-some run a b first.in_front.fits) (omega arith))
+
+  -- lists with an item weigh something
+  pub weight-some : 1 ≤ length a → 1 ≤ weight order a b
+  weight-some some = weight-some_at (slice_get (runs order a b) 0) refl some
+
+  one_stands_at : (how : Ordering) → FirstsStand order a b (Some how) → StandsInFront order (one_of_run how) a b
+  one_stands_at Less firsts =
+      front_left 1 (omega arith) firsts.0 (found.owners-left o a b a_ascends b_ascends 1 firsts.0 firsts.1 firsts.2)
+  one_stands_at Equal firsts =
+      (stands_first Both (found.runs-both o a b a_ascends b_ascends firsts.0 firsts.1 firsts.2)).in_front
+  one_stands_at Greater firsts =
+      front_right 1 (omega arith) firsts.1
+      (found.owners-right o a b a_ascends b_ascends 1 firsts.1 firsts.0 (λ d. Less-from_greater o (get_or a 0 d) (get_or b 0 d) (firsts.2 d)))
+
+  -- one item of the first run stands in front of both lists
+  pub one_stands : (run : Run) (how : Ordering) → run ≡ one_of_run how → FirstsStand order a b (Some how) → StandsInFront order run a b
+  one_stands run how e firsts = rw e (one_stands_at how firsts)
 
   pub weight-le : weight order a b ≤ length a + length b
   weight-le = numbers.weight-le order a b

@@ -9,7 +9,7 @@ use Rattle.range_merge.specs.Connective.{Table}
 use Rattle.range_merge.specs.Changes.{Taken, StopsAmong}
 use Rattle.range_merge.specs.Owners.{Owner, owners}
 use Rattle.range_merge.specs.Walk.{walk}
-use Rattle.range_merge.specs.Steps.{StandsFirst, RunFits, takes, taken_of_run, left_after, right_after, left_on_after, right_on_after}
+use Rattle.range_merge.specs.Steps.{StandsInFront, RunFits, takes, taken_of_run, left_after, right_after, left_on_after, right_on_after}
 use Rattle.range_merge.specs.declared.runs.Run.{Run}
 use Rattle.range_merge.specs.declared.runs.Run.TheVariants.{Left, Right, Both}
 use Rattle.range_merge.proofs.Pairs.{AllPairs-drop}
@@ -37,6 +37,13 @@ stops-both true false h = (refl, cc)
 stops-both false true h = (cc, refl)
 stops-both false false h = (cc, cc)
 
+-- a state that can stop and takes stops
+pub stops-here : (s t : Bool) → s ≡ true → t ≡ true → not (s && t) ≡ false
+stops-here true true h e = refl
+stops-here true false h e = cc
+stops-here false true h e = cc
+stops-here false false h e = cc
+
 module _ {K : Type 0} (l r : List K) where
   taken_of_run-false : (run : Run) → taken_of_run false run l r ≡ []
   taken_of_run-false (Left n) = refl
@@ -50,7 +57,7 @@ module _ {K : Type 0} (l r : List K) where
 
 module _ {K : Type 0} {order : K → K → Ordering} {f : Table} {l0 r0 l r : List K} {ac bc : Bool} {old new : List (Taken K) → Type 0} {can_stop : Bool} where
   -- what a run appends, one run further
-  pub Progress-step : (run : Run) (newer : List (Taken K) → Type 0) (first : StandsFirst order run l r) (so_far : Progress order f l0 r0 l r ac bc old new can_stop)
+  pub Progress-step : (run : Run) (newer : List (Taken K) → Type 0) (first : StandsInFront order run l r) (so_far : Progress order f l0 r0 l r ac bc old new can_stop)
       (goes_on : true ≡ not (can_stop && takes f ac bc run))
       (appends : (before : List (Taken K)) → new before → newer (before ++ taken_of_run (takes f ac bc run) run l r))
       → Progress order f l0 r0 (left_after run l) (right_after run r) (left_on_after run ac) (right_on_after run bc) old newer can_stop
@@ -69,7 +76,7 @@ module _ {K : Type 0} {order : K → K → Ordering} {f : Table} {l0 r0 l r : Li
       }
 
   -- where the state stops, the run stands in front of what is taken in all
-  pub StopsAmong-run : (run : Run) (newer : List (Taken K) → Type 0) (first : StandsFirst order run l r) (so_far : Progress order f l0 r0 l r ac bc old new can_stop)
+  pub StopsAmong-run : (run : Run) (newer : List (Taken K) → Type 0) (first : StandsInFront order run l r) (so_far : Progress order f l0 r0 l r ac bc old new can_stop)
       (stops : false ≡ not (can_stop && takes f ac bc run))
       (appends : (before : List (Taken K)) → new before → newer (before ++ taken_of_run (takes f ac bc run) run l r))
       → (can_stop ≡ true) × StopsAmong (owners order l0 r0) old newer (walk f false false (owners order l0 r0))

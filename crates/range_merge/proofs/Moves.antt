@@ -1,7 +1,7 @@
--- Items that move within a list, and from the end of one list to the end of another, and a list that is written back.
-use Rattle.std.proofs.Common.{◌≡◌, ℕ, zero, suc, ◌+◌, ◌-◌, ◌<◌, ◌≤◌, List, [], ◌∷◌, ◌++◌, length, take, drop, reverse, get_or, set, sym, ap, ◌∙◌, arith, add-one, append_assoc}
+-- Items that move within a list, down or up, a gap that is opened in it, and a list that is written back.
+use Rattle.std.proofs.Common.{◌≡◌, ℕ, ◌+◌, ◌-◌, ◌<◌, ◌≤◌, List, [], ◌∷◌, ◌++◌, length, take, drop, get_or, set, sym, ap, ◌∙◌, arith, append_assoc}
 use Rattle.std.specs.List.{swap, refill}
-use Rattle.std.proofs.lemmas.List.{take_at, drop_at, take-append-drop, take-set-le, take_more_set, drop-set-lt, reverse-append, reverse-reverse, length-reverse, length-append, length-take-le, length-drop, take_more, drop_more, get_or-drop}
+use Rattle.std.proofs.lemmas.List.{take_at, take-take, take-set-le, take_more_set, drop-set-lt, length-set, length-take-le, length-drop, take_more, drop_more, get_or-drop, get_or-take, get_or-set_same}
 use Rattle.std.proofs.lemmas.List.Edits.{swap_is}
 use Rattle.std.proofs.Math.Seq.{take-add}
 
@@ -61,47 +61,41 @@ module _ {K : Type 0} where
             ∙ ap (λ k. drop k old) (sym step_from),
       )
 
-  -- the list from i on, one item further
-  drop-step : (i : ℕ) (l ys : List K) (x : K) → drop i l ≡ x ∷ ys → (drop (suc i) l ≡ ys) × (take (suc i) l ≡ take i l ++ x ∷ [])
-  drop-step zero [] ys x h = cc
-  drop-step zero (y ∷ l) ys x h = (cc, cc)
-  drop-step (suc i) [] ys x h = cc
-  drop-step (suc i) (y ∷ l) ys x h =
-      let further = drop-step i l ys x h in
-      (further.0, ap (λ zs. y ∷ zs) further.1)
+  -- what is in front of the first of two places that are exchanged, and what is from the second on
+  take-swap-front : (l : List K) (p q : ℕ) (d : K) → p < q → q < length l → take p (swap l p q) ≡ take p l
+  take-swap-front l p q d below within =
+      ap (take p) (sym (swap_is l p q d (omega arith) within))
+      ∙ take-set-le p (set l p (get_or l q d)) q (get_or l p d) (omega arith)
+      ∙ take-set-le p l p (get_or l q d) (omega arith)
 
-  -- one item more poured
-  pub pour-more : (i : ℕ) (old old_to from from' to to' : List K) (x : K) → from ≡ from' ++ x ∷ [] → to' ≡ to ++ x ∷ []
-      → reverse from ≡ drop i (reverse old) → to ≡ old_to ++ take i (reverse old)
-      → (reverse from' ≡ drop (i + 1) (reverse old)) × (to' ≡ old_to ++ take (i + 1) (reverse old))
-  pour-more i old old_to from from' to to' x popped pushed rest poured =
-      let begins : drop i (reverse old) ≡ x ∷ reverse from' = sym rest ∙ ap reverse popped ∙ reverse-append from' (x ∷ []) in
-      let further = drop-step i (reverse old) (reverse from') x begins in
-      rw add-one (
-        sym further.0,
-        pushed ∙ ap (λ ys. ys ++ x ∷ []) poured ∙ append_assoc old_to (take i (reverse old)) (x ∷ []) ∙ ap (λ ys. old_to ++ ys) (sym further.1),
+  drop-swap-second : (l : List K) (p q : ℕ) (d : K) → p < q → q < length l → drop q (swap l p q) ≡ get_or l p d ∷ drop (q + 1) l
+  drop-swap-second l p q d below within =
+      let once : List K = set l p (get_or l q d) in
+      let in_once : q < length once = rw length-set within in
+      let twice : List K = set once q (get_or l p d) in
+      let in_twice : q < length twice = rw length-set in_once in
+      ap (drop q) (sym (swap_is l p q d (omega arith) within))
+      ∙ drop_more twice q d in_twice
+      ∙ ap (λ x. x ∷ drop (q + 1) twice) (get_or-set_same once q (get_or l p d) d in_once)
+      ∙ ap (λ ys. get_or l p d ∷ ys) (drop-set-lt (q + 1) once q (get_or l p d) (omega arith) ∙ drop-set-lt (q + 1) l p (get_or l q d) (omega arith))
+
+  -- one item more moved up
+  pub move_up-more : (old l : List K) (p by : ℕ) → 0 < by → p + by < length old → length l ≡ length old
+      → take (p + 1) l ≡ take (p + 1) old → drop (p + 1 + by) l ≡ drop (p + 1) (take (length old - by) old)
+      → (take p (swap l p (p + by)) ≡ take p old) × (drop (p + by) (swap l p (p + by)) ≡ drop p (take (length old - by) old))
+  move_up-more [] l p by some within same front behind = absurd (omega arith)
+  move_up-more (d ∷ rest) l p by some within same front behind =
+      let old : List K = d ∷ rest in
+      let part : List K = take (length old - by) old in
+      let first : p < p + by = omega arith in
+      let in_l : p + by < length l = omega arith in
+      let in_part : p < length part = rw (length-take-le (length old - by) old (omega arith)) (omega arith) in
+      let item : get_or l p d ≡ get_or old p d = sym (get_or-take (p + 1) l p d (omega arith)) ∙ ap (λ ys. get_or ys p d) front ∙ get_or-take (p + 1) old p d (omega arith) in
+      let step : p + by + 1 ≡ p + 1 + by = omega arith in (
+        take-swap-front l p (p + by) d first in_l ∙ sym (take-take p (p + 1) l (omega arith)) ∙ ap (take p) front ∙ take-take p (p + 1) old (omega arith),
+        drop-swap-second l p (p + by) d first in_l
+            ∙ ap (λ x. x ∷ drop (p + by + 1) l) (item ∙ sym (get_or-take (length old - by) old p d (omega arith)))
+            ∙ ap (λ k. get_or part p d ∷ drop k l) step
+            ∙ ap (λ ys. get_or part p d ∷ ys) behind
+            ∙ sym (drop_more part p d in_part),
       )
-
-  -- how many are left to pour, and how many were poured
-  pub length-poured : (i : ℕ) (old from : List K) → i ≤ length old → reverse from ≡ drop i (reverse old) → length from + i ≡ length old
-  length-poured i old from within so_far =
-      let here : length from ≡ length old - i = sym (length-reverse from) ∙ ap length so_far ∙ length-drop i (reverse old) ∙ ap (λ n. n - i) (length-reverse old) in
-      omega arith
-
-  pub length-poured_into : (i : ℕ) (old old_to to : List K) → i ≤ length old → to ≡ old_to ++ take i (reverse old) → length to ≡ length old_to + i
-  length-poured_into i old old_to to within poured =
-      ap length poured ∙ length-append old_to (take i (reverse old)) ∙ ap (λ n. length old_to + n) (length-take-le i (reverse old) (rw length-reverse within))
-
-  -- a list whose last items were poured out
-  pub poured-rest : (start : ℕ) (old new : List K) → start ≤ length old → reverse new ≡ drop (length old - start) (reverse old) → new ≡ take start old
-  poured-rest start old new within rest =
-      let whole : reverse old ≡ reverse (drop start old) ++ reverse (take start old) = ap reverse (sym (take-append-drop start old)) ∙ reverse-append (take start old) (drop start old) in
-      let many : length (reverse (drop start old)) ≡ length old - start = length-reverse (drop start old) ∙ length-drop start old in
-      let behind : drop (length old - start) (reverse old) ≡ reverse (take start old) = ap (drop (length old - start)) whole ∙ drop_at (reverse (drop start old)) (reverse (take start old)) _ many in
-      sym (reverse-reverse new) ∙ ap reverse (rest ∙ behind) ∙ reverse-reverse (take start old)
-
-  pub poured-items : (start : ℕ) (old : List K) → start ≤ length old → take (length old - start) (reverse old) ≡ reverse (drop start old)
-  poured-items start old within =
-      let whole : reverse old ≡ reverse (drop start old) ++ reverse (take start old) = ap reverse (sym (take-append-drop start old)) ∙ reverse-append (take start old) (drop start old) in
-      let many : length (reverse (drop start old)) ≡ length old - start = length-reverse (drop start old) ∙ length-drop start old in
-      ap (take (length old - start)) whole ∙ take_at (reverse (drop start old)) (reverse (take start old)) _ many

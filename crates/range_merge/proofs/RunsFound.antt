@@ -104,6 +104,22 @@ module _ {K : Type 0} {order : K → K → Ordering} (o : IsTotalOrder order) wh
   front rs qs r e = ap (λ (ps : List Run). slice_get ps 0) e
 
   module _ (a b : List K) (up : IsAscending order a) (vp : IsAscending order b) where
+    -- the first n of a stand below the first of b
+    pub owners-left : (n : ℕ) → n ≤ length a → 0 < length b → ((d : K) → order (get_or a (n - 1) d) (get_or b 0 d) ≡ Less) →
+        owners order a b ≡ map left_only (take n a) ++ owners order (drop n a) b
+    owners-left n within others below =
+        let rest = IsOwners-owners o (drop n a) b (AllPairs-drop (Above order) n a up) vp in
+        sym (owners-unique o a b (map left_only (take n a) ++ owners order (drop n a) b)
+        (IsOwners-take_left n a b (owners order (drop n a) b) up within (λ k d l. before-all a b n k d up vp others within l below) rest))
+
+    -- the first n of b stand below the first of a
+    pub owners-right : (n : ℕ) → n ≤ length b → 0 < length a → ((d : K) → order (get_or b (n - 1) d) (get_or a 0 d) ≡ Less) →
+        owners order a b ≡ map right_only (take n b) ++ owners order a (drop n b)
+    owners-right n within others below =
+        let rest = IsOwners-owners o a (drop n b) up (AllPairs-drop (Above order) n b vp) in
+        sym (owners-unique o a b (map right_only (take n b) ++ owners order a (drop n b))
+        (IsOwners-take_right n a b (owners order a (drop n b)) vp within (λ k d l. before-all b a n k d vp up others within l below) rest))
+
     -- exactly the first n of a stand below the first of b
     pub runs-left : (n : ℕ) → 1 ≤ n → n ≤ length a → 0 < length b →
         ((d : K) → order (get_or a (n - 1) d) (get_or b 0 d) ≡ Less) →
@@ -111,13 +127,10 @@ module _ {K : Type 0} {order : K → K → Ordering} (o : IsTotalOrder order) wh
         slice_get (runs order a b) 0 ≡ Some (Left n)
     runs-left n some within others below stops =
         let rest = IsOwners-owners o (drop n a) b (AllPairs-drop (Above order) n a up) vp in
-        let pinned = IsOwners-take_left n a b (owners order (drop n a) b) up within
-        (λ k d l. before-all a b n k d up vp others within l below) rest in
-        let is = owners-unique o a b (map left_only (take n a) ++ owners order (drop n a) b) pinned in
         let not_left = NotLeft-from_first (drop n a) b (owners order (drop n a) b) rest others
         (λ d l h. stops d (omega (arith, length-drop n a)) (rw (get_or-drop n a 0 d, add-zero) at h)) in
         front (runs order a b) (runs order (drop n a) b) (Left n)
-        (ap (λ (os : List (Owner K)). runs_of os) (sym is)
+        (ap (λ (os : List (Owner K)). runs_of os) (owners-left n within others below)
         ∙ runs_of-some_left_only n (take n a) (owners order (drop n a) b) (length-take-le n a within) some not_left)
 
     -- exactly the first n of b stand below the first of a
@@ -127,13 +140,10 @@ module _ {K : Type 0} {order : K → K → Ordering} (o : IsTotalOrder order) wh
         slice_get (runs order a b) 0 ≡ Some (Right n)
     runs-right n some within others below stops =
         let rest = IsOwners-owners o a (drop n b) up (AllPairs-drop (Above order) n b vp) in
-        let pinned = IsOwners-take_right n a b (owners order a (drop n b)) vp within
-        (λ k d l. before-all b a n k d vp up others within l below) rest in
-        let is = owners-unique o a b (map right_only (take n b) ++ owners order a (drop n b)) pinned in
         let not_right = NotRight-from_first a (drop n b) (owners order a (drop n b)) rest others
         (λ d l h. stops d (omega (arith, length-drop n b)) (rw (get_or-drop n b 0 d, add-zero) at h)) in
         front (runs order a b) (runs order a (drop n b)) (Right n)
-        (ap (λ (os : List (Owner K)). runs_of os) (sym is)
+        (ap (λ (os : List (Owner K)). runs_of os) (owners-right n within others below)
         ∙ runs_of-some_right_only n (take n b) (owners order a (drop n b)) (length-take-le n b within) some not_right)
 
   -- the first of each are equal

@@ -1,6 +1,7 @@
 -- One run of a merge: what it removes from the unread lists, what it takes, and how the two truths change.
 use Rattle.std.specs.Prelude.{◌≡◌, ℕ, ◌≤◌, ◌+◌, Option, Some, None, Bool, true, false, not, List, length, map, drop, get_or, ◌++◌}
 use Rattle.std.specs.declared.cmp.Ordering.{Ordering}
+use Rattle.std.specs.declared.cmp.Ordering.TheVariants.{Less, Equal, Greater}
 use Rattle.range_merge.specs.Boundaries.{is_odd}
 use Rattle.range_merge.specs.Connective.{Table, differ}
 use Rattle.range_merge.specs.Owners.{Owner, owners}
@@ -27,6 +28,12 @@ abbrev pub right_on_after : Run → Bool → Bool
 right_on_after (Left n) bc = bc
 right_on_after (Right n) bc = differ bc (is_odd n)
 right_on_after Both bc = not bc
+
+-- one item of the first run, by how the first items stand
+abbrev pub one_of_run : Ordering → Run
+one_of_run Less = Left 1
+one_of_run Equal = Both
+one_of_run Greater = Right 1
 
 -- the binary digits of a run's length, if there is a run
 abbrev pub digits_of_run : Option Run → ℕ
@@ -58,10 +65,9 @@ module _ {K : Type 0} where
   taken_of_run takes (Right n) a b = taken_right takes n b
   taken_of_run takes Both a b = taken_left takes 1 a
 
-  -- a run stands in front of two lists: it fits, it weighs its digits, the walk takes it whole or drops it, and its owners are one run
-  pub record StandsFirst (order : K → K → Ordering) (run : Run) (a b : List K) : Type 0 where
+  -- a run, or some of one, stands in front of two lists: it fits, its owners are all in one run, and the walk takes it whole or drops it
+  pub record StandsInFront (order : K → K → Ordering) (run : Run) (a b : List K) : Type 0 where
     pub fits : RunFits run a b
-    pub weighs : weight order a b ≡ digits (run_len run) + weight order (left_after run a) (right_after run b)
     pub its_owners : List (Owner K)
     pub owners_are : owners order a b ≡ its_owners ++ owners order (left_after run a) (right_after run b)
     pub taken_are : taken_of_run true run a b ≡ map taken_of its_owners
@@ -70,6 +76,11 @@ module _ {K : Type 0} where
         walk f ac bc (owners order a b) ≡
         taken_of_run (takes f ac bc run) run a b
         ++ walk f (left_on_after run ac) (right_on_after run bc) (owners order (left_after run a) (right_after run b))
+
+  -- the first run: it weighs its digits
+  pub record StandsFirst (order : K → K → Ordering) (run : Run) (a b : List K) : Type 0 where
+    pub in_front : StandsInFront order run a b
+    pub weighs : weight order a b ≡ digits (run_len run) + weight order (left_after run a) (right_after run b)
 
   -- how the first items of two lists stand to one another; none says that one of the lists is empty
   abbrev pub FirstsStand : (K → K → Ordering) → List K → List K → Option Ordering → Type 0

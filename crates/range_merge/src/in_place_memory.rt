@@ -1,5 +1,5 @@
-//! What a change in place asks for before it moves an item: room in the list, a spare list, and copies.
-ghost use Rattle.std.specs.Prelude.{◌≡◌, ◌+◌, ◌≤◌, [], length, reverse, All, IsOk, IfOk, OnOk};
+//! What a change in place asks for before it moves an item: room in the list, and copies.
+ghost use Rattle.std.specs.Prelude.{◌≡◌, ◌+◌, ◌≤◌, length, reverse, All, IsOk, IfOk, OnOk};
 ghost use Rattle.std.specs.List.{AllZip};
 ghost use Rattle.smallvec.specs.SmallVec.{HasRoomFor};
 
@@ -10,40 +10,33 @@ use smallvec::SmallVec;
 use std::alloc::{AllocError, Global};
 use std::default::MadeWith;
 
-// Asks for room for `extra` more items in the list, and for a spare list that can hold those that it has.
+// Asks for room for `extra` more items in the list.
 pub(crate) fn prepared<K: MadeWith<Global> + Drop, const N: usize>(
     list: &mut SmallVec<K, N>,
     extra: usize,
-) -> Result<SmallVec<K, N>, AllocError>
+) -> Result<(), AllocError>
     ensures items { list.new.items ≡ list.old.items }
     ensures room { OnOk result (HasRoomFor list.new extra) }
-    ensures spare { IfOk result (λ spare. spare.items ≡ []) }
-    ensures spare_room { IfOk result (λ spare. length list.old.items ≤ spare.capacity) }
     ensures succeeds { length list.old.items + extra ≤ N → IsOk result }
 {
     // Brings that the capacity is at least N.
     let _inline = list.capacity();
-    let spare = SmallVec::with_capacity(*list.allocator(), list.len())?;
-    list.reserve(extra)?;
-    Ok(spare)
+    list.reserve(extra)
 }
 
-// Asks for room in the list for as many items as there are in `items`, for a spare list that can hold those that it has, and for a copy of each of `items`, the last one first.
+// Asks for room in the list for as many items as there are in `items`, and for a copy of each of `items`, the last one first.
 pub(crate) fn prepared_copies<K: MadeWith<Global> + Drop, P: Copier<K>, const N: usize>(
     list: &mut SmallVec<K, N>,
     items: &[K],
     copier: &P,
-) -> Result<(SmallVec<K, N>, SmallVec<K, N>), AllocError>
+) -> Result<SmallVec<K, N>, AllocError>
     ensures items { list.new.items ≡ list.old.items }
     ensures room { OnOk result (HasRoomFor list.new (length items.now)) }
-    ensures spare { IfOk result (λ made. made.0.items ≡ []) }
-    ensures spare_room { IfOk result (λ made. length list.old.items ≤ made.0.capacity) }
-    ensures copies { IfOk result (λ made. AllZip P.alike items.now (reverse made.1.items)) }
+    ensures copies { IfOk result (λ made. AllZip P.alike items.now (reverse made.items)) }
     ensures succeeds { length list.old.items + length items.now ≤ N → All P.is_infallible items.now → IsOk result }
 {
-    let spare = prepared(list, items.len())?;
-    let copies = reversed_copies(*list.allocator(), items, copier)?;
-    Ok((spare, copies))
+    prepared(list, items.len())?;
+    reversed_copies(*list.allocator(), items, copier)
 }
 
 // A copy of each item, the last one first.

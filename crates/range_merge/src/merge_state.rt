@@ -1,5 +1,5 @@
 //! What a merge goes over: two unread lists, and for a merge that takes items an output. The states are below.
-ghost use Rattle.std.specs.Prelude.{◌≡◌, ℕ, Bool, true, not, ◌&&◌, ◌≤◌, ◌<◌, List, ◌++◌, length, drop, Some, slice_get, IsOk, OnOk, IfOk};
+ghost use Rattle.std.specs.Prelude.{◌≡◌, ℕ, Bool, true, not, ◌&&◌, ◌≤◌, ◌<◌, List, ◌++◌, length, drop, Some, slice_get, IsTrue, IsOk, OnOk, IfOk};
 ghost use Rattle.range_merge.specs.Boundaries.{is_odd};
 ghost use Rattle.range_merge.specs.Connective.{differ};
 ghost use Rattle.range_merge.specs.Changes.{Taken, taken_left, taken_right};
@@ -125,4 +125,12 @@ pub trait MergeStateMut: MergeState {
     /// Whether the right side is on just before its first unread item.
     fn bc(&self) -> bool
         ensures { result ≡ right_on self.now };
+
+    /// Whether the merge may hand over the first item alone of a run that is taken, and no more: `true` only of a state that stops there.
+    #[inline(always)]
+    fn stops(&self) -> bool
+        ensures { IsTrue result → can_stop ≡ true }
+    {
+        false
+    }
 }

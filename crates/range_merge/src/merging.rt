@@ -1,11 +1,11 @@
 //! The merge: it takes the first run of the unread lists whole or drops it whole, until both lists are used up.
-ghost use Rattle.std.specs.Prelude.{◌≡◌, ℕ, ◌+◌, ◌*◌, ◌^◌, ◌<◌, ◌≤◌, Bool, true, false, not, ◌&&◌, List, [], ◌++◌, length, take, Some, Option, IsOk, OnOk, IfOk, IfSome, slice_get};
+ghost use Rattle.std.specs.Prelude.{◌≡◌, ℕ, ◌+◌, ◌*◌, ◌^◌, ◌<◌, ◌≤◌, Bool, true, false, not, ◌&&◌, List, [], ◌++◌, length, take, Some, Option, IsOk, OnOk, IfOk, IfSome, slice_get, IsTrue};
 ghost use Rattle.range_merge.specs.Boundaries.{IsAscending};
 ghost use Rattle.range_merge.specs.Changes.{Taken, changes, StopsAmong};
 ghost use Rattle.range_merge.specs.Counting.{AddsAtMost};
 ghost use Rattle.range_merge.specs.Owners.{owners};
 ghost use Rattle.range_merge.specs.Runs.{weight, digits, runs, run_len};
-ghost use Rattle.range_merge.specs.Steps.{RunFits, digits_of_run, takes, taken_of_run, left_after, right_after, left_on_after, right_on_after};
+ghost use Rattle.range_merge.specs.Steps.{RunFits, one_of_run, digits_of_run, takes, taken_of_run, left_after, right_after, left_on_after, right_on_after};
 ghost use Rattle.std.specs.Cmp.{IsTotalOrder};
 ghost use Rattle.std.specs.declared.cmp.Ordering.{Ordering as TheOrdering};
 
@@ -14,6 +14,7 @@ use crate::merge_state::{MergeState, MergeStateMut};
 use crate::operations::MergeOperation;
 use crate::runs::{FirstRun, Run, first_run, order_at};
 use std::alloc::AllocError;
+use std::cmp::Ordering;
 
 /// Merges the unread lists of `state` by the operation `op`.
 ///
@@ -54,6 +55,10 @@ pub fn merge<S: MergeStateMut, O: MergeOperation, C: Compare<S::Item>>(
     let _lengths = (state.a_len(), state.b_len());
     let mut firsts = order_at(state, 0, cmp);
     while let Some(how) = firsts {
+        if stops_at_first(state, op, how) {
+            let goes_on = take_run(state, op, one_of(how))?;
+            return Ok(goes_on);
+        }
         let FirstRun { run, behind } = first_run(state, how, cmp);
         if !take_run(state, op, run)? {
             return Ok(false);
@@ -65,6 +70,32 @@ pub fn merge<S: MergeStateMut, O: MergeOperation, C: Compare<S::Item>>(
     };
     let more = take_run(state, op, run)?;
     Ok(more)
+}
+
+// Whether the state stops at the first run, of which one item is enough then.
+#[inline(always)]
+fn stops_at_first<S: MergeStateMut, O: MergeOperation>(state: &S, op: &O, how: Ordering) -> bool
+    ensures can_stop { IsTrue result → S.can_stop ≡ true }
+    ensures taken { IsTrue result → takes (O.connective op.now) (S.left_on state.now) (S.right_on state.now) (one_of_run how) ≡ true }
+{
+    state.stops()
+        && match how {
+            Ordering::Less => op.takes_a(state.bc()),
+            Ordering::Equal => op.takes_both(state.ac(), state.bc()),
+            Ordering::Greater => op.takes_b(state.ac()),
+        }
+}
+
+// One item of the first run, by how the first items stand.
+#[inline(always)]
+fn one_of(how: Ordering) -> Run
+    ensures { result ≡ one_of_run how }
+{
+    match how {
+        Ordering::Less => Run::Left(1),
+        Ordering::Equal => Run::Both,
+        Ordering::Greater => Run::Right(1),
+    }
 }
 
 // The one run of what is unread, if anything is, where one list is used up. It needs no comparison.

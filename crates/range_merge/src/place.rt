@@ -1,12 +1,11 @@
 //! Where a list lies that is changed in place: by value or borrowed. What moves its items is generic in that.
-ghost use Rattle.std.specs.Prelude.{◌≡◌, ℕ, ◌+◌, ◌≤◌, ◌<◌, List, [], ◌++◌, ◌∷◌, length, take, drop, reverse, Some, slice_get, slice_set};
-ghost use Rattle.std.specs.List.{swap};
+ghost use Rattle.std.specs.Prelude.{◌≡◌, ℕ, ◌+◌, ◌-◌, ◌≤◌, ◌<◌, List, [], ◌++◌, ◌∷◌, length, take, drop, reverse, Some, slice_get, slice_set};
 
 use smallvec::SmallVec;
 use std::alloc::Global;
 use std::default::MadeWith;
 
-/// A list of items that can be moved within it and taken from its end, and that grows only where there is room.
+/// A list of items that can be moved within it and taken from its end, and that grows only by a gap, where there is room for that.
 pub trait Place<K>: Drop {
     // The items, and how many have room.
     ghost items: { Self → List K };
@@ -22,23 +21,29 @@ pub trait Place<K>: Drop {
         requires { i < length (items self.now) }
         ensures { slice_get (items self.now) i ≡ Some result.now };
 
-    /// Exchanges two items.
-    fn swap(&mut self, i: usize, j: usize)
-        requires i_within { i < length (items self.old) }
-        requires j_within { j < length (items self.old) }
-        ensures items { items self.new ≡ swap (items self.old) i j }
+    /// Moves `n` items down from `from` to `to`. What they replace comes to lie behind them.
+    fn move_down(&mut self, to: usize, from: usize, n: usize)
+        requires ordered { to ≤ from }
+        requires within { from + n ≤ length (items self.old) }
+        ensures front { take (to + n) (items self.new) ≡ take to (items self.old) ++ take n (drop from (items self.old)) }
+        ensures behind { drop (from + n) (items self.new) ≡ drop (from + n) (items self.old) }
+        ensures len { length (items self.new) ≡ length (items self.old) }
+        ensures room { room self.new ≡ room self.old };
+
+    /// Opens a gap of `n` places at `at`: the items from there on move up by so many.
+    fn open_gap(&mut self, at: usize, n: usize)
+        requires within { at ≤ length (items self.old) }
+        requires some { 0 < n }
+        requires enough { length (items self.old) + n ≤ room self.old }
+        ensures front { take at (items self.new) ≡ take at (items self.old) }
+        ensures behind { drop (at + n) (items self.new) ≡ drop at (items self.old) }
+        ensures len { length (items self.new) ≡ length (items self.old) + n }
         ensures room { room self.new ≡ room self.old };
 
     /// Replaces the item at index `i`, and drops the old one.
     fn set(&mut self, i: usize, item: K)
         requires { i < length (items self.old) }
         ensures items { items self.new ≡ slice_set (items self.old) i item }
-        ensures room { room self.new ≡ room self.old };
-
-    /// Appends an item where there is room.
-    fn push(&mut self, item: K)
-        requires { length (items self.old) < room self.old }
-        ensures items { items self.new ≡ items self.old ++ item ∷ [] }
         ensures room { room self.new ≡ room self.old };
 
     /// Removes the last item.
@@ -69,18 +74,18 @@ impl<K: MadeWith<Global> + Drop, const N: usize> Place<K> for SmallVec<K, N> {
     }
 
     #[inline(always)]
-    fn swap(&mut self, i: usize, j: usize) {
-        self.as_mut_slice().swap(i, j);
+    fn move_down(&mut self, to: usize, from: usize, n: usize) {
+        swap_down(self.as_mut_slice(), to, from, n);
+    }
+
+    #[inline(always)]
+    fn open_gap(&mut self, at: usize, n: usize) {
+        open_gap_in(self, at, n);
     }
 
     #[inline(always)]
     fn set(&mut self, i: usize, item: K) {
         replace_item(self.as_mut_slice(), i, item);
-    }
-
-    #[inline(always)]
-    fn push(&mut self, item: K) {
-        self.push_reserved(item);
     }
 
     #[inline(always)]
@@ -113,18 +118,18 @@ impl<K, L: Place<K>> Place<K> for &mut L {
     }
 
     #[inline(always)]
-    fn swap(&mut self, i: usize, j: usize) {
-        (**self).swap(i, j);
+    fn move_down(&mut self, to: usize, from: usize, n: usize) {
+        (**self).move_down(to, from, n);
+    }
+
+    #[inline(always)]
+    fn open_gap(&mut self, at: usize, n: usize) {
+        (**self).open_gap(at, n);
     }
 
     #[inline(always)]
     fn set(&mut self, i: usize, item: K) {
         (**self).set(i, item);
-    }
-
-    #[inline(always)]
-    fn push(&mut self, item: K) {
-        (**self).push(item);
     }
 
     #[inline(always)]
@@ -148,37 +153,68 @@ fn replace_item<K: Drop>(items: &mut [K], i: usize, item: K)
 
 // Moves `n` items down from `from` to `to`. What they replace comes to lie behind them.
 #[inline(always)]
-pub(crate) fn move_down<K, L: Place<K>>(list: &mut L, to: usize, from: usize, n: usize)
+fn swap_down<K>(items: &mut [K], to: usize, from: usize, n: usize)
     requires ordered { to ≤ from }
-    requires within { from + n ≤ length (L.items list.old) }
-    ensures front { take (to + n) (L.items list.new) ≡ take to (L.items list.old) ++ take n (drop from (L.items list.old)) }
-    ensures behind { drop (from + n) (L.items list.new) ≡ drop (from + n) (L.items list.old) }
-    ensures len { length (L.items list.new) ≡ length (L.items list.old) }
-    ensures room { L.room list.new ≡ L.room list.old }
+    requires within { from + n ≤ length items.old }
+    ensures front { take (to + n) items.new ≡ take to items.old ++ take n (drop from items.old) }
+    ensures behind { drop (from + n) items.new ≡ drop (from + n) items.old }
+    ensures len { length items.new ≡ length items.old }
 {
     if to == from {
         return;
     }
     // Brings that the length is within usize.
-    let _len = list.len();
+    let _len = items.len();
     for i in 0..n {
-        list.swap(to + i, from + i);
+        items.swap(to + i, from + i);
     }
 }
 
-// Moves the last `n` items of a list to the end of another, the last one first.
-#[inline(always)]
-pub(crate) fn pour<K, L: Place<K>>(from: &mut L, to: &mut L, n: usize)
-    requires within { n ≤ length (L.items from.old) }
-    requires room { length (L.items to.old) + n ≤ L.room to.old }
-    ensures rest { reverse (L.items from.new) ≡ drop n (reverse (L.items from.old)) }
-    ensures poured { L.items to.new ≡ L.items to.old ++ take n (reverse (L.items from.old)) }
-    ensures from_room { L.room from.new ≡ L.room from.old }
-    ensures to_room { L.room to.new ≡ L.room to.old }
+// Moves the last items up, those from `at` on, by `by` places, the last one first. What they replace comes to lie in front of them.
+fn swap_up<K>(items: &mut [K], at: usize, by: usize)
+    requires some { 0 < by }
+    requires within { at + by ≤ length items.old }
+    ensures front { take at items.new ≡ take at items.old }
+    ensures behind { drop (at + by) items.new ≡ drop at (take (length items.old - by) items.old) }
+    ensures len { length items.new ≡ length items.old }
 {
-    for _i in 0..n {
-        to.push(from.pop());
+    let waiting = items.len() - by - at;
+    for i in 0..waiting {
+        let last = at + (waiting - 1 - i);
+        items.swap(last, last + by);
     }
+}
+
+// Appends `n` blank items where there is room.
+fn push_blanks<K: MadeWith<Global> + Drop, const N: usize>(list: &mut SmallVec<K, N>, n: usize)
+    requires { length list.old.items + n ≤ list.old.capacity }
+    ensures front { take (length list.old.items) list.new.items ≡ list.old.items }
+    ensures len { length list.new.items ≡ length list.old.items + n }
+    ensures room { list.new.capacity ≡ list.old.capacity }
+{
+    let alloc = *list.allocator();
+    for _i in 0..n {
+        list.push_reserved(K::made_with(alloc));
+    }
+}
+
+// Opens a gap of `n` blank items at `at`. It stays out of line, since a merge comes here once at most.
+#[inline(never)]
+fn open_gap_in<K: MadeWith<Global> + Drop, const N: usize>(
+    list: &mut SmallVec<K, N>,
+    at: usize,
+    n: usize,
+)
+    requires within { at ≤ length list.old.items }
+    requires some { 0 < n }
+    requires enough { length list.old.items + n ≤ list.old.capacity }
+    ensures front { take at list.new.items ≡ take at list.old.items }
+    ensures behind { drop (at + n) list.new.items ≡ drop at list.old.items }
+    ensures len { length list.new.items ≡ length list.old.items + n }
+    ensures room { list.new.capacity ≡ list.old.capacity }
+{
+    push_blanks(list, n);
+    swap_up(list.as_mut_slice(), at, n);
 }
 
 // Reverses the items of a list.

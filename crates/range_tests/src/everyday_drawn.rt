@@ -34,6 +34,12 @@ impl Draws {
         (self.number() % 256) as u8
     }
 
+    // One of the items, where there is one.
+    pub(crate) fn one_of<'a, T>(&mut self, items: &'a [T]) -> Option<&'a T> {
+        let at = self.number() as usize;
+        items.get(at % items.len().max(1))
+    }
+
     // About one in so many of the values, in their order.
     pub(crate) fn some_of<T: Copy>(
         &mut self,
@@ -51,6 +57,29 @@ impl Draws {
         }
         Ok(items)
     }
+}
+
+// A value, and whether it is a member.
+#[derive(Drop)]
+pub(crate) struct Asked<T> {
+    pub(crate) value: T,
+    pub(crate) is_member: bool,
+}
+
+// Each of the values, and whether an odd number of the boundaries is at or below it.
+pub(crate) fn ask_each<T: Ord + Copy>(
+    alloc: Global,
+    values: &[T],
+    items: &[T],
+) -> Result<Vec<Asked<T>>, AllocError> {
+    let mut all = Vec::new(alloc);
+    for value in values {
+        all.push(Asked {
+            value: *value,
+            is_member: has(items, value),
+        })?;
+    }
+    Ok(all)
 }
 
 // All values of `u8`.

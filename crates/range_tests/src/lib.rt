@@ -22,9 +22,15 @@ mod everyday_chars;
 #[cfg(test)]
 mod everyday_covered;
 #[cfg(test)]
+mod everyday_display;
+#[cfg(test)]
 mod everyday_drawn;
 #[cfg(test)]
 mod everyday_fits;
+#[cfg(test)]
+mod everyday_gaps;
+#[cfg(test)]
+mod everyday_points;
 #[cfg(test)]
 mod everyday_traits;
 #[cfg(test)]

@@ -1,8 +1,12 @@
 //! Merges of lists, the builder and JSON, whose requests for memory are refused in turn: the lists that were handed in come back as they were.
+ghost use Rattle.std.specs.Ordering.{int_cmp};
+ghost use Rattle.std.specs.Prelude.{IsTrue};
+ghost use Rattle.range_merge.specs.Boundaries.{IsAscending};
+
 use crate::given::{numbers, set_of};
 use crate::numbers::{Copies, Numbers};
 use crate::starved::{Answer, Call, Starved};
-use range_collections::{JsonError, RangeSet2};
+use range_collections::{JsonError, RangeSet2, RangeSetRef};
 use range_merge::{
     InPlaceBuilder, InPlaceMergeState, InPlaceMergeStateRef, SmallVecMergeState, UnionOp,
 };
@@ -56,6 +60,9 @@ impl Call for OfLists {
 
     fn answer(&self, given: (List, List)) -> Answer {
         let (left, right) = given;
+        if !ascend(left.as_slice()) || !ascend(right.as_slice()) {
+            return Answer::Wrong;
+        }
         match self.made {
             Made::Builder => builder_is_made(left),
             Made::State => state_is_made(left, right),
@@ -65,6 +72,13 @@ impl Call for OfLists {
             Made::MergeNew => is_merged_anew(self.alloc, left.as_slice(), right.as_slice()),
         }
     }
+}
+
+// Whether the items are strictly sorted, as merges ask.
+fn ascend(items: &[i64]) -> bool
+    ensures { IsTrue result → IsAscending int_cmp items.now }
+{
+    RangeSetRef::new(items).is_some()
 }
 
 fn builder_is_made(list: List) -> Answer {
@@ -91,7 +105,10 @@ fn state_ref_is_made(left: List, right: &[i64]) -> Answer {
 }
 
 // The union of both in the first list.
-fn is_merged(mut left: List, right: List) -> Answer {
+fn is_merged(mut left: List, right: List) -> Answer
+    requires left_ascends { IsAscending int_cmp left.items }
+    requires right_ascends { IsAscending int_cmp right.items }
+{
     let mut numbers = Numbers { made: 0 };
     match InPlaceMergeState::merge(&mut left, right, &UnionOp, &mut numbers) {
         Ok(()) => Answer::right_if(left.as_slice() == UNION.as_slice()),
@@ -102,7 +119,10 @@ fn is_merged(mut left: List, right: List) -> Answer {
 }
 
 // The same, with the second list as a slice.
-fn is_merged_ref(mut left: List, right: &[i64]) -> Answer {
+fn is_merged_ref(mut left: List, right: &[i64]) -> Answer
+    requires left_ascends { IsAscending int_cmp left.items }
+    requires right_ascends { IsAscending int_cmp right.now }
+{
     let mut numbers = Numbers { made: 0 };
     match InPlaceMergeStateRef::<i64, Copies, 2>::merge(
         &mut left,
@@ -117,7 +137,10 @@ fn is_merged_ref(mut left: List, right: &[i64]) -> Answer {
 }
 
 // The same, into a new list.
-fn is_merged_anew(alloc: Global, left: &[i64], right: &[i64]) -> Answer {
+fn is_merged_anew(alloc: Global, left: &[i64], right: &[i64]) -> Answer
+    requires left_ascends { IsAscending int_cmp left.now }
+    requires right_ascends { IsAscending int_cmp right.now }
+{
     let list: List = SmallVec::new(alloc);
     let mut numbers = Numbers { made: 0 };
     match SmallVecMergeState::merge(list, left, right, &Copies, &UnionOp, &mut numbers) {

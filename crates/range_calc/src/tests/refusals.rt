@@ -111,7 +111,7 @@ fn lists_are_built_before_one_is_checked(rt: HostRuntime) -> Result<(), Fail> {
     for words in ["contains 3,2,1 1", "union 3,2 1,2,3"] {
         let words = words_of(alloc, words)?;
         let mut out = Sink::new(usize::MAX, usize::MAX);
-        let mut starved = Starved::new(alloc, 1)?;
+        let mut starved = Starved::with_rounds(alloc, 1)?;
         let status = answer(starved.leave(0), words.as_slice(), &mut out)?;
         drop(starved);
         assert_eq!(rt; status, Status::NoMemory, "{words:?}");

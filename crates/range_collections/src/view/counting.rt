@@ -1,5 +1,5 @@
 //! How many values are members of a view.
-ghost use Rattle.std.specs.Prelude.{◌≡◌, ◌-◌, ◌<◌, ◌%◌, length};
+ghost use Rattle.std.specs.Prelude.{◌≡◌, ◌-◌, ◌<◌, ◌%◌, length, IfSome};
 ghost use Rattle.std.specs.declared.cmp.Ordering.TheVariants.{Less};
 ghost use Rattle.range_merge.specs.Boundaries.{IsAscending};
 ghost use Rattle.range_collections.specs.Covered.{covered_of, members_below};
@@ -8,9 +8,10 @@ use crate::countable::Countable;
 use crate::view::RangeSetRef;
 
 impl<'a, T: Countable> RangeSetRef<'a, T> {
-    /// How many values are members, or `None` where the set has no end. It looks at each boundary once.
+    /// How many values are members, or `None` where the set has no end. It looks at each boundary once. A set with an end has fewer members than there are values.
     pub fn covered(&self) -> Option<u128>
-        ensures { result ≡ covered_of T.cmp T.value T.count self.now.boundaries.now }
+        ensures fits { IfSome result (λ n. n < T.count) }
+        ensures value { result ≡ covered_of T.cmp T.value T.count self.now.boundaries.now }
     {
         if self.boundaries.len() % 2 == 1 {
             return None;
@@ -23,7 +24,8 @@ impl<'a, T: Countable> RangeSetRef<'a, T> {
 fn count_members<T: Countable>(items: &[T]) -> u128
     requires sorted { IsAscending T.cmp items.now }
     requires pairs { length items.now % 2 ≡ 0 }
-    ensures { result ≡ members_below T.cmp T.value items.now T.count }
+    ensures fits { result < T.count }
+    ensures value { result ≡ members_below T.cmp T.value items.now T.count }
 {
     let mut count: u128 = 0;
     let mut i = 0;

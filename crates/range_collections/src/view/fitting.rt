@@ -2,6 +2,7 @@
 ghost use Rattle.std.specs.Prelude.{◌↔◌, ◌≤◌, IsTrue, IfSome, IfNone};
 ghost use Rattle.range_collections.specs.Fits.{Fits, IsPlaceBelow};
 
+use crate::comparisons::Comparisons;
 use crate::countable::Unsigned;
 use crate::view::RangeSetRef;
 use std::ops::Range;
@@ -22,7 +23,7 @@ impl<'a, T: Unsigned> RangeSetRef<'a, T> {
                 None
             };
         }
-        let mut i = self.at_or_below(&start);
+        let mut i = self.count_up_to(&start, &mut Comparisons::new());
         let mut at = start;
         loop {
             if i % 2 == 0 {

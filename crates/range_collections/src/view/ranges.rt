@@ -1,14 +1,10 @@
 //! The ranges of a view, and one range of elements against it.
-ghost use Rattle.std.specs.Prelude.{◌≡◌, ◌↔◌, ◌≤◌, ℕ, length, true, IsTrue};
-ghost use Rattle.std.specs.List.{AllWithin};
-ghost use Rattle.std.specs.Ordering.{is_le};
-ghost use Rattle.std.specs.declared.cmp.Ordering.TheVariants.{Greater};
+ghost use Rattle.std.specs.Prelude.{◌≡◌, ◌↔◌, ℕ, IsTrue};
 ghost use Rattle.range_collections.specs.Intersects.{HasMemberWithin, IsItemBelow};
 
 use crate::comparisons::Comparisons;
 use crate::iter::Iter;
 use crate::view::RangeSetRef;
-use range_merge::search;
 use std::ops::Range;
 
 impl<'a, T: Ord> RangeSetRef<'a, T> {
@@ -30,24 +26,11 @@ impl<'a, T: Ord> RangeSetRef<'a, T> {
         if !range.start.cmp(&range.end).is_lt() {
             return false;
         }
-        let count = self.at_or_below(&range.start);
+        let count = self.count_up_to(&range.start, &mut Comparisons::new());
         if count % 2 == 1 {
             return true;
         }
         self.is_next_below(count, &range.end)
-    }
-
-    // How many boundaries are at or below `value`.
-    #[inline(always)]
-    pub(super) fn at_or_below(&self, value: &T) -> usize
-        ensures within { result ≤ length self.now.boundaries.now }
-        ensures before { AllWithin (λ y. is_le (T.cmp y value.now) ≡ true) self.now.boundaries.now 0 result }
-        ensures from { AllWithin (λ y. T.cmp y value.now ≡ Greater) self.now.boundaries.now result (length self.now.boundaries.now) }
-    {
-        match search(self.boundaries, value, &mut Comparisons::new()) {
-            Ok(i) => i + 1,
-            Err(i) => i,
-        }
     }
 
     // Whether there is a boundary at place `i`, and it is below `end`.

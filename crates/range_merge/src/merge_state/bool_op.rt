@@ -68,4 +68,9 @@ impl<K> Output<K, ()> for bool {
         *self = *self | take;
         Ok(!take)
     }
+
+    #[inline(always)]
+    fn stops(&self) -> bool {
+        true
+    }
 }

@@ -28,7 +28,7 @@ pub type InPlaceMergeState<K, const N: usize> = PlacingMergeState<
 impl<K: MadeWith<Global> + Drop, const N: usize> InPlaceMergeState<K, N> {
     /// All items of both lists unread, both sides off, and nothing kept.
     ///
-    /// It asks for room in `a` for the items of `b`, and for a spare list that can hold the items of `a`. A refusal hands both lists back.
+    /// It asks for room in `a` for the items of `b`. A refusal hands both lists back.
     pub fn new(
         mut a: SmallVec<K, N>,
         mut b: SmallVec<K, N>,
@@ -44,9 +44,9 @@ impl<K: MadeWith<Global> + Drop, const N: usize> InPlaceMergeState<K, N> {
     {
         let extra = b.len();
         match prepared(&mut a, extra) {
-            Ok(spare) => {
+            Ok(()) => {
                 turn_round(&mut b);
-                Ok(Self::over(a, spare, OwnedRight { reversed: b }, extra))
+                Ok(Self::over(a, OwnedRight { reversed: b }, extra))
             }
             Err(error) => Err((error, a, b)),
         }
@@ -54,7 +54,7 @@ impl<K: MadeWith<Global> + Drop, const N: usize> InPlaceMergeState<K, N> {
 
     /// Leaves in `a` the items at which the connective of `op` changes between two strictly sorted lists. Of two equal items it is the one of `a` that stays.
     ///
-    /// It asks for room in `a` for the items of `b` and for a spare list that can hold the items of `a`, before it changes anything; where both lengths together are at most `N`, it succeeds. A refusal leaves the items of `a` as they were and hands `b` back.
+    /// It asks for room in `a` for the items of `b` before it changes anything; where both lengths together are at most `N`, it succeeds. A refusal leaves the items of `a` as they were and hands `b` back.
     /// It makes at most twice the weight of the two lists in comparisons.
     pub fn merge<O: MergeOperation, C: Compare<K>>(
         a: &mut SmallVec<K, N>,
@@ -74,12 +74,10 @@ impl<K: MadeWith<Global> + Drop, const N: usize> InPlaceMergeState<K, N> {
         let alloc = *a.allocator();
         let extra = b.len();
         match prepared(a, extra) {
-            Ok(mut spare) => {
+            Ok(()) => {
                 turn_round(&mut b);
                 let right = OwnedRight { reversed: &mut b };
-                let mut state = PlacingMergeState::<K, N, _, _>::over(
-                    &mut *a, &mut spare, right, extra,
-                );
+                let mut state = PlacingMergeState::<K, N, _, _>::over(&mut *a, right, extra);
                 let _ = merging::merge(&mut state, op, cmp);
                 let kept = mem::replace(state.result(), SmallVec::new(alloc));
                 *a = kept;

@@ -37,7 +37,7 @@ impl<'a, K: MadeWith<Global> + Drop, P: Copier<K>, const N: usize> InPlaceMergeS
 > {
     /// All items of both lists unread, both sides off, and nothing kept.
     ///
-    /// It asks for room in `a` for the items of `b`, for a spare list that can hold the items of `a`, and for a copy of each item of `b`, also of those that will be dropped. A refusal hands `a` back.
+    /// It asks for room in `a` for the items of `b`, and for a copy of each item of `b`, also of those that will be dropped. A refusal hands `a` back.
     pub fn new(
         mut a: SmallVec<K, N>,
         b: &'a [K],
@@ -52,9 +52,9 @@ impl<'a, K: MadeWith<Global> + Drop, P: Copier<K>, const N: usize> InPlaceMergeS
         ensures succeeds { length a.items + length b.now ≤ N → All P.is_infallible b.now → IsOk result }
     {
         match prepared_copies(&mut a, b, copier) {
-            Ok((spare, copies)) => {
+            Ok(copies) => {
                 let right = CopiedRight::over(b, copies);
-                Ok(Self::over(a, spare, right, b.len()))
+                Ok(Self::over(a, right, b.len()))
             }
             Err(error) => Err((error, a)),
         }
@@ -62,7 +62,7 @@ impl<'a, K: MadeWith<Global> + Drop, P: Copier<K>, const N: usize> InPlaceMergeS
 
     /// Leaves in `a` the items at which the connective of `op` changes between two strictly sorted lists: its own, and copies of those of `b`. Of two equal items it is the one of `a` that stays.
     ///
-    /// It asks for room in `a` for the items of `b`, for a spare list that can hold the items of `a`, and for a copy of each item of `b`, before it changes anything; where both lengths together are at most `N` and no copy is refused, it succeeds. A refusal leaves the items of `a` as they were.
+    /// It asks for room in `a` for the items of `b`, and for a copy of each item of `b`, before it changes anything; where both lengths together are at most `N` and no copy is refused, it succeeds. A refusal leaves the items of `a` as they were.
     /// It makes at most twice the weight of the two lists in comparisons.
     pub fn merge<O: MergeOperation, C: Compare<K>>(
         a: &mut SmallVec<K, N>,
@@ -81,14 +81,9 @@ impl<'a, K: MadeWith<Global> + Drop, P: Copier<K>, const N: usize> InPlaceMergeS
     {
         let alloc = *a.allocator();
         match prepared_copies(a, b, copier) {
-            Ok((mut spare, mut copies)) => {
+            Ok(mut copies) => {
                 let right = CopiedRight::<'a, K, P, &mut SmallVec<K, N>>::over(b, &mut copies);
-                let mut state = PlacingMergeState::<K, N, _, _>::over(
-                    &mut *a,
-                    &mut spare,
-                    right,
-                    b.len(),
-                );
+                let mut state = PlacingMergeState::<K, N, _, _>::over(&mut *a, right, b.len());
                 let _ = merging::merge(&mut state, op, cmp);
                 let kept = mem::replace(state.result(), SmallVec::new(alloc));
                 *a = kept;

@@ -1,5 +1,5 @@
 //! What a merge over two slices makes of the items that it takes.
-ghost use Rattle.std.specs.Prelude.{◌≡◌, ℕ, Bool, not, ◌&&◌, ◌+◌, ◌≤◌, List, ◌++◌, length, All, IsOk, OnOk, IfOk};
+ghost use Rattle.std.specs.Prelude.{◌≡◌, ℕ, Bool, not, ◌&&◌, ◌+◌, ◌≤◌, List, ◌++◌, length, All, IsTrue, true, IsOk, OnOk, IfOk};
 ghost use Rattle.range_merge.specs.Changes.{Taken, taken_items};
 ghost use Rattle.range_merge.specs.Copies.{items_if};
 
@@ -36,6 +36,14 @@ pub trait Output<K, By> {
         ensures fits { (m n : ℕ) → length items.now + m ≤ n → fits self.old n → fits self.new m }
         ensures succeeds { (n : ℕ) → length items.now ≤ n → has_room self.old n → All is_infallible items.now → IsOk result }
         ensures has_room { (m n : ℕ) → length items.now + m ≤ n → has_room self.old n → OnOk result (has_room self.new m) };
+
+    /// Whether one item that is taken is as good as many: `true` only of an output that stops the merge there.
+    #[inline(always)]
+    fn stops(&self) -> bool
+        ensures { IsTrue result → can_stop ≡ true }
+    {
+        false
+    }
 }
 
 impl<K, By, L: Output<K, By>> Output<K, By> for &mut L {
@@ -54,5 +62,10 @@ impl<K, By, L: Output<K, By>> Output<K, By> for &mut L {
     #[inline(always)]
     fn append(&mut self, items: &[K], take: bool, by: &By) -> Result<bool, AllocError> {
         (**self).append(items, take, by)
+    }
+
+    #[inline(always)]
+    fn stops(&self) -> bool {
+        (**self).stops()
     }
 }

@@ -138,4 +138,9 @@ impl<'a, K, O: Output<K, By>, By> MergeStateMut for SliceMergeState<'a, K, O, By
     fn bc(&self) -> bool {
         self.bc
     }
+
+    #[inline(always)]
+    fn stops(&self) -> bool {
+        self.output.stops()
+    }
 }

@@ -37,10 +37,8 @@ impl<K, const N: usize, R: RightSide<K>, L: Place<K>> Model for PlacingMergeStat
 
 impl<K, const N: usize, R: RightSide<K>, L: Place<K>> PlacingMergeState<K, N, R, L> {
     // All items of both sides unread, both sides off, and nothing kept.
-    pub(crate) fn over(list: L, spare: L, right: R, extra: usize) -> Self
-        requires spare_empty { L.items spare ≡ [] }
+    pub(crate) fn over(list: L, right: R, extra: usize) -> Self
         requires room { length (L.items list) + extra ≤ L.room list }
-        requires spare_room { length (L.items list) ≤ L.room spare }
         requires puts { length (R.unread right) ≤ extra }
         ensures left { result.left ≡ L.items list }
         ensures right { result.right ≡ R.unread right }
@@ -49,7 +47,7 @@ impl<K, const N: usize, R: RightSide<K>, L: Place<K>> PlacingMergeState<K, N, R,
         ensures kept { result.kept ≡ [] }
     {
         PlacingMergeState {
-            builder: InPlaceBuilder::over(list, spare, extra),
+            builder: InPlaceBuilder::over(list, extra),
             right,
             ac: false,
             bc: false,

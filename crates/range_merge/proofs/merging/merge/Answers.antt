@@ -1,9 +1,10 @@
-use Rattle.std.proofs.Common.{[], refl, sym, ◌∙◌, arith}
+use Rattle.std.proofs.Common.{[], refl, sym, ap, ◌∙◌, arith}
 use Rattle.std.proofs.lemmas.Bool.{false≢true}
 use Rattle.std.proofs.lemmas.List.{append-nil}
 use Rattle.range_merge.proofs.Ahead.{ahead_of-le}
-use Rattle.range_merge.proofs.FirstRun.{stands_first, used_up, weight-le, changes-walk}
-use Rattle.range_merge.proofs.MergeLoop.{Progress-step, StopsAmong-run, Progress-end, IsAscending-left_after, IsAscending-right_after, length-after}
+use Rattle.range_merge.proofs.FirstRun.{stands_first, one_stands, weight-some, used_up, weight-le, changes-walk}
+use Rattle.range_merge.proofs.MergeLoop.{stops-here, Progress-step, StopsAmong-run, Progress-end, IsAscending-left_after, IsAscending-right_after, length-after}
+use Rattle.range_merge.specs.Steps.{takes}
 use Rattle.range_merge.proofs.merging.merge.Goals as goal
 
 pub loop-firsts-init : goal.loop-firsts-init
@@ -37,10 +38,93 @@ first_run-run-requires-clause-made g c =
 
 pub take_run-requires : goal.take_run-requires
 take_run-requires g c =
-    (stands_first g.met.C.Compare.total _ _ c.loop-firsts.invariant.left_ascends c.loop-firsts.invariant.right_ascends _ c.first_run-run.ensures.first).fits
+    let so_far = c.loop-firsts.invariant in
+    let firsts = rw c.in-Some.is at so_far.stands in
+    (one_stands g.met.C.Compare.total _ _ so_far.left_ascends so_far.right_ascends c.one_of.result c.in-Some.how c.one_of.ensures firsts).fits
+
+pub returns-in_err-goes_on-clause-began : goal.returns-in_err-goes_on-clause-began
+returns-in_err-goes_on-clause-began g c = c.take_run.ensures.began ∙ c.loop-firsts.invariant.began
+
+pub returns-in_err-goes_on-clause-succeeds : goal.returns-in_err-goes_on-clause-succeeds
+returns-in_err-goes_on-clause-succeeds g c = λ infallible.
+    absurd (false≢true (c.in_err-goes_on.ensures.succeeds (c.loop-firsts.invariant.still_infallible infallible)))
+
+pub returns-in_err-goes_on-clause-comparisons : goal.returns-in_err-goes_on-clause-comparisons
+returns-in_err-goes_on-clause-comparisons g c =
+    let so_far = c.loop-firsts.invariant in
+    let firsts = rw c.in-Some.is at so_far.stands in
+    record {
+      at_least = omega (arith, so_far.counted);
+      at_most =
+          omega (
+            arith,
+            so_far.counted,
+            ahead_of-le c.loop-firsts.firsts,
+            weight-some g.met.C.Compare.total _ _ so_far.left_ascends so_far.right_ascends firsts.0,
+          );
+    }
+
+pub returns-then-stops_at_first-clause-used_up : goal.returns-then-stops_at_first-clause-used_up
+returns-then-stops_at_first-clause-used_up g c = λ through.
+    absurd (false≢true (sym (stops-here _ _ (c.if-stops_at_first.ensures.can_stop refl)
+      (ap (λ run. takes (g.O.MergeOperation.connective c.args.op.now) (g.S.MergeStateMut.left_on c.loop-firsts.state) (g.S.MergeStateMut.right_on c.loop-firsts.state) run) c.one_of.ensures
+      ∙ c.if-stops_at_first.ensures.taken refl))
+      ∙ sym c.in_ok-goes_on.ensures.goes_on ∙ through))
+
+pub returns-then-stops_at_first-clause-taken : goal.returns-then-stops_at_first-clause-taken
+returns-then-stops_at_first-clause-taken g c = λ through.
+    absurd (false≢true (sym (stops-here _ _ (c.if-stops_at_first.ensures.can_stop refl)
+      (ap (λ run. takes (g.O.MergeOperation.connective c.args.op.now) (g.S.MergeStateMut.left_on c.loop-firsts.state) (g.S.MergeStateMut.right_on c.loop-firsts.state) run) c.one_of.ensures
+      ∙ c.if-stops_at_first.ensures.taken refl))
+      ∙ sym c.in_ok-goes_on.ensures.goes_on ∙ through))
+
+pub returns-then-stops_at_first-clause-not_stopped : goal.returns-then-stops_at_first-clause-not_stopped
+returns-then-stops_at_first-clause-not_stopped g c = λ _ through.
+    absurd (false≢true (sym (stops-here _ _ (c.if-stops_at_first.ensures.can_stop refl)
+      (ap (λ run. takes (g.O.MergeOperation.connective c.args.op.now) (g.S.MergeStateMut.left_on c.loop-firsts.state) (g.S.MergeStateMut.right_on c.loop-firsts.state) run) c.one_of.ensures
+      ∙ c.if-stops_at_first.ensures.taken refl))
+      ∙ sym c.in_ok-goes_on.ensures.goes_on ∙ through))
+
+pub returns-then-stops_at_first-clause-stopped : goal.returns-then-stops_at_first-clause-stopped
+returns-then-stops_at_first-clause-stopped g c = λ stopped.
+    let total = g.met.C.Compare.total in
+    let so_far = c.loop-firsts.invariant in
+    let firsts = rw c.in-Some.is at so_far.stands in
+    let one = one_stands total _ _ so_far.left_ascends so_far.right_ascends c.one_of.result c.in-Some.how c.one_of.ensures firsts in
+    rw (changes-walk total _ _ c.requires.left_ascending c.requires.right_ascending _)
+    (StopsAmong-run c.one_of.result (g.S.MergeStateMut.output c.take_run.new.state) one so_far.progress (sym stopped ∙ c.in_ok-goes_on.ensures.goes_on) c.in_ok-goes_on.ensures.output)
+
+pub returns-then-stops_at_first-clause-began : goal.returns-then-stops_at_first-clause-began
+returns-then-stops_at_first-clause-began g c = c.take_run.ensures.began ∙ c.loop-firsts.invariant.began
+
+pub returns-then-stops_at_first-clause-succeeds : goal.returns-then-stops_at_first-clause-succeeds
+returns-then-stops_at_first-clause-succeeds g c = λ _. refl
+
+pub returns-then-stops_at_first-clause-still_infallible : goal.returns-then-stops_at_first-clause-still_infallible
+returns-then-stops_at_first-clause-still_infallible g c = λ infallible.
+    c.in_ok-goes_on.ensures.still_infallible (c.loop-firsts.invariant.still_infallible infallible)
+
+pub returns-then-stops_at_first-clause-comparisons : goal.returns-then-stops_at_first-clause-comparisons
+returns-then-stops_at_first-clause-comparisons g c =
+    let so_far = c.loop-firsts.invariant in
+    let firsts = rw c.in-Some.is at so_far.stands in
+    record {
+      at_least = omega (arith, so_far.counted);
+      at_most =
+          omega (
+            arith,
+            so_far.counted,
+            ahead_of-le c.loop-firsts.firsts,
+            weight-some g.met.C.Compare.total _ _ so_far.left_ascends so_far.right_ascends firsts.0,
+          );
+    }
+
+pub take_run-requires-in-Some : goal.take_run-requires-in-Some
+take_run-requires-in-Some g c =
+    (stands_first g.met.C.Compare.total _ _ c.loop-firsts.invariant.left_ascends c.loop-firsts.invariant.right_ascends _ c.first_run-run.ensures.first).in_front.fits
 
 pub returns-in_err-take_run-clause-began : goal.returns-in_err-take_run-clause-began
-returns-in_err-take_run-clause-began g c = c.take_run.ensures.began ∙ c.loop-firsts.invariant.began
+returns-in_err-take_run-clause-began g c = c.take_run-in-Some.ensures.began ∙ c.loop-firsts.invariant.began
 
 pub returns-in_err-take_run-clause-succeeds : goal.returns-in_err-take_run-clause-succeeds
 returns-in_err-take_run-clause-succeeds g c = λ infallible.
@@ -65,7 +149,7 @@ pub returns-then-not-branch-clause-not_stopped : goal.returns-then-not-branch-cl
 returns-then-not-branch-clause-not_stopped g c = λ _ through. absurd (false≢true through)
 
 pub returns-then-not-branch-clause-began : goal.returns-then-not-branch-clause-began
-returns-then-not-branch-clause-began g c = c.take_run.ensures.began ∙ c.loop-firsts.invariant.began
+returns-then-not-branch-clause-began g c = c.take_run-in-Some.ensures.began ∙ c.loop-firsts.invariant.began
 
 pub returns-then-not-branch-clause-succeeds : goal.returns-then-not-branch-clause-succeeds
 returns-then-not-branch-clause-succeeds g c = λ _. refl
@@ -78,7 +162,7 @@ returns-then-not-branch-clause-stopped g c = λ _.
     let so_far = c.loop-firsts.invariant in
     let first = stands_first g.met.C.Compare.total _ _ so_far.left_ascends so_far.right_ascends _ c.first_run-run.ensures.first in
     rw (changes-walk g.met.C.Compare.total _ _ c.requires.left_ascending c.requires.right_ascending _)
-    (StopsAmong-run c.first_run-run.result.run (g.S.MergeStateMut.output c.take_run.new.state) first so_far.progress (sym c.if-not-branch.true ∙ c.in_ok-take_run.ensures.goes_on) c.in_ok-take_run.ensures.output)
+    (StopsAmong-run c.first_run-run.result.run (g.S.MergeStateMut.output c.take_run-in-Some.new.state) first.in_front so_far.progress (sym c.if-not-branch.true ∙ c.in_ok-take_run.ensures.goes_on) c.in_ok-take_run.ensures.output)
 
 pub returns-then-not-branch-clause-comparisons : goal.returns-then-not-branch-clause-comparisons
 returns-then-not-branch-clause-comparisons g c =
@@ -93,7 +177,7 @@ pub loop-firsts-smaller : goal.loop-firsts-smaller
 loop-firsts-smaller g c =
     let first = stands_first g.met.C.Compare.total _ _ c.loop-firsts.invariant.left_ascends c.loop-firsts.invariant.right_ascends _ c.first_run-run.ensures.first in
     rw (c.in_ok-take_run.ensures.left c.if-not-branch.false, c.in_ok-take_run.ensures.right c.if-not-branch.false)
-    (length-after c.first_run-run.result.run _ _ first.fits)
+    (length-after c.first_run-run.result.run _ _ first.in_front.fits)
 
 pub loop-firsts-preserved : goal.loop-firsts-preserved
 loop-firsts-preserved g c =
@@ -110,7 +194,7 @@ loop-firsts-preserved g c =
       lengths = so_far.lengths;
       progress =
           rw (left, right, c.in_ok-take_run.ensures.left_on, c.in_ok-take_run.ensures.right_on)
-          (Progress-step run' _ first so_far.progress goes_on c.in_ok-take_run.ensures.output);
+          (Progress-step run' _ first.in_front so_far.progress goes_on c.in_ok-take_run.ensures.output);
       counted =
           rw (left, right) (
             omega (arith, so_far.counted, c.first_run-run.ensures.counted),
@@ -164,7 +248,7 @@ pub take_run-requires-2 : goal.take_run-requires-2
 take_run-requires-2 g c =
     let total = g.met.C.Compare.total in
     let so_far = c.loop-firsts.invariant in
-    (stands_first total _ _ so_far.left_ascends so_far.right_ascends _ (c.in-Some-last_run.ensures.first _ total so_far.left_ascends so_far.right_ascends)).fits
+    (stands_first total _ _ so_far.left_ascends so_far.right_ascends _ (c.in-Some-last_run.ensures.first _ total so_far.left_ascends so_far.right_ascends)).in_front.fits
 
 pub returns-in_err-more-clause-began : goal.returns-in_err-more-clause-began
 returns-in_err-more-clause-began g c = c.take_run-2.ensures.began ∙ c.loop-firsts.invariant.began
@@ -189,7 +273,7 @@ returns-clause-taken g c = λ through before holds.
     let so_far = c.loop-firsts.invariant in
     let first = stands_first total _ _ so_far.left_ascends so_far.right_ascends _ (c.in-Some-last_run.ensures.first _ total so_far.left_ascends so_far.right_ascends) in
     let ends = c.in-Some-last_run.ensures.all in
-    let whole = Progress-step c.in-Some-last_run.run' (g.S.MergeStateMut.output c.take_run-2.new.state) first so_far.progress (sym through ∙ c.in_ok-more.ensures.goes_on) c.in_ok-more.ensures.output in
+    let whole = Progress-step c.in-Some-last_run.run' (g.S.MergeStateMut.output c.take_run-2.new.state) first.in_front so_far.progress (sym through ∙ c.in_ok-more.ensures.goes_on) c.in_ok-more.ensures.output in
     rw (changes-walk total _ _ c.requires.left_ascending c.requires.right_ascending _, ← (Progress-end whole ends.0 ends.1))
     (whole.appended before holds)
 
@@ -199,7 +283,7 @@ returns-clause-stopped g c = λ stopped.
     let so_far = c.loop-firsts.invariant in
     let first = stands_first total _ _ so_far.left_ascends so_far.right_ascends _ (c.in-Some-last_run.ensures.first _ total so_far.left_ascends so_far.right_ascends) in
     rw (changes-walk total _ _ c.requires.left_ascending c.requires.right_ascending _)
-    (StopsAmong-run c.in-Some-last_run.run' (g.S.MergeStateMut.output c.take_run-2.new.state) first so_far.progress (sym stopped ∙ c.in_ok-more.ensures.goes_on) c.in_ok-more.ensures.output)
+    (StopsAmong-run c.in-Some-last_run.run' (g.S.MergeStateMut.output c.take_run-2.new.state) first.in_front so_far.progress (sym stopped ∙ c.in_ok-more.ensures.goes_on) c.in_ok-more.ensures.output)
 
 pub returns-clause-not_stopped : goal.returns-clause-not_stopped
 returns-clause-not_stopped g c = λ can through.
@@ -207,7 +291,7 @@ returns-clause-not_stopped g c = λ can through.
     let so_far = c.loop-firsts.invariant in
     let first = stands_first total _ _ so_far.left_ascends so_far.right_ascends _ (c.in-Some-last_run.ensures.first _ total so_far.left_ascends so_far.right_ascends) in
     let ends = c.in-Some-last_run.ensures.all in
-    let whole = Progress-step c.in-Some-last_run.run' (g.S.MergeStateMut.output c.take_run-2.new.state) first so_far.progress (sym through ∙ c.in_ok-more.ensures.goes_on) c.in_ok-more.ensures.output in
+    let whole = Progress-step c.in-Some-last_run.run' (g.S.MergeStateMut.output c.take_run-2.new.state) first.in_front so_far.progress (sym through ∙ c.in_ok-more.ensures.goes_on) c.in_ok-more.ensures.output in
     changes-walk total _ _ c.requires.left_ascending c.requires.right_ascending _
     ∙ sym (Progress-end whole ends.0 ends.1) ∙ whole.none_done can
 

@@ -10,17 +10,17 @@ returns-then-count-eq1 g c =
     let t : is_lt (g.T.Ord.cmp c.args.range.start c.args.range.end) ≡ true =
     rw (← c.cmp.ensures, ← c.is_lt.ensures) c.if-not-is_lt.false in (
       λ _.
-          HasMemberWithin-start g.met.T.Ord.total c.args.self.now.boundaries.now c.args.range.start c.args.range.end c.at_or_below-count.result
-          c.args.self.now.sorted c.at_or_below-count.ensures.within c.at_or_below-count.ensures.before c.at_or_below-count.ensures.from
+          HasMemberWithin-start g.met.T.Ord.total c.args.self.now.boundaries.now c.args.range.start c.args.range.end c.count_up_to-count.result
+          c.args.self.now.sorted c.count_up_to-count.ensures.within c.count_up_to-count.ensures.before c.count_up_to-count.ensures.from
           (Less-from_is_lt (g.T.Ord.cmp c.args.range.start c.args.range.end) t) c.if-count-eq1.true,
       λ _. refl,
     )
 
 pub returns : goal.returns
 returns g c =
-    let even : c.at_or_below-count.result % 2 ≡ 0 = omega (arith, c.if-count-eq1.false) in
-    let next : IsItemBelow g.T.Ord.cmp c.args.self.now.boundaries.now c.at_or_below-count.result c.args.range.end
+    let even : c.count_up_to-count.result % 2 ≡ 0 = omega (arith, c.if-count-eq1.false) in
+    let next : IsItemBelow g.T.Ord.cmp c.args.self.now.boundaries.now c.count_up_to-count.result c.args.range.end
     ↔ HasMemberWithin g.T.Ord.cmp c.args.self.now.boundaries.now c.args.range.start c.args.range.end =
-    HasMemberWithin-next g.met.T.Ord.total c.args.self.now.boundaries.now c.args.range.start c.args.range.end c.at_or_below-count.result
-    c.args.self.now.sorted c.at_or_below-count.ensures.within c.at_or_below-count.ensures.before c.at_or_below-count.ensures.from even in
+    HasMemberWithin-next g.met.T.Ord.total c.args.self.now.boundaries.now c.args.range.start c.args.range.end c.count_up_to-count.result
+    c.args.self.now.sorted c.count_up_to-count.ensures.within c.count_up_to-count.ensures.before c.count_up_to-count.ensures.from even in
     (λ t. next.0 (c.is_next_below.ensures.0 t), λ h. c.is_next_below.ensures.1 (next.1 h))

@@ -9,7 +9,7 @@ pub over-state-requires : goal.over-state-requires
 over-state-requires g c =
     let turned = c.turn_round.new.list.items in
     let same : length (reverse turned) ≡ length c.args.b.items = length-reverse turned ∙ ap length c.turn_round.ensures.items ∙ length-reverse c.args.b.items in
-    (omega arith, (c.in-Ok.ensures.spare, (c.in-Ok.ensures.room, (rw c.in-Ok.ensures.items c.in-Ok.ensures.spare_room, le_of_eq (same ∙ sym c.len-extra.ensures.value)))))
+    (omega arith, (c.in-Ok.ensures.room, le_of_eq (same ∙ sym c.len-extra.ensures.value)))
 
 pub merge-requires-clause-left_ascending : goal.merge-requires-clause-left_ascending
 merge-requires-clause-left_ascending g c = rw (c.over-state.ensures.left, c.in-Ok.ensures.items) c.requires.left_ascending

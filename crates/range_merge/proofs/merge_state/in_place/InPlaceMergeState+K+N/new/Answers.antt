@@ -7,7 +7,7 @@ pub over-requires : goal.over-requires
 over-requires g c =
     let turned = c.turn_round.new.list.items in
     let same : length (reverse turned) ≡ length c.args.b.items = length-reverse turned ∙ ap length c.turn_round.ensures.items ∙ length-reverse c.args.b.items in
-    (search rules, (c.in-Ok.ensures.spare, (c.in-Ok.ensures.room, (rw c.in-Ok.ensures.items c.in-Ok.ensures.spare_room, le_of_eq (same ∙ sym c.len-extra.ensures.value)))))
+    (search rules, (c.in-Ok.ensures.room, le_of_eq (same ∙ sym c.len-extra.ensures.value)))
 
 pub returns-in-Ok-clause-left : goal.returns-in-Ok-clause-left
 returns-in-Ok-clause-left g c = c.over.ensures.left ∙ c.prepared.ensures.items

@@ -2,7 +2,7 @@ use Rattle.std.proofs.Common.{refl, rules}
 use Rattle.range_merge.proofs.merge_state.placing.PlacingMergeState.over.Goals as goal
 
 pub over-requires : goal.over-requires
-over-requires g c = (search rules, (c.requires.spare_empty, (c.requires.room, c.requires.spare_room)))
+over-requires g c = (search rules, c.requires.room)
 
 pub invariant_of-result : goal.invariant_of-result
 invariant_of-result g c = rw c.over.ensures.puts_left c.requires.puts

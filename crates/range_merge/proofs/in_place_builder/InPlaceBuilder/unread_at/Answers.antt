@@ -1,4 +1,0 @@
-use Rattle.range_merge.proofs.in_place_builder.InPlaceBuilder.unread_at.Goals as goal
-
-pub returns : goal.returns
-returns g c = rw (← c.self.view_is) c.find_unread.ensures
