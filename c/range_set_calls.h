@@ -10,6 +10,7 @@ bool PROVED(range_at)(const NUMBER *a, size_t a_len, NUMBER value, NUMBER *start
 range_set_status PROVED(covered)(const NUMBER *a, size_t a_len, uint64_t *count);
 range_set_status PROVED(gaps)(const NUMBER *a, size_t a_len, NUMBER start, NUMBER end, NUMBER *out, size_t out_len, size_t *written);
 size_t PROVED(from_unsorted)(NUMBER *items, size_t len);
+size_t PROVED(from_ranges)(NUMBER *ranges, size_t count);
 range_set_status PROVED(union)(const NUMBER *a, size_t a_len, const NUMBER *b, size_t b_len, NUMBER *out, size_t out_len, size_t *written);
 range_set_status PROVED(union_len)(const NUMBER *a, size_t a_len, const NUMBER *b, size_t b_len, size_t *len);
 range_set_status PROVED(intersection)(const NUMBER *a, size_t a_len, const NUMBER *b, size_t b_len, NUMBER *out, size_t out_len, size_t *written);
@@ -72,6 +73,14 @@ range_set_status NAME(from_unsorted)(NUMBER *items, size_t len, size_t *written)
 {
     if (!is_list(items, len) || !is_result(written, sizeof *written, items, len)) return RANGE_SET_BAD_POINTER;
     *written = PROVED(from_unsorted)(items ? items : &NAME(nothing), len);
+    return RANGE_SET_DONE;
+}
+
+range_set_status NAME(from_ranges)(NUMBER *ranges, size_t count, size_t *written)
+{
+    if (count > PTRDIFF_MAX / 16 || !is_list(ranges, 2 * count) || !is_result(written, sizeof *written, ranges, 2 * count))
+        return RANGE_SET_BAD_POINTER;
+    *written = 2 * PROVED(from_ranges)(ranges ? ranges : &NAME(nothing), count);
     return RANGE_SET_DONE;
 }
 

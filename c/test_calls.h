@@ -157,6 +157,29 @@ static void TEST(shuffled)(const NUMBER *points, size_t n)
         check(buffer[i] == guard && buffer[GUARD + len + i] == guard, "from_unsorted: a word beside the buffer");
 }
 
+/* Ranges in any order, empty and reversed ones too, between guard words. */
+static void TEST(ranges_shuffled)(const NUMBER *points, size_t n)
+{
+    enum { GUARD = 4, MOST_RANGES = POINTS / 2 };
+    const NUMBER guard = (NUMBER)0x5a5a5a5a5a5a5a5a;
+    NUMBER buffer[GUARD + 2 * MOST_RANGES + GUARD], *ranges = buffer + GUARD, wanted[POINTS + 1];
+    bool on[POINTS + 1] = {false};
+    size_t count = random_below(MOST_RANGES + 1), written = 77, wanted_len, i, p;
+
+    for (i = 0; i < GUARD; i++) buffer[i] = buffer[GUARD + 2 * count + i] = guard;
+    for (i = 0; i < count; i++) {
+        size_t from = random_below((unsigned)n), to = random_below(4) == 0 ? random_below((unsigned)n) : from + random_below(4);
+        if (to >= n) to = n - 1;
+        ranges[2 * i] = points[from], ranges[2 * i + 1] = points[to];
+        for (p = from; p < to; p++) on[p] = true;
+    }
+    wanted_len = TEST(boundaries)(points, on, n, wanted);
+    check(CALL(from_ranges)(ranges, count, &written) == RANGE_SET_DONE && written == wanted_len, "from_ranges: length");
+    check(written == 0 || memcmp(ranges, wanted, written * sizeof *wanted) == 0, "from_ranges: the list");
+    for (i = 0; i < GUARD; i++)
+        check(buffer[i] == guard && buffer[GUARD + 2 * count + i] == guard, "from_ranges: a word beside the buffer");
+}
+
 /* A made-up case: two bitmaps, all calls. */
 static void TEST(made_up)(void)
 {
@@ -213,6 +236,7 @@ static void TEST(made_up)(void)
     TEST(points_of)(list, a_len, points, on_a, n);
     TEST(whole_ranges)(list, a_len, points, on_a, n);
     TEST(shuffled)(points, n);
+    TEST(ranges_shuffled)(points, n);
     free(list);
     free(other);
 }
@@ -225,6 +249,7 @@ static void TEST(rows)(void)
     static const NUMBER not_open[] = {LEAST, 20}, put_in[] = {0, 10, 12, 14}, cut[] = {0, 3, 7, 10};
     static const NUMBER both_ways[] = {LEAST, MOST}, gap[] = {10, 20}, around[] = {3, 5, 20, 25};
     NUMBER start = 77, end = 78, mixed[] = {7, 5, 7, MOST, LEAST, 5};
+    NUMBER ranges[] = {20, 30, 9, 9, 0, 10, 8, 4, 10, 12, 25, MOST};
     struct TEST(operation) o;
     uint64_t count = 77;
     size_t written = 77;
@@ -266,6 +291,9 @@ static void TEST(rows)(void)
     check(CALL(from_unsorted)(mixed, 6, &written) == RANGE_SET_DONE && written == 4, "from_unsorted: length");
     check(mixed[0] == LEAST && mixed[1] == 5 && mixed[2] == 7 && mixed[3] == MOST, "from_unsorted: the list");
     check(CALL(from_unsorted)(NULL, 0, &written) == RANGE_SET_DONE && written == 0, "from_unsorted of a null pointer with length 0");
+    check(CALL(from_ranges)(ranges, 6, &written) == RANGE_SET_DONE && written == 4, "from_ranges: length");
+    check(ranges[0] == 0 && ranges[1] == 12 && ranges[2] == 20 && ranges[3] == MOST, "from_ranges: the list");
+    check(CALL(from_ranges)(NULL, 0, &written) == RANGE_SET_DONE && written == 0, "from_ranges of a null pointer with length 0");
 }
 
 /* With a list that is none, each call that goes over it leaves all as it was. */
@@ -330,6 +358,11 @@ static void TEST(bad_input)(void)
     check(CALL(from_unsorted)(NULL, 1, &n) == RANGE_SET_BAD_POINTER && n == 77, "from_unsorted of null");
     check(CALL(from_unsorted)(list, 4, NULL) == RANGE_SET_BAD_POINTER, "from_unsorted into null");
     check(CALL(from_unsorted)(list, SIZE_MAX, &n) == RANGE_SET_BAD_POINTER && n == 77, "from_unsorted of too many");
+    check(CALL(from_ranges)(NULL, 1, &n) == RANGE_SET_BAD_POINTER && n == 77, "from_ranges of null");
+    check(CALL(from_ranges)(list, 2, NULL) == RANGE_SET_BAD_POINTER, "from_ranges into null");
+    check(CALL(from_ranges)(list, SIZE_MAX, &n) == RANGE_SET_BAD_POINTER && n == 77, "from_ranges of too many");
+    check(CALL(from_ranges)(list, ((size_t)1 << 63) + 2, &n) == RANGE_SET_BAD_POINTER && n == 77, "from_ranges of twice too many");
+    check(CALL(from_ranges)(list, 2, (size_t *)(list + 3)) == RANGE_SET_BAD_POINTER && list[3] == 2, "from_ranges into the list");
     check(CALL(from_unsorted)(list, 4, (size_t *)(list + 1)) == RANGE_SET_BAD_POINTER && list[1] == 2, "from_unsorted into the list");
 }
 
@@ -352,10 +385,32 @@ static void TEST(unsorted_searches)(void)
     free(list);
 }
 
+/* Many numbers and many ranges, in an order made up. */
+static void TEST(many)(void)
+{
+    enum { MANY = 5000 };
+    NUMBER *items = malloc(4 * MANY * sizeof *items);
+    size_t i, step, written = 77;
+    if (items == NULL) fail("no memory");
+    for (step = 1; step <= 7919; step += 7918) {
+        for (i = 0; i < 4 * MANY; i++) items[i] = (NUMBER)(i * step % MANY);
+        check(CALL(from_unsorted)(items, 4 * MANY, &written) == RANGE_SET_DONE && written == MANY, "from_unsorted of many");
+        for (i = 0; i < MANY; i++) check(items[i] == (NUMBER)i, "from_unsorted of many: the list");
+        for (i = 0; i < 2 * MANY; i++) {
+            items[2 * i] = (NUMBER)(4 * (i * step % MANY));
+            items[2 * i + 1] = items[2 * i] + (NUMBER)(i < MANY ? 1 : 2);
+        }
+        check(CALL(from_ranges)(items, 2 * MANY, &written) == RANGE_SET_DONE && written == 2 * MANY, "from_ranges of many");
+        for (i = 0; i < 2 * MANY; i++) check(items[i] == (NUMBER)(2 * i), "from_ranges of many: the list");
+    }
+    free(items);
+}
+
 static void TEST(all)(long cases)
 {
     long i;
     TEST(rows)();
+    TEST(many)();
     TEST(bad_input)();
     for (i = 0; i < cases; i++) TEST(made_up)();
     for (i = 0; i < cases / 10; i++) TEST(unsorted_searches)();

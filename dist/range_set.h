@@ -21,8 +21,8 @@
  * buffer: `out` may be null with length 0, which also asks for the length alone. The result of an operation has at most
  * as many boundaries as both sets together, so that a buffer of that length is never too short.
  *
- * A call that makes a set of a list in any order does so in place: it takes `items` of `len` numbers, all of which it may
- * change, and `written`. The set then stands at the front of `items`.
+ * A call that makes a set of numbers or ranges in any order does so in place: it may change all of them, and the set then
+ * stands at their front, as `written` boundaries.
  *
  * Costs: a call on two sets goes over both once to see that they are sorted, and then makes at most
  * 2 * (a_len + b_len) comparisons, and few where long parts of one lie between two boundaries of the other.
@@ -75,6 +75,12 @@ range_set_status range_set_i64_covered(const int64_t *a, size_t a_len, uint64_t 
 /* Makes a set of numbers in any order, in place: `items` begins with the `written` distinct ones of its numbers in order,
  * and nothing is said of what stands behind them. Sorts without memory, in some len * log(len) steps. */
 range_set_status range_set_i64_from_unsorted(int64_t *items, size_t len, size_t *written);
+
+/* Makes a set of ranges in any order, in place: `ranges` has `count` pairs of numbers, a start and an end each, and the
+ * set of the numbers in some range stands at its front, as `written` boundaries. Ranges may overlap and touch, and one
+ * with end <= start holds no number. Nothing is said of what stands behind the set. Sorts without memory, in some
+ * count * log(count) steps. */
+range_set_status range_set_i64_from_ranges(int64_t *ranges, size_t count, size_t *written);
 
 /* Whether no number is a member: whether there is no boundary. The list has to be strictly sorted, which is not checked. */
 range_set_status range_set_i64_is_empty(const int64_t *a, size_t a_len, bool *answer);
@@ -161,6 +167,12 @@ range_set_status range_set_u64_covered(const uint64_t *a, size_t a_len, uint64_t
 /* Makes a set of numbers in any order, in place: `items` begins with the `written` distinct ones of its numbers in order,
  * and nothing is said of what stands behind them. Sorts without memory, in some len * log(len) steps. */
 range_set_status range_set_u64_from_unsorted(uint64_t *items, size_t len, size_t *written);
+
+/* Makes a set of ranges in any order, in place: `ranges` has `count` pairs of numbers, a start and an end each, and the
+ * set of the numbers in some range stands at its front, as `written` boundaries. Ranges may overlap and touch, and one
+ * with end <= start holds no number. Nothing is said of what stands behind the set. Sorts without memory, in some
+ * count * log(count) steps. */
+range_set_status range_set_u64_from_ranges(uint64_t *ranges, size_t count, size_t *written);
 
 /* Whether no number is a member: whether there is no boundary. The list has to be strictly sorted, which is not checked. */
 range_set_status range_set_u64_is_empty(const uint64_t *a, size_t a_len, bool *answer);

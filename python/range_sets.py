@@ -113,6 +113,16 @@ def _ask(name, lists, *numbers):
     return answer.value
 
 
+def _in_place(name, code, view, count):
+    """The set that a call makes of a copy, in the copy's place."""
+    out = array(code, view.tobytes())
+    into = _List(out, writable=True)
+    written = ctypes.c_size_t()
+    _check(_call(code, name, _POINTER, _SIZE, _LEN)(into.pointer, count, ctypes.byref(written)))
+    del into
+    return out[:written.value]
+
+
 def _number(code, value):
     least, most = (-2**63, 2**63 - 1) if code == "q" else (0, 2**64 - 1)
     if not least <= value <= most:
@@ -172,16 +182,19 @@ def gaps(a, start, end, out=None):
     return _write("gaps", lists, numbers, lists[0].length + 2, out)
 
 
+def from_ranges(numbers):
+    """The numbers that some range holds, of ranges in any order: a start and an end in turn. A new array."""
+    view = memoryview(numbers)
+    code = _code(view)
+    if len(view) % 2:
+        raise ValueError("a start and an end each are wanted")
+    return _in_place("from_ranges", code, view, len(view) // 2)
+
+
 def from_unsorted(items):
     """The set whose boundaries are the distinct ones of these numbers, which stand in any order: a new array."""
     view = memoryview(items)
-    code = _code(view)
-    out = array(code, view.tobytes())
-    into = _List(out, writable=True)
-    written = ctypes.c_size_t()
-    _check(_call(code, "from_unsorted", _POINTER, _SIZE, _LEN)(into.pointer, into.length, ctypes.byref(written)))
-    del into
-    return out[:written.value]
+    return _in_place("from_unsorted", _code(view), view, len(view))
 
 
 def is_sorted(a):

@@ -46,6 +46,12 @@ class Rows(unittest.TestCase):
         self.assertEqual(given, q(7, -2, 7, 5))
         self.assertEqual(sets.from_unsorted(array("Q")), array("Q"))
 
+    def test_ranges_in_any_order(self):
+        self.assertEqual(sets.from_ranges(q(20, 30, 9, 9, -4, 10, 8, 4, 10, 12)), q(-4, 12, 20, 30))
+        self.assertEqual(sets.from_ranges(array("Q", [3, 3])), array("Q"))
+        with self.assertRaises(ValueError):
+            sets.from_ranges(q(1, 2, 3))
+
     def test_into_a_buffer(self):
         out = q(7, 7, 7, 7, 7)
         self.assertEqual(sets.symmetric_difference(q(0, 10), q(5, 20), out), 4)
@@ -107,6 +113,11 @@ class MadeUp(unittest.TestCase):
             inside = [start <= p < end for p in points]
             self.assertEqual(members(sets.gaps(a, start, end), points), [x and not y for x, y in zip(inside, on_a)])
             self.assertEqual(sets.contains_range(a, start, end), all(y for x, y in zip(inside, on_a) if x))
+            ends = q(*(made.randrange(20) for _ in range(2 * made.randrange(8))))
+            held = [any(x <= p < y for x, y in zip(ends[::2], ends[1::2])) for p in points]
+            joined = sets.from_ranges(ends)
+            self.assertTrue(sets.is_sorted(joined))
+            self.assertEqual(members(joined, points), held)
             self.assertEqual(sets.covered(a), None if len(a) % 2 else sum(on_a))
 
 

@@ -56,6 +56,12 @@ impl<'a, T: Number> RangeSetRef<'a, T> {
         RangeSetRef { boundaries: &items[..written] }
     }
 
+    /// The numbers that some of these ranges hold, each from its first number to below its second: they may stand in any
+    /// order, overlap, touch, be empty or reversed. They are sorted in place, without memory, and the set is their front.
+    pub fn from_ranges(ranges: &'a mut [[T; 2]]) -> Self {
+        RangeSetRef { boundaries: T::from_ranges(ranges) }
+    }
+
     /// The boundaries, strictly sorted.
     pub const fn boundaries(&self) -> &'a [T] {
         self.boundaries

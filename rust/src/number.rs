@@ -23,7 +23,7 @@ pub enum Question {
     Equal,
 }
 
-/// The calls. All but `is_sorted` and `from_unsorted` take strictly sorted lists.
+/// The calls. All but `is_sorted`, `from_unsorted` and `from_ranges` take strictly sorted lists.
 pub trait Calls: Copy + std::fmt::Debug + 'static {
     fn is_sorted(a: &[Self]) -> bool;
     fn is_empty(a: &[Self]) -> bool;
@@ -32,6 +32,7 @@ pub trait Calls: Copy + std::fmt::Debug + 'static {
     fn range_at(a: &[Self], value: Self) -> Option<(Self, Option<Self>)>;
     fn covered(a: &[Self]) -> Option<u64>;
     fn from_unsorted(items: &mut [Self]) -> usize;
+    fn from_ranges(ranges: &mut [[Self; 2]]) -> &[Self];
     fn ask(question: Question, a: &[Self], b: &[Self]) -> bool;
     fn split(a: &[Self], at: Self) -> (usize, usize);
     fn merge(operation: Operation, a: &[Self], b: &[Self], out: &mut [Self]) -> Result<usize, NoRoom>;
@@ -53,7 +54,7 @@ fn answered(status: u32, written: usize) -> Result<usize, NoRoom> {
 
 macro_rules! calls {
     ($number:ty, $is_sorted:ident, $is_empty:ident, $contains:ident, $contains_range:ident, $range_at:ident, $covered:ident,
-     $from_unsorted:ident, $split:ident, $negation:ident,
+     $from_unsorted:ident, $from_ranges:ident, $split:ident, $negation:ident,
      [$($range_call:ident $range_name:ident),*], [$($question:ident $asks:ident),*], [$($operation:ident $writes:ident $counts:ident),*]) => {
         extern "C" {
             fn $is_sorted(a: *const $number, a_len: usize, answer: *mut bool) -> u32;
@@ -64,6 +65,7 @@ macro_rules! calls {
                 end: *mut $number, has_end: *mut bool) -> u32;
             fn $covered(a: *const $number, a_len: usize, count: *mut u64) -> u32;
             fn $from_unsorted(items: *mut $number, len: usize, written: *mut usize) -> u32;
+            fn $from_ranges(ranges: *mut $number, count: usize, written: *mut usize) -> u32;
             fn $split(a: *const $number, a_len: usize, at: $number, left_len: *mut usize, right_start: *mut usize) -> u32;
             fn $negation(a: *const $number, a_len: usize, out: *mut $number, out_len: usize, written: *mut usize) -> u32;
             $(fn $range_call(a: *const $number, a_len: usize, start: $number, end: $number,
@@ -135,6 +137,16 @@ macro_rules! calls {
                 written
             }
 
+            fn from_ranges(ranges: &mut [[Self; 2]]) -> &[Self] {
+                let mut written = 0;
+                // SAFETY: the pointer and the count are those of a slice of pairs that is borrowed for writing.
+                let status = unsafe { $from_ranges(ranges.as_mut_ptr().cast(), ranges.len(), &mut written) };
+                assert_eq!(status, DONE);
+                assert!(written <= 2 * ranges.len());
+                // SAFETY: the numbers of the pairs stand side by side, and so many of them are the slice's.
+                unsafe { std::slice::from_raw_parts(ranges.as_ptr().cast(), written) }
+            }
+
             fn ask(question: Question, a: &[Self], b: &[Self]) -> bool {
                 let mut answer = false;
                 let call = match question { $(Question::$question => $asks,)* };
@@ -193,7 +205,8 @@ macro_rules! calls {
 }
 
 calls!(i64, range_set_i64_is_sorted, range_set_i64_is_empty, range_set_i64_contains, range_set_i64_contains_range,
-    range_set_i64_range_at, range_set_i64_covered, range_set_i64_from_unsorted, range_set_i64_split, range_set_i64_negation,
+    range_set_i64_range_at, range_set_i64_covered, range_set_i64_from_unsorted, range_set_i64_from_ranges, range_set_i64_split,
+    range_set_i64_negation,
     [range_set_i64_insert insert, range_set_i64_remove remove, range_set_i64_gaps gaps],
     [IsDisjoint range_set_i64_is_disjoint, Intersects range_set_i64_intersects, IsSubset range_set_i64_is_subset,
      Equal range_set_i64_equal],
@@ -203,7 +216,8 @@ calls!(i64, range_set_i64_is_sorted, range_set_i64_is_empty, range_set_i64_conta
      SymmetricDifference range_set_i64_symmetric_difference range_set_i64_symmetric_difference_len]);
 
 calls!(u64, range_set_u64_is_sorted, range_set_u64_is_empty, range_set_u64_contains, range_set_u64_contains_range,
-    range_set_u64_range_at, range_set_u64_covered, range_set_u64_from_unsorted, range_set_u64_split, range_set_u64_negation,
+    range_set_u64_range_at, range_set_u64_covered, range_set_u64_from_unsorted, range_set_u64_from_ranges, range_set_u64_split,
+    range_set_u64_negation,
     [range_set_u64_insert insert, range_set_u64_remove remove, range_set_u64_gaps gaps],
     [IsDisjoint range_set_u64_is_disjoint, Intersects range_set_u64_intersects, IsSubset range_set_u64_is_subset,
      Equal range_set_u64_equal],

@@ -83,3 +83,11 @@ fn a_set_of_numbers_in_any_order_stands_in_their_place() {
     assert_eq!(RangeSetRef::from_unsorted(&mut items).boundaries(), [-2, 7, i64::MAX]);
     assert!(RangeSetRef::<u64>::from_unsorted(&mut []).is_empty());
 }
+
+#[test]
+fn a_set_of_ranges_in_any_order_stands_in_their_place() {
+    let mut ranges = [[20, 30], [9, 9], [-4, 10], [8, 4], [10, 12], [25, i64::MAX]];
+    assert_eq!(RangeSetRef::from_ranges(&mut ranges).boundaries(), [-4, 12, 20, i64::MAX]);
+    assert!(RangeSetRef::<u64>::from_ranges(&mut []).is_empty());
+    assert!(RangeSetRef::from_ranges(&mut [[3u64, 3]]).is_empty());
+}

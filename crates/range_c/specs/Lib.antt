@@ -1,2 +1,4 @@
 pub mod Answers
 pub mod Points
+pub mod Ranges
+pub mod Joining

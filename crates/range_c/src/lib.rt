@@ -4,7 +4,9 @@
 #![tactic(auto)]
 
 mod calls;
+mod ends;
 mod points;
+mod ranges;
 mod signed;
 mod unsigned;
 mod unsorted;

@@ -11,10 +11,13 @@ ghost use Rattle.range_collections.specs.Countable.{signed_value};
 ghost use Rattle.range_collections.specs.Split.{split_left, split_right};
 ghost use Rattle.range_c.specs.Answers.{AnswersList, AnswersLength, AnswersQuestion};
 ghost use Rattle.range_c.specs.Points.{range_told, AnswersCount};
+ghost use Rattle.range_c.specs.Ranges.{IsUnionOf};
 ghost use Rattle.std.specs.Prelude.{◌-◌, negsuc};
 
 use crate::calls::{equal, intersects, is_disjoint, is_subset, merge, merge_len, range_of, split};
+use crate::ends::Ends;
 use crate::points::{covered, range_at};
+use crate::ranges::from_ranges;
 use crate::unsorted::from_unsorted;
 use range_collections::{DiffOp, IntersectionOp, RangeSetRef, UnionOp, XorOp};
 
@@ -292,4 +295,46 @@ pub extern "C" fn proved_range_set_i64_from_unsorted(items: &mut [i64]) -> usize
     ensures distinct { AreDistinctOf int_cmp items.old (take result items.new) }
 {
     from_unsorted(items)
+}
+
+/// A range of numbers, from its start to below its end.
+#[repr(C)]
+#[derive(Clone, Copy)]
+pub struct RangeI64 {
+    /// Where it starts.
+    pub start: i64,
+    /// Where it ends.
+    pub end: i64,
+}
+
+impl Ends for RangeI64 {
+    type Number = i64;
+
+    ghost first = { λ r. r.start };
+
+    ghost last = { λ r. r.end };
+
+    fn start(&self) -> i64 {
+        self.start
+    }
+
+    fn end(&self) -> i64 {
+        self.end
+    }
+
+    fn until(&self, end: i64) -> RangeI64 {
+        RangeI64 {
+            start: self.start,
+            end,
+        }
+    }
+}
+
+/// Moves the ranges of the set of all numbers in the ranges to the front, as many as it answers. They may stand in any order, overlap and touch; empty and reversed ones have no number.
+#[unsafe(no_mangle)]
+pub extern "C" fn proved_range_set_i64_from_ranges(ranges: &mut [RangeI64]) -> usize
+    ensures within { result ≤ length ranges.old }
+    ensures union { IsUnionOf int_cmp (λ r. r.start) (λ r. r.end) ranges.old (take result ranges.new) }
+{
+    from_ranges(ranges)
 }

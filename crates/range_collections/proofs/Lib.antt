@@ -24,3 +24,4 @@ pub mod Parts
 pub mod PartsLaws
 pub mod FirstParts
 pub mod Unions
+pub mod Reading

@@ -22,7 +22,8 @@ use Rattle.range_merge.proofs.Counts.{length-changes}
 use Rattle.range_merge.proofs.Digits.{digits-half}
 use Rattle.range_merge.proofs.Members.{member-nil}
 use Rattle.range_merge.proofs.OwnersLemmas.{IsOwners-owners}
-use Rattle.range_merge.proofs.SameSet.{IsSameSet-from_items}
+use Rattle.range_merge.proofs.SameSet.{IsSameSet-from_items, same_items}
+use Rattle.range_collections.specs.Sets.{AreEqual}
 use Rattle.range_collections.specs.Unions.{is_in_one, IsUnionOf, GivesUnion, IsJoined}
 use Rattle.range_collections.specs.Ranges.{range_boundaries, IsInRange}
 use Rattle.range_collections.specs.declared.range_set_range.RangeSetRange.{RangeSetRange}
@@ -184,3 +185,28 @@ module _ {K : Type 0} {order : K → K → Ordering} (o : IsTotalOrder order) wh
         let (k, range, within, is, inside) = h in
         e ∙ list_any-from_Any (λ range. member order (range_boundaries order range) x) ranges (k, range, within, is, (member-range range x).1 inside),
   )
+
+  -- the union of many lists is pinned
+
+  abbrev lists : List K → List K
+  lists part = part
+
+  pub AreEqual-unions : (parts : List (List K)) (r s : List K) → IsUnionOf order lists parts r → IsUnionOf order lists parts s → AreEqual order r s
+  AreEqual-unions parts r s m n = same_items o r s m.sorted n.sorted (λ x. m.members x ∙ sym (n.members x))
+
+  in_one_of_two : (a b : List K) (x : K) → is_in_one order lists (a ∷ b ∷ []) x ≡ (member order a x || member order b x)
+  in_one_of_two a b x = ap (λ t. member order a x || t) (or-false (member order b x))
+
+  pub IsUnionOf-two : (a b r : List K) → IsUnionOf order lists (a ∷ b ∷ []) r ↔ Means order union_table r a b
+  IsUnionOf-two a b r = (
+    λ m. record { sorted = m.sorted; members = λ x. m.members x ∙ in_one_of_two a b x },
+    λ m. record { sorted = m.sorted; members = λ x. m.members x ∙ sym (in_one_of_two a b x) },
+  )
+
+  pub IsUnionOf-append : (front back : List (List K)) (r s all : List K) → IsUnionOf order lists front r → IsUnionOf order lists back s → Means order union_table all r s →
+      IsUnionOf order lists (front ++ back) all
+  IsUnionOf-append front back r s all f g m = record {
+    sorted = m.sorted;
+    members = λ x.
+        m.members x ∙ ap₂ (λ p q. p || q) (f.members x) (g.members x) ∙ sym (list_any-append (λ part. member order part x) front back);
+  }

@@ -27,3 +27,5 @@ pub mod Insertion
 pub mod Splicing
 pub mod Buffers
 pub mod Unions
+pub mod Reading
+pub mod ParseErrors

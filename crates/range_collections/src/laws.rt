@@ -4,6 +4,7 @@ mod gaps;
 mod operations;
 mod parts;
 mod ranges;
+mod unions;
 mod values;
 
 pub use counting::values_are_counted;
@@ -23,6 +24,7 @@ pub use range_merge::laws::{
     owners_are_pinned, the_test_alone_stops, weight_is_at_most_the_lengths,
 };
 pub use ranges::{arrays_read_back, ranges_make_the_set};
+pub use unions::unions_are_pinned;
 pub use values::{
     a_set_and_what_is_not_in_it_are_everything, combined_sets_are_pinned,
     difference_is_an_intersection_with_the_negation, negating_twice_gives_the_same,

@@ -27,7 +27,7 @@ pub use range_merge::{
     MergeOperation, MergeState, MergeStateMut, NoRoom, Run, SliceIterator, SmallVecMergeState,
     UnionOp, XorOp, merge, run_length, search,
 };
-pub use range_set::{JsonError, RangeSet, RangeSet2};
+pub use range_set::{Expected, JsonError, ParseError, RangeSet, RangeSet2};
 pub use range_set_range::RangeSetRange;
 pub use view::RangeSetRef;
 pub use whole_number::WholeNumber;

@@ -72,6 +72,8 @@ mod numbers;
 #[cfg(test)]
 mod operations;
 #[cfg(test)]
+mod parsing;
+#[cfg(test)]
 mod parts;
 #[cfg(test)]
 mod questions;

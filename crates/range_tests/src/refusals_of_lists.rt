@@ -234,18 +234,19 @@ fn arrays_are_refused_in_turn(rt: HostRuntime) -> Result<(), Fail> {
 #[test]
 fn other_values_are_refused_without_memory(rt: HostRuntime) -> Result<(), Fail> {
     let alloc = rt.alloc();
+    let object = Value::from_str(alloc, "{}").ok().ok_or("JSON")?;
+    let array = Value::from_str(alloc, "[1,2.5]").ok().ok_or("JSON")?;
     let mut starved = Starved::new(alloc)?;
-    for (text, error) in [
-        ("{}", JsonError::NotArray),
-        ("[1,2.5]", JsonError::NotInteger { index: 1 }),
+    for (value, error) in [
+        (&object, JsonError::NotArray),
+        (&array, JsonError::NotInteger { index: 1 }),
     ] {
-        let value = Value::from_str(alloc, text).ok().ok_or("JSON")?;
         let read = Read {
             alloc,
-            value: &value,
+            value,
             want: Err(error),
         };
-        assert!(rt; starved.needs_none(&read), "{text}");
+        assert!(rt; starved.needs_none(&read), "{error:?}");
     }
     Ok(())
 }

@@ -1,0 +1,27 @@
+//! Ranges of two numbers, as C lends them.
+ghost use Rattle.std.specs.Prelude.{◌≡◌};
+
+/// A range of numbers, from the first to below the second.
+pub(crate) trait Ends: Copy + Drop {
+    /// Its numbers.
+    type Number: Ord + Copy + Drop;
+
+    // Where it starts.
+    ghost first: { Self → Self.Number };
+
+    // Where it ends.
+    ghost last: { Self → Self.Number };
+
+    /// Where it starts.
+    fn start(&self) -> Self::Number
+        ensures { result ≡ first self.now };
+
+    /// Where it ends.
+    fn end(&self) -> Self::Number
+        ensures { result ≡ last self.now };
+
+    /// The range from its start to another end.
+    fn until(&self, end: Self::Number) -> Self
+        ensures starts { Self.first result ≡ Self.first self.now }
+        ensures ends { Self.last result ≡ end };
+}

@@ -1,0 +1,6 @@
+use Rattle.std.proofs.Common.{◌∙◌}
+use Rattle.range_collections.proofs.Reading.{number_of64}
+use Rattle.range_collections.proofs.whole_number.IsizeWholeNumber.read.Goals as goal
+
+pub returns : goal.returns
+returns c = c.ok.ensures.value ∙ number_of64 c.args.text.now c.parse.result c.parse.ensures.value.0

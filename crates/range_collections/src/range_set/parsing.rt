@@ -1,0 +1,84 @@
+//! Sets read from a text of ranges.
+ghost use Rattle.std.specs.Prelude.{◌≡◌, ◌≢◌, ◌↔◌, true, false, Any, IfOk, IfErr};
+ghost use Rattle.range_merge.specs.Boundaries.{member};
+ghost use Rattle.range_collections.specs.Ranges.{IsInRange};
+ghost use Rattle.range_collections.specs.Reading.{range_up_to, range_in, is_ranges, ranges_in};
+ghost use Rattle.range_collections.specs.declared.range_set.parse_errors.ParseError.TheVariants.{OutOfMemory};
+
+use crate::range_set::RangeSet;
+use crate::range_set::parse_errors::{ParseError, fault_in};
+use crate::range_set_range::RangeSetRange;
+use crate::whole_number::WholeNumber;
+use range_entry::EntryClone;
+use std::alloc::{AllocError, Global};
+use std::default::MadeWith;
+
+impl<T: EntryClone + WholeNumber + MadeWith<Global> + Drop, const N: usize> RangeSet<T, N> {
+    /// The set of the elements that lie in one of the ranges of a text, as `0..10, 20..`: in any order, with commas between them and blanks around each. A text of blanks is the set of nothing.
+    ///
+    /// The whole text is read before memory is asked for.
+    pub fn parse(alloc: Global, text: &str) -> Result<Self, ParseError>
+        ensures ok { IfOk result (λ set. is_ranges T.number text.now ≡ true) }
+        ensures members { IfOk result (λ set. (x : T) → (member T.cmp set x ≡ true) ↔ Any (λ range. IsInRange T.cmp range x) (ranges_in T.number text.now)) }
+        ensures malformed { IfErr result (λ error. error ≢ OutOfMemory → is_ranges T.number text.now ≡ false) }
+        ensures out_of_memory { IfErr result (λ error. error ≡ OutOfMemory → is_ranges T.number text.now ≡ true) }
+    {
+        if !is_ranges::<T>(text) {
+            return Err(fault_in(text));
+        }
+        match read(alloc, text) {
+            Ok(set) => Ok(set),
+            Err(_) => Err(ParseError::OutOfMemory),
+        }
+    }
+}
+
+// The set of the ranges of a text.
+fn read<T: EntryClone + WholeNumber + MadeWith<Global> + Drop, const N: usize>(
+    alloc: Global,
+    text: &str,
+) -> Result<RangeSet<T, N>, AllocError>
+    ensures members { IfOk result (λ set. (x : T) → (member T.cmp set x ≡ true) ↔ Any (λ range. IsInRange T.cmp range x) (ranges_in T.number text.now)) }
+{
+    let ranges = ranges_in(alloc, text)?;
+    RangeSet::from_ranges(alloc, ranges.as_slice())
+}
+
+// Whether the text is one of blanks, or of ranges with commas between them.
+fn is_ranges<T: WholeNumber + Drop>(text: &str) -> bool
+    ensures { result ≡ is_ranges T.number text.now }
+{
+    text.trim().is_empty() || text.split(',').all(|part| range_in::<T>(part).is_some())
+}
+
+// The ranges of a text, in order.
+fn ranges_in<T: WholeNumber + Drop>(
+    alloc: Global,
+    text: &str,
+) -> Result<Vec<RangeSetRange<T>>, AllocError>
+    ensures { IfOk result (λ ranges. ranges.items ≡ ranges_in T.number text.now) }
+{
+    text.split(',')
+        .filter_map(|part| range_in::<T>(part))
+        .collect(alloc)
+}
+
+// The range that a part of a text writes, if it writes one.
+fn range_in<T: WholeNumber + Drop>(part: &str) -> Option<RangeSetRange<T>>
+    ensures { result ≡ range_in T.number part.now }
+{
+    let (start, behind) = part.trim().split_once('.')?;
+    let start = T::read(start)?;
+    range_up_to(start, behind.strip_prefix('.')?)
+}
+
+// The range from the start on, up to the end if one is written.
+fn range_up_to<T: WholeNumber + Drop>(start: T, end: &str) -> Option<RangeSetRange<T>>
+    ensures { result ≡ range_up_to T.number start end.now }
+{
+    if end.is_empty() {
+        return Some(RangeSetRange::from(start..));
+    }
+    let end = T::read(end)?;
+    Some(RangeSetRange::from(start..end))
+}

@@ -1,0 +1,200 @@
+//! Sets read from texts: what is read, and at which byte a text that isn't one is refused.
+use range_collections::{Expected, ParseError, RangeSet, RangeSet2, RangeSetRange, RangeSetRef};
+use std::alloc::Global;
+
+// Texts that write no ranges, with the byte behind the longest front that begins some text of ranges, and what was expected there.
+const MALFORMED: [(&str, usize, Expected); 67] = [
+    ("x", 0, Expected::Number),
+    ("-", 1, Expected::Number),
+    ("+", 1, Expected::Number),
+    ("--1..2", 1, Expected::Number),
+    ("+-1..2", 1, Expected::Number),
+    ("1", 1, Expected::Dot),
+    ("1.", 2, Expected::Dot),
+    (".1", 0, Expected::Number),
+    ("..", 0, Expected::Number),
+    ("..5", 0, Expected::Number),
+    ("1.2", 2, Expected::Dot),
+    ("1 ..2", 1, Expected::Dot),
+    ("1. .2", 2, Expected::Dot),
+    ("1...2", 3, Expected::Number),
+    ("1....2", 3, Expected::Number),
+    ("1..2..3", 4, Expected::Comma),
+    ("1..2.", 4, Expected::Comma),
+    ("1..x", 3, Expected::Number),
+    ("1..-", 4, Expected::Number),
+    ("1..+", 4, Expected::Number),
+    ("1..--2", 4, Expected::Number),
+    ("1..- 2", 4, Expected::Number),
+    ("1..2-", 4, Expected::Comma),
+    ("1..2+3", 4, Expected::Comma),
+    ("1..2 3", 5, Expected::Comma),
+    ("1..2 3..4", 5, Expected::Comma),
+    ("1..2;3..4", 4, Expected::Comma),
+    ("1..2,", 5, Expected::Number),
+    (",", 0, Expected::Number),
+    (",,", 0, Expected::Number),
+    (",1..2", 0, Expected::Number),
+    ("1..2,,3..4", 5, Expected::Number),
+    ("1..2, ,3..4", 6, Expected::Number),
+    ("1..2,3", 6, Expected::Dot),
+    ("1..2,3.", 7, Expected::Dot),
+    ("1..2,3.4", 7, Expected::Dot),
+    ("1..2,3..4,", 10, Expected::Number),
+    ("1..2,3..4, ", 11, Expected::Number),
+    ("1..2,3..4 5..6", 10, Expected::Comma),
+    ("1..,", 4, Expected::Number),
+    ("1..,,", 4, Expected::Number),
+    ("1..,2", 5, Expected::Dot),
+    ("1..2,x", 5, Expected::Number),
+    ("1..2,-", 6, Expected::Number),
+    ("1..2 x", 5, Expected::Comma),
+    ("1..2x", 4, Expected::Comma),
+    ("1..x2", 3, Expected::Number),
+    ("0x1..2", 1, Expected::Dot),
+    ("1e3..2", 1, Expected::Dot),
+    ("1_000..2", 1, Expected::Dot),
+    ("1..2 ,", 6, Expected::Number),
+    (" x", 1, Expected::Number),
+    ("  1", 3, Expected::Dot),
+    ("1.. 2", 4, Expected::Comma),
+    ("1..=2", 3, Expected::Number),
+    ("[1..2]", 0, Expected::Number),
+    ("1..2,3..4x", 9, Expected::Comma),
+    ("\u{e9}", 0, Expected::Number),
+    ("1..\u{e9}", 3, Expected::Number),
+    ("1..2\u{e9}", 4, Expected::Comma),
+    ("\u{a0}x", 2, Expected::Number),
+    ("1..2\u{2003},x", 8, Expected::Number),
+    ("\u{a0}1..2\u{a0};", 8, Expected::Comma),
+    ("1:2", 1, Expected::Dot),
+    ("1..2,\n", 6, Expected::Number),
+    ("1..2\t3", 5, Expected::Comma),
+    ("1\n..2", 1, Expected::Dot),
+];
+
+// Texts of ranges, and the boundaries of their set.
+const READ: [(&str, &[i64]); 16] = [
+    ("", &[]),
+    (" \t\n", &[]),
+    ("0..10, 20..", &[0, 10, 20]),
+    ("20..,0..10", &[0, 10, 20]),
+    ("1..2", &[1, 2]),
+    ("1..", &[1]),
+    ("+1..+2", &[1, 2]),
+    ("-5..-3", &[-5, -3]),
+    ("-0..007", &[0, 7]),
+    ("5..5", &[]),
+    ("7..3", &[]),
+    ("0..4,2..6,6..8", &[0, 8]),
+    ("0..4 , 5..6\n", &[0, 4, 5, 6]),
+    ("5..,1..3,2..", &[1]),
+    (
+        "-9223372036854775808..9223372036854775807",
+        &[-9223372036854775808, 9223372036854775807],
+    ),
+    ("\u{2003}3..4\u{a0}", &[3, 4]),
+];
+
+// Texts of ranges with a number that u8 doesn't have.
+const PAST: [&str; 6] = [
+    "256..",
+    "0..256",
+    "-1..",
+    "-0..1",
+    "1..2,3..1000",
+    "99999999999999999999..1",
+];
+
+// Whether a text is read as the set of these boundaries.
+fn is_read(alloc: Global, text: &str, want: &[i64]) -> bool {
+    let set: Result<RangeSet2<i64>, ParseError> = RangeSet::parse(alloc, text);
+    match set {
+        Ok(set) => set.boundaries() == want,
+        Err(_) => false,
+    }
+}
+
+// Whether a text is refused for this cause.
+fn refuses(alloc: Global, text: &str, want: ParseError) -> bool {
+    let set: Result<RangeSet2<i64>, ParseError> = RangeSet::parse(alloc, text);
+    match set {
+        Ok(_) => false,
+        Err(error) => error == want,
+    }
+}
+
+// Whether a text has a number that u8 doesn't have.
+fn is_past(alloc: Global, text: &str) -> bool {
+    let set: Result<RangeSet2<u8>, ParseError> = RangeSet::parse(alloc, text);
+    match set {
+        Ok(_) => false,
+        Err(error) => error == ParseError::OutOfRange,
+    }
+}
+
+// Whether the set of these ranges has these boundaries.
+fn makes(alloc: Global, ranges: &[RangeSetRange<i64>], want: &[i64]) -> bool {
+    let set: Option<RangeSet2<i64>> = RangeSet::from_ranges(alloc, ranges).ok();
+    match set {
+        Some(set) => set.boundaries() == want,
+        None => false,
+    }
+}
+
+// Whether the union of these sets has these boundaries.
+fn unites(alloc: Global, sets: &[RangeSetRef<i64>], want: &[i64]) -> bool {
+    let set: Option<RangeSet2<i64>> = RangeSet::union_all(alloc, sets).ok();
+    match set {
+        Some(set) => set.boundaries() == want,
+        None => false,
+    }
+}
+
+#[test]
+fn texts_of_ranges_are_read(rt: HostRuntime) {
+    for (text, want) in READ {
+        assert!(rt; is_read(rt.alloc(), text, want), "{text}");
+    }
+}
+
+#[test]
+fn other_texts_are_refused_at_a_byte(rt: HostRuntime) {
+    for (text, at, expected) in MALFORMED {
+        assert!(rt;
+            refuses(rt.alloc(), text, ParseError::Malformed { at, expected }),
+            "{text}"
+        );
+    }
+}
+
+#[test]
+fn numbers_past_the_type_are_refused(rt: HostRuntime) {
+    for text in PAST {
+        assert!(rt; is_past(rt.alloc(), text), "{text}");
+    }
+}
+
+#[test]
+fn ranges_in_any_order(rt: HostRuntime) {
+    let ranges = [
+        RangeSetRange::from(20..),
+        RangeSetRange::from(5..9),
+        RangeSetRange::from(7..3),
+        RangeSetRange::from(0..5),
+        RangeSetRange::from(4..4),
+    ];
+    assert!(rt; makes(rt.alloc(), &ranges, &[0, 9, 20]));
+    assert!(rt; makes(rt.alloc(), &[], &[]));
+}
+
+#[test]
+fn sets_are_united(rt: HostRuntime) {
+    let sets = [
+        RangeSetRef::new(&[0i64, 4]).unwrap_or_default(),
+        RangeSetRef::new(&[8i64]).unwrap_or_default(),
+        RangeSetRef::new(&[2i64, 6, 7, 9]).unwrap_or_default(),
+    ];
+    assert!(rt; unites(rt.alloc(), &sets, &[0, 6, 7]));
+    assert!(rt; unites(rt.alloc(), &[], &[]));
+}
