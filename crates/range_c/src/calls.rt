@@ -37,7 +37,7 @@ pub(crate) fn merge<T: Ord + Copy, O: MergeOperation>(
 ) -> u32
     requires off { O.connective op.now false false ≡ false }
     requires fits { length a.now + length b.now < 2 ^ 64 }
-    ensures { AnswersList T.cmp (O.connective op.now) a.now b.now out.old out.new written.new result }
+    ensures { AnswersList T.cmp (O.connective op.now) a.now b.now out.old out.new written.old written.new result }
 {
     let Some((left, right)) = both(a, b) else {
         return NOT_SORTED;
@@ -58,7 +58,7 @@ pub(crate) fn merge<T: Ord + Copy, O: MergeOperation>(
 pub(crate) fn merge_len<T: Ord, O: MergeOperation>(a: &[T], b: &[T], op: &O, len: &mut usize) -> u32
     requires off { O.connective op.now false false ≡ false }
     requires fits { length a.now + length b.now < 2 ^ 64 }
-    ensures { AnswersLength T.cmp (O.connective op.now) a.now b.now len.new result }
+    ensures { AnswersLength T.cmp (O.connective op.now) a.now b.now len.old len.new result }
 {
     let Some((left, right)) = both(a, b) else {
         return NOT_SORTED;
@@ -69,7 +69,7 @@ pub(crate) fn merge_len<T: Ord, O: MergeOperation>(a: &[T], b: &[T], op: &O, len
 
 // Whether no number is a member of both.
 pub(crate) fn is_disjoint<T: Ord>(a: &[T], b: &[T], answer: &mut bool) -> u32
-    ensures { AnswersQuestion T.cmp a.now b.now (IsDisjoint T.cmp a.now b.now) answer.new result }
+    ensures { AnswersQuestion T.cmp a.now b.now (IsDisjoint T.cmp a.now b.now) answer.old answer.new result }
 {
     let Some((left, right)) = both(a, b) else {
         return NOT_SORTED;
@@ -80,7 +80,7 @@ pub(crate) fn is_disjoint<T: Ord>(a: &[T], b: &[T], answer: &mut bool) -> u32
 
 // Whether some number is a member of both.
 pub(crate) fn intersects<T: Ord>(a: &[T], b: &[T], answer: &mut bool) -> u32
-    ensures { AnswersQuestion T.cmp a.now b.now (Intersects T.cmp a.now b.now) answer.new result }
+    ensures { AnswersQuestion T.cmp a.now b.now (Intersects T.cmp a.now b.now) answer.old answer.new result }
 {
     let Some((left, right)) = both(a, b) else {
         return NOT_SORTED;
@@ -91,7 +91,7 @@ pub(crate) fn intersects<T: Ord>(a: &[T], b: &[T], answer: &mut bool) -> u32
 
 // Whether every member of the left is one of the right.
 pub(crate) fn is_subset<T: Ord>(a: &[T], b: &[T], answer: &mut bool) -> u32
-    ensures { AnswersQuestion T.cmp a.now b.now (IsSubset T.cmp a.now b.now) answer.new result }
+    ensures { AnswersQuestion T.cmp a.now b.now (IsSubset T.cmp a.now b.now) answer.old answer.new result }
 {
     let Some((left, right)) = both(a, b) else {
         return NOT_SORTED;
@@ -102,7 +102,7 @@ pub(crate) fn is_subset<T: Ord>(a: &[T], b: &[T], answer: &mut bool) -> u32
 
 // Whether both have the same members.
 pub(crate) fn equal<T: Ord>(a: &[T], b: &[T], answer: &mut bool) -> u32
-    ensures { AnswersQuestion T.cmp a.now b.now (IsSameSet T.cmp a.now b.now) answer.new result }
+    ensures { AnswersQuestion T.cmp a.now b.now (IsSameSet T.cmp a.now b.now) answer.old answer.new result }
 {
     let Some((left, right)) = both(a, b) else {
         return NOT_SORTED;
@@ -125,6 +125,8 @@ pub(crate) fn split<T: Ord + Drop>(a: &[T], at: T, left_len: &mut usize, right_s
     requires { IsAscending T.cmp a.now }
     ensures left { take left_len.new a.now ≡ split_left T.cmp a.now at }
     ensures right { drop right_start.new a.now ≡ split_right T.cmp a.now at }
+    ensures left_within { left_len.new ≡ length (split_left T.cmp a.now at) }
+    ensures right_within { right_start.new + length (split_right T.cmp a.now at) ≡ length a.now }
 {
     let (left, right) = RangeSetRef::new_unchecked(a).split(at);
     *left_len = left.boundaries.len();

@@ -47,7 +47,7 @@ pub extern "C" fn proved_range_set_i64_union(
     written: &mut usize,
 ) -> u32
     requires fits { length a.now + length b.now < 2 ^ 64 }
-    ensures { AnswersList int_cmp union_table a.now b.now out.old out.new written.new result }
+    ensures { AnswersList int_cmp union_table a.now b.now out.old out.new written.old written.new result }
 {
     merge(a, b, &UnionOp, out, written)
 }
@@ -56,7 +56,7 @@ pub extern "C" fn proved_range_set_i64_union(
 #[unsafe(no_mangle)]
 pub extern "C" fn proved_range_set_i64_union_len(a: &[i64], b: &[i64], len: &mut usize) -> u32
     requires fits { length a.now + length b.now < 2 ^ 64 }
-    ensures { AnswersLength int_cmp union_table a.now b.now len.new result }
+    ensures { AnswersLength int_cmp union_table a.now b.now len.old len.new result }
 {
     merge_len(a, b, &UnionOp, len)
 }
@@ -70,7 +70,7 @@ pub extern "C" fn proved_range_set_i64_intersection(
     written: &mut usize,
 ) -> u32
     requires fits { length a.now + length b.now < 2 ^ 64 }
-    ensures { AnswersList int_cmp intersection_table a.now b.now out.old out.new written.new result }
+    ensures { AnswersList int_cmp intersection_table a.now b.now out.old out.new written.old written.new result }
 {
     merge(a, b, &IntersectionOp, out, written)
 }
@@ -83,7 +83,7 @@ pub extern "C" fn proved_range_set_i64_intersection_len(
     len: &mut usize,
 ) -> u32
     requires fits { length a.now + length b.now < 2 ^ 64 }
-    ensures { AnswersLength int_cmp intersection_table a.now b.now len.new result }
+    ensures { AnswersLength int_cmp intersection_table a.now b.now len.old len.new result }
 {
     merge_len(a, b, &IntersectionOp, len)
 }
@@ -97,7 +97,7 @@ pub extern "C" fn proved_range_set_i64_difference(
     written: &mut usize,
 ) -> u32
     requires fits { length a.now + length b.now < 2 ^ 64 }
-    ensures { AnswersList int_cmp difference_table a.now b.now out.old out.new written.new result }
+    ensures { AnswersList int_cmp difference_table a.now b.now out.old out.new written.old written.new result }
 {
     merge(a, b, &DiffOp, out, written)
 }
@@ -106,7 +106,7 @@ pub extern "C" fn proved_range_set_i64_difference(
 #[unsafe(no_mangle)]
 pub extern "C" fn proved_range_set_i64_difference_len(a: &[i64], b: &[i64], len: &mut usize) -> u32
     requires fits { length a.now + length b.now < 2 ^ 64 }
-    ensures { AnswersLength int_cmp difference_table a.now b.now len.new result }
+    ensures { AnswersLength int_cmp difference_table a.now b.now len.old len.new result }
 {
     merge_len(a, b, &DiffOp, len)
 }
@@ -120,7 +120,7 @@ pub extern "C" fn proved_range_set_i64_symmetric_difference(
     written: &mut usize,
 ) -> u32
     requires fits { length a.now + length b.now < 2 ^ 64 }
-    ensures { AnswersList int_cmp symmetric_difference_table a.now b.now out.old out.new written.new result }
+    ensures { AnswersList int_cmp symmetric_difference_table a.now b.now out.old out.new written.old written.new result }
 {
     merge(a, b, &XorOp, out, written)
 }
@@ -133,7 +133,7 @@ pub extern "C" fn proved_range_set_i64_symmetric_difference_len(
     len: &mut usize,
 ) -> u32
     requires fits { length a.now + length b.now < 2 ^ 64 }
-    ensures { AnswersLength int_cmp symmetric_difference_table a.now b.now len.new result }
+    ensures { AnswersLength int_cmp symmetric_difference_table a.now b.now len.old len.new result }
 {
     merge_len(a, b, &XorOp, len)
 }
@@ -146,7 +146,7 @@ pub extern "C" fn proved_range_set_i64_negation(
     written: &mut usize,
 ) -> u32
     requires fits { length a.now + 1 < 2 ^ 64 }
-    ensures { AnswersList int_cmp symmetric_difference_table a.now (negsuc (2 ^ 63 - 1) ∷ []) out.old out.new written.new result }
+    ensures { AnswersList int_cmp symmetric_difference_table a.now (negsuc (2 ^ 63 - 1) ∷ []) out.old out.new written.old written.new result }
 {
     merge(a, &[i64::MIN], &XorOp, out, written)
 }
@@ -161,7 +161,7 @@ pub extern "C" fn proved_range_set_i64_insert(
     written: &mut usize,
 ) -> u32
     requires fits { length a.now + 2 < 2 ^ 64 }
-    ensures { AnswersList int_cmp union_table a.now (range_items int_cmp start end) out.old out.new written.new result }
+    ensures { AnswersList int_cmp union_table a.now (range_items int_cmp start end) out.old out.new written.old written.new result }
 {
     merge(a, range_of(&[start, end]), &UnionOp, out, written)
 }
@@ -176,7 +176,7 @@ pub extern "C" fn proved_range_set_i64_remove(
     written: &mut usize,
 ) -> u32
     requires fits { length a.now + 2 < 2 ^ 64 }
-    ensures { AnswersList int_cmp difference_table a.now (range_items int_cmp start end) out.old out.new written.new result }
+    ensures { AnswersList int_cmp difference_table a.now (range_items int_cmp start end) out.old out.new written.old written.new result }
 {
     merge(a, range_of(&[start, end]), &DiffOp, out, written)
 }
@@ -184,7 +184,7 @@ pub extern "C" fn proved_range_set_i64_remove(
 /// Writes whether no number is a member of both.
 #[unsafe(no_mangle)]
 pub extern "C" fn proved_range_set_i64_is_disjoint(a: &[i64], b: &[i64], answer: &mut bool) -> u32
-    ensures { AnswersQuestion int_cmp a.now b.now (IsDisjoint int_cmp a.now b.now) answer.new result }
+    ensures { AnswersQuestion int_cmp a.now b.now (IsDisjoint int_cmp a.now b.now) answer.old answer.new result }
 {
     is_disjoint(a, b, answer)
 }
@@ -192,7 +192,7 @@ pub extern "C" fn proved_range_set_i64_is_disjoint(a: &[i64], b: &[i64], answer:
 /// Writes whether some number is a member of both.
 #[unsafe(no_mangle)]
 pub extern "C" fn proved_range_set_i64_intersects(a: &[i64], b: &[i64], answer: &mut bool) -> u32
-    ensures { AnswersQuestion int_cmp a.now b.now (Intersects int_cmp a.now b.now) answer.new result }
+    ensures { AnswersQuestion int_cmp a.now b.now (Intersects int_cmp a.now b.now) answer.old answer.new result }
 {
     intersects(a, b, answer)
 }
@@ -200,7 +200,7 @@ pub extern "C" fn proved_range_set_i64_intersects(a: &[i64], b: &[i64], answer: 
 /// Writes whether every member of the left is one of the right.
 #[unsafe(no_mangle)]
 pub extern "C" fn proved_range_set_i64_is_subset(a: &[i64], b: &[i64], answer: &mut bool) -> u32
-    ensures { AnswersQuestion int_cmp a.now b.now (IsSubset int_cmp a.now b.now) answer.new result }
+    ensures { AnswersQuestion int_cmp a.now b.now (IsSubset int_cmp a.now b.now) answer.old answer.new result }
 {
     is_subset(a, b, answer)
 }
@@ -208,7 +208,7 @@ pub extern "C" fn proved_range_set_i64_is_subset(a: &[i64], b: &[i64], answer: &
 /// Writes whether both have the same members.
 #[unsafe(no_mangle)]
 pub extern "C" fn proved_range_set_i64_equal(a: &[i64], b: &[i64], answer: &mut bool) -> u32
-    ensures { AnswersQuestion int_cmp a.now b.now (IsSameSet int_cmp a.now b.now) answer.new result }
+    ensures { AnswersQuestion int_cmp a.now b.now (IsSameSet int_cmp a.now b.now) answer.old answer.new result }
 {
     equal(a, b, answer)
 }
@@ -233,6 +233,8 @@ pub extern "C" fn proved_range_set_i64_split(
     requires { IsAscending int_cmp a.now }
     ensures left { take left_len.new a.now ≡ split_left int_cmp a.now at }
     ensures right { drop right_start.new a.now ≡ split_right int_cmp a.now at }
+    ensures left_within { left_len.new ≡ length (split_left int_cmp a.now at) }
+    ensures right_within { right_start.new + length (split_right int_cmp a.now at) ≡ length a.now }
 {
     split(a, at, left_len, right_start)
 }
@@ -283,7 +285,7 @@ pub extern "C" fn proved_range_set_i64_gaps(
     written: &mut usize,
 ) -> u32
     requires fits { length a.now + 2 < 2 ^ 64 }
-    ensures { AnswersList int_cmp difference_table (range_items int_cmp start end) a.now out.old out.new written.new result }
+    ensures { AnswersList int_cmp difference_table (range_items int_cmp start end) a.now out.old out.new written.old written.new result }
 {
     merge(range_of(&[start, end]), a, &DiffOp, out, written)
 }

@@ -45,7 +45,7 @@ pub extern "C" fn proved_range_set_u64_union(
     written: &mut usize,
 ) -> u32
     requires fits { length a.now + length b.now < 2 ^ 64 }
-    ensures { AnswersList nat_cmp union_table a.now b.now out.old out.new written.new result }
+    ensures { AnswersList nat_cmp union_table a.now b.now out.old out.new written.old written.new result }
 {
     merge(a, b, &UnionOp, out, written)
 }
@@ -54,7 +54,7 @@ pub extern "C" fn proved_range_set_u64_union(
 #[unsafe(no_mangle)]
 pub extern "C" fn proved_range_set_u64_union_len(a: &[u64], b: &[u64], len: &mut usize) -> u32
     requires fits { length a.now + length b.now < 2 ^ 64 }
-    ensures { AnswersLength nat_cmp union_table a.now b.now len.new result }
+    ensures { AnswersLength nat_cmp union_table a.now b.now len.old len.new result }
 {
     merge_len(a, b, &UnionOp, len)
 }
@@ -68,7 +68,7 @@ pub extern "C" fn proved_range_set_u64_intersection(
     written: &mut usize,
 ) -> u32
     requires fits { length a.now + length b.now < 2 ^ 64 }
-    ensures { AnswersList nat_cmp intersection_table a.now b.now out.old out.new written.new result }
+    ensures { AnswersList nat_cmp intersection_table a.now b.now out.old out.new written.old written.new result }
 {
     merge(a, b, &IntersectionOp, out, written)
 }
@@ -81,7 +81,7 @@ pub extern "C" fn proved_range_set_u64_intersection_len(
     len: &mut usize,
 ) -> u32
     requires fits { length a.now + length b.now < 2 ^ 64 }
-    ensures { AnswersLength nat_cmp intersection_table a.now b.now len.new result }
+    ensures { AnswersLength nat_cmp intersection_table a.now b.now len.old len.new result }
 {
     merge_len(a, b, &IntersectionOp, len)
 }
@@ -95,7 +95,7 @@ pub extern "C" fn proved_range_set_u64_difference(
     written: &mut usize,
 ) -> u32
     requires fits { length a.now + length b.now < 2 ^ 64 }
-    ensures { AnswersList nat_cmp difference_table a.now b.now out.old out.new written.new result }
+    ensures { AnswersList nat_cmp difference_table a.now b.now out.old out.new written.old written.new result }
 {
     merge(a, b, &DiffOp, out, written)
 }
@@ -104,7 +104,7 @@ pub extern "C" fn proved_range_set_u64_difference(
 #[unsafe(no_mangle)]
 pub extern "C" fn proved_range_set_u64_difference_len(a: &[u64], b: &[u64], len: &mut usize) -> u32
     requires fits { length a.now + length b.now < 2 ^ 64 }
-    ensures { AnswersLength nat_cmp difference_table a.now b.now len.new result }
+    ensures { AnswersLength nat_cmp difference_table a.now b.now len.old len.new result }
 {
     merge_len(a, b, &DiffOp, len)
 }
@@ -118,7 +118,7 @@ pub extern "C" fn proved_range_set_u64_symmetric_difference(
     written: &mut usize,
 ) -> u32
     requires fits { length a.now + length b.now < 2 ^ 64 }
-    ensures { AnswersList nat_cmp symmetric_difference_table a.now b.now out.old out.new written.new result }
+    ensures { AnswersList nat_cmp symmetric_difference_table a.now b.now out.old out.new written.old written.new result }
 {
     merge(a, b, &XorOp, out, written)
 }
@@ -131,7 +131,7 @@ pub extern "C" fn proved_range_set_u64_symmetric_difference_len(
     len: &mut usize,
 ) -> u32
     requires fits { length a.now + length b.now < 2 ^ 64 }
-    ensures { AnswersLength nat_cmp symmetric_difference_table a.now b.now len.new result }
+    ensures { AnswersLength nat_cmp symmetric_difference_table a.now b.now len.old len.new result }
 {
     merge_len(a, b, &XorOp, len)
 }
@@ -144,7 +144,7 @@ pub extern "C" fn proved_range_set_u64_negation(
     written: &mut usize,
 ) -> u32
     requires fits { length a.now + 1 < 2 ^ 64 }
-    ensures { AnswersList nat_cmp symmetric_difference_table a.now (0 ∷ []) out.old out.new written.new result }
+    ensures { AnswersList nat_cmp symmetric_difference_table a.now (0 ∷ []) out.old out.new written.old written.new result }
 {
     merge(a, &[u64::MIN], &XorOp, out, written)
 }
@@ -159,7 +159,7 @@ pub extern "C" fn proved_range_set_u64_insert(
     written: &mut usize,
 ) -> u32
     requires fits { length a.now + 2 < 2 ^ 64 }
-    ensures { AnswersList nat_cmp union_table a.now (range_items nat_cmp start end) out.old out.new written.new result }
+    ensures { AnswersList nat_cmp union_table a.now (range_items nat_cmp start end) out.old out.new written.old written.new result }
 {
     merge(a, range_of(&[start, end]), &UnionOp, out, written)
 }
@@ -174,7 +174,7 @@ pub extern "C" fn proved_range_set_u64_remove(
     written: &mut usize,
 ) -> u32
     requires fits { length a.now + 2 < 2 ^ 64 }
-    ensures { AnswersList nat_cmp difference_table a.now (range_items nat_cmp start end) out.old out.new written.new result }
+    ensures { AnswersList nat_cmp difference_table a.now (range_items nat_cmp start end) out.old out.new written.old written.new result }
 {
     merge(a, range_of(&[start, end]), &DiffOp, out, written)
 }
@@ -182,7 +182,7 @@ pub extern "C" fn proved_range_set_u64_remove(
 /// Writes whether no number is a member of both.
 #[unsafe(no_mangle)]
 pub extern "C" fn proved_range_set_u64_is_disjoint(a: &[u64], b: &[u64], answer: &mut bool) -> u32
-    ensures { AnswersQuestion nat_cmp a.now b.now (IsDisjoint nat_cmp a.now b.now) answer.new result }
+    ensures { AnswersQuestion nat_cmp a.now b.now (IsDisjoint nat_cmp a.now b.now) answer.old answer.new result }
 {
     is_disjoint(a, b, answer)
 }
@@ -190,7 +190,7 @@ pub extern "C" fn proved_range_set_u64_is_disjoint(a: &[u64], b: &[u64], answer:
 /// Writes whether some number is a member of both.
 #[unsafe(no_mangle)]
 pub extern "C" fn proved_range_set_u64_intersects(a: &[u64], b: &[u64], answer: &mut bool) -> u32
-    ensures { AnswersQuestion nat_cmp a.now b.now (Intersects nat_cmp a.now b.now) answer.new result }
+    ensures { AnswersQuestion nat_cmp a.now b.now (Intersects nat_cmp a.now b.now) answer.old answer.new result }
 {
     intersects(a, b, answer)
 }
@@ -198,7 +198,7 @@ pub extern "C" fn proved_range_set_u64_intersects(a: &[u64], b: &[u64], answer: 
 /// Writes whether every member of the left is one of the right.
 #[unsafe(no_mangle)]
 pub extern "C" fn proved_range_set_u64_is_subset(a: &[u64], b: &[u64], answer: &mut bool) -> u32
-    ensures { AnswersQuestion nat_cmp a.now b.now (IsSubset nat_cmp a.now b.now) answer.new result }
+    ensures { AnswersQuestion nat_cmp a.now b.now (IsSubset nat_cmp a.now b.now) answer.old answer.new result }
 {
     is_subset(a, b, answer)
 }
@@ -206,7 +206,7 @@ pub extern "C" fn proved_range_set_u64_is_subset(a: &[u64], b: &[u64], answer: &
 /// Writes whether both have the same members.
 #[unsafe(no_mangle)]
 pub extern "C" fn proved_range_set_u64_equal(a: &[u64], b: &[u64], answer: &mut bool) -> u32
-    ensures { AnswersQuestion nat_cmp a.now b.now (IsSameSet nat_cmp a.now b.now) answer.new result }
+    ensures { AnswersQuestion nat_cmp a.now b.now (IsSameSet nat_cmp a.now b.now) answer.old answer.new result }
 {
     equal(a, b, answer)
 }
@@ -231,6 +231,8 @@ pub extern "C" fn proved_range_set_u64_split(
     requires { IsAscending nat_cmp a.now }
     ensures left { take left_len.new a.now ≡ split_left nat_cmp a.now at }
     ensures right { drop right_start.new a.now ≡ split_right nat_cmp a.now at }
+    ensures left_within { left_len.new ≡ length (split_left nat_cmp a.now at) }
+    ensures right_within { right_start.new + length (split_right nat_cmp a.now at) ≡ length a.now }
 {
     split(a, at, left_len, right_start)
 }
@@ -281,7 +283,7 @@ pub extern "C" fn proved_range_set_u64_gaps(
     written: &mut usize,
 ) -> u32
     requires fits { length a.now + 2 < 2 ^ 64 }
-    ensures { AnswersList nat_cmp difference_table (range_items nat_cmp start end) a.now out.old out.new written.new result }
+    ensures { AnswersList nat_cmp difference_table (range_items nat_cmp start end) a.now out.old out.new written.old written.new result }
 {
     merge(range_of(&[start, end]), a, &DiffOp, out, written)
 }

@@ -25,3 +25,5 @@ pub mod PartsLaws
 pub mod FirstParts
 pub mod Unions
 pub mod Reading
+pub mod ReadBack
+pub mod Decimals

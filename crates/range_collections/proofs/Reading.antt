@@ -20,10 +20,10 @@ all_ascii_digits-Decides : (ds : List ℕ) → Decides (all_ascii_digits ds) (Al
 all_ascii_digits-Decides ds =
     let own = numerals_by_value (λ es. all_ascii_digits es ≡ true) tells_all_ascii_digits in (own.to ds, own.from ds)
 
-is_numeral-Decides : (ds : List ℕ) → Decides (is_numeral ds) (IsNumeral 10 ds)
+pub is_numeral-Decides : (ds : List ℕ) → Decides (is_numeral ds) (IsNumeral 10 ds)
 is_numeral-Decides ds = Decides-and _ _ (Decides-ltb 0 (length ds)) (all_ascii_digits-Decides ds)
 
-Some-where : {X : Type 0} (b : Bool) (P : Type 0) (z v : X) → Decides b P → P → z ≡ v → Some z ≡ cond b (Some v) None
+pub Some-where : {X : Type 0} (b : Bool) (P : Type 0) (z v : X) → Decides b P → P → z ≡ v → Some z ≡ cond b (Some v) None
 Some-where b P z v d h e = ap Some e ∙ sym (ap (λ t. cond t (Some v) None) (d.1 h))
 
 None-where : {X : Type 0} (b : Bool) (P : Type 0) (v : X) → Decides b P → ¬ P → None ≡ cond b (Some v) None

@@ -1,5 +1,5 @@
 -- What an operation writes into a slice.
-use Rattle.std.proofs.Common.{◌≡◌, ◌↔◌, ℕ, ◌<◌, List, ◌++◌, length, take, drop, Result, Ok, Err, IsErr, IfOk, IfErr, ap, ◌∙◌, sym, arith}
+use Rattle.std.proofs.Common.{◌≡◌, ◌↔◌, ℕ, ◌<◌, List, ◌++◌, length, take, drop, Result, Ok, Err, IsErr, IfOk, IfErr, ap, ◌∙◌, sym}
 use Rattle.std.proofs.lemmas.List.{length-map, take_at, drop_at}
 use Rattle.std.specs.declared.cmp.Ordering.{Ordering}
 use Rattle.range_merge.specs.Changes.{changes, taken_item, taken_items}

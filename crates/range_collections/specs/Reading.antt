@@ -1,12 +1,14 @@
 -- Ranges that a text writes, in any order, as a set of whole numbers is written: `0..10, 20..`.
 --     unsigned_number k text      the number of k bits that a text writes, if it writes one
 --     signed_number k text        the same with a sign, of k bits besides it
+--     IsReadBack number digits x  what is written of the number is read back
 --     parts_of text               what stands between the commas
 --     range_in number part        the range that a part writes between blanks, where `number` reads a number
 --     is_ranges number text       blanks alone, or a range in each part
 --     ranges_in number text       the ranges
-use Rattle.std.specs.Prelude.{ℕ, ◌^◌, ◌==◌, nat_lt, Bool, cond, ◌&&◌, ◌||◌, ℤ, pos, negsuc, List, [], ◌∷◌, length, Option, Some, None}
-use Rattle.std.specs.List.{slice_split, list_all, filter_map, before_first, after_first}
+use Rattle.std.specs.Prelude.{◌≡◌, ℕ, ◌<◌, false, ◌^◌, ◌==◌, nat_lt, Bool, cond, ◌&&◌, ◌||◌, ℤ, pos, negsuc, List, [], ◌∷◌, length, Option, Some, None}
+use Rattle.std.specs.Char.{is_whitespace}
+use Rattle.std.specs.List.{AllByRecursion, slice_split, list_all, filter_map, before_first, after_first}
 use Rattle.std.specs.Option.{is_some, option_map, option_and_then}
 use Rattle.std.specs.Str.{trim, all_ascii_digits}
 use Rattle.std.specs.Str.Parse.{without_leading_plus, without_leading_sign, digits_value, signed_digits_value}
@@ -31,6 +33,15 @@ is_within k (negsuc n) = nat_lt n (2 ^ k)
 unfoldable pub signed_number : ℕ → List ℕ → Option ℤ
 signed_number k text =
     cond (is_numeral (without_leading_sign text) && is_within k (signed_digits_value 10 text)) (Some (signed_digits_value 10 text)) None
+
+-- the byte is ASCII, and no white space, comma or dot
+abbrev pub IsPlain : ℕ → Type 0
+IsPlain b = (b < 128) × (is_whitespace b ≡ false) × ((b == 44) ≡ false) × ((b == 46) ≡ false)
+
+-- the number is written in such bytes, and read back from them
+pub record IsReadBack {K : Type 0} (number : List ℕ → Option K) (digits : K → List ℕ) (x : K) : Type 0 where
+  pub plain : AllByRecursion IsPlain (digits x)
+  pub read : number (digits x) ≡ Some x
 
 -- what stands between the commas
 abbrev pub parts_of : List ℕ → List (List ℕ)

@@ -4,6 +4,7 @@ mod gaps;
 mod operations;
 mod parts;
 mod ranges;
+mod texts;
 mod unions;
 mod values;
 
@@ -24,6 +25,7 @@ pub use range_merge::laws::{
     owners_are_pinned, the_test_alone_stops, weight_is_at_most_the_lengths,
 };
 pub use ranges::{arrays_read_back, ranges_make_the_set};
+pub use texts::texts_read_back;
 pub use unions::unions_are_pinned;
 pub use values::{
     a_set_and_what_is_not_in_it_are_everything, combined_sets_are_pinned,

@@ -1,6 +1,6 @@
 -- A slice that is filled from its front, run by run.
 use Rattle.std.proofs.Common.{◌≡◌, ℕ, ◌+◌, ◌≤◌, Bool, true, false, Result, Ok, Err, IsOk, IfOk, List, [], ◌∷◌, ◌++◌, length, take, drop, map, refl, ap, sym, ◌∙◌, arith, append_assoc}
-use Rattle.std.proofs.lemmas.List.{length-append, length-map, length-drop, take_at, take_all, drop_all, take-append-le, drop-append-le, map-append, append-nil}
+use Rattle.std.proofs.lemmas.List.{length-append, length-map, length-drop, take_at, take_all, drop_all, take-append-le, drop-append-le, map-append}
 use Rattle.std.proofs.Math.Seq.{drop-append-add, drop-drop, drop-append_seam, take-append_seam}
 use Rattle.range_merge.specs.Changes.{Taken, taken_item, taken_items, from_left}
 use Rattle.range_merge.specs.Buffers.{IsFilled}

@@ -202,6 +202,8 @@ fn with_gap<K, L: Place<K>>(list: &mut L, kept: usize, start: usize, puts: usize
     requires some { 0 < puts }
     ensures sound { IsSound kept result puts (L.items list.new) (L.room list.new) }
     ensures gap { kept < result }
+    ensures whole { kept ≡ start → result ≡ start + puts }
+    ensures stays { kept < start → result ≡ start }
     ensures kept { take kept (L.items list.new) ≡ take kept (L.items list.old) }
     ensures unread { drop result (L.items list.new) ≡ drop start (L.items list.old) }
 {

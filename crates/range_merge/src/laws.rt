@@ -64,7 +64,7 @@ pub fn changes_are_at_most_the_lengths<K, C: Compare<K>>()
     ensures at_most { (f : Table) (a b : List K) → length (changes C.order f a b) ≤ length a + length b }
 {}
 
-/// The state that only tests is stopped by what it takes, and no other one is.
+/// The state that only tests is stopped by what it takes. Those that count, that fill a list, and that change one in place are not.
 pub fn the_test_alone_stops<
     K: MadeWith<Global> + Drop + 'static,
     P: Copier<K> + 'static,

@@ -1,7 +1,9 @@
 //! How many values are members: tables with the ends of each type, and made-up sets, counted value by value.
 ghost use Rattle.std.specs.Prelude.{◌≤◌};
 
-use crate::everyday_drawn::{Draws, LISTS, ONE_IN, all_i8, all_u8, has};
+use crate::drawn::is_on;
+use crate::everyday_drawn::{LISTS, ONE_IN, all_i8, all_u8};
+use crate::made_up::Generator;
 use range_collections::{Countable, RangeSet2, RangeSetRef};
 use std::alloc::{AllocError, Global};
 use std::test::Fail;
@@ -15,7 +17,7 @@ fn covered<T: Countable>(items: &[T]) -> Option<Option<u128>> {
 fn counted<T: Ord>(values: &[T], items: &[T]) -> u128 {
     let mut count: u128 = 0;
     for value in values {
-        if has(items, value) {
+        if is_on(items, value) {
             count = count.saturating_add(1);
         }
     }
@@ -36,7 +38,7 @@ fn is_counted<T: Countable>(values: &[T], items: &[T]) -> bool {
 fn wrong<T: Countable + Copy>(alloc: Global, values: &[T], one_in: u64) -> Result<u64, AllocError>
     requires { 1 ≤ one_in }
 {
-    let mut draws = Draws::new();
+    let mut draws = Generator::new();
     let mut wrong: u64 = 0;
     for _ in 0..LISTS {
         let items = draws.some_of(alloc, values, one_in)?;

@@ -1,5 +1,7 @@
 //! Where a stretch of numbers fits: tables with the ends of the types, and made-up sets, tried value by value.
-use crate::everyday_drawn::{Draws, LISTS, ONE_IN, all_u8, has};
+use crate::drawn::is_on;
+use crate::everyday_drawn::{LISTS, ONE_IN, all_u8};
+use crate::made_up::Generator;
 use range_collections::{RangeSet2, RangeSetRef, Unsigned};
 use std::alloc::{AllocError, Global};
 use std::test::Fail;
@@ -46,7 +48,7 @@ fn fits(items: &[u8], x: u8, end: u8, len: u8) -> bool {
         return false;
     };
     for value in x..past {
-        if has(items, &value) {
+        if is_on(items, &value) {
             return false;
         }
     }
@@ -64,11 +66,11 @@ fn tried(items: &[u8], start: u8, end: u8, len: u8) -> Option<u8> {
 }
 
 // How many made-up stretches are placed wrongly among the boundaries.
-fn wrong(items: &[u8], draws: &mut Draws) -> u64 {
+fn wrong(items: &[u8], draws: &mut Generator) -> u64 {
     let mut wrong: u64 = 0;
     for _ in 0..20 {
-        let (start, end) = (draws.value(), draws.value());
-        let len = draws.value() % 24;
+        let (start, end) = (draws.below(256) as u8, draws.below(256) as u8);
+        let len = draws.below(24) as u8;
         if fit(items, start, end, len) != Some(tried(items, start, end, len)) {
             wrong = wrong.saturating_add(1);
         }
@@ -78,7 +80,7 @@ fn wrong(items: &[u8], draws: &mut Draws) -> u64 {
 
 // How many stretches are placed wrongly in made-up sets.
 fn all_wrong(alloc: Global, values: &[u8], one_in: u64) -> Result<u64, AllocError> {
-    let mut draws = Draws::new();
+    let mut draws = Generator::new();
     let mut all: u64 = 0;
     for _ in 0..LISTS {
         let items = draws.some_of(alloc, values, one_in.max(1))?;

@@ -1,7 +1,8 @@
 //! What of a range is in a set, and what isn't: tables, and made-up sets tried value by value.
 ghost use Rattle.std.specs.Prelude.{◌≤◌};
 
-use crate::everyday_drawn::{Asked, Draws, LISTS, ONE_IN, all_i8, all_u8, ask_each};
+use crate::everyday_drawn::{Asked, LISTS, ONE_IN, all_i8, all_u8, ask_each};
+use crate::made_up::Generator;
 use range_collections::{RangeSet2, RangeSetRef, RangesWithin};
 use std::alloc::{AllocError, Global};
 use std::test::Fail;
@@ -83,7 +84,7 @@ fn wrongly_parted<T: Ord + Copy>(
     alloc: Global,
     values: &[Asked<T>],
     set: RangeSetRef<T>,
-    draws: &mut Draws,
+    draws: &mut Generator,
 ) -> Result<u64, AllocError> {
     let mut wrong: u64 = 0;
     for _ in 0..20 {
@@ -100,7 +101,7 @@ fn wrongly_parted<T: Ord + Copy>(
 fn wrong<T: Ord + Copy>(alloc: Global, values: &[T], one_in: u64) -> Result<u64, AllocError>
     requires { 1 ≤ one_in }
 {
-    let mut draws = Draws::new();
+    let mut draws = Generator::new();
     let mut wrong: u64 = 0;
     for _ in 0..LISTS {
         let items = draws.some_of(alloc, values, one_in)?;

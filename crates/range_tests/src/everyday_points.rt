@@ -1,7 +1,8 @@
 //! The range at a value, ranges that are asked for as a whole, and where a set begins and ends: tables, and made-up sets tried value by value.
 ghost use Rattle.std.specs.Prelude.{◌≤◌};
 
-use crate::everyday_drawn::{Asked, Draws, LISTS, ONE_IN, all_i8, all_u8, ask_each};
+use crate::everyday_drawn::{Asked, LISTS, ONE_IN, all_i8, all_u8, ask_each};
+use crate::made_up::Generator;
 use range_collections::{RangeSet2, RangeSetRange, RangeSetRef};
 use std::alloc::{AllocError, Global};
 use std::test::Fail;
@@ -176,7 +177,7 @@ fn wrongly_held<T: Ord + Copy>(values: &[Asked<T>], set: RangeSetRef<T>) -> u64 
 fn wrongly_whole<T: Ord + Copy + Drop>(
     values: &[Asked<T>],
     set: RangeSetRef<T>,
-    draws: &mut Draws,
+    draws: &mut Generator,
 ) -> u64 {
     let mut wrong: u64 = 0;
     for _ in 0..50 {
@@ -194,7 +195,7 @@ fn wrongly_whole<T: Ord + Copy + Drop>(
 fn wrong<T: Ord + Copy + Drop>(alloc: Global, values: &[T], one_in: u64) -> Result<u64, AllocError>
     requires { 1 ≤ one_in }
 {
-    let mut draws = Draws::new();
+    let mut draws = Generator::new();
     let mut wrong: u64 = 0;
     for _ in 0..LISTS {
         let items = draws.some_of(alloc, values, one_in)?;

@@ -90,15 +90,21 @@ mod refusals_of_lists;
 #[cfg(test)]
 mod refusals_of_merges;
 #[cfg(test)]
+mod refusals_of_unions;
+#[cfg(test)]
 mod refused_advances;
 #[cfg(test)]
 mod refusing;
+#[cfg(test)]
+mod rooms;
 #[cfg(test)]
 mod searching;
 #[cfg(test)]
 mod smoke;
 #[cfg(test)]
 mod tally;
+#[cfg(test)]
+mod tally_of_ranges;
 #[cfg(test)]
 mod tally_of_searches;
 #[cfg(test)]

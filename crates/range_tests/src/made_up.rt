@@ -93,6 +93,30 @@ impl Generator {
         Ok(items)
     }
 
+    // One of the items, where there is one.
+    pub(crate) fn one_of<'a, T>(&mut self, items: &'a [T]) -> Option<&'a T> {
+        let at = self.bits() as usize;
+        items.get(at % items.len().max(1))
+    }
+
+    // About one in so many of the values, in their order.
+    pub(crate) fn some_of<T: Copy>(
+        &mut self,
+        alloc: Global,
+        values: &[T],
+        one_in: u64,
+    ) -> Result<Vec<T>, AllocError>
+        requires { 1 ≤ one_in }
+    {
+        let mut items = Vec::new(alloc);
+        for value in values {
+            if self.bits() % one_in == 0 {
+                items.push(*value)?;
+            }
+        }
+        Ok(items)
+    }
+
     // A list with one in sixteen of the points, one in eight, one in four, half of them, or three in four.
     fn list(&mut self, alloc: Global) -> Result<Vec<i64>, AllocError> {
         let (some, others) = (self.bits(), self.bits());

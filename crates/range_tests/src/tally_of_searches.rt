@@ -56,7 +56,7 @@ fn is_found<'t>(items: &[Tallied<'t>], tally: &Cell<u128>, key: Key<'t>, most: u
 }
 
 // Whether what a call raised the tally by is within so many, and another one raised it by as much.
-fn is_within(raised: Option<u128>, again: u128, most: u128) -> bool {
+pub(crate) fn is_within(raised: Option<u128>, again: u128, most: u128) -> bool {
     raised == Some(again) && again <= most
 }
 

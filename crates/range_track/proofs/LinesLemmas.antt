@@ -1,12 +1,11 @@
 -- The lines of a text, one after another.
-use Rattle.std.proofs.Common.{◌≡◌, ◌≢◌, refl, sym, ap, ◌∙◌, ℕ, ◌<◌, ◌≤◌, List, [], ◌∷◌, ◌++◌, take, length, arith, inl, inr, false, rules}
-use Rattle.std.specs.Prelude.{◌==◌, None, map, Option}
+use Rattle.std.proofs.Common.{◌≡◌, ◌≢◌, refl, sym, ap, ◌∙◌, ℕ, List, [], ◌∷◌, ◌++◌, take, length, arith, inl, inr, false, rules}
+use Rattle.std.specs.Prelude.{◌==◌, map}
 use Rattle.std.proofs.lemmas.Bool.{cases_lt, false_from_ne_true, eqb-true}
 use Rattle.std.proofs.lemmas.List.{take_all, length-take}
 use Rattle.std.proofs.lemmas.List.Elements.{All-head, All-tail, All-take}
 use Rattle.range_track.specs.Lines.{lines_of, IsLine, onto_first_line}
 use Rattle.range_track.specs.Requests.{request_of}
-use Rattle.range_track.specs.declared.request.Request.{Request}
 use Rattle.range_track.proofs.Words.{request_of-long}
 
 not_newline : (b : ℕ) → b ≢ 10 → (b == 10) ≡ false

@@ -1,12 +1,12 @@
 -- An input of which some lines are answered.
-use Rattle.std.proofs.Common.{◌≡◌, ◌≢◌, refl, sym, ap, ◌∙◌, subst, ℕ, false, List, [], ◌∷◌, ◌++◌, append_assoc, take}
-use Rattle.std.specs.Prelude.{Option, Some, None, IfSome, map, flat_map}
+use Rattle.std.proofs.Common.{◌≡◌, refl, sym, ap, ◌∙◌, subst, ℕ, false, List, [], ◌∷◌, ◌++◌, append_assoc, take}
+use Rattle.std.specs.Prelude.{Option, Some, None, IfSome, map}
 use Rattle.std.proofs.Math.Path.{fun_ext}
 use Rattle.std.specs.Io.KnownBytes.{Appends}
 use Rattle.std.proofs.lemmas.List.{flat_map_more}
 use Rattle.std.proofs.lemmas.List.Concat.{flat_map-append}
 use Rattle.range_tracker.specs.Offsets.{Offsets, offsets_of}
-use Rattle.range_track.specs.Answers.{Answer, AreAnswers, MayBeAnswered, IsAnswered, answer_text, answers_text, after_answer}
+use Rattle.range_track.specs.Answers.{Answer, AreAnswers, IsAnswered, answer_text, answers_text}
 use Rattle.range_track.specs.Lines.{IsLine, IsLineRead, lines_of}
 use Rattle.range_track.specs.Requests.{request_of}
 use Rattle.range_track.specs.declared.line.Ending.TheVariants.{Newline}

@@ -1,5 +1,5 @@
 -- Offsets of ranges and of what commands make, by their lists of boundaries.
-use Rattle.std.proofs.Common.{◌≡◌, ◌⊎◌, not, refl, sym, ap, ap₂, ◌∙◌, ℕ, ◌≤◌, ◌<◌, Bool, true, false, ◌&&◌, ◌||◌, cond, ltb, leb, eqb, List, [], ◌∷◌, length, arith, rules, inl, inr}
+use Rattle.std.proofs.Common.{◌≡◌, ◌⊎◌, not, refl, sym, ap, ap₂, ◌∙◌, ℕ, ◌≤◌, ◌<◌, Bool, true, false, ◌&&◌, ◌||◌, cond, List, [], ◌∷◌, length, arith, rules, inl, inr}
 use Rattle.std.specs.Prelude.{nat_lt, nat_le, ◌==◌}
 use Rattle.std.specs.Cmp.{nat_cmp_total}
 use Rattle.std.specs.Ordering.{nat_cmp, is_lt, is_le}

@@ -2,6 +2,7 @@
 ghost use Rattle.std.specs.Prelude.{◌≡◌, ◌≢◌, ◌↔◌, true, false, Any, IfOk, IfErr};
 ghost use Rattle.range_merge.specs.Boundaries.{member};
 ghost use Rattle.range_collections.specs.Ranges.{IsInRange};
+ghost use Rattle.range_collections.specs.ParseErrors.{IsFaultIn};
 ghost use Rattle.range_collections.specs.Reading.{range_up_to, range_in, is_ranges, ranges_in};
 ghost use Rattle.range_collections.specs.declared.range_set.parse_errors.ParseError.TheVariants.{OutOfMemory};
 
@@ -16,11 +17,12 @@ use std::default::MadeWith;
 impl<T: EntryClone + WholeNumber + MadeWith<Global> + Drop, const N: usize> RangeSet<T, N> {
     /// The set of the elements that lie in one of the ranges of a text, as `0..10, 20..`: in any order, with commas between them and blanks around each. A text of blanks is the set of nothing.
     ///
-    /// The whole text is read before memory is asked for.
+    /// The whole text is read before memory is asked for. An error names the byte at which the text stopped being one of ranges and what was expected there, or says that a number is past its type's, or that memory ran out.
     pub fn parse(alloc: Global, text: &str) -> Result<Self, ParseError>
         ensures ok { IfOk result (λ set. is_ranges T.number text.now ≡ true) }
         ensures members { IfOk result (λ set. (x : T) → (member T.cmp set x ≡ true) ↔ Any (λ range. IsInRange T.cmp range x) (ranges_in T.number text.now)) }
         ensures malformed { IfErr result (λ error. error ≢ OutOfMemory → is_ranges T.number text.now ≡ false) }
+        ensures fault { IfErr result (λ error. error ≢ OutOfMemory → IsFaultIn text.now error) }
         ensures out_of_memory { IfErr result (λ error. error ≡ OutOfMemory → is_ranges T.number text.now ≡ true) }
     {
         if !is_ranges::<T>(text) {

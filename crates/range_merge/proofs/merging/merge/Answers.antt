@@ -67,23 +67,23 @@ returns-in_err-goes_on-clause-comparisons g c =
 pub returns-then-stops_at_first-clause-used_up : goal.returns-then-stops_at_first-clause-used_up
 returns-then-stops_at_first-clause-used_up g c = λ through.
     absurd (false≢true (sym (stops-here _ _ (c.if-stops_at_first.ensures.can_stop refl)
-      (ap (λ run. takes (g.O.MergeOperation.connective c.args.op.now) (g.S.MergeStateMut.left_on c.loop-firsts.state) (g.S.MergeStateMut.right_on c.loop-firsts.state) run) c.one_of.ensures
-      ∙ c.if-stops_at_first.ensures.taken refl))
-      ∙ sym c.in_ok-goes_on.ensures.goes_on ∙ through))
+    (ap (λ run. takes (g.O.MergeOperation.connective c.args.op.now) (g.S.MergeStateMut.left_on c.loop-firsts.state) (g.S.MergeStateMut.right_on c.loop-firsts.state) run) c.one_of.ensures
+    ∙ c.if-stops_at_first.ensures.taken refl))
+    ∙ sym c.in_ok-goes_on.ensures.goes_on ∙ through))
 
 pub returns-then-stops_at_first-clause-taken : goal.returns-then-stops_at_first-clause-taken
 returns-then-stops_at_first-clause-taken g c = λ through.
     absurd (false≢true (sym (stops-here _ _ (c.if-stops_at_first.ensures.can_stop refl)
-      (ap (λ run. takes (g.O.MergeOperation.connective c.args.op.now) (g.S.MergeStateMut.left_on c.loop-firsts.state) (g.S.MergeStateMut.right_on c.loop-firsts.state) run) c.one_of.ensures
-      ∙ c.if-stops_at_first.ensures.taken refl))
-      ∙ sym c.in_ok-goes_on.ensures.goes_on ∙ through))
+    (ap (λ run. takes (g.O.MergeOperation.connective c.args.op.now) (g.S.MergeStateMut.left_on c.loop-firsts.state) (g.S.MergeStateMut.right_on c.loop-firsts.state) run) c.one_of.ensures
+    ∙ c.if-stops_at_first.ensures.taken refl))
+    ∙ sym c.in_ok-goes_on.ensures.goes_on ∙ through))
 
 pub returns-then-stops_at_first-clause-not_stopped : goal.returns-then-stops_at_first-clause-not_stopped
 returns-then-stops_at_first-clause-not_stopped g c = λ _ through.
     absurd (false≢true (sym (stops-here _ _ (c.if-stops_at_first.ensures.can_stop refl)
-      (ap (λ run. takes (g.O.MergeOperation.connective c.args.op.now) (g.S.MergeStateMut.left_on c.loop-firsts.state) (g.S.MergeStateMut.right_on c.loop-firsts.state) run) c.one_of.ensures
-      ∙ c.if-stops_at_first.ensures.taken refl))
-      ∙ sym c.in_ok-goes_on.ensures.goes_on ∙ through))
+    (ap (λ run. takes (g.O.MergeOperation.connective c.args.op.now) (g.S.MergeStateMut.left_on c.loop-firsts.state) (g.S.MergeStateMut.right_on c.loop-firsts.state) run) c.one_of.ensures
+    ∙ c.if-stops_at_first.ensures.taken refl))
+    ∙ sym c.in_ok-goes_on.ensures.goes_on ∙ through))
 
 pub returns-then-stops_at_first-clause-stopped : goal.returns-then-stops_at_first-clause-stopped
 returns-then-stops_at_first-clause-stopped g c = λ stopped.

@@ -1,4 +1,4 @@
-use Rattle.std.proofs.Common.{refl, sym, ◌∙◌}
+use Rattle.std.proofs.Common.{refl, sym}
 use Rattle.std.proofs.lemmas.Result.{on_ok_weaker}
 use Rattle.range_tracker.proofs.OffsetsLemmas.{IsListOf-self}
 use Rattle.range_tracker.proofs.RepliesLemmas.{offsets_after_reply}

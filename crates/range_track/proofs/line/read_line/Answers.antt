@@ -1,5 +1,4 @@
-use Rattle.std.proofs.Common.{◌≡◌, ◌≢◌, refl, sym, ap, ◌∙◌, ℕ, List, [], ◌∷◌, ◌++◌, take, append_assoc, arith}
-use Rattle.std.specs.Prelude.{Some, IfSome}
+use Rattle.std.proofs.Common.{◌≢◌, sym, ap, ◌∙◌, [], ◌∷◌, ◌++◌, take, append_assoc, arith}
 use Rattle.std.specs.Io.Iter.{bytes_remaining}
 use Rattle.std.proofs.lemmas.List.Elements.{All-nil, All-push, All-same, All-take}
 use Rattle.std.proofs.lemmas.Option.{IfSome_then}

@@ -2,7 +2,7 @@ use Rattle.std.proofs.Common.{◌∙◌, rules, tests, arith}
 use Rattle.std.specs.Char.{is_ascii_digit}
 use Rattle.std.proofs.lemmas.Iterator.Adapters.{YieldsList-from_bytes}
 use Rattle.std.proofs.lemmas.Iterator.Search.{all_from_yields_List}
-use Rattle.range_track.proofs.Numerals.{is_numeral-counted, is_numeral-not_counted}
+use Rattle.range_track.proofs.Numerals.{is_numeral-counted}
 use Rattle.range_track.proofs.numbers.is_numeral.Goals as goal
 
 pub returns-in-1-to-20 : goal.returns-in-1-to-20

@@ -1,5 +1,4 @@
-use Rattle.std.proofs.Common.{◌≡◌, refl, sym, ℕ, Option, Some, None}
-use Rattle.std.specs.Option.{option_map}
+use Rattle.std.proofs.Common.{refl, sym}
 use Rattle.range_track.specs.Requests.{asked_by, asked_of_range}
 use Rattle.range_track.proofs.Words.{bytes_eq-false}
 use Rattle.range_track.proofs.request.of_range.Goals as goal

@@ -1,7 +1,6 @@
-use Rattle.std.proofs.Common.{◌≡◌, ◌∙◌, sym, ℕ, List, [], ◌∷◌}
+use Rattle.std.proofs.Common.{◌∙◌}
 use Rattle.std.proofs.lemmas.Option.{IfSome_then}
 use Rattle.std.proofs.lemmas.Result.{on_ok_weaker}
-use Rattle.range_tracker.specs.Offsets.{offsets_of}
 use Rattle.range_track.proofs.Served.{Served-start, Served-more, Served-end, newline_read, IfSome-from}
 use Rattle.range_track.proofs.serving.serve.Goals as goal
 

@@ -1,6 +1,6 @@
-use Rattle.std.proofs.Common.{◌≡◌, ℕ, List, ◌+◌, ◌++◌, [], ◌∷◌, get_or, take, sym, ap, refl, ◌∙◌, append_assoc, codes}
+use Rattle.std.proofs.Common.{ℕ, List, ◌+◌, ◌++◌, [], ◌∷◌, get_or, take, sym, ap, refl, ◌∙◌, codes}
 use Rattle.std.specs.Prelude.{decimal, flat_map}
-use Rattle.std.proofs.lemmas.List.{append-nil, flat_map_more, nil_from_length, take_all, take_more}
+use Rattle.std.proofs.lemmas.List.{flat_map_more, nil_from_length, take_all, take_more}
 use Rattle.range_track.specs.Answers.{list_text}
 use Rattle.range_track.proofs.Written.{Appends-nothing, Appends-then, OnOk-then}
 use Rattle.range_track.proofs.writing.write_list.Goals as goal

@@ -1,4 +1,3 @@
-use Rattle.std.proofs.Common.{refl}
 use Rattle.range_collections.proofs.Written.{WritesOperation-written}
 use Rattle.range_collections.proofs.view.RangeSetRef.merge_into.Goals as goal
 

@@ -1,8 +1,7 @@
-use Rattle.std.proofs.Common.{◌≡◌, refl, sym, ap, ◌∙◌, ℕ, ◌+◌, ◌^◌, ◌<◌, ◌≤◌, List, length, arith, rules}
-use Rattle.std.proofs.lemmas.List.{length-map}
+use Rattle.std.proofs.Common.{◌≡◌, refl, sym, ap, ◌∙◌, ℕ, List, length, arith, rules}
 use Rattle.std.specs.Ordering.{nat_cmp}
-use Rattle.range_merge.specs.Changes.{changes, taken_items, taken_item}
-use Rattle.range_merge.specs.Connective.{Table, Means}
+use Rattle.range_merge.specs.Changes.{changes, taken_items}
+use Rattle.range_merge.specs.Connective.{Table}
 use Rattle.range_collections.specs.Ranges.{range_items}
 use Rattle.range_tracker.proofs.OffsetsLemmas.{length-range_items, IsAscending-range_items, IsListOf-from_means, Means-from_list}
 use Rattle.range_tracker.proofs.tracker.Tracker.admit.Goals as goal

@@ -1,10 +1,10 @@
-use Rattle.std.proofs.Common.{◌≡◌, refl, sym, ap, ◌∙◌, ℕ, ◌≤◌, ◌⊎◌, List, [], length, arith, rules, true≢false}
+use Rattle.std.proofs.Common.{sym, ℕ, ◌≤◌, ◌⊎◌, List, [], length, rules, true≢false}
 use Rattle.std.proofs.lemmas.Result.{err_from_is_err_and}
 use Rattle.std.specs.Ordering.{nat_cmp}
 use Rattle.range_merge.specs.Connective.{Means, difference_table}
 use Rattle.range_collections.specs.Ranges.{range_items}
 use Rattle.range_tracker.specs.Offsets.{offsets_of}
-use Rattle.range_tracker.proofs.OffsetsLemmas.{length-range_items, IsListOf-from_means, IsListOf-first_forgotten, refused-grows, refused-not_first, length-within}
+use Rattle.range_tracker.proofs.OffsetsLemmas.{IsListOf-from_means, IsListOf-first_forgotten, refused-grows, refused-not_first, length-within}
 use Rattle.range_tracker.proofs.tracker.Tracker.forget.Goals as goal
 
 pub returns-in_err-admit-clause-answer : goal.returns-in_err-admit-clause-answer

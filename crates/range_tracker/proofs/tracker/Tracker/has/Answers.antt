@@ -1,5 +1,4 @@
-use Rattle.std.proofs.Common.{◌≡◌, refl, sym, ap, ◌∙◌, ℕ, true}
-use Rattle.range_collections.specs.Sets.{IsSubset}
+use Rattle.std.proofs.Common.{refl, sym, ◌∙◌}
 use Rattle.range_tracker.proofs.OffsetsLemmas.{offsets_of-range_items}
 use Rattle.range_tracker.proofs.tracker.Tracker.has.Goals as goal
 

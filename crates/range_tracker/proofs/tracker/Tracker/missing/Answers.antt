@@ -1,7 +1,5 @@
-use Rattle.std.proofs.Common.{◌≡◌, refl, sym, ap, ap₂, ◌∙◌, ℕ, ◌+◌, ◌≤◌, ◌&&◌, not, List, [], length, arith, rules}
-use Rattle.std.specs.Ordering.{nat_cmp}
+use Rattle.std.proofs.Common.{◌≡◌, refl, ap, ◌∙◌, ℕ, ◌&&◌, not, List, length, arith}
 use Rattle.std.proofs.lemmas.Result.{IfOk-weaker}
-use Rattle.range_collections.specs.Ranges.{range_items}
 use Rattle.range_tracker.specs.Offsets.{offsets_of}
 use Rattle.range_tracker.proofs.OffsetsLemmas.{length-range_items, offsets_of-below, same_length, IsListOf-self}
 use Rattle.range_tracker.proofs.tracker.Tracker.missing.Goals as goal

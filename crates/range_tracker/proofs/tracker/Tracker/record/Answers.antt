@@ -1,4 +1,4 @@
-use Rattle.std.proofs.Common.{◌≡◌, refl, sym, ap, ◌∙◌, ℕ, ◌≤◌, ◌⊎◌, List, [], length, arith, rules, true≢false}
+use Rattle.std.proofs.Common.{sym, ℕ, ◌≤◌, ◌⊎◌, List, length, true≢false}
 use Rattle.std.proofs.lemmas.Result.{err_from_is_err_and}
 use Rattle.std.specs.Ordering.{nat_cmp}
 use Rattle.range_merge.specs.Connective.{Means, union_table}

@@ -1,4 +1,4 @@
-use Rattle.std.proofs.Common.{◌≡◌, ◌∙◌, ℕ, ◌<◌, length, arith}
+use Rattle.std.proofs.Common.{◌∙◌, ◌<◌, length, arith}
 use Rattle.range_tracker.specs.Offsets.{offsets_of}
 use Rattle.range_tracker.proofs.RepliesLemmas.{AreReplies-more, after_replies-more}
 use Rattle.range_tracker.proofs.tracker.Tracker.run.Goals as goal

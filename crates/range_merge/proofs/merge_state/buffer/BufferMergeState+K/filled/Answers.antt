@@ -1,5 +1,5 @@
-use Rattle.std.proofs.Common.{◌≡◌, ℕ, List, length, ◌++◌, map, refl, sym, ap, rules, ◌∙◌, arith}
-use Rattle.range_merge.specs.Changes.{Taken, changes, from_left}
+use Rattle.std.proofs.Common.{◌≡◌, map, sym, ap, ◌∙◌}
+use Rattle.range_merge.specs.Changes.{changes, from_left}
 use Rattle.range_merge.specs.Buffers.{IsFilled}
 use Rattle.range_merge.proofs.Filled.{IsFilled-none, whole-output_behind}
 use Rattle.range_merge.proofs.merge_state.buffer.BufferMergeState+K.filled.Goals as goal

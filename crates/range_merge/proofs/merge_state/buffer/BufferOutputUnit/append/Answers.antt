@@ -1,4 +1,3 @@
-use Rattle.std.proofs.Common.{refl, append-nil, ◌∙◌}
 use Rattle.range_merge.proofs.Filled.{IsFilled-more}
 use Rattle.range_merge.proofs.merge_state.buffer.BufferOutputUnit.append.Goals as goal
 
