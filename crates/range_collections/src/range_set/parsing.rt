@@ -17,7 +17,7 @@ use std::default::MadeWith;
 impl<T: EntryClone + WholeNumber + MadeWith<Global> + Drop, const N: usize> RangeSet<T, N> {
     /// The set of the elements that lie in one of the ranges of a text, as `0..10, 20..`: in any order, with commas between them and blanks around each. A text of blanks is the set of nothing.
     ///
-    /// The whole text is read before memory is asked for. An error names the byte at which the text stopped being one of ranges and what was expected there, or says that a number is past its type's, or that memory ran out.
+    /// The whole text is read before memory is asked for. An error names the byte at which the text stopped being one of ranges and what was expected there (that it is in the text or at its end is a clause, which byte it is no clause says), or it says that a number is past its type's, or that memory ran out.
     pub fn parse(alloc: Global, text: &str) -> Result<Self, ParseError>
         ensures ok { IfOk result (λ set. is_ranges T.number text.now ≡ true) }
         ensures members { IfOk result (λ set. (x : T) → (member T.cmp set x ≡ true) ↔ Any (λ range. IsInRange T.cmp range x) (ranges_in T.number text.now)) }
