@@ -30,7 +30,8 @@ module _ {K : Type 0} (order : K → K → Ordering) where
   pub record AnswersList (f : Table) (a b old new : List K) (before n status : ℕ) : Type 0 where
     pub is_done : (status ≡ done) ↔ (AreAscending a b × (length (changes order f a b) ≤ length old))
     pub is_not_sorted : (status ≡ not_sorted) ↔ (¬ (AreAscending a b))
-    pub is_no_room : (status ≡ no_room) ↔ (AreAscending a b × (length old < length (changes order f a b)))
+    pub is_no_room : (status ≡ no_room) ↔
+        (AreAscending a b × (length old < length (changes order f a b)))
     pub means : status ≡ done → Means order f (take n new) a b
     pub left_own_item : status ≡ done → take n new ≡ taken_items (changes order f a b)
     pub behind : status ≡ done → drop n new ≡ drop n old
@@ -46,7 +47,8 @@ module _ {K : Type 0} (order : K → K → Ordering) where
     pub not_written : status ≡ not_sorted → n ≡ before
 
   -- done where both lists are strictly sorted: then the truth is whether P. Else it is as it was
-  pub record AnswersQuestion (a b : List K) (P : Type 0) (before truth : Bool) (status : ℕ) : Type 0 where
+  pub record AnswersQuestion (a b : List K) (P : Type 0) (before truth : Bool)
+      (status : ℕ) : Type 0 where
     pub is_done : (status ≡ done) ↔ AreAscending a b
     pub is_not_sorted : (status ≡ not_sorted) ↔ (¬ (AreAscending a b))
     pub tells : status ≡ done → IsTrue truth ↔ P

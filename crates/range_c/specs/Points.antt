@@ -16,11 +16,15 @@ no_end = 4
 
 -- the range from the start on, up to the end where it has one
 abbrev pub range_told : {K : Type 0} → K → K → Bool → RangeSetRange K
-range_told start end has_end = cond has_end (Range (record { start = start; end = end })) (RangeFrom (record { start = start }))
+range_told start end has_end =
+    cond has_end (Range (record { start = start; end = end }))
+    (RangeFrom (record { start = start }))
 
 -- done where the list is strictly sorted and the set has an end: then n is how many numbers are members; or else n is as it was
-pub record AnswersCount {K : Type 0} (order : K → K → Ordering) (value : ℕ → K) (count : ℕ) (a : List K) (old n status : ℕ) : Type 0 where
+pub record AnswersCount {K : Type 0} (order : K → K → Ordering) (value : ℕ → K) (count : ℕ)
+    (a : List K) (old n status : ℕ) : Type 0 where
   pub is_done : (status ≡ done) ↔ (IsAscending order a × (covered_of order value count a ≡ Some n))
   pub is_not_sorted : (status ≡ not_sorted) ↔ (¬ (IsAscending order a))
-  pub is_no_end : (status ≡ no_end) ↔ (IsAscending order a × (covered_of order value count a ≡ None))
+  pub is_no_end : (status ≡ no_end) ↔
+      (IsAscending order a × (covered_of order value count a ≡ None))
   pub unchanged : ¬ (status ≡ done) → n ≡ old

@@ -21,4 +21,5 @@ module _ {P K : Type 0} (order : K → K → Ordering) (first last : P → K) wh
   -- the ends of the front are the boundaries of the set of the numbers that some range holds
   pub record IsUnionOf (ranges front : List P) : Type 0 where
     pub sorted : IsAscending order (ends_of first last front)
-    pub members : (x : K) → member order (ends_of first last front) x ≡ list_any (is_within x) ranges
+    pub members : (x : K) →
+        member order (ends_of first last front) x ≡ list_any (is_within x) ranges

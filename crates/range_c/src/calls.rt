@@ -20,7 +20,8 @@ pub(crate) const NO_END: u32 = 4;
 // Both sets, where both lists are strictly sorted.
 fn both<'a, T: Ord>(a: &'a [T], b: &'a [T]) -> Option<(RangeSetRef<'a, T>, RangeSetRef<'a, T>)>
     ensures variant { IsSome result ↔ AreAscending T.cmp a.now b.now }
-    ensures boundaries { IfSome result (λ sets. (sets.0.boundaries.now ≡ a.now) × (sets.1.boundaries.now ≡ b.now)) }
+    ensures boundaries { IfSome result (λ sets.
+        (sets.0.boundaries.now ≡ a.now) × (sets.1.boundaries.now ≡ b.now)) }
 {
     let left = RangeSetRef::new(a)?;
     let right = RangeSetRef::new(b)?;
@@ -37,7 +38,8 @@ pub(crate) fn merge<T: Ord + Copy, O: MergeOperation>(
 ) -> u32
     requires off { O.connective op.now false false ≡ false }
     requires fits { length a.now + length b.now < 2 ^ 64 }
-    ensures { AnswersList T.cmp (O.connective op.now) a.now b.now out.old out.new written.old written.new result }
+    ensures { AnswersList T.cmp (O.connective op.now) a.now b.now
+        out.old out.new written.old written.new result }
 {
     let Some((left, right)) = both(a, b) else {
         return NOT_SORTED;
@@ -69,7 +71,8 @@ pub(crate) fn merge_len<T: Ord, O: MergeOperation>(a: &[T], b: &[T], op: &O, len
 
 // Whether no number is a member of both.
 pub(crate) fn is_disjoint<T: Ord>(a: &[T], b: &[T], answer: &mut bool) -> u32
-    ensures { AnswersQuestion T.cmp a.now b.now (IsDisjoint T.cmp a.now b.now) answer.old answer.new result }
+    ensures { AnswersQuestion T.cmp a.now b.now (IsDisjoint T.cmp a.now b.now)
+        answer.old answer.new result }
 {
     let Some((left, right)) = both(a, b) else {
         return NOT_SORTED;
@@ -80,7 +83,8 @@ pub(crate) fn is_disjoint<T: Ord>(a: &[T], b: &[T], answer: &mut bool) -> u32
 
 // Whether some number is a member of both.
 pub(crate) fn intersects<T: Ord>(a: &[T], b: &[T], answer: &mut bool) -> u32
-    ensures { AnswersQuestion T.cmp a.now b.now (Intersects T.cmp a.now b.now) answer.old answer.new result }
+    ensures { AnswersQuestion T.cmp a.now b.now (Intersects T.cmp a.now b.now)
+        answer.old answer.new result }
 {
     let Some((left, right)) = both(a, b) else {
         return NOT_SORTED;
@@ -91,7 +95,8 @@ pub(crate) fn intersects<T: Ord>(a: &[T], b: &[T], answer: &mut bool) -> u32
 
 // Whether every member of the left is one of the right.
 pub(crate) fn is_subset<T: Ord>(a: &[T], b: &[T], answer: &mut bool) -> u32
-    ensures { AnswersQuestion T.cmp a.now b.now (IsSubset T.cmp a.now b.now) answer.old answer.new result }
+    ensures { AnswersQuestion T.cmp a.now b.now (IsSubset T.cmp a.now b.now)
+        answer.old answer.new result }
 {
     let Some((left, right)) = both(a, b) else {
         return NOT_SORTED;
@@ -102,7 +107,8 @@ pub(crate) fn is_subset<T: Ord>(a: &[T], b: &[T], answer: &mut bool) -> u32
 
 // Whether both have the same members.
 pub(crate) fn equal<T: Ord>(a: &[T], b: &[T], answer: &mut bool) -> u32
-    ensures { AnswersQuestion T.cmp a.now b.now (IsSameSet T.cmp a.now b.now) answer.old answer.new result }
+    ensures { AnswersQuestion T.cmp a.now b.now (IsSameSet T.cmp a.now b.now)
+        answer.old answer.new result }
 {
     let Some((left, right)) = both(a, b) else {
         return NOT_SORTED;
@@ -113,7 +119,8 @@ pub(crate) fn equal<T: Ord>(a: &[T], b: &[T], answer: &mut bool) -> u32
 
 // The boundaries of the range from the first number to below the second.
 pub(crate) fn range_of<'a, T: Ord>(ends: &'a [T; 2]) -> &'a [T]
-    ensures boundaries { (start end : T) → ends.now ≡ start ∷ end ∷ [] → result.now ≡ range_items T.cmp start end }
+    ensures boundaries { (start end : T) →
+        ends.now ≡ start ∷ end ∷ [] → result.now ≡ range_items T.cmp start end }
     ensures len { length result.now ≤ 2 }
 {
     let [start, end] = ends;

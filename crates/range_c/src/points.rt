@@ -17,9 +17,12 @@ pub(crate) fn range_at<T: Ord + Copy>(
 ) -> bool
     requires { IsAscending T.cmp a.now }
     ensures member { result ≡ member T.cmp a.now value.now }
-    ensures of_set { IsTrue result → Contains (ranges_of a.now) (range_told start.new end.new has_end.new) }
-    ensures holds { IsTrue result → IsInRange T.cmp (range_told start.new end.new has_end.new) value.now }
-    ensures none { result ≡ false → (start.new ≡ start.old) × (end.new ≡ end.old) × (has_end.new ≡ has_end.old) }
+    ensures of_set { IsTrue result →
+        Contains (ranges_of a.now) (range_told start.new end.new has_end.new) }
+    ensures holds { IsTrue result →
+        IsInRange T.cmp (range_told start.new end.new has_end.new) value.now }
+    ensures none { result ≡ false →
+        (start.new ≡ start.old) × (end.new ≡ end.old) × (has_end.new ≡ has_end.old) }
     ensures no_end { has_end.new ≡ false → end.new ≡ end.old }
 {
     match RangeSetRef::new_unchecked(a).range_at(value) {

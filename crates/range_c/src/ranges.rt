@@ -35,9 +35,11 @@ fn join<E: Ends>(ranges: &mut [E]) -> usize
 fn put<E: Ends>(ranges: &mut [E], kept: usize, range: E) -> usize
     requires room { kept < length ranges.old }
     requires sorted { IsAscending E.Number.cmp (ends_of E.first E.last (take kept ranges.old)) }
-    requires low { All (λ r. is_le (E.Number.cmp (E.first r) (E.first range)) ≡ true) (take kept ranges.old) }
+    requires low { All (λ r. is_le (E.Number.cmp (E.first r) (E.first range)) ≡ true)
+        (take kept ranges.old) }
     ensures within { result ≤ kept + 1 }
-    ensures put { IsPut E.Number.cmp E.first E.last (take kept ranges.old) range (take result ranges.new) }
+    ensures put { IsPut E.Number.cmp E.first E.last (take kept ranges.old)
+        range (take result ranges.new) }
     ensures behind { drop (kept + 1) ranges.new ≡ drop (kept + 1) ranges.old }
 {
     if !range.start().cmp(&range.end()).is_lt() {

@@ -47,7 +47,8 @@ pub extern "C" fn proved_range_set_i64_union(
     written: &mut usize,
 ) -> u32
     requires fits { length a.now + length b.now < 2 ^ 64 }
-    ensures { AnswersList int_cmp union_table a.now b.now out.old out.new written.old written.new result }
+    ensures { AnswersList int_cmp union_table a.now b.now
+        out.old out.new written.old written.new result }
 {
     merge(a, b, &UnionOp, out, written)
 }
@@ -70,7 +71,8 @@ pub extern "C" fn proved_range_set_i64_intersection(
     written: &mut usize,
 ) -> u32
     requires fits { length a.now + length b.now < 2 ^ 64 }
-    ensures { AnswersList int_cmp intersection_table a.now b.now out.old out.new written.old written.new result }
+    ensures { AnswersList int_cmp intersection_table a.now b.now
+        out.old out.new written.old written.new result }
 {
     merge(a, b, &IntersectionOp, out, written)
 }
@@ -97,7 +99,8 @@ pub extern "C" fn proved_range_set_i64_difference(
     written: &mut usize,
 ) -> u32
     requires fits { length a.now + length b.now < 2 ^ 64 }
-    ensures { AnswersList int_cmp difference_table a.now b.now out.old out.new written.old written.new result }
+    ensures { AnswersList int_cmp difference_table a.now b.now
+        out.old out.new written.old written.new result }
 {
     merge(a, b, &DiffOp, out, written)
 }
@@ -120,7 +123,8 @@ pub extern "C" fn proved_range_set_i64_symmetric_difference(
     written: &mut usize,
 ) -> u32
     requires fits { length a.now + length b.now < 2 ^ 64 }
-    ensures { AnswersList int_cmp symmetric_difference_table a.now b.now out.old out.new written.old written.new result }
+    ensures { AnswersList int_cmp symmetric_difference_table a.now b.now
+        out.old out.new written.old written.new result }
 {
     merge(a, b, &XorOp, out, written)
 }
@@ -146,7 +150,8 @@ pub extern "C" fn proved_range_set_i64_negation(
     written: &mut usize,
 ) -> u32
     requires fits { length a.now + 1 < 2 ^ 64 }
-    ensures { AnswersList int_cmp symmetric_difference_table a.now (negsuc (2 ^ 63 - 1) ∷ []) out.old out.new written.old written.new result }
+    ensures { AnswersList int_cmp symmetric_difference_table a.now (negsuc (2 ^ 63 - 1) ∷ [])
+        out.old out.new written.old written.new result }
 {
     merge(a, &[i64::MIN], &XorOp, out, written)
 }
@@ -161,7 +166,8 @@ pub extern "C" fn proved_range_set_i64_insert(
     written: &mut usize,
 ) -> u32
     requires fits { length a.now + 2 < 2 ^ 64 }
-    ensures { AnswersList int_cmp union_table a.now (range_items int_cmp start end) out.old out.new written.old written.new result }
+    ensures { AnswersList int_cmp union_table a.now (range_items int_cmp start end)
+        out.old out.new written.old written.new result }
 {
     merge(a, range_of(&[start, end]), &UnionOp, out, written)
 }
@@ -176,7 +182,8 @@ pub extern "C" fn proved_range_set_i64_remove(
     written: &mut usize,
 ) -> u32
     requires fits { length a.now + 2 < 2 ^ 64 }
-    ensures { AnswersList int_cmp difference_table a.now (range_items int_cmp start end) out.old out.new written.old written.new result }
+    ensures { AnswersList int_cmp difference_table a.now (range_items int_cmp start end)
+        out.old out.new written.old written.new result }
 {
     merge(a, range_of(&[start, end]), &DiffOp, out, written)
 }
@@ -184,7 +191,8 @@ pub extern "C" fn proved_range_set_i64_remove(
 /// Writes whether no number is a member of both.
 #[unsafe(no_mangle)]
 pub extern "C" fn proved_range_set_i64_is_disjoint(a: &[i64], b: &[i64], answer: &mut bool) -> u32
-    ensures { AnswersQuestion int_cmp a.now b.now (IsDisjoint int_cmp a.now b.now) answer.old answer.new result }
+    ensures { AnswersQuestion int_cmp a.now b.now (IsDisjoint int_cmp a.now b.now)
+        answer.old answer.new result }
 {
     is_disjoint(a, b, answer)
 }
@@ -192,7 +200,8 @@ pub extern "C" fn proved_range_set_i64_is_disjoint(a: &[i64], b: &[i64], answer:
 /// Writes whether some number is a member of both.
 #[unsafe(no_mangle)]
 pub extern "C" fn proved_range_set_i64_intersects(a: &[i64], b: &[i64], answer: &mut bool) -> u32
-    ensures { AnswersQuestion int_cmp a.now b.now (Intersects int_cmp a.now b.now) answer.old answer.new result }
+    ensures { AnswersQuestion int_cmp a.now b.now (Intersects int_cmp a.now b.now)
+        answer.old answer.new result }
 {
     intersects(a, b, answer)
 }
@@ -200,7 +209,8 @@ pub extern "C" fn proved_range_set_i64_intersects(a: &[i64], b: &[i64], answer: 
 /// Writes whether every member of the left is one of the right.
 #[unsafe(no_mangle)]
 pub extern "C" fn proved_range_set_i64_is_subset(a: &[i64], b: &[i64], answer: &mut bool) -> u32
-    ensures { AnswersQuestion int_cmp a.now b.now (IsSubset int_cmp a.now b.now) answer.old answer.new result }
+    ensures { AnswersQuestion int_cmp a.now b.now (IsSubset int_cmp a.now b.now)
+        answer.old answer.new result }
 {
     is_subset(a, b, answer)
 }
@@ -208,7 +218,8 @@ pub extern "C" fn proved_range_set_i64_is_subset(a: &[i64], b: &[i64], answer: &
 /// Writes whether both have the same members.
 #[unsafe(no_mangle)]
 pub extern "C" fn proved_range_set_i64_equal(a: &[i64], b: &[i64], answer: &mut bool) -> u32
-    ensures { AnswersQuestion int_cmp a.now b.now (IsSameSet int_cmp a.now b.now) answer.old answer.new result }
+    ensures { AnswersQuestion int_cmp a.now b.now (IsSameSet int_cmp a.now b.now)
+        answer.old answer.new result }
 {
     equal(a, b, answer)
 }
@@ -259,9 +270,12 @@ pub extern "C" fn proved_range_set_i64_range_at(
 ) -> bool
     requires { IsAscending int_cmp a.now }
     ensures member { result ≡ member int_cmp a.now value }
-    ensures of_set { IsTrue result → Contains (ranges_of a.now) (range_told start.new end.new has_end.new) }
-    ensures holds { IsTrue result → IsInRange int_cmp (range_told start.new end.new has_end.new) value }
-    ensures none { result ≡ false → (start.new ≡ start.old) × (end.new ≡ end.old) × (has_end.new ≡ has_end.old) }
+    ensures of_set { IsTrue result →
+        Contains (ranges_of a.now) (range_told start.new end.new has_end.new) }
+    ensures holds { IsTrue result →
+        IsInRange int_cmp (range_told start.new end.new has_end.new) value }
+    ensures none { result ≡ false →
+        (start.new ≡ start.old) × (end.new ≡ end.old) × (has_end.new ≡ has_end.old) }
     ensures no_end { has_end.new ≡ false → end.new ≡ end.old }
 {
     range_at(a, &value, start, end, has_end)
@@ -270,7 +284,8 @@ pub extern "C" fn proved_range_set_i64_range_at(
 /// Writes how many numbers are members, of a set with an end.
 #[unsafe(no_mangle)]
 pub extern "C" fn proved_range_set_i64_covered(a: &[i64], count: &mut u64) -> u32
-    ensures { AnswersCount int_cmp (signed_value (2 ^ 63)) (2 ^ 64) a.now count.old count.new result }
+    ensures { AnswersCount int_cmp (signed_value (2 ^ 63)) (2 ^ 64) a.now
+        count.old count.new result }
 {
     covered(a, count)
 }
@@ -285,7 +300,8 @@ pub extern "C" fn proved_range_set_i64_gaps(
     written: &mut usize,
 ) -> u32
     requires fits { length a.now + 2 < 2 ^ 64 }
-    ensures { AnswersList int_cmp difference_table (range_items int_cmp start end) a.now out.old out.new written.old written.new result }
+    ensures { AnswersList int_cmp difference_table (range_items int_cmp start end) a.now
+        out.old out.new written.old written.new result }
 {
     merge(range_of(&[start, end]), a, &DiffOp, out, written)
 }
@@ -336,7 +352,8 @@ impl Ends for RangeI64 {
 #[unsafe(no_mangle)]
 pub extern "C" fn proved_range_set_i64_from_ranges(ranges: &mut [RangeI64]) -> usize
     ensures within { result ≤ length ranges.old }
-    ensures union { IsUnionOf int_cmp (λ r. r.start) (λ r. r.end) ranges.old (take result ranges.new) }
+    ensures union { IsUnionOf int_cmp (λ r. r.start) (λ r. r.end)
+        ranges.old (take result ranges.new) }
 {
     from_ranges(ranges)
 }

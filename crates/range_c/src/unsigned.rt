@@ -45,7 +45,8 @@ pub extern "C" fn proved_range_set_u64_union(
     written: &mut usize,
 ) -> u32
     requires fits { length a.now + length b.now < 2 ^ 64 }
-    ensures { AnswersList nat_cmp union_table a.now b.now out.old out.new written.old written.new result }
+    ensures { AnswersList nat_cmp union_table a.now b.now
+        out.old out.new written.old written.new result }
 {
     merge(a, b, &UnionOp, out, written)
 }
@@ -68,7 +69,8 @@ pub extern "C" fn proved_range_set_u64_intersection(
     written: &mut usize,
 ) -> u32
     requires fits { length a.now + length b.now < 2 ^ 64 }
-    ensures { AnswersList nat_cmp intersection_table a.now b.now out.old out.new written.old written.new result }
+    ensures { AnswersList nat_cmp intersection_table a.now b.now
+        out.old out.new written.old written.new result }
 {
     merge(a, b, &IntersectionOp, out, written)
 }
@@ -95,7 +97,8 @@ pub extern "C" fn proved_range_set_u64_difference(
     written: &mut usize,
 ) -> u32
     requires fits { length a.now + length b.now < 2 ^ 64 }
-    ensures { AnswersList nat_cmp difference_table a.now b.now out.old out.new written.old written.new result }
+    ensures { AnswersList nat_cmp difference_table a.now b.now
+        out.old out.new written.old written.new result }
 {
     merge(a, b, &DiffOp, out, written)
 }
@@ -118,7 +121,8 @@ pub extern "C" fn proved_range_set_u64_symmetric_difference(
     written: &mut usize,
 ) -> u32
     requires fits { length a.now + length b.now < 2 ^ 64 }
-    ensures { AnswersList nat_cmp symmetric_difference_table a.now b.now out.old out.new written.old written.new result }
+    ensures { AnswersList nat_cmp symmetric_difference_table a.now b.now
+        out.old out.new written.old written.new result }
 {
     merge(a, b, &XorOp, out, written)
 }
@@ -144,7 +148,8 @@ pub extern "C" fn proved_range_set_u64_negation(
     written: &mut usize,
 ) -> u32
     requires fits { length a.now + 1 < 2 ^ 64 }
-    ensures { AnswersList nat_cmp symmetric_difference_table a.now (0 ∷ []) out.old out.new written.old written.new result }
+    ensures { AnswersList nat_cmp symmetric_difference_table a.now (0 ∷ [])
+        out.old out.new written.old written.new result }
 {
     merge(a, &[u64::MIN], &XorOp, out, written)
 }
@@ -159,7 +164,8 @@ pub extern "C" fn proved_range_set_u64_insert(
     written: &mut usize,
 ) -> u32
     requires fits { length a.now + 2 < 2 ^ 64 }
-    ensures { AnswersList nat_cmp union_table a.now (range_items nat_cmp start end) out.old out.new written.old written.new result }
+    ensures { AnswersList nat_cmp union_table a.now (range_items nat_cmp start end)
+        out.old out.new written.old written.new result }
 {
     merge(a, range_of(&[start, end]), &UnionOp, out, written)
 }
@@ -174,7 +180,8 @@ pub extern "C" fn proved_range_set_u64_remove(
     written: &mut usize,
 ) -> u32
     requires fits { length a.now + 2 < 2 ^ 64 }
-    ensures { AnswersList nat_cmp difference_table a.now (range_items nat_cmp start end) out.old out.new written.old written.new result }
+    ensures { AnswersList nat_cmp difference_table a.now (range_items nat_cmp start end)
+        out.old out.new written.old written.new result }
 {
     merge(a, range_of(&[start, end]), &DiffOp, out, written)
 }
@@ -182,7 +189,8 @@ pub extern "C" fn proved_range_set_u64_remove(
 /// Writes whether no number is a member of both.
 #[unsafe(no_mangle)]
 pub extern "C" fn proved_range_set_u64_is_disjoint(a: &[u64], b: &[u64], answer: &mut bool) -> u32
-    ensures { AnswersQuestion nat_cmp a.now b.now (IsDisjoint nat_cmp a.now b.now) answer.old answer.new result }
+    ensures { AnswersQuestion nat_cmp a.now b.now (IsDisjoint nat_cmp a.now b.now)
+        answer.old answer.new result }
 {
     is_disjoint(a, b, answer)
 }
@@ -190,7 +198,8 @@ pub extern "C" fn proved_range_set_u64_is_disjoint(a: &[u64], b: &[u64], answer:
 /// Writes whether some number is a member of both.
 #[unsafe(no_mangle)]
 pub extern "C" fn proved_range_set_u64_intersects(a: &[u64], b: &[u64], answer: &mut bool) -> u32
-    ensures { AnswersQuestion nat_cmp a.now b.now (Intersects nat_cmp a.now b.now) answer.old answer.new result }
+    ensures { AnswersQuestion nat_cmp a.now b.now (Intersects nat_cmp a.now b.now)
+        answer.old answer.new result }
 {
     intersects(a, b, answer)
 }
@@ -198,7 +207,8 @@ pub extern "C" fn proved_range_set_u64_intersects(a: &[u64], b: &[u64], answer: 
 /// Writes whether every member of the left is one of the right.
 #[unsafe(no_mangle)]
 pub extern "C" fn proved_range_set_u64_is_subset(a: &[u64], b: &[u64], answer: &mut bool) -> u32
-    ensures { AnswersQuestion nat_cmp a.now b.now (IsSubset nat_cmp a.now b.now) answer.old answer.new result }
+    ensures { AnswersQuestion nat_cmp a.now b.now (IsSubset nat_cmp a.now b.now)
+        answer.old answer.new result }
 {
     is_subset(a, b, answer)
 }
@@ -206,7 +216,8 @@ pub extern "C" fn proved_range_set_u64_is_subset(a: &[u64], b: &[u64], answer: &
 /// Writes whether both have the same members.
 #[unsafe(no_mangle)]
 pub extern "C" fn proved_range_set_u64_equal(a: &[u64], b: &[u64], answer: &mut bool) -> u32
-    ensures { AnswersQuestion nat_cmp a.now b.now (IsSameSet nat_cmp a.now b.now) answer.old answer.new result }
+    ensures { AnswersQuestion nat_cmp a.now b.now (IsSameSet nat_cmp a.now b.now)
+        answer.old answer.new result }
 {
     equal(a, b, answer)
 }
@@ -257,9 +268,12 @@ pub extern "C" fn proved_range_set_u64_range_at(
 ) -> bool
     requires { IsAscending nat_cmp a.now }
     ensures member { result ≡ member nat_cmp a.now value }
-    ensures of_set { IsTrue result → Contains (ranges_of a.now) (range_told start.new end.new has_end.new) }
-    ensures holds { IsTrue result → IsInRange nat_cmp (range_told start.new end.new has_end.new) value }
-    ensures none { result ≡ false → (start.new ≡ start.old) × (end.new ≡ end.old) × (has_end.new ≡ has_end.old) }
+    ensures of_set { IsTrue result →
+        Contains (ranges_of a.now) (range_told start.new end.new has_end.new) }
+    ensures holds { IsTrue result →
+        IsInRange nat_cmp (range_told start.new end.new has_end.new) value }
+    ensures none { result ≡ false →
+        (start.new ≡ start.old) × (end.new ≡ end.old) × (has_end.new ≡ has_end.old) }
     ensures no_end { has_end.new ≡ false → end.new ≡ end.old }
 {
     range_at(a, &value, start, end, has_end)
@@ -283,7 +297,8 @@ pub extern "C" fn proved_range_set_u64_gaps(
     written: &mut usize,
 ) -> u32
     requires fits { length a.now + 2 < 2 ^ 64 }
-    ensures { AnswersList nat_cmp difference_table (range_items nat_cmp start end) a.now out.old out.new written.old written.new result }
+    ensures { AnswersList nat_cmp difference_table (range_items nat_cmp start end) a.now
+        out.old out.new written.old written.new result }
 {
     merge(range_of(&[start, end]), a, &DiffOp, out, written)
 }
@@ -334,7 +349,8 @@ impl Ends for RangeU64 {
 #[unsafe(no_mangle)]
 pub extern "C" fn proved_range_set_u64_from_ranges(ranges: &mut [RangeU64]) -> usize
     ensures within { result ≤ length ranges.old }
-    ensures union { IsUnionOf nat_cmp (λ r. r.start) (λ r. r.end) ranges.old (take result ranges.new) }
+    ensures union { IsUnionOf nat_cmp (λ r. r.start) (λ r. r.end)
+        ranges.old (take result ranges.new) }
 {
     from_ranges(ranges)
 }

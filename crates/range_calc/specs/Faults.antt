@@ -11,7 +11,8 @@ use Rattle.range_calc.specs.declared.fault.Fault.TheVariants.{NoMemory, BadJson}
 
 -- want of memory stays that; every other error is the text's
 abbrev pub IsFaultOfText : Error → Fault → Type 0
-IsFaultOfText error fault = (IsMemory error → fault ≡ NoMemory) × (¬ (IsMemory error) → fault ≡ BadJson)
+IsFaultOfText error fault =
+    (IsMemory error → fault ≡ NoMemory) × (¬ (IsMemory error) → fault ≡ BadJson)
 
 -- want of memory stays that; every other error is the value's
 abbrev pub fault_of_value : JsonError → Fault

@@ -26,7 +26,8 @@ IsOutcome (Some query) BadWords line = ⊥
 
 -- the text is a line that answers the query, with the newline
 abbrev pub IsReplyText : {A : Type 0} → Query → String A → Type 0
-IsReplyText query text = (line : List ℕ) × IsReply query line × (string_bytes text ≡ line ++ 10 ∷ [])
+IsReplyText query text =
+    (line : List ℕ) × IsReply query line × (string_bytes text ≡ line ++ 10 ∷ [])
 
 -- what a request comes to: its line with the newline, or why it has none
 abbrev pub IsReplyTo : {A : Type 0} → Query → Result (String A) Fault → Type 0

@@ -33,7 +33,8 @@ IsTestLine R a b line = (truth : Bool) × (IsTrue truth ↔ R a b) × (line ≡ 
 -- the line is the text of the one list of numbers of i64 whose members among these are no members of a
 abbrev pub IsNegationLine : List ℤ → List ℕ → Type 0
 IsNegationLine a line =
-    (items : List ℤ) × All (FitsSigned w64) items × Negates int_cmp (FitsSigned w64) items a × (line ≡ list_text items)
+    (items : List ℤ) × All (FitsSigned w64) items × Negates int_cmp (FitsSigned w64) items a
+    × (line ≡ list_text items)
 
 -- the JSON text is an array of whole numbers of i64, and the items are the distinct ones in order
 abbrev pub HoldsItems : List ℕ → List ℤ → Type 0
@@ -53,7 +54,8 @@ IsReply (disjoint a b) line = IsTestLine (IsDisjoint int_cmp) a b line
 IsReply (subset a b) line = IsTestLine (IsSubset int_cmp) a b line
 IsReply (superset a b) line = IsTestLine (IsSubset int_cmp) b a line
 IsReply (contains a n) line = line ≡ truth_text (member int_cmp a n)
-IsReply (split a n) line = line ≡ list_text (split_left int_cmp a n) ++ 32 ∷ list_text (split_right int_cmp a n)
+IsReply (split a n) line =
+    line ≡ list_text (split_left int_cmp a n) ++ 32 ∷ list_text (split_right int_cmp a n)
 IsReply (negation a) line = IsNegationLine a line
 IsReply (show a) line = line ≡ set_text signed_decimal a
 IsReply (to_json a) line = line ≡ array_text a

@@ -19,12 +19,14 @@ is_i64 (negsuc n) = nat_lt n (2 ^ 63)
 
 -- behind an optional sign there is a digit or more, and nothing else
 abbrev pub is_numeral : List ℕ → Bool
-is_numeral word = nat_lt 0 (length (without_leading_sign word)) && all_ascii_digits (without_leading_sign word)
+is_numeral word =
+    nat_lt 0 (length (without_leading_sign word)) && all_ascii_digits (without_leading_sign word)
 
 -- the whole number that the word writes, if it is a numeral within i64
 unfoldable pub number_of : List ℕ → Option ℤ
 number_of word =
-    if is_numeral word && is_i64 (signed_digits_value 10 word) then Some (signed_digits_value 10 word) else None
+    if is_numeral word && is_i64 (signed_digits_value 10 word)
+    then Some (signed_digits_value 10 word) else None
 
 -- the parts of the word between its commas
 abbrev pub parts_of : List ℕ → List (List ℕ)
@@ -32,7 +34,8 @@ parts_of word = slice_split (λ b. b == 44) word
 
 -- `-`, or numbers joined by commas
 unfoldable pub is_list : List ℕ → Bool
-is_list word = bytes_eq word (codes "-") || list_all (λ part. is_some (number_of part)) (parts_of word)
+is_list word =
+    bytes_eq word (codes "-") || list_all (λ part. is_some (number_of part)) (parts_of word)
 
 -- the numbers among the word's parts, in order; `-` has none
 unfoldable pub numbers_of : List ℕ → List ℤ
@@ -96,7 +99,8 @@ query_of (command ∷ a ∷ []) =
     else option_and_then (λ query. option_map query (list_of a)) (one_list command)
 query_of (command ∷ a ∷ b ∷ []) =
     option_or
-    (option_and_then (λ query. query_of_both query (list_of a) (number_of b)) (list_and_number command))
+    (option_and_then (λ query. query_of_both query (list_of a) (number_of b))
+    (list_and_number command))
     (option_and_then (λ query. query_of_both query (list_of a) (list_of b)) (two_lists command))
 query_of _ = None
 

@@ -9,7 +9,8 @@ ghost use Rattle.range_calc.specs.declared.status.Status.TheVariants.{Answered};
 
 /// What answers `union` and two words that write lists is the text of the one list of their union.
 pub fn union_answers_the_one_list()
-    ensures { (left right line : List ℕ) (a b : List ℤ) → list_of left ≡ Some a → list_of right ≡ Some b →
+    ensures { (left right line : List ℕ) (a b : List ℤ) →
+        list_of left ≡ Some a → list_of right ≡ Some b →
         IsOutcome (query_of (codes "union" ∷ left ∷ right ∷ [])) Answered line →
         (items : List ℤ) × Means int_cmp union_table items a b × (line ≡ list_text items) }
 {}

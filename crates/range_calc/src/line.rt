@@ -17,7 +17,8 @@ pub fn set_line(alloc: Global, set: RangeSet2<i64>) -> Result<String, AllocError
 
 /// Two lists with a space between them.
 pub fn parts_line(alloc: Global, left: &[i64], right: &[i64]) -> Result<String, AllocError>
-    ensures { IfOk result (λ line. string_bytes line ≡ (list_text left.now ++ 32 ∷ list_text right.now) ++ 10 ∷ []) }
+    ensures { IfOk result (λ line.
+        string_bytes line ≡ (list_text left.now ++ 32 ∷ list_text right.now) ++ 10 ∷ []) }
 {
     let mut line = String::new(alloc);
     push_list(&mut line, left)?;

@@ -36,7 +36,8 @@ impl<'a> Request<'a> {
 
 /// The words of the stored run.
 pub fn stored_words(alloc: Global) -> Result<Vec<String>, AllocError>
-    ensures { IfOk result (λ words. texts words.items ≡ codes "union" ∷ codes "0,10" ∷ codes "20" ∷ []) }
+    ensures { IfOk result (λ words.
+        texts words.items ≡ codes "union" ∷ codes "0,10" ∷ codes "20" ∷ []) }
 {
     let union = String::from_str(alloc, "union")?;
     let left = String::from_str(alloc, "0,10")?;
@@ -73,7 +74,8 @@ fn three_words<'a>(command: &'a str, a: &'a str, b: &'a str) -> Option<Request<'
 
 /// What a command with one list asks of the word, if it is one.
 fn of_list<'a>(command: &'a str, a: &'a str) -> Option<Request<'a>>
-    ensures { option_and_then (λ query. option_map query (list_of a.now)) (one_list command.now) ≡ option_map query_asked result }
+    ensures { option_and_then (λ query. option_map query (list_of a.now)) (one_list command.now) ≡
+        option_map query_asked result }
 {
     let command = OneList::named(command)?;
     if is_list(a) {
@@ -85,7 +87,8 @@ fn of_list<'a>(command: &'a str, a: &'a str) -> Option<Request<'a>>
 
 /// What a command with two lists asks of two words, if they are lists.
 fn of_two_lists<'a>(command: &'a str, a: &'a str, b: &'a str) -> Option<Request<'a>>
-    ensures { option_and_then (λ query. query_of_both query (list_of a.now) (list_of b.now)) (two_lists command.now) ≡ option_map query_asked result }
+    ensures { option_and_then (λ query. query_of_both query (list_of a.now) (list_of b.now))
+        (two_lists command.now) ≡ option_map query_asked result }
 {
     let command = TwoLists::named(command)?;
     if is_list(a) && is_list(b) {
@@ -97,7 +100,8 @@ fn of_two_lists<'a>(command: &'a str, a: &'a str, b: &'a str) -> Option<Request<
 
 /// What a command with a list and a number asks of two words, if they are these.
 fn of_list_and_number<'a>(command: &'a str, a: &'a str, n: &'a str) -> Option<Request<'a>>
-    ensures { option_and_then (λ query. query_of_both query (list_of a.now) (number_of n.now)) (list_and_number command.now) ≡ option_map query_asked result }
+    ensures { option_and_then (λ query. query_of_both query (list_of a.now) (number_of n.now))
+        (list_and_number command.now) ≡ option_map query_asked result }
 {
     let command = ListAndNumber::named(command)?;
     let n = number(n)?;

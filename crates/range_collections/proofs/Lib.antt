@@ -25,5 +25,9 @@ pub mod PartsLaws
 pub mod FirstParts
 pub mod Unions
 pub mod Reading
+pub mod ReadRange
+pub mod ReadRanges
+pub mod ReadTexts
+pub mod Fronts
 pub mod ReadBack
 pub mod Decimals

@@ -120,28 +120,19 @@ module _ {K : Type 0} {order : K → K → Ordering} (o : IsTotalOrder order) wh
       succeeds = λ few infallible. succeeds (rw (append-nil (boundaries part)) at few) (rw (append-nil (boundaries part)) at infallible);
     })
 
-    pub GivesUnion-front_refused : (parts front back : List P) (error : AllocError) (r : Result (List K) AllocError) → parts ≡ front ++ back → IsErr r →
-        Gives front (Err error) → Gives parts r
-    GivesUnion-front_refused parts front back error (Ok items) e bad given = absurd (true≢false (sym bad))
-    GivesUnion-front_refused parts front back error (Err other) e bad given = record {
+    -- where the union of a half is refused, so is the whole
+    pub GivesUnion-refused : (parts front half back : List P) (error : AllocError) (r : Result (List K) AllocError) → parts ≡ front ++ (half ++ back) → IsErr r →
+        Gives half (Err error) → Gives parts r
+    GivesUnion-refused parts front half back error (Ok items) e bad given = absurd (true≢false (sym bad))
+    GivesUnion-refused parts front half back error (Err other) e bad given = record {
       means = tt;
       first_own_item = tt;
       at_most = tt;
       succeeds = λ few infallible.
-          absurd (true≢false (sym (given.succeeds (omega (arith, few, length-halves boundaries parts front back e))
-          (All-front is_infallible (flat_map boundaries front) (flat_map boundaries back) (rw (e, flat_map-append boundaries front back) at infallible)))));
-    }
-
-    pub GivesUnion-back_refused : (parts front back : List P) (error : AllocError) (r : Result (List K) AllocError) → parts ≡ front ++ back → IsErr r →
-        Gives back (Err error) → Gives parts r
-    GivesUnion-back_refused parts front back error (Ok items) e bad given = absurd (true≢false (sym bad))
-    GivesUnion-back_refused parts front back error (Err other) e bad given = record {
-      means = tt;
-      first_own_item = tt;
-      at_most = tt;
-      succeeds = λ few infallible.
-          absurd (true≢false (sym (given.succeeds (omega (arith, few, length-halves boundaries parts front back e))
-          (All-back is_infallible (flat_map boundaries front) (flat_map boundaries back) (rw (e, flat_map-append boundaries front back) at infallible)))));
+          let behind = All-back is_infallible (flat_map boundaries front) (flat_map boundaries (half ++ back)) (rw (e, flat_map-append boundaries front (half ++ back)) at infallible) in
+          absurd (true≢false (sym (given.succeeds
+          (omega (arith, few, length-halves boundaries parts front (half ++ back) e, length-halves boundaries (half ++ back) half back refl))
+          (All-front is_infallible (flat_map boundaries half) (flat_map boundaries back) (rw (flat_map-append boundaries half back) at behind)))));
     }
 
     pub GivesUnion-joined : ((part : P) → IsAscending order (boundaries part)) → (parts front back : List P) (a b : List K) (r : Result (List K) AllocError) → parts ≡ front ++ back →

@@ -27,21 +27,25 @@ pub signed_place-fits : (half : ℕ) (z : ℤ) → mag z < half → signed_place
 signed_place-fits half (pos a) h = omega arith
 signed_place-fits half (negsuc a) h = omega arith
 
-pub signed_place-value : (half n : ℕ) → n < half + half → signed_place half (signed_value half n) ≡ n
+pub signed_place-value : (half n : ℕ) → n < half + half →
+    signed_place half (signed_value half n) ≡ n
 signed_place-value half n h = by_test (nat_lt n half) refl
   where
-    by_test : (t : _) → nat_lt n half ≡ t → signed_place half (cond t (negsuc (half - (n + 1))) (pos (n - half))) ≡ n
+    by_test : (t : _) → nat_lt n half ≡ t →
+        signed_place half (cond t (negsuc (half - (n + 1))) (pos (n - half))) ≡ n
     by_test true e = grind (arith, nat_tests)
     by_test false e = grind (arith, nat_tests)
 
 pub signed_value-fits : (half n : ℕ) → n < half + half → mag (signed_value half n) < half
 signed_value-fits half n h = by_test (nat_lt n half) refl
   where
-    by_test : (t : _) → nat_lt n half ≡ t → mag (cond t (negsuc (half - (n + 1))) (pos (n - half))) < half
+    by_test : (t : _) → nat_lt n half ≡ t →
+        mag (cond t (negsuc (half - (n + 1))) (pos (n - half))) < half
     by_test true e = grind (arith, nat_tests)
     by_test false e = grind (arith, nat_tests)
 
-pub signed_place-order : (half : ℕ) (x y : ℤ) → mag x < half → mag y < half → int_cmp x y ≡ nat_cmp (signed_place half x) (signed_place half y)
+pub signed_place-order : (half : ℕ) (x y : ℤ) → mag x < half → mag y < half →
+    int_cmp x y ≡ nat_cmp (signed_place half x) (signed_place half y)
 signed_place-order half (pos a) (pos b) h k = grind (arith, nat_tests)
 signed_place-order half (pos a) (negsuc b) h k = grind (arith, nat_tests)
 signed_place-order half (negsuc a) (pos b) h k = grind (arith, nat_tests)
@@ -64,5 +68,6 @@ scalar_index-char_value n h = by_test (nat_lt n 0xD800) refl
 pub char_value-scalar : (n : ℕ) → n < 0x10F800 → IsScalar (char_value n)
 char_value-scalar n h = grind (arith, nat_tests)
 
-pub scalar_index-order : (c e : ℕ) → IsScalar c → IsScalar e → nat_cmp c e ≡ nat_cmp (scalar_index c) (scalar_index e)
+pub scalar_index-order : (c e : ℕ) → IsScalar c → IsScalar e →
+    nat_cmp c e ≡ nat_cmp (scalar_index c) (scalar_index e)
 scalar_index-order c e h k = grind (arith, nat_tests, scalar_cases)

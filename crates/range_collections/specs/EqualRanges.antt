@@ -18,7 +18,8 @@ module _ {K : Type 0} (eq : K → K → Bool) where
   -- where the elements' equality is symmetric and transitive, so is that of ranges
   pub eq_range-per : IsPartialEquivalence eq → IsPartialEquivalence eq_range
   eq_range-per p = record { symm = turned; trans = chained } where
-    both : IsPartialEquivalence (eq_of_both (on (λ (r : Ends K). r.start) eq) (on (λ (r : Ends K). r.end) eq))
+    both : IsPartialEquivalence
+        (eq_of_both (on (λ (r : Ends K). r.start) eq) (on (λ (r : Ends K). r.end) eq))
     both = and_per (on_per (λ (r : Ends K). r.start) p) (on_per (λ (r : Ends K). r.end) p)
 
     turned : (x y : RangeSetRange K) → eq_range x y ≡ eq_range y x
@@ -27,7 +28,8 @@ module _ {K : Type 0} (eq : K → K → Bool) where
     turned (RangeFrom r) (Range s) = refl
     turned (RangeFrom r) (RangeFrom s) = p.symm r.start s.start
 
-    chained : (x y z : RangeSetRange K) → eq_range x y ≡ true → eq_range y z ≡ true → eq_range x z ≡ true
+    chained : (x y z : RangeSetRange K) → eq_range x y ≡ true → eq_range y z ≡ true →
+        eq_range x z ≡ true
     chained (Range r) (Range s) (Range t) h k = both.trans r s t h k
     chained (Range r) (Range s) (RangeFrom t) h k = k
     chained (Range r) (RangeFrom s) z h k = cc

@@ -9,7 +9,8 @@ use Rattle.range_merge.specs.Boundaries.{member}
 module _ {K : Type 0} (order : K → K → Ordering) (number : K → ℕ) where
   -- no element from x on whose number is below that of x and `len` together is a member
   abbrev pub IsFree : List K → K → ℕ → Type 0
-  IsFree items x len = (y : K) → number x ≤ number y → number y < number x + len → member order items y ≡ false
+  IsFree items x len =
+      (y : K) → number x ≤ number y → number y < number x + len → member order items y ≡ false
 
   -- x is at or above start, x and `len` together are at or below end, and there x on is free
   pub record Fits (items : List K) (start end len x : K) : Type 0 where
@@ -19,4 +20,5 @@ module _ {K : Type 0} (order : K → K → Ordering) (number : K → ℕ) where
 
 -- there is an item at place i, and its number is below `past`
 abbrev pub IsPlaceBelow : {K : Type 0} → (K → ℕ) → List K → ℕ → ℕ → Type 0
-IsPlaceBelow {K} number items i past = (i < length items) × ((d : K) → number (slice_index_or items i d) < past)
+IsPlaceBelow {K} number items i past =
+    (i < length items) × ((d : K) → number (slice_index_or items i d) < past)

@@ -23,14 +23,16 @@ module _ {K : Type 0} (order : K → K → Ordering) where
   AreOwnElseCopies is_copy a b items = All (IsOwnElse (λ y. Any (λ z. is_copy z y) b) a) items
 
   -- a list that an operation with a view changed from a to new: where it went well it means the connective, with its own items where both sides have one; where memory or a copy was refused it is as it was; and it goes well where the items of both have room and no copy is refused
-  pub record IsChangedByView (is_copy : K → K → Type 0) (is_infallible : K → Type 0) (f : Table) (room : ℕ) (a b new : List K) (r : Result (Unit {0}) AllocError) : Type 0 where
+  pub record IsChangedByView (is_copy : K → K → Type 0) (is_infallible : K → Type 0) (f : Table)
+      (room : ℕ) (a b new : List K) (r : Result (Unit {0}) AllocError) : Type 0 where
     pub means : OnOk r (Means order f new a b)
     pub left_own_item : OnOk r (AreOwnElseCopies is_copy a b new)
     pub unchanged : OnErr r (new ≡ a)
     pub succeeds : length a + length b ≤ room → All is_infallible b → IsOk r
 
   -- the same with a set that is handed over, whose items are taken themselves, and which comes back where memory was refused
-  pub record IsChangedByOwned (f : Table) (room : ℕ) (a b new : List K) (r : Result (Unit {0}) (AllocError × List K)) : Type 0 where
+  pub record IsChangedByOwned (f : Table) (room : ℕ) (a b new : List K)
+      (r : Result (Unit {0}) (AllocError × List K)) : Type 0 where
     pub means : OnOk r (Means order f new a b)
     pub left_own_item : OnOk r (AreOwnElseOf a b new)
     pub unchanged : OnErr r (new ≡ a)

@@ -8,9 +8,11 @@ use Rattle.range_collections.specs.InPlace.{AreOwnElseOf}
 
 module _ {K : Type 0} (order : K → K → Ordering) where
   -- a list that a call with a range changed from a to new, where b are the range's boundaries: where it went well it means the connective, with its own items where both have one; where memory was refused it is as it was; it goes well where the one list that means the connective is no longer than a, or has room; and a range of nothing changes nothing
-  pub record IsChangedByRange (f : Table) (room : ℕ) (a b new : List K) (r : Result (Unit {0}) AllocError) : Type 0 where
+  pub record IsChangedByRange (f : Table) (room : ℕ) (a b new : List K)
+      (r : Result (Unit {0}) AllocError) : Type 0 where
     pub means : OnOk r (Means order f new a b)
     pub left_own_item : OnOk r (AreOwnElseOf order a b new)
     pub unchanged : OnErr r (new ≡ a)
-    pub succeeds : (items : List K) → Means order f items a b → (length items ≤ length a) ⊎ (length items ≤ room) → IsOk r
+    pub succeeds : (items : List K) → Means order f items a b →
+        (length items ≤ length a) ⊎ (length items ≤ room) → IsOk r
     pub empty : b ≡ [] → (new ≡ a) × IsOk r

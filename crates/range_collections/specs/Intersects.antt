@@ -10,8 +10,10 @@ module _ {K : Type 0} (order : K → K → Ordering) where
   -- some member is at or above the start and below the end
   abbrev pub HasMemberWithin : List K → K → K → Type 0
   HasMemberWithin items start end =
-      (x : K) × (member order items x ≡ true) × (is_le (order start x) ≡ true) × (order x end ≡ Less)
+      (x : K) × (member order items x ≡ true) × (is_le (order start x) ≡ true)
+      × (order x end ≡ Less)
 
   -- there is an item at place i, and it is below the end
   abbrev pub IsItemBelow : List K → ℕ → K → Type 0
-  IsItemBelow items i end = (i < length items) × ((d : K) → order (slice_index_or items i d) end ≡ Less)
+  IsItemBelow items i end =
+      (i < length items) × ((d : K) → order (slice_index_or items i d) end ≡ Less)

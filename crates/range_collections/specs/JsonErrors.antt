@@ -6,5 +6,6 @@ use Rattle.range_collections.specs.declared.range_set.json.JsonError.TheVariants
 -- one sentence, with the item's place where there is one
 abbrev pub json_error_text : JsonError → List ℕ
 json_error_text NotArray = codes "the value is no array"
-json_error_text (NotInteger index) = codes "item " ++ (decimal index ++ codes " is no whole number of 64 bits")
+json_error_text (NotInteger index) =
+    codes "item " ++ (decimal index ++ codes " is no whole number of 64 bits")
 json_error_text OutOfMemory = codes "memory ran out"

@@ -29,3 +29,4 @@ pub mod Buffers
 pub mod Unions
 pub mod Reading
 pub mod ParseErrors
+pub mod Scanning

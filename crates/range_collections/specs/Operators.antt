@@ -7,9 +7,11 @@ use Rattle.range_merge.specs.Changes.{changes}
 use Rattle.range_merge.specs.Connective.{Table, Means}
 use Rattle.range_merge.specs.Copies.{AreCopies}
 
-module _ {K : Type 0} (order : K → K → Ordering) (is_copy : K → K → Type 0) (is_infallible : K → Type 0) where
+module _ {K : Type 0} (order : K → K → Ordering) (is_copy : K → K → Type 0)
+    (is_infallible : K → Type 0) where
   -- an answer to an operation on a and b: an Ok means the connective; its items are copies of the changes, which has the left's item where both sides have one; and it is an Ok where the items of both have room and each of them is infallible
-  pub record GivesOperation (f : Table) (room : ℕ) (a b : List K) (r : Result (List K) AllocError) : Type 0 where
+  pub record GivesOperation (f : Table) (room : ℕ) (a b : List K)
+      (r : Result (List K) AllocError) : Type 0 where
     pub means : IfOk r (λ items. Means order f items a b)
     pub left_own_item : IfOk r (λ items. AreCopies is_copy (changes order f a b) items)
     pub succeeds : length a + length b ≤ room → All is_infallible a → All is_infallible b → IsOk r

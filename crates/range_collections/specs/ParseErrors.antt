@@ -1,15 +1,44 @@
 -- Why a text is not read as a set, and what is written of it.
---     IsFaultIn text error        a fault of the text itself, at a place of it
-use Rattle.std.specs.Prelude.{ℕ, ◌≤◌, List, length, ◌++◌, codes, decimal}
+--     BeginsRanges front          some text of ranges, with numbers of any size, begins with the front
+--     MayFollow front c           a character may stand behind the front
+--     IsLongestFront text at      the longest front of the text with which some text of ranges begins
+--     IsExpected front expected   it is what may stand behind the front
+--     IsFaultIn text error        a fault of the text itself, at its place
+use Rattle.std.specs.Prelude.{◌≡◌, ℕ, ◌<◌, ◌≤◌, true, false, List, [], ◌∷◌, length, take, ◌++◌, codes, decimal}
+use Rattle.std.specs.Str.{IsUtf8, byte}
+use Rattle.range_collections.specs.Reading.{any_number, is_ranges}
 use Rattle.range_collections.specs.declared.range_set.parse_errors.Expected.{Expected}
 use Rattle.range_collections.specs.declared.range_set.parse_errors.Expected.TheVariants.{Number, Dot, Comma}
 use Rattle.range_collections.specs.declared.range_set.parse_errors.ParseError.{ParseError}
 use Rattle.range_collections.specs.declared.range_set.parse_errors.ParseError.TheVariants.{Malformed, OutOfRange, OutOfMemory}
 
--- the fault lies in the text: at a place of it or at its end, or in a number
+-- some text of ranges, with numbers of any size, begins with the front, which is a text itself
+pub record BeginsRanges (front : List ℕ) : Type 0 where
+  pub is_text : IsUtf8 front
+  pub rest : List ℕ
+  pub rest_is_text : IsUtf8 rest
+  pub are_ranges : is_ranges any_number (front ++ rest) ≡ true
+
+-- some text of ranges goes on with the character behind the front
+abbrev pub MayFollow : List ℕ → ℕ → Type 0
+MayFollow front c = BeginsRanges (front ++ c ∷ [])
+
+-- the first `at` bytes are the longest front of the text with which some text of ranges begins
+pub record IsLongestFront (text : List ℕ) (at : ℕ) : Type 0 where
+  pub within : at ≤ length text
+  pub begins : BeginsRanges (take at text)
+  pub longest : (n : ℕ) → at < n → n ≤ length text → ¬ (BeginsRanges (take n text))
+
+-- what may stand behind a front. Number: a digit, no dot, and a comma only where a number may begin. Dot: a dot. Comma: a comma or the end, where no number may begin
+abbrev pub IsExpected : List ℕ → Expected → Type 0
+IsExpected front Number = MayFollow front (byte "0") × ¬ (MayFollow front (byte ".")) × (MayFollow front (byte ",") → MayFollow front (byte "+"))
+IsExpected front Dot = MayFollow front (byte ".")
+IsExpected front Comma = MayFollow front (byte ",") × (is_ranges any_number front ≡ true) × ¬ (MayFollow front (byte "+"))
+
+-- the text is none of ranges, with numbers of any size, and the error names the end of the longest front that begins one, and what was expected there; or it is one, and a number is past its type's
 abbrev pub IsFaultIn : List ℕ → ParseError → Type 0
-IsFaultIn text (Malformed at expected) = at ≤ length text
-IsFaultIn text OutOfRange = Unit {0}
+IsFaultIn text (Malformed at expected) = (is_ranges any_number text ≡ false) × IsLongestFront text at × IsExpected (take at text) expected
+IsFaultIn text OutOfRange = is_ranges any_number text ≡ true
 IsFaultIn text OutOfMemory = ⊥
 
 abbrev pub expected_text : Expected → List ℕ

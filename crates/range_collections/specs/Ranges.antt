@@ -41,8 +41,10 @@ range_end (Range r) = Excluded r.end
 range_end (RangeFrom r) = Unbounded
 
 -- both ranges have an end or neither has, and each end of one is equal to that of the other
-abbrev pub IsEqualRange : {K : Type 0} → (K → K → Ordering) → RangeSetRange K → RangeSetRange K → Type 0
-IsEqualRange order (Range r) (Range s) = (order r.start s.start ≡ Equal) × (order r.end s.end ≡ Equal)
+abbrev pub IsEqualRange : {K : Type 0} → (K → K → Ordering) → RangeSetRange K → RangeSetRange K →
+    Type 0
+IsEqualRange order (Range r) (Range s) =
+    (order r.start s.start ≡ Equal) × (order r.end s.end ≡ Equal)
 IsEqualRange order (Range r) (RangeFrom s) = ⊥
 IsEqualRange order (RangeFrom r) (Range s) = ⊥
 IsEqualRange order (RangeFrom r) (RangeFrom s) = order r.start s.start ≡ Equal
@@ -67,6 +69,7 @@ IsInRange order (Range r) x = (is_le (order r.start x) ≡ true) × (order x r.e
 IsInRange order (RangeFrom r) x = is_le (order r.start x) ≡ true
 
 -- the range has an end, and it is below the start of the other
-abbrev pub EndsBelow : {K : Type 0} → (K → K → Ordering) → RangeSetRange K → RangeSetRange K → Type 0
+abbrev pub EndsBelow : {K : Type 0} → (K → K → Ordering) → RangeSetRange K → RangeSetRange K →
+    Type 0
 EndsBelow order (Range r) s = order r.end (range_start s) ≡ Less
 EndsBelow order (RangeFrom r) s = ⊥

@@ -1,6 +1,7 @@
 -- Ranges that a text writes, in any order, as a set of whole numbers is written: `0..10, 20..`.
 --     unsigned_number k text      the number of k bits that a text writes, if it writes one
 --     signed_number k text        the same with a sign, of k bits besides it
+--     any_number text             the same, of any size
 --     IsReadBack number digits x  what is written of the number is read back
 --     parts_of text               what stands between the commas
 --     range_in number part        the range that a part writes between blanks, where `number` reads a number
@@ -33,6 +34,10 @@ is_within k (negsuc n) = nat_lt n (2 ^ k)
 unfoldable pub signed_number : ℕ → List ℕ → Option ℤ
 signed_number k text =
     cond (is_numeral (without_leading_sign text) && is_within k (signed_digits_value 10 text)) (Some (signed_digits_value 10 text)) None
+
+-- the number of any size that a text writes in decimal digits, which may follow a sign
+unfoldable pub any_number : List ℕ → Option ℤ
+any_number text = cond (is_numeral (without_leading_sign text)) (Some (signed_digits_value 10 text)) None
 
 -- the byte is ASCII, and no white space, comma or dot
 abbrev pub IsPlain : ℕ → Type 0

@@ -34,20 +34,24 @@ module _ {K : Type 0} (order : K → K → Ordering) where
 
   -- the part has the items' members at every x below the cut
   abbrev pub AgreesBelow : K → List K → List K → Type 0
-  AgreesBelow cut part items = (x : K) → order x cut ≡ Less → member order part x ≡ member order items x
+  AgreesBelow cut part items =
+      (x : K) → order x cut ≡ Less → member order part x ≡ member order items x
 
   -- the part has the items' members at the cut and at every x above it
   abbrev pub AgreesFrom : K → List K → List K → Type 0
-  AgreesFrom cut part items = (x : K) → is_le (order cut x) ≡ true → member order part x ≡ member order items x
+  AgreesFrom cut part items =
+      (x : K) → is_le (order cut x) ≡ true → member order part x ≡ member order items x
 
   -- the part is strictly sorted, agrees below the cut, and no strictly sorted list that agrees there is shorter
   pub record IsLeastBelow (cut : K) (part items : List K) : Type 0 where
     pub sorted : IsAscending order part
     pub agrees : AgreesBelow cut part items
-    pub least : (other : List K) → IsAscending order other → AgreesBelow cut other items → length part ≤ length other
+    pub least : (other : List K) → IsAscending order other → AgreesBelow cut other items →
+        length part ≤ length other
 
   -- the part is strictly sorted, agrees from the cut on, and no strictly sorted list that agrees there is shorter
   pub record IsLeastFrom (cut : K) (part items : List K) : Type 0 where
     pub sorted : IsAscending order part
     pub agrees : AgreesFrom cut part items
-    pub least : (other : List K) → IsAscending order other → AgreesFrom cut other items → length part ≤ length other
+    pub least : (other : List K) → IsAscending order other → AgreesFrom cut other items →
+        length part ≤ length other

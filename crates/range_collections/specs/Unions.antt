@@ -23,7 +23,9 @@ use Rattle.range_collections.specs.declared.range_set_range.RangeSetRange.TheVar
 module _ {K : Type 0} (order : K → K → Ordering) where
   -- each item is a copy of the first item of the list that equals it
   abbrev pub AreCopiesOfFirst : (K → K → Type 0) → List K → List K → Type 0
-  AreCopiesOfFirst is_copy list items = All (λ x. (z : K) × (slice_get (filter (λ y. is_eq (order x y)) list) 0 ≡ Some z) × is_copy z x) items
+  AreCopiesOfFirst is_copy list items =
+      All (λ x. (z : K) × (slice_get (filter (λ y. is_eq (order x y)) list) 0 ≡ Some z)
+      × is_copy z x) items
 
   -- a list to which another was added: it means the union, with the first one's items where both have them; and it is an Ok where the items of both have room
   pub record IsJoined (room : ℕ) (a b : List K) (r : Result (List K) AllocError) : Type 0 where
@@ -42,25 +44,35 @@ module _ {K : Type 0} (order : K → K → Ordering) where
       pub members : (x : K) → member order items x ≡ is_in_one x
 
   -- an answer to a union of parts: an Ok has the members of the parts; of boundaries of theirs that are equal it has a copy of the first, and no more items than they have together; and it is an Ok where these have room and no copy of one is refused
-  pub record GivesUnion (is_copy : K → K → Type 0) (is_infallible : K → Type 0) {P : Type 0} (boundaries : P → List K) (room : ℕ) (parts : List P) (r : Result (List K) AllocError) : Type 0 where
+  pub record GivesUnion (is_copy : K → K → Type 0) (is_infallible : K → Type 0) {P : Type 0}
+      (boundaries : P → List K) (room : ℕ) (parts : List P)
+      (r : Result (List K) AllocError) : Type 0 where
     pub means : IfOk r (λ items. IsUnionOf boundaries parts items)
-    pub first_own_item : IfOk r (λ items. AreCopiesOfFirst is_copy (flat_map boundaries parts) items)
+    pub first_own_item : IfOk r (λ items.
+        AreCopiesOfFirst is_copy (flat_map boundaries parts) items)
     pub at_most : IfOk r (λ items. length items ≤ length (flat_map boundaries parts))
-    pub succeeds : length (flat_map boundaries parts) ≤ room → All is_infallible (flat_map boundaries parts) → IsOk r
+    pub succeeds : length (flat_map boundaries parts) ≤ room →
+        All is_infallible (flat_map boundaries parts) → IsOk r
 
   IsAscending-nil : IsAscending order []
   IsAscending-nil i j d below within = absurd (omega arith)
 
   IsAscending-one : (x : K) → IsAscending order (x ∷ [])
-  IsAscending-one x = AllPairs-cons (λ x y. order x y ≡ Less) x [] (All-nil (λ y. order x y ≡ Less)) (IsAscending-nil)
+  IsAscending-one x =
+      AllPairs-cons (λ x y. order x y ≡ Less) x [] (All-nil (λ y. order x y ≡ Less))
+      (IsAscending-nil)
 
-  IsAscending-two : (x y : K) (v : Ordering) → order x y ≡ v → IsAscending order (cond (is_lt v) (x ∷ y ∷ []) [])
+  IsAscending-two : (x y : K) (v : Ordering) → order x y ≡ v →
+      IsAscending order (cond (is_lt v) (x ∷ y ∷ []) [])
   IsAscending-two x y Less e =
-      AllPairs-cons (λ x y. order x y ≡ Less) x (y ∷ []) (All-cons (λ z. order x z ≡ Less) y [] e (All-nil (λ z. order x z ≡ Less))) (IsAscending-one y)
+      AllPairs-cons (λ x y. order x y ≡ Less) x (y ∷ [])
+      (All-cons (λ z. order x z ≡ Less) y [] e (All-nil (λ z. order x z ≡ Less)))
+      (IsAscending-one y)
   IsAscending-two x y Equal e = IsAscending-nil
   IsAscending-two x y Greater e = IsAscending-nil
 
   -- the boundaries of a range are strictly sorted
-  pub IsAscending-range : (range : RangeSetRange K) → IsAscending order (range_boundaries order range)
+  pub IsAscending-range : (range : RangeSetRange K) →
+      IsAscending order (range_boundaries order range)
   IsAscending-range (Range r) = IsAscending-two r.start r.end (order r.start r.end) refl
   IsAscending-range (RangeFrom r) = IsAscending-one r.start

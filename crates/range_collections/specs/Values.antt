@@ -50,7 +50,8 @@ module _ {K : Type 0} (order : K → K → Ordering) where
     -- the items are strictly sorted, and their members are f of the members of a and of b: among values alone where f is on while both sides are off
     pub record MeansAmong (f : Table) (items a b : List K) : Type 0 where
       pub sorted : IsAscending order items
-      pub members : (x : K) → (f false false ≡ true → is_value x) → member order items x ≡ f (member order a x) (member order b x)
+      pub members : (x : K) → (f false false ≡ true → is_value x) →
+          member order items x ≡ f (member order a x) (member order b x)
 
     -- both have the same members among values
     abbrev pub AreSameAmongValues : List K → List K → Type 0
@@ -61,7 +62,8 @@ module _ {K : Type 0} (order : K → K → Ordering) where
     IsEverything items = (x : K) → is_value x → member order items x ≡ true
 
     -- an answer to `!` of a: an Ok is the negation, a first item that is the least value removed and else the least value put in front; of values it holds values alone, if what equals a value is one; and where it is infallible it is an Ok
-    pub record GivesNegation (least : K) (infallible : Type 0) (a : List K) (r : Result (List K) AllocError) : Type 0 where
+    pub record GivesNegation (least : K) (infallible : Type 0) (a : List K)
+        (r : Result (List K) AllocError) : Type 0 where
       pub negates : IfOk r (λ items. Negates items a)
       pub removed : BeginsAt least a → IfOk r (λ items. AreEqual order items (drop 1 a))
       pub put : ¬ (BeginsAt least a) → IfOk r (λ items. AreEqual order items (least ∷ a))
@@ -69,7 +71,8 @@ module _ {K : Type 0} (order : K → K → Ordering) where
       pub succeeds : infallible → IsOk r
 
     -- the same of a set that is handed over: the items of a are its own
-    pub record GivesOwnNegation (least : K) (infallible : Type 0) (a : List K) (r : Result (List K) AllocError) : Type 0 where
+    pub record GivesOwnNegation (least : K) (infallible : Type 0) (a : List K)
+        (r : Result (List K) AllocError) : Type 0 where
       pub negates : IfOk r (λ items. Negates items a)
       pub removed : BeginsAt least a → IfOk r (λ items. items ≡ drop 1 a)
       pub put : ¬ (BeginsAt least a) → IfOk r (λ items. HasLeastInFront least a items)

@@ -16,7 +16,8 @@ with_end r = Range (record { start = r.start.now; end = r.end.now })
 
 -- the first item, where it is given, the items between, and the last one, where it is given
 abbrev pub lent_items : {K : Type 0} → Option (Bor K) → List K → Option (Bor K) → List K
-lent_items first between last = option_to_list (option_copied first) ++ (between ++ option_to_list (option_copied last))
+lent_items first between last =
+    option_to_list (option_copied first) ++ (between ++ option_to_list (option_copied last))
 
 -- in the range, and in the set if `inside`, or else not in the set
 abbrev pub within_table : Bool → Table

@@ -76,4 +76,9 @@ impl<T: EntryClone> Copier<T> for EntryCopier {
     fn copy(&self, item: &T) -> Result<T, AllocError> {
         item.entry_clone()
     }
+
+    #[inline(always)]
+    fn append(&self, list: &mut Vec<T>, items: &[T]) -> Result<(), AllocError> {
+        T::append_clones(list, items)
+    }
 }

@@ -36,7 +36,8 @@ pub trait Countable: RangeSetEntry {
     ghost place_of_value: { (n : ℕ) → n < count → place (value n) ≡ n };
 
     // Values are in the order of their places.
-    ghost in_order: { (x y : Self) → Self.is_value x → Self.is_value y → Self.cmp x y ≡ nat_cmp (place x) (place y) };
+    ghost in_order: { (x y : Self) → Self.is_value x → Self.is_value y →
+        Self.cmp x y ≡ nat_cmp (place x) (place y) };
 }
 
 /// A whole number without a sign: its place is the number itself, and contracts read both as one.

@@ -25,6 +25,8 @@ mod parsing;
 mod points;
 mod predicates;
 mod ranges;
+pub(crate) mod room;
+mod scanning;
 mod splicing;
 mod split;
 mod text;

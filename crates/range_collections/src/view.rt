@@ -68,7 +68,8 @@ impl<'a, T: Ord> RangeSetRef<'a, T> {
     pub fn single(value: &'a T) -> Self
         requires { FitsInMemory T.row }
         ensures boundaries { result.boundaries.now ≡ value.now ∷ [] }
-        ensures members { (x : T) → member T.cmp result.boundaries.now x ≡ is_le (T.cmp value.now x) }
+        ensures members { (x : T) →
+            member T.cmp result.boundaries.now x ≡ is_le (T.cmp value.now x) }
     {
         RangeSetRef {
             boundaries: slice::from_ref(value),

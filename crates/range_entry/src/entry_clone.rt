@@ -1,5 +1,7 @@
 //! Clones that are equal to their source.
-ghost use Rattle.std.specs.Prelude.{◌≡◌, IsOk, IfOk};
+ghost use Rattle.std.specs.Prelude.{◌≡◌, ◌+◌, ◌≤◌, length, take, drop, All, IsOk, IfOk, OnOk};
+ghost use Rattle.std.specs.List.{AllZip};
+ghost use Rattle.std.specs.Vec.{vec_capacity};
 ghost use Rattle.std.specs.declared.cmp.Ordering.TheVariants.{Equal};
 
 use std::alloc::AllocError;
@@ -17,6 +19,19 @@ pub trait EntryClone: Ord {
         ensures same { IfOk result (λ copied. Self.cmp self.now copied ≡ Equal) }
         ensures copy { IfOk result (λ copied. is_copy self.now copied) }
         ensures succeeds { is_infallible self.now → IsOk result };
+
+    /// Appends a copy of each item to the list, or answers an error where there is no memory for all of them; the copies made before it stay. It asks for room once.
+    fn append_clones(list: &mut Vec<Self>, items: &[Self]) -> Result<(), AllocError>
+        ensures kept { OnOk result (take (length list.old.items) list.new.items ≡ list.old.items) }
+        ensures copied { OnOk result (AllZip is_copy items.now (drop (length list.old.items) list.new.items)) }
+        ensures succeeds { length list.old.items + length items.now ≤ vec_capacity list.old → All is_infallible items.now → IsOk result }
+    {
+        list.reserve(items.len())?;
+        for item in items {
+            list.push_reserved(item.entry_clone()?);
+        }
+        Ok(())
+    }
 
     // A copy is equal to its source.
     ghost copy_is_equal: { (x y : Self) → is_copy x y → Self.cmp x y ≡ Equal };

@@ -67,6 +67,13 @@ impl<T: Number> EntryClone for T {
         Ok(*self)
     }
 
+    /// All at once.
+    #[inline(always)]
+    fn append_clones(list: &mut Vec<T>, items: &[T]) -> Result<(), AllocError> {
+        list.extend_from_slice(items)?;
+        Ok(())
+    }
+
     ghost copy_is_equal = { same-equal T.cmp T.total };
 }
 

@@ -1,7 +1,7 @@
 -- Copies at the end of a list: item by item, and run by run.
 use Rattle.std.proofs.Common.{◌≡◌, ℕ, ◌+◌, ◌<◌, ◌≤◌, Bool, true, false, List, [], ◌∷◌, ◌++◌, length, take, drop, map, get_or, refl, sym, ap, ◌∙◌, arith, append_assoc}
 use Rattle.std.specs.List.{AllZip}
-use Rattle.std.proofs.lemmas.List.{append-nil, length-append, length-map, drop-append-le, drop_all, drop_at, take-append-le, take_all, take_at}
+use Rattle.std.proofs.lemmas.List.{append-nil, length-append, length-map, drop-append-le, drop_all, drop_at, take-append-drop, take-append-le, take_all, take_at}
 use Rattle.std.proofs.lemmas.List.Elements.{all_zip_more, length_all_zip}
 use Rattle.range_merge.specs.Changes.{Taken, taken_item, taken_items, taken_left, taken_right, from_left, from_right}
 use Rattle.range_merge.specs.Copies.{items_if, IsAppended, AreCopies, AreKeptThenCopies}
@@ -34,6 +34,14 @@ module _ {K : Type 0} (alike : K → K → Type 0) where
     copies = h.copies ++ y ∷ [];
     alike_to = all_zip_more alike xs h.copies i x y within is h.alike_to same;
     appended = ap (λ zs. zs ++ y ∷ []) h.appended ∙ append_assoc old h.copies (y ∷ []);
+  }
+
+  -- a list that stands in front of copies
+  pub IsAppended-behind : (xs old new : List K) → take (length old) new ≡ old → AllZip alike xs (drop (length old) new) → IsAppended alike xs old new
+  IsAppended-behind xs old new kept copied = record {
+    copies = drop (length old) new;
+    alike_to = copied;
+    appended = sym (take-append-drop (length old) new) ∙ ap (λ front. front ++ drop (length old) new) kept;
   }
 
   pub length-appended : (xs old new : List K) → IsAppended alike xs old new → length new ≡ length old + length xs

@@ -1,13 +1,13 @@
 -- The first run of two lists, as one step of a merge.
-use Rattle.std.proofs.Common.{◌≡◌, ◌+◌, ◌≤◌, ◌<◌, true, List, [], ◌∷◌, ◌++◌, length, map, take, drop, Some, None, Option, ℕ, get_or, slice_get, false, not, refl, sym, ap, ◌∙◌, arith}
+use Rattle.std.proofs.Common.{◌≡◌, ◌+◌, ◌≤◌, ◌<◌, true, List, [], ◌∷◌, ◌++◌, length, map, take, drop, Some, None, Option, ℕ, get_or, slice_get, false, not, refl, sym, ap, ap₂, ◌∙◌, arith}
 use Rattle.std.proofs.lemmas.List.{append-nil, length-take, nil_from_length}
 use Rattle.std.specs.Cmp.{IsTotalOrder}
 use Rattle.std.specs.declared.cmp.Ordering.{Ordering}
 use Rattle.std.specs.declared.cmp.Ordering.TheVariants.{Less, Equal, Greater}
 use Rattle.range_merge.specs.Boundaries.{IsAscending}
 use Rattle.range_merge.specs.Connective.{Table, differ}
-use Rattle.range_merge.specs.Changes.{changes, from_left, from_right, taken_of, taken_left}
-use Rattle.range_merge.specs.Owners.{left_only, right_only, shared, owners}
+use Rattle.range_merge.specs.Changes.{Taken, changes, from_left, from_right, taken_of, taken_left}
+use Rattle.range_merge.specs.Owners.{Owner, left_only, right_only, shared, owners}
 use Rattle.range_merge.specs.Runs.{runs, runs_of, run_len, weight}
 use Rattle.range_merge.specs.Walk.{walk}
 use Rattle.range_merge.specs.Steps.{RunFits, StandsInFront, StandsFirst, FirstsStand, one_of_run}
@@ -23,25 +23,20 @@ use Rattle.range_merge.proofs.WalkLemmas.{walk-left, walk-right, walk-shared}
 use Rattle.range_merge.proofs.ChangesLemmas as walked
 
 module _ {K : Type 0} where
-  taken_of-left : (xs : List K) → map taken_of (map left_only xs) ≡ map from_left xs
-  taken_of-left [] = refl
-  taken_of-left (x ∷ xs) = ap (λ ts. from_left x ∷ ts) (taken_of-left xs)
+  -- owners of one side are taken with its mark
+  taken_of-side : (only : K → Owner K) (mark : K → Taken K) → ((x : K) → mark x ≡ taken_of (only x)) → (xs : List K) →
+      map mark xs ≡ map taken_of (map only xs)
+  taken_of-side only mark is [] = refl
+  taken_of-side only mark is (x ∷ xs) = ap₂ (λ t ts. t ∷ ts) (is x) (taken_of-side only mark is xs)
 
-  taken_of-right : (xs : List K) → map taken_of (map right_only xs) ≡ map from_right xs
-  taken_of-right [] = refl
-  taken_of-right (x ∷ xs) = ap (λ ts. from_right x ∷ ts) (taken_of-right xs)
-
-  one_run-left : (xs : List K) → 1 ≤ length xs → length (runs_of (map left_only xs)) ≡ 1
+  -- owners of one side are one run
+  one_run-side : (only : K → Owner K) (run : ℕ → Run) →
+      ((x : K) (xs : List K) → runs_of (map only (x ∷ xs) ++ []) ≡ run (length (x ∷ xs)) ∷ runs_of {K = K} []) →
+      (xs : List K) → 1 ≤ length xs → length (runs_of (map only xs)) ≡ 1
   unfolding runs_of
-  one_run-left [] some = absurd (omega arith)
-  one_run-left (x ∷ xs) some =
-      ap (λ os. length (runs_of os)) (sym (append-nil (map left_only (x ∷ xs)))) ∙ ap length (runs_of-map_left_only x xs [] tt)
-
-  one_run-right : (xs : List K) → 1 ≤ length xs → length (runs_of (map right_only xs)) ≡ 1
-  unfolding runs_of
-  one_run-right [] some = absurd (omega arith)
-  one_run-right (x ∷ xs) some =
-      ap (λ os. length (runs_of os)) (sym (append-nil (map right_only (x ∷ xs)))) ∙ ap length (runs_of-map_right_only x xs [] tt)
+  one_run-side only run first [] some = absurd (omega arith)
+  one_run-side only run first (x ∷ xs) some =
+      ap (λ os. length (runs_of os)) (sym (append-nil (map only (x ∷ xs)))) ∙ ap length (first x xs)
 
   one_run-shared : (x y : K) → length (runs_of (shared x y ∷ [])) ≡ 1
   unfolding runs_of
@@ -54,22 +49,24 @@ module _ {K : Type 0} where
 
 module _ {K : Type 0} {order : K → K → Ordering} (o : IsTotalOrder order) (a b : List K) (a_ascends : IsAscending order a) (b_ascends : IsAscending order b) where
   front_left : (n : ℕ) → 1 ≤ n → n ≤ length a → owners order a b ≡ map left_only (take n a) ++ owners order (drop n a) b → StandsInFront order (Left n) a b
+  unfolding runs_of
   front_left n some within are = record {
     fits = (some, within);
     its_owners = map left_only (take n a);
     owners_are = are;
-    taken_are = sym (taken_of-left (take n a));
-    one_run = one_run-left (take n a) (simp length-take (omega (arith, some, within)));
+    taken_are = taken_of-side left_only from_left (λ x. refl) (take n a);
+    one_run = one_run-side left_only Left (λ x xs. runs_of-map_left_only x xs [] (λ y. refl)) (take n a) (simp length-take (omega (arith, some, within)));
     walked = λ f ac bc. ap (walk f ac bc) are ∙ walk-left f ac bc n a _ within;
   }
 
   front_right : (n : ℕ) → 1 ≤ n → n ≤ length b → owners order a b ≡ map right_only (take n b) ++ owners order a (drop n b) → StandsInFront order (Right n) a b
+  unfolding runs_of
   front_right n some within are = record {
     fits = (some, within);
     its_owners = map right_only (take n b);
     owners_are = are;
-    taken_are = sym (taken_of-right (take n b));
-    one_run = one_run-right (take n b) (simp length-take (omega (arith, some, within)));
+    taken_are = taken_of-side right_only from_right (λ x. refl) (take n b);
+    one_run = one_run-side right_only Right (λ x xs. runs_of-map_right_only x xs [] (λ y. refl)) (take n b) (simp length-take (omega (arith, some, within)));
     walked = λ f ac bc. ap (walk f ac bc) are ∙ walk-right f ac bc n b _ within;
   }
 

@@ -8,7 +8,7 @@ use Rattle.std.specs.declared.cmp.Ordering.{Ordering}
 use Rattle.std.specs.declared.cmp.Ordering.TheVariants.{Equal}
 use Rattle.range_merge.specs.Boundaries.{IsAscending}
 use Rattle.range_merge.specs.Owners.{Owner, left_only, right_only, shared, left_items, right_items, IsShare, IsOwners, owners}
-use Rattle.range_merge.specs.Runs.{digits, runs_of, weight_of, runs, weight}
+use Rattle.range_merge.specs.Runs.{digits, run_len, runs_of, weight_of, runs, weight}
 use Rattle.range_merge.specs.declared.runs.Run.{Run}
 use Rattle.range_merge.specs.declared.runs.Run.TheVariants.{Left, Right, Both}
 use Rattle.range_merge.proofs.Pairs.{AllPairs-drop}
@@ -47,40 +47,40 @@ unfolding digits
 digits-one = refl
 
 module _ {K : Type 0} {order : K → K → Ordering} (o : IsTotalOrder order) where
+  -- the owners behind the first few are those of the rests
+  behind : (n : ℕ) (a b a' b' : List K) → IsOwners order a b (owners order a b) →
+      left_items (drop n (owners order a b)) ≡ a' → right_items (drop n (owners order a b)) ≡ b' → drop n (owners order a b) ≡ owners order a' b'
+  behind n a b a' b' h lefts rights = owners-unique o a' b' (drop n (owners order a b)) (record {
+    ascend = AllPairs-drop (Ascends order) n (owners order a b) h.ascend;
+    lefts = lefts;
+    rights = rights;
+    equal = All-drop (IsShare order) n (owners order a b) h.equal;
+  })
+
+  -- what the lists weigh, by their first run
+  weighs : (run : Run) (a b a' b' : List K) (rest : List (Owner K)) → runs order a b ≡ run ∷ runs_of rest → rest ≡ owners order a' b' →
+      weight order a b ≡ digits (run_len run) + weight order a' b'
+  weighs run a b a' b' rest first is =
+      ap weight_of (first ∙ ap (λ (os : List (Owner K)). run ∷ runs_of os) is) ∙ weight_of-cons run (runs order a' b')
+
   FirstLeft-from_leads : (a b : List K) (n : ℕ) → IsOwners order a b (owners order a b) → LeadsLeft (owners order a b) n → FirstLeft order a b n
   FirstLeft-from_leads a b n h s =
-      let rest : drop n (owners order a b) ≡ owners order (drop n a) b =
-      owners-unique o (drop n a) b (drop n (owners order a b)) (record {
-        ascend = AllPairs-drop (Ascends order) n (owners order a b) h.ascend;
-        lefts = s.lefts ∙ ap (λ (xs : List K). drop n xs) h.lefts;
-        rights = s.rights ∙ h.rights;
-        equal = All-drop (IsShare order) n (owners order a b) h.equal;
-      }) in
-      let runs_eq : runs order a b ≡ Left n ∷ runs order (drop n a) b =
-      s.runs ∙ ap (λ (os : List (Owner K)). Left n ∷ runs_of os) rest in
+      let rest = behind n a b (drop n a) b h (s.lefts ∙ ap (drop n) h.lefts) (s.rights ∙ h.rights) in
       record {
         some = s.some;
-        within = omega (arith, s.within, ap (λ (xs : List K). length xs) h.lefts);
+        within = omega (arith, s.within, ap length h.lefts);
         owners_are = s.split ∙ ap₂ (λ (xs : List K) (os : List (Owner K)). map left_only (take n xs) ++ os) h.lefts rest;
-        weight_is = ap (λ (rs : List Run). weight_of rs) runs_eq ∙ weight_of-cons (Left n) (runs order (drop n a) b);
+        weight_is = weighs (Left n) a b (drop n a) b _ s.runs rest;
       }
 
   FirstRight-from_leads : (a b : List K) (n : ℕ) → IsOwners order a b (owners order a b) → LeadsRight (owners order a b) n → FirstRight order a b n
   FirstRight-from_leads a b n h s =
-      let rest : drop n (owners order a b) ≡ owners order a (drop n b) =
-      owners-unique o a (drop n b) (drop n (owners order a b)) (record {
-        ascend = AllPairs-drop (Ascends order) n (owners order a b) h.ascend;
-        lefts = s.lefts ∙ h.lefts;
-        rights = s.rights ∙ ap (λ (ys : List K). drop n ys) h.rights;
-        equal = All-drop (IsShare order) n (owners order a b) h.equal;
-      }) in
-      let runs_eq : runs order a b ≡ Right n ∷ runs order a (drop n b) =
-      s.runs ∙ ap (λ (os : List (Owner K)). Right n ∷ runs_of os) rest in
+      let rest = behind n a b a (drop n b) h (s.lefts ∙ h.lefts) (s.rights ∙ ap (drop n) h.rights) in
       record {
         some = s.some;
-        within = omega (arith, s.within, ap (λ (ys : List K). length ys) h.rights);
+        within = omega (arith, s.within, ap length h.rights);
         owners_are = s.split ∙ ap₂ (λ (ys : List K) (os : List (Owner K)). map right_only (take n ys) ++ os) h.rights rest;
-        weight_is = ap (λ (rs : List Run). weight_of rs) runs_eq ∙ weight_of-cons (Right n) (runs order a (drop n b));
+        weight_is = weighs (Right n) a b a (drop n b) _ s.runs rest;
       }
 
   -- the list whose owners begin with a shared one
@@ -95,8 +95,6 @@ module _ {K : Type 0} {order : K → K → Ordering} (o : IsTotalOrder order) wh
         rights = ap (λ (ys : List K). drop 1 ys) h.rights;
         equal = good.equal;
       }) in
-      let runs_eq : runs order a b ≡ Both ∷ runs order (drop 1 a) (drop 1 b) =
-      r ∙ ap (λ (ps : List (Owner K)). Both ∷ runs_of ps) rest in
       record {
         left_item = x;
         right_item = y;
@@ -105,8 +103,7 @@ module _ {K : Type 0} {order : K → K → Ordering} (o : IsTotalOrder order) wh
         right_some = subst (λ (ys : List K). 1 ≤ length ys) h.rights (omega arith);
         equal = IsOwners-share order a b (shared x y) os h;
         owners_are = e ∙ ap (λ (ps : List (Owner K)). shared x y ∷ ps) rest;
-        weight_is = ap (λ (rs : List Run). weight_of rs) runs_eq ∙ (weight_of-cons Both (runs order (drop 1 a) (drop 1 b))
-            ∙ ap (λ (k : ℕ). k + weight order (drop 1 a) (drop 1 b)) digits-one);
+        weight_is = weighs Both a b (drop 1 a) (drop 1 b) os r rest ∙ ap (λ (k : ℕ). k + weight order (drop 1 a) (drop 1 b)) digits-one;
       }
 
   module _ (a b : List K) (up : IsAscending order a) (vp : IsAscending order b) where

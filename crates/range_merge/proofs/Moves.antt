@@ -1,9 +1,10 @@
 -- Items that move within a list, down or up, a gap that is opened in it, and a list that is written back.
 use Rattle.std.proofs.Common.{◌≡◌, ℕ, ◌+◌, ◌-◌, ◌<◌, ◌≤◌, List, [], ◌∷◌, ◌++◌, length, take, drop, get_or, set, sym, ap, ◌∙◌, arith, append_assoc}
 use Rattle.std.specs.List.{swap, refill}
-use Rattle.std.proofs.lemmas.List.{take_at, take-take, take-set-le, take_more_set, drop-set-lt, length-set, length-take-le, length-drop, take_more, drop_more, get_or-drop, get_or-take, get_or-set_same}
+use Rattle.std.proofs.lemmas.List.{take_at, take-set-le, take_more_set, drop-set-lt, length-take-le, length-drop, take_more, drop_more, get_or-drop, take-append-le, drop-take, drop-drop, drop_at}
 use Rattle.std.proofs.lemmas.List.Edits.{swap_is}
-use Rattle.std.proofs.Math.Seq.{take-add}
+use Rattle.std.proofs.Math.Seq.{take-add, take-append-add, drop-append-add}
+use borrow.Rule.Slice.PartMut.{put_mid, post_of}
 
 -- a list written whole over another of its length
 pub refill_all : {K : Type 0} (xs ys : List K) → length ys ≡ length xs → refill (length xs) xs ys ≡ ys
@@ -61,41 +62,45 @@ module _ {K : Type 0} where
             ∙ ap (λ k. drop k old) (sym step_from),
       )
 
-  -- what is in front of the first of two places that are exchanged, and what is from the second on
-  take-swap-front : (l : List K) (p q : ℕ) (d : K) → p < q → q < length l → take p (swap l p q) ≡ take p l
-  take-swap-front l p q d below within =
-      ap (take p) (sym (swap_is l p q d (omega arith) within))
-      ∙ take-set-le p (set l p (get_or l q d)) q (get_or l p d) (omega arith)
-      ∙ take-set-le p l p (get_or l q d) (omega arith)
+  -- what is behind as many turned items as have come to the front
+  pub drop-turned : (xs : List K) (at by : ℕ) → at + by ≤ length xs
+      → drop (at + by) (take at xs ++ (drop (length (drop at xs) - by) (drop at xs) ++ take (length (drop at xs) - by) (drop at xs))) ≡ drop at (take (length xs - by) xs)
+  drop-turned xs at by within =
+      let m : List K = drop at xs in
+      let rest : ℕ = length m - by in
+      let len : length m ≡ length xs - at = length-drop at xs in
+      let before : length (take at xs) ≡ at = length-take-le at xs (omega arith) in
+      let turned : length (drop rest m) ≡ by = length-drop rest m ∙ omega (arith, len) in
+      let all : at + rest ≡ length xs - by = omega (arith, len) in
+      ap (λ k. drop (k + by) (take at xs ++ (drop rest m ++ take rest m))) (sym before)
+      ∙ drop-append-add (take at xs) (drop rest m ++ take rest m) by
+      ∙ drop_at (drop rest m) (take rest m) by turned
+      ∙ sym (drop-take at rest xs)
+      ∙ ap (λ k. drop at (take k xs)) all
 
-  drop-swap-second : (l : List K) (p q : ℕ) (d : K) → p < q → q < length l → drop q (swap l p q) ≡ get_or l p d ∷ drop (q + 1) l
-  drop-swap-second l p q d below within =
-      let once : List K = set l p (get_or l q d) in
-      let in_once : q < length once = rw length-set within in
-      let twice : List K = set once q (get_or l p d) in
-      let in_twice : q < length twice = rw length-set in_once in
-      ap (drop q) (sym (swap_is l p q d (omega arith) within))
-      ∙ drop_more twice q d in_twice
-      ∙ ap (λ x. x ∷ drop (q + 1) twice) (get_or-set_same once q (get_or l p d) d in_once)
-      ∙ ap (λ ys. get_or l p d ∷ ys) (drop-set-lt (q + 1) once q (get_or l p d) (omega arith) ∙ drop-set-lt (q + 1) l p (get_or l q d) (omega arith))
+  -- a part of a list written back, whose last items have come to its front
+  pub length-part : (xs : List K) (to from n : ℕ) → to ≤ from → from + n ≤ length xs → length (take (from + n - to) (drop to xs)) ≡ from + n - to
+  length-part xs to from n ordered within = length-take-le (from + n - to) (drop to xs) (simp length-drop (omega arith))
 
-  -- one item more moved up
-  pub move_up-more : (old l : List K) (p by : ℕ) → 0 < by → p + by < length old → length l ≡ length old
-      → take (p + 1) l ≡ take (p + 1) old → drop (p + 1 + by) l ≡ drop (p + 1) (take (length old - by) old)
-      → (take p (swap l p (p + by)) ≡ take p old) × (drop (p + by) (swap l p (p + by)) ≡ drop p (take (length old - by) old))
-  move_up-more [] l p by some within same front behind = absurd (omega arith)
-  move_up-more (d ∷ rest) l p by some within same front behind =
-      let old : List K = d ∷ rest in
-      let part : List K = take (length old - by) old in
-      let first : p < p + by = omega arith in
-      let in_l : p + by < length l = omega arith in
-      let in_part : p < length part = rw (length-take-le (length old - by) old (omega arith)) (omega arith) in
-      let item : get_or l p d ≡ get_or old p d = sym (get_or-take (p + 1) l p d (omega arith)) ∙ ap (λ ys. get_or ys p d) front ∙ get_or-take (p + 1) old p d (omega arith) in
-      let step : p + by + 1 ≡ p + 1 + by = omega arith in (
-        take-swap-front l p (p + by) d first in_l ∙ sym (take-take p (p + 1) l (omega arith)) ∙ ap (take p) front ∙ take-take p (p + 1) old (omega arith),
-        drop-swap-second l p (p + by) d first in_l
-            ∙ ap (λ x. x ∷ drop (p + by + 1) l) (item ∙ sym (get_or-take (length old - by) old p d (omega arith)))
-            ∙ ap (λ k. get_or part p d ∷ drop k l) step
-            ∙ ap (λ ys. get_or part p d ∷ ys) behind
-            ∙ sym (drop_more part p d in_part),
+  pub take-written : (xs ys : List K) (to from n : ℕ) → to ≤ from → from + n ≤ length xs
+      → length ys ≡ length (take (from + n - to) (drop to xs))
+      → take n ys ≡ drop (length (take (from + n - to) (drop to xs)) - n) (take (from + n - to) (drop to xs))
+      → take (to + n) (put_mid to (from + n - to) xs ys) ≡ take to xs ++ take n (drop from xs)
+  take-written xs ys to from n ordered within same_len front =
+      let post : List K = post_of to (from + n - to) xs in
+      let gap : ℕ = from - to in
+      let all : from + n - to ≡ gap + n = omega arith in
+      let whole = length-part xs to from n ordered within in
+      let before : length (take to xs) ≡ to = length-take-le to xs (omega arith) in
+      ap (λ k. take (k + n) (take to xs ++ (ys ++ post))) (sym before)
+      ∙ take-append-add (take to xs) (ys ++ post) n
+      ∙ ap (λ zs. take to xs ++ zs)
+      (
+      take-append-le n ys post (rw same_len (rw whole (omega arith)))
+      ∙ front
+      ∙ ap (λ k. drop (k - n) (take (from + n - to) (drop to xs))) whole
+      ∙ ap (λ k. drop k (take (from + n - to) (drop to xs))) (omega arith)
+      ∙ ap (λ k. drop gap (take k (drop to xs))) all
+      ∙ drop-take gap n (drop to xs)
+      ∙ ap (take n) (drop-drop gap to xs ∙ ap (λ k. drop k xs) (omega arith))
       )

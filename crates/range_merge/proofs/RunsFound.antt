@@ -17,7 +17,7 @@ use Rattle.range_merge.proofs.Orders.{Less-trans, Less-from_equal}
 use Rattle.range_merge.proofs.Pairs.{AllPairs-head, AllPairs-tail, AllPairs-drop}
 use Rattle.range_merge.proofs.OwnersLemmas.{Above, IsGood-from_owners, IsOwners-nil, IsOwners-left_only, IsOwners-right_only, IsOwners-shared, IsOwners-below, IsOwners-owners}
 use Rattle.range_merge.proofs.OwnersUnique.{owners-unique, left_items-above_first, right_items-above_first}
-use Rattle.range_merge.proofs.RunsLemmas.{NotLeft, NotRight, runs_of-map_left_only, runs_of-map_right_only}
+use Rattle.range_merge.proofs.RunsLemmas.{NotLeft, NotRight, joined-left_right, joined-right_left, runs_of-map_left_only, runs_of-map_right_only}
 
 module _ {K : Type 0} {order : K → K → Ordering} (o : IsTotalOrder order) where
   -- an item below the first of some that ascend is below each of them
@@ -69,25 +69,27 @@ module _ {K : Type 0} {order : K → K → Ordering} (o : IsTotalOrder order) wh
   -- where the left's first does not stand below the right's, the owners begin with none of the left
   NotLeft-from_first : (a b : List K) (os : List (Owner K)) → IsOwners order a b os → 0 < length b →
       ((d : K) → 0 < length a → order (get_or a 0 d) (get_or b 0 d) ≡ Less → ⊥) → NotLeft os
-  NotLeft-from_first a b [] h some stops = tt
-  NotLeft-from_first a b (right_only y ∷ os) h some stops = tt
-  NotLeft-from_first a b (shared x y ∷ os) h some stops = tt
-  NotLeft-from_first a [] (left_only x ∷ os) h some stops = omega arith
+  unfolding runs_of
+  NotLeft-from_first a b [] h some stops = λ x. refl
+  NotLeft-from_first a b (right_only y ∷ os) h some stops = λ x. joined-left_right x y (runs_of os)
+  NotLeft-from_first a b (shared x y ∷ os) h some stops = λ z. refl
+  NotLeft-from_first a [] (left_only x ∷ os) h some stops = absurd (omega arith)
   NotLeft-from_first a (y ∷ b) (left_only x ∷ os) h some stops =
       let less : order x y ≡ Less = right_items-above_first o (left_only x) os y b (IsGood-from_owners order a (y ∷ b) (left_only x ∷ os) h) h.rights in
-      stops x (subst (λ (xs : List K). 0 < length xs) h.lefts (omega arith))
-      (subst (λ (xs : List K). order (get_or xs 0 x) y ≡ Less) h.lefts less)
+      absurd (stops x (subst (λ (xs : List K). 0 < length xs) h.lefts (omega arith))
+      (subst (λ (xs : List K). order (get_or xs 0 x) y ≡ Less) h.lefts less))
 
   NotRight-from_first : (a b : List K) (os : List (Owner K)) → IsOwners order a b os → 0 < length a →
       ((d : K) → 0 < length b → order (get_or b 0 d) (get_or a 0 d) ≡ Less → ⊥) → NotRight os
-  NotRight-from_first a b [] h some stops = tt
-  NotRight-from_first a b (left_only x ∷ os) h some stops = tt
-  NotRight-from_first a b (shared x y ∷ os) h some stops = tt
-  NotRight-from_first [] b (right_only y ∷ os) h some stops = omega arith
+  unfolding runs_of
+  NotRight-from_first a b [] h some stops = λ y. refl
+  NotRight-from_first a b (left_only x ∷ os) h some stops = λ y. joined-right_left y x (runs_of os)
+  NotRight-from_first a b (shared x y ∷ os) h some stops = λ z. refl
+  NotRight-from_first [] b (right_only y ∷ os) h some stops = absurd (omega arith)
   NotRight-from_first (x ∷ a) b (right_only y ∷ os) h some stops =
       let less : order y x ≡ Less = left_items-above_first o (right_only y) os x a (IsGood-from_owners order (x ∷ a) b (right_only y ∷ os) h) h.lefts in
-      stops y (subst (λ (ys : List K). 0 < length ys) h.rights (omega arith))
-      (subst (λ (ys : List K). order (get_or ys 0 y) x ≡ Less) h.rights less)
+      absurd (stops y (subst (λ (ys : List K). 0 < length ys) h.rights (omega arith))
+      (subst (λ (ys : List K). order (get_or ys 0 y) x ≡ Less) h.rights less))
 
   -- the runs of owners of the left before others
   runs_of-some_left_only : (n : ℕ) (xs : List K) (os : List (Owner K)) → length xs ≡ n → 1 ≤ n → NotLeft os →
@@ -166,7 +168,7 @@ module _ {K : Type 0} {order : K → K → Ordering} (o : IsTotalOrder order) wh
   runs-left_all a some =
       front (runs order a []) [] (Left (length a))
       (ap (λ (os : List (Owner K)). runs_of os) (sym (append-nil (map left_only a)))
-      ∙ runs_of-some_left_only (length a) a [] refl some tt)
+      ∙ runs_of-some_left_only (length a) a [] refl some (λ x. refl))
 
   pub runs-right_all : (b : List K) → IsAscending order b → 0 < length b → slice_get (runs order [] b) 0 ≡ Some (Right (length b))
   unfolding runs_of
@@ -176,4 +178,4 @@ module _ {K : Type 0} {order : K → K → Ordering} (o : IsTotalOrder order) wh
       let is = owners-unique o [] b (map right_only (take (length b) b) ++ []) pinned in
       front (runs order [] b) [] (Right (length b))
       (ap (λ (os : List (Owner K)). runs_of os) (sym is)
-      ∙ runs_of-some_right_only (length b) (take (length b) b) [] (length-take-le (length b) b (omega arith)) some tt)
+      ∙ runs_of-some_right_only (length b) (take (length b) b) [] (length-take-le (length b) b (omega arith)) some (λ y. refl))

@@ -6,4 +6,5 @@ use Rattle.range_merge.specs.Changes.{Taken, taken_items}
 -- as many of `ts` as there are items stood in the slice first, and the slice was given the others; and where there are no more of those than items, they stand in front, and behind them what stood there first
 pub record IsFilled {K : Type 0} (ts : List (Taken K)) (given : ℕ) (items : List K) : Type 0 where
   pub counted : length ts ≡ length items + given
-  pub written : given ≤ length items → items ≡ taken_items (drop (length items) ts) ++ drop given (taken_items (take (length items) ts))
+  pub written : given ≤ length items → items ≡
+      taken_items (drop (length items) ts) ++ drop given (taken_items (take (length items) ts))

@@ -43,12 +43,15 @@ module _ {K : Type 0} where
   -- these items stand one behind the other among the owners, all in one run
   abbrev pub AreOfOneRun : List (Owner K) → List (Taken K) → Type 0
   AreOfOneRun os ts =
-      (earlier these later : List (Owner K)) × (os ≡ earlier ++ (these ++ later)) × (ts ≡ map taken_of these) × (length (runs_of these) ≡ 1)
+      (earlier these later : List (Owner K)) × (os ≡ earlier ++ (these ++ later))
+      × (ts ≡ map taken_of these) × (length (runs_of these) ≡ 1)
 
   -- an output before and after a merge that stopped: a front of the items was appended, one item or more, all of one run
-  abbrev pub StopsAmong : List (Owner K) → (List (Taken K) → Type 0) → (List (Taken K) → Type 0) → List (Taken K) → Type 0
+  abbrev pub StopsAmong : List (Owner K) → (List (Taken K) → Type 0) → (List (Taken K) → Type 0) →
+      List (Taken K) → Type 0
   StopsAmong os old new items =
-      (n : ℕ) × (1 ≤ n) × (n ≤ length items) × ((before : List (Taken K)) → old before → new (before ++ take n items))
+      (n : ℕ) × (1 ≤ n) × (n ≤ length items)
+      × ((before : List (Taken K)) → old before → new (before ++ take n items))
       × AreOfOneRun os (take n items)
 
   -- the mark is true: an item of the left list, or one of the right list that equals none of the left's
@@ -68,4 +71,5 @@ module _ {K : Type 0} where
     -- the owners' items at which f's answer changes, in order
     unfoldable pub changes : List (Taken K)
     changes =
-        filter (λ t. differ (answer_just_below (taken_item t)) (answer_at (taken_item t))) (map taken_of (owners order a b))
+        filter (λ t. differ (answer_just_below (taken_item t)) (answer_at (taken_item t)))
+        (map taken_of (owners order a b))

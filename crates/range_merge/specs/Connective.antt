@@ -44,6 +44,7 @@ abbrev pub opposite : Table → Table
 opposite f a b = not (f a b)
 
 -- the items are strictly sorted, and their members are f of the members of a and of b
-pub record Means {K : Type 0} (order : K → K → Ordering) (f : Table) (items a b : List K) : Type 0 where
+pub record Means {K : Type 0} (order : K → K → Ordering) (f : Table)
+    (items a b : List K) : Type 0 where
   pub sorted : IsAscending order items
   pub members : (x : K) → member order items x ≡ f (member order a x) (member order b x)

@@ -20,7 +20,8 @@ module _ {K : Type 0} where
   AreCopies alike ts items = AllZip (λ t x. alike (taken_item t) x) ts items
 
   -- the first `began` items are those that were taken first themselves, and behind them stands a copy alike to each of the others
-  pub record AreKeptThenCopies (alike : K → K → Type 0) (began : ℕ) (ts : List (Taken K)) (items : List K) : Type 0 where
+  pub record AreKeptThenCopies (alike : K → K → Type 0) (began : ℕ) (ts : List (Taken K))
+      (items : List K) : Type 0 where
     pub within : began ≤ length ts
     pub copies : List K
     pub copied : AreCopies alike (drop began ts) copies

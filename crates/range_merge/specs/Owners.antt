@@ -51,7 +51,8 @@ module _ {K : Type 0} where
       pub equal : All IsShare os
 
     -- y among the owners, put by the way it compares with the first: before it, into it, or behind it
-    abbrev pub with_right_at : Ordering → K → Owner K → List (Owner K) → List (Owner K) → List (Owner K)
+    abbrev pub with_right_at : Ordering → K → Owner K → List (Owner K) → List (Owner K) →
+        List (Owner K)
     with_right_at Less y o os behind = right_only y ∷ o ∷ os
     with_right_at Equal y o os behind = shared (item_of o) y ∷ os
     with_right_at Greater y o os behind = o ∷ behind

@@ -69,23 +69,27 @@ module _ {K : Type 0} where
   pub record StandsInFront (order : K → K → Ordering) (run : Run) (a b : List K) : Type 0 where
     pub fits : RunFits run a b
     pub its_owners : List (Owner K)
-    pub owners_are : owners order a b ≡ its_owners ++ owners order (left_after run a) (right_after run b)
+    pub owners_are : owners order a b ≡
+        its_owners ++ owners order (left_after run a) (right_after run b)
     pub taken_are : taken_of_run true run a b ≡ map taken_of its_owners
     pub one_run : length (runs_of its_owners) ≡ 1
     pub walked : (f : Table) (ac bc : Bool) →
         walk f ac bc (owners order a b) ≡
         taken_of_run (takes f ac bc run) run a b
-        ++ walk f (left_on_after run ac) (right_on_after run bc) (owners order (left_after run a) (right_after run b))
+        ++ walk f (left_on_after run ac) (right_on_after run bc)
+        (owners order (left_after run a) (right_after run b))
 
   -- the first run: it weighs its digits
   pub record StandsFirst (order : K → K → Ordering) (run : Run) (a b : List K) : Type 0 where
     pub in_front : StandsInFront order run a b
-    pub weighs : weight order a b ≡ digits (run_len run) + weight order (left_after run a) (right_after run b)
+    pub weighs : weight order a b ≡
+        digits (run_len run) + weight order (left_after run a) (right_after run b)
 
   -- how the first items of two lists stand to one another; none says that one of the lists is empty
   abbrev pub FirstsStand : (K → K → Ordering) → List K → List K → Option Ordering → Type 0
   FirstsStand order a b None = 1 ≤ length a → length b ≡ 0
-  FirstsStand order a b (Some how) = (1 ≤ length a) × (1 ≤ length b) × ((d : K) → order (get_or a 0 d) (get_or b 0 d) ≡ how)
+  FirstsStand order a b (Some how) =
+      (1 ≤ length a) × (1 ≤ length b) × ((d : K) → order (get_or a 0 d) (get_or b 0 d) ≡ how)
 
 -- how many comparisons were made ahead, to know how the first items stand
 abbrev pub ahead_of : Option Ordering → ℕ

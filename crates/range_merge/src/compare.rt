@@ -1,6 +1,8 @@
 //! What a merge is handed to compare items with and to copy them by. Nothing in this crate can make either, so each comparison of items is one call that its caller counts.
-ghost use Rattle.std.specs.Prelude.{◌≡◌, ℕ, ◌+◌, ◌-◌, ◌^◌, ◌<◌, IsOk, IfOk};
+ghost use Rattle.std.specs.Prelude.{◌≡◌, ℕ, ◌+◌, ◌-◌, ◌^◌, ◌<◌, ◌≤◌, length, take, drop, All, IsOk, IfOk, OnOk};
 ghost use Rattle.std.specs.Cmp.{IsTotalOrder};
+ghost use Rattle.std.specs.List.{AllZip};
+ghost use Rattle.std.specs.Vec.{vec_capacity};
 ghost use Rattle.std.specs.declared.cmp.Ordering.{Ordering as TheOrdering};
 
 use std::alloc::AllocError;
@@ -40,4 +42,17 @@ pub trait Copier<K> {
     fn copy(&self, item: &K) -> Result<K, AllocError>
         ensures alike { IfOk result (λ copied. alike item.now copied) }
         ensures succeeds { is_infallible item.now → IsOk result };
+
+    /// Appends a copy of each item, or answers an error where there is no memory for all of them; the copies made before it stay. It asks for room once.
+    fn append(&self, list: &mut Vec<K>, items: &[K]) -> Result<(), AllocError>
+        ensures kept { OnOk result (take (length list.old.items) list.new.items ≡ list.old.items) }
+        ensures copied { OnOk result (AllZip alike items.now (drop (length list.old.items) list.new.items)) }
+        ensures succeeds { length list.old.items + length items.now ≤ vec_capacity list.old → All is_infallible items.now → IsOk result }
+    {
+        list.reserve(items.len())?;
+        for item in items {
+            list.push_reserved(self.copy(item)?);
+        }
+        Ok(())
+    }
 }

@@ -47,7 +47,8 @@ pub(crate) fn gallop<K, L: Side<K>, C: Compare<K>>(side: &L, key: &K, cmp: &mut 
     requires made { C.count cmp.old + 2 ^ 66 < 2 ^ 128 }
     ensures bracket { IsBracket C.order (L.items side.now) key.now result.len result.len }
     ensures next { StandsAt C.order (L.items side.now) key.now result.len result.next }
-    ensures comparisons { AddsAtMost (C.count cmp.old) (C.count cmp.new) (2 * digits result.len - 1) }
+    ensures comparisons { AddsAtMost (C.count cmp.old) (C.count cmp.new)
+        (2 * digits result.len - 1) }
 {
     if side.len() < 2 {
         return Front { len: 1, next: None };
@@ -104,7 +105,8 @@ fn halved<K, L: Side<K>, C: Compare<K>>(side: &L, key: &K, window: Window, cmp: 
     ensures bracket { IsBracket C.order (L.items side.now) key.now result.len result.len }
     ensures next { StandsAt C.order (L.items side.now) key.now result.len result.next }
     ensures onward { window.low ≤ result.len }
-    ensures comparisons { AddsAtMost (C.count cmp.old) (C.count cmp.new) (digits (window.high - window.low)) }
+    ensures comparisons { AddsAtMost (C.count cmp.old) (C.count cmp.new)
+        (digits (window.high - window.low)) }
 {
     let Window {
         mut low,

@@ -33,7 +33,8 @@ pub(crate) fn prepared_copies<K: MadeWith<Global> + Drop, P: Copier<K>, const N:
     ensures items { list.new.items ≡ list.old.items }
     ensures room { OnOk result (HasRoomFor list.new (length items.now)) }
     ensures copies { IfOk result (λ made. AllZip P.alike items.now (reverse made.items)) }
-    ensures succeeds { length list.old.items + length items.now ≤ N → All P.is_infallible items.now → IsOk result }
+    ensures succeeds { length list.old.items + length items.now ≤ N →
+        All P.is_infallible items.now → IsOk result }
 {
     prepared(list, items.len())?;
     reversed_copies(*list.allocator(), items, copier)
@@ -48,8 +49,26 @@ fn reversed_copies<K: MadeWith<Global> + Drop, P: Copier<K>, const N: usize>(
     ensures copies { IfOk result (λ made. AllZip P.alike items.now (reverse made.items)) }
     ensures succeeds { length items.now ≤ N → All P.is_infallible items.now → IsOk result }
 {
-    let mut copies = SmallVec::new(alloc);
-    append_copies(&mut copies, items, true, copier)?;
+    let mut copies = copies(alloc, items, copier)?;
     turn_round(&mut copies);
     Ok(copies)
+}
+
+// A copy of each item. It asks for room once.
+fn copies<K: MadeWith<Global> + Drop, P: Copier<K>, const N: usize>(
+    alloc: Global,
+    items: &[K],
+    copier: &P,
+) -> Result<SmallVec<K, N>, AllocError>
+    ensures copies { IfOk result (λ made. AllZip P.alike items.now made.items) }
+    ensures succeeds { length items.now ≤ N → All P.is_infallible items.now → IsOk result }
+{
+    if items.len() <= N {
+        let mut list = SmallVec::new(alloc);
+        append_copies(&mut list, items, true, copier)?;
+        return Ok(list);
+    }
+    let mut list = Vec::with_capacity(alloc, items.len())?;
+    copier.append(&mut list, items)?;
+    Ok(SmallVec::from_vec(list))
 }

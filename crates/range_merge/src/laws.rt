@@ -17,8 +17,10 @@ use std::default::MadeWith;
 
 /// The owners of two strictly sorted lists are pinned: they ascend, with both lists' items among them, and no other list does so.
 pub fn owners_are_pinned<K, C: Compare<K>>()
-    ensures pinned { (a b : List K) → IsAscending C.order a → IsAscending C.order b → IsOwners C.order a b (owners C.order a b) }
-    ensures unique { (a b : List K) (os : List (Owner K)) → IsOwners C.order a b os → os ≡ owners C.order a b }
+    ensures pinned { (a b : List K) →
+        IsAscending C.order a → IsAscending C.order b → IsOwners C.order a b (owners C.order a b) }
+    ensures unique { (a b : List K) (os : List (Owner K)) →
+        IsOwners C.order a b os → os ≡ owners C.order a b }
 {}
 
 /// The binary digits of a number are no more than it, and the weight of two lists is no more than their lengths together.
@@ -29,22 +31,26 @@ pub fn weight_is_at_most_the_lengths<K, C: Compare<K>>()
 
 /// The items at which a connective changes mean that connective, where it is off while both sides are.
 pub fn changes_mean_the_connective<K, C: Compare<K>>()
-    ensures means { (f : Table) (a b : List K) → f false false ≡ false → IsAscending C.order a → IsAscending C.order b →
+    ensures means { (f : Table) (a b : List K) →
+        f false false ≡ false → IsAscending C.order a → IsAscending C.order b →
         Means C.order f (taken_items (changes C.order f a b)) a b }
 {}
 
 /// The items at which a connective changes mean its opposite, where it is on while both sides are off.
 pub fn changes_mean_the_opposite<K, C: Compare<K>>()
-    ensures means { (f : Table) (a b : List K) → f false false ≡ true → IsAscending C.order a → IsAscending C.order b →
+    ensures means { (f : Table) (a b : List K) →
+        f false false ≡ true → IsAscending C.order a → IsAscending C.order b →
         Means C.order (opposite f) (taken_items (changes C.order f a b)) a b }
 {}
 
 /// The four operations are the connectives of their rows: the answers where neither side is on, the left alone, the right alone, and both.
 pub fn operations_are_connectives()
     ensures union { (a b : Bool) → union_table a b ≡ table_of false true true true a b }
-    ensures intersection { (a b : Bool) → intersection_table a b ≡ table_of false false false true a b }
+    ensures intersection { (a b : Bool) →
+        intersection_table a b ≡ table_of false false false true a b }
     ensures difference { (a b : Bool) → difference_table a b ≡ table_of false true false false a b }
-    ensures symmetric_difference { (a b : Bool) → symmetric_difference_table a b ≡ table_of false true true false a b }
+    ensures symmetric_difference { (a b : Bool) →
+        symmetric_difference_table a b ≡ table_of false true true false a b }
 {}
 
 /// Each change is marked by the list that it comes from: it is an item of the left list, or one of the right list that equals none of the left's.
@@ -56,12 +62,14 @@ pub fn changes_are_marked_truly<K, C: Compare<K>>()
 /// A list that began with some items has these in front still, and behind them the copies of what was taken since.
 pub fn copies_stand_behind_what_was_there<K, P: Copier<K>>()
     ensures behind { (r : List K) (ts : List (Taken K)) (items : List K) →
-        AreKeptThenCopies P.alike (length r) (map from_left r ++ ts) items → IsAppended P.alike (taken_items ts) r items }
+        AreKeptThenCopies P.alike (length r) (map from_left r ++ ts) items →
+        IsAppended P.alike (taken_items ts) r items }
 {}
 
 /// The items at which a connective changes are no more than both lists have together.
 pub fn changes_are_at_most_the_lengths<K, C: Compare<K>>()
-    ensures at_most { (f : Table) (a b : List K) → length (changes C.order f a b) ≤ length a + length b }
+    ensures at_most { (f : Table) (a b : List K) →
+        length (changes C.order f a b) ≤ length a + length b }
 {}
 
 /// The state that only tests is stopped by what it takes. Those that count, that fill a list, and that change one in place are not.
@@ -74,5 +82,6 @@ pub fn the_test_alone_stops<
     ensures count { ⟦<CountMergeState<'static, K> as MergeStateMut>⟧.can_stop ≡ false }
     ensures list { ⟦<SmallVecMergeState<'static, K, P, N> as MergeStateMut>⟧.can_stop ≡ false }
     ensures in_place { ⟦<InPlaceMergeState<K, N> as MergeStateMut>⟧.can_stop ≡ false }
-    ensures in_place_ref { ⟦<InPlaceMergeStateRef<'static, K, P, N> as MergeStateMut>⟧.can_stop ≡ false }
+    ensures in_place_ref { ⟦<InPlaceMergeStateRef<'static, K, P, N> as MergeStateMut>⟧.can_stop
+        ≡ false }
 {}

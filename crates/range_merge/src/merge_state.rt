@@ -15,6 +15,7 @@ mod placing;
 mod right_side;
 mod sink;
 mod small_vec;
+mod vec;
 
 pub use bool_op::BoolOpMergeState;
 pub use buffer::{Buffer, BufferMergeState, NoRoom};

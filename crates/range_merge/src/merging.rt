@@ -33,13 +33,16 @@ pub fn merge<S: MergeStateMut, O: MergeOperation, C: Compare<S::Item>>(
     requires left_off { S.left_on state.old ≡ false }
     requires right_off { S.right_on state.old ≡ false }
     requires made { C.count cmp.old < 2 ^ 64 }
-    ensures used_up { IfOk result (λ more. more ≡ true → (S.left state.new ≡ []) × (S.right state.new ≡ [])) }
-    ensures taken { IfOk result (λ more. more ≡ true → (before : List (Taken S.Item)) → S.output state.old before
-        → S.output state.new (before ++ changes C.order (O.connective op.now) (S.left state.old) (S.right state.old))) }
+    ensures used_up { IfOk result (λ more.
+        more ≡ true → (S.left state.new ≡ []) × (S.right state.new ≡ [])) }
+    ensures taken { IfOk result (λ more. more ≡ true → (before : List (Taken S.Item)) →
+        S.output state.old before → S.output state.new (before ++
+        changes C.order (O.connective op.now) (S.left state.old) (S.right state.old))) }
 
     // Only a state that can stop does, and it stops exactly where something is taken: with a front of the changes, one or more, all of the run in which the first one lies.
     ensures stopped { IfOk result (λ more. more ≡ false → (S.can_stop ≡ true)
-        × StopsAmong (owners C.order (S.left state.old) (S.right state.old)) (S.output state.old) (S.output state.new)
+        × StopsAmong (owners C.order (S.left state.old) (S.right state.old))
+        (S.output state.old) (S.output state.new)
         (changes C.order (O.connective op.now) (S.left state.old) (S.right state.old))) }
     ensures not_stopped { S.can_stop ≡ true → IfOk result (λ more. more ≡ true
         → changes C.order (O.connective op.now) (S.left state.old) (S.right state.old) ≡ []) }
@@ -49,7 +52,8 @@ pub fn merge<S: MergeStateMut, O: MergeOperation, C: Compare<S::Item>>(
     ensures succeeds { S.infallible state.old → IsOk result }
     ensures still_infallible { S.infallible state.old → OnOk result (S.infallible state.new) }
 
-    ensures comparisons { AddsAtMost (C.count cmp.old) (C.count cmp.new) (2 * weight C.order (S.left state.old) (S.right state.old)) }
+    ensures comparisons { AddsAtMost (C.count cmp.old) (C.count cmp.new)
+        (2 * weight C.order (S.left state.old) (S.right state.old)) }
 {
     // Brings that both lengths are within usize.
     let _lengths = (state.a_len(), state.b_len());
@@ -76,7 +80,9 @@ pub fn merge<S: MergeStateMut, O: MergeOperation, C: Compare<S::Item>>(
 #[inline(always)]
 fn stops_at_first<S: MergeStateMut, O: MergeOperation>(state: &S, op: &O, how: Ordering) -> bool
     ensures can_stop { IsTrue result → S.can_stop ≡ true }
-    ensures taken { IsTrue result → takes (O.connective op.now) (S.left_on state.now) (S.right_on state.now) (one_of_run how) ≡ true }
+    ensures taken { IsTrue result →
+        takes (O.connective op.now) (S.left_on state.now) (S.right_on state.now) (one_of_run how)
+        ≡ true }
 {
     state.stops()
         && match how {
@@ -102,9 +108,11 @@ fn one_of(how: Ordering) -> Run
 #[inline(always)]
 fn last_run<S: MergeState>(state: &S) -> Option<Run>
     requires used_up { 1 ≤ length (S.left state.now) → length (S.right state.now) ≡ 0 }
-    ensures first { (order : S.Item → S.Item → TheOrdering) → IsTotalOrder order → IsAscending order (S.left state.now) → IsAscending order (S.right state.now)
+    ensures first { (order : S.Item → S.Item → TheOrdering) → IsTotalOrder order →
+        IsAscending order (S.left state.now) → IsAscending order (S.right state.now)
         → slice_get (runs order (S.left state.now) (S.right state.now)) 0 ≡ result }
-    ensures all { IfSome result (λ run. (left_after run (S.left state.now) ≡ []) × (right_after run (S.right state.now) ≡ [])) }
+    ensures all { IfSome result (λ run.
+        (left_after run (S.left state.now) ≡ []) × (right_after run (S.right state.now) ≡ [])) }
 {
     match (state.a_len(), state.b_len()) {
         (0, 0) => None,
@@ -121,14 +129,19 @@ fn take_run<S: MergeStateMut, O: MergeOperation>(
     run: Run,
 ) -> Result<bool, AllocError>
     requires { RunFits run (S.left state.old) (S.right state.old) }
-    ensures goes_on { IfOk result (λ more.
-        more ≡ not (S.can_stop && takes (O.connective op.now) (S.left_on state.old) (S.right_on state.old) run)) }
-    ensures left { IfOk result (λ more. more ≡ true → S.left state.new ≡ left_after run (S.left state.old)) }
-    ensures right { IfOk result (λ more. more ≡ true → S.right state.new ≡ right_after run (S.right state.old)) }
+    ensures goes_on { IfOk result (λ more. more ≡ not (S.can_stop
+        && takes (O.connective op.now) (S.left_on state.old) (S.right_on state.old) run)) }
+    ensures left { IfOk result (λ more.
+        more ≡ true → S.left state.new ≡ left_after run (S.left state.old)) }
+    ensures right { IfOk result (λ more.
+        more ≡ true → S.right state.new ≡ right_after run (S.right state.old)) }
     ensures left_on { OnOk result (S.left_on state.new ≡ left_on_after run (S.left_on state.old)) }
-    ensures right_on { OnOk result (S.right_on state.new ≡ right_on_after run (S.right_on state.old)) }
-    ensures output { OnOk result ((before : List (Taken S.Item)) → S.output state.old before → S.output state.new
-        (before ++ taken_of_run (takes (O.connective op.now) (S.left_on state.old) (S.right_on state.old) run) run (S.left state.old) (S.right state.old))) }
+    ensures right_on { OnOk result
+        (S.right_on state.new ≡ right_on_after run (S.right_on state.old)) }
+    ensures output { OnOk result ((before : List (Taken S.Item)) →
+        S.output state.old before → S.output state.new (before ++ taken_of_run
+        (takes (O.connective op.now) (S.left_on state.old) (S.right_on state.old) run)
+        run (S.left state.old) (S.right state.old))) }
     ensures began { S.began state.new ≡ S.began state.old }
     ensures succeeds { S.infallible state.old → IsOk result }
     ensures still_infallible { S.infallible state.old → OnOk result (S.infallible state.new) }

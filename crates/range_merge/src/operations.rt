@@ -17,7 +17,8 @@ pub trait MergeOperation {
 
     /// Whether the answer changes where both sides do, which stood as `ac` and `bc` say.
     fn takes_both(&self, ac: bool, bc: bool) -> bool
-        ensures { result ≡ differ (connective self.now ac bc) (connective self.now (not ac) (not bc)) };
+        ensures { result ≡
+            differ (connective self.now ac bc) (connective self.now (not ac) (not bc)) };
 
     /// The answer where both sides are off.
     fn when_off(&self) -> bool
@@ -173,7 +174,8 @@ impl Connective {
     // The answer where the sides are as `ac` and `bc` say.
     #[inline(always)]
     fn answer(&self, ac: bool, bc: bool) -> bool
-        ensures { result ≡ table_of self.now.neither self.now.left self.now.right self.now.both ac bc }
+        ensures { result ≡
+            table_of self.now.neither self.now.left self.now.right self.now.both ac bc }
     {
         match (ac, bc) {
             (false, false) => self.neither,

@@ -25,7 +25,8 @@ pub trait Place<K>: Drop {
     fn move_down(&mut self, to: usize, from: usize, n: usize)
         requires ordered { to ≤ from }
         requires within { from + n ≤ length (items self.old) }
-        ensures front { take (to + n) (items self.new) ≡ take to (items self.old) ++ take n (drop from (items self.old)) }
+        ensures front { take (to + n) (items self.new) ≡
+            take to (items self.old) ++ take n (drop from (items self.old)) }
         ensures behind { drop (from + n) (items self.new) ≡ drop (from + n) (items self.old) }
         ensures len { length (items self.new) ≡ length (items self.old) }
         ensures room { room self.new ≡ room self.old };
@@ -163,6 +164,25 @@ fn swap_down<K>(items: &mut [K], to: usize, from: usize, n: usize)
     if to == from {
         return;
     }
+    if n < MANY {
+        swap_few_down(items, to, from, n);
+    } else {
+        swap_many_down(items, to, from, n);
+    }
+}
+
+// So many items are moved all at once, which costs more than it saves for a few.
+const MANY: usize = 8;
+
+// Moves items down one by one.
+#[inline(always)]
+fn swap_few_down<K>(items: &mut [K], to: usize, from: usize, n: usize)
+    requires apart { to < from }
+    requires within { from + n ≤ length items.old }
+    ensures front { take (to + n) items.new ≡ take to items.old ++ take n (drop from items.old) }
+    ensures behind { drop (from + n) items.new ≡ drop (from + n) items.old }
+    ensures len { length items.new ≡ length items.old }
+{
     // Brings that the length is within usize.
     let _len = items.len();
     for i in 0..n {
@@ -170,19 +190,44 @@ fn swap_down<K>(items: &mut [K], to: usize, from: usize, n: usize)
     }
 }
 
-// Moves the last items up, those from `at` on, by `by` places, the last one first. What they replace comes to lie in front of them.
+// Moves items down all at once.
+#[inline(never)]
+fn swap_many_down<K>(items: &mut [K], to: usize, from: usize, n: usize)
+    requires apart { to < from }
+    requires within { from + n ≤ length items.old }
+    ensures front { take (to + n) items.new ≡ take to items.old ++ take n (drop from items.old) }
+    ensures behind { drop (from + n) items.new ≡ drop (from + n) items.old }
+    ensures len { length items.new ≡ length items.old }
+{
+    // Brings that the length is within usize.
+    let _len = items.len();
+    last_to_front(&mut items[to..from + n], n);
+}
+
+// Moves the last `n` items to the front: they change places with what stands there, or all are turned where they are more than what stands before them.
+fn last_to_front<K>(items: &mut [K], n: usize)
+    requires { n ≤ length items.old }
+    ensures front { take n items.new ≡ drop (length items.old - n) items.old }
+    ensures len { length items.new ≡ length items.old }
+{
+    let before = items.len() - n;
+    if n <= before {
+        let (front, last) = items.split_at_mut(before);
+        front[..n].swap_with_slice(last);
+    } else {
+        items.rotate_left(before);
+    }
+}
+
+// Moves the last items up, those from `at` on, by `by` places. What they replace comes to lie in front of them.
 fn swap_up<K>(items: &mut [K], at: usize, by: usize)
-    requires some { 0 < by }
-    requires within { at + by ≤ length items.old }
+    requires { at + by ≤ length items.old }
     ensures front { take at items.new ≡ take at items.old }
     ensures behind { drop (at + by) items.new ≡ drop at (take (length items.old - by) items.old) }
     ensures len { length items.new ≡ length items.old }
 {
-    let waiting = items.len() - by - at;
-    for i in 0..waiting {
-        let last = at + (waiting - 1 - i);
-        items.swap(last, last + by);
-    }
+    let (_front, behind) = items.split_at_mut(at);
+    behind.rotate_right(by);
 }
 
 // Appends `n` blank items where there is room.

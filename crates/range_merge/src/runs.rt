@@ -68,8 +68,10 @@ pub fn run_length<S: MergeState, C: Compare<S::Item>>(state: &S, cmp: &mut C) ->
     requires left_ascending { IsAscending C.order (S.left state.now) }
     requires right_ascending { IsAscending C.order (S.right state.now) }
     requires made { C.count cmp.old < 2 ^ 127 }
-    ensures first { slice_get (runs C.order (S.left state.now) (S.right state.now)) 0 ≡ Some result }
-    ensures comparisons { AddsAtMost (C.count cmp.old) (C.count cmp.new) (2 * digits (run_len result)) }
+    ensures first { slice_get (runs C.order (S.left state.now) (S.right state.now)) 0 ≡
+        Some result }
+    ensures comparisons { AddsAtMost (C.count cmp.old) (C.count cmp.new)
+        (2 * digits (run_len result)) }
 {
     let a = state.a_at(0);
     let b = state.b_at(0);
@@ -99,8 +101,10 @@ pub(crate) fn first_run<S: MergeState, C: Compare<S::Item>>(
     requires left_ascending { IsAscending C.order (S.left state.now) }
     requires right_ascending { IsAscending C.order (S.right state.now) }
     requires made { C.count cmp.old < 2 ^ 127 }
-    ensures first { slice_get (runs C.order (S.left state.now) (S.right state.now)) 0 ≡ Some result.run }
-    ensures behind { FirstsStand C.order (left_after result.run (S.left state.now)) (right_after result.run (S.right state.now)) result.behind }
+    ensures first { slice_get (runs C.order (S.left state.now) (S.right state.now)) 0 ≡
+        Some result.run }
+    ensures behind { FirstsStand C.order (left_after result.run (S.left state.now))
+        (right_after result.run (S.right state.now)) result.behind }
     ensures counted { C.count cmp.old ≤ C.count cmp.new }
     ensures comparisons { C.count cmp.new + 1 ≤ C.count cmp.old + 2 * digits (run_len result.run) }
 {
@@ -134,7 +138,8 @@ pub(crate) fn order_at<S: MergeState, C: Compare<S::Item>>(
     cmp: &mut C,
 ) -> Option<Ordering>
     requires made { C.count cmp.old < 2 ^ 127 }
-    ensures firsts { FirstsStand C.order (drop i (S.left state.now)) (drop i (S.right state.now)) result }
+    ensures firsts { FirstsStand C.order (drop i (S.left state.now)) (drop i (S.right state.now))
+        result }
     ensures comparisons { C.count cmp.new ≡ C.count cmp.old + ahead_of result }
 {
     if i < state.a_len() && i < state.b_len() {

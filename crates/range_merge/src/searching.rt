@@ -18,9 +18,12 @@ pub fn search<K, C: Compare<K>>(items: &[K], key: &K, cmp: &mut C) -> Result<usi
     ensures found_within { IfOk result (λ i. i < length items.now) }
     ensures found { IfOk result (HoldsAt (λ y. C.order y key.now ≡ Equal) items.now) }
     ensures missing_within { IfErr result (λ i. i ≤ length items.now) }
-    ensures missing_before { IfErr result (λ i. AllWithin (λ y. C.order y key.now ≡ Less) items.now 0 i) }
-    ensures missing_from { IfErr result (λ i. AllWithin (λ y. C.order y key.now ≡ Greater) items.now i (length items.now)) }
-    ensures comparisons { AddsAtMost (C.count cmp.old) (C.count cmp.new) (digits (length items.now)) }
+    ensures missing_before { IfErr result (λ i.
+        AllWithin (λ y. C.order y key.now ≡ Less) items.now 0 i) }
+    ensures missing_from { IfErr result (λ i.
+        AllWithin (λ y. C.order y key.now ≡ Greater) items.now i (length items.now)) }
+    ensures comparisons { AddsAtMost (C.count cmp.old) (C.count cmp.new)
+        (digits (length items.now)) }
 {
     let mut low = 0;
     let mut high = items.len();

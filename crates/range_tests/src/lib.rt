@@ -52,6 +52,8 @@ mod in_place;
 #[cfg(test)]
 mod insertions;
 #[cfg(test)]
+mod insertions_by_number;
+#[cfg(test)]
 mod json;
 #[cfg(test)]
 mod lengths;

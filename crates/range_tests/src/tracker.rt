@@ -1,6 +1,6 @@
 //! A tracker of offsets: worked rows, and made-up commands against a bitmap of 256 offsets.
 use crate::given::prints;
-use crate::insertions::{Bitmap, changed, changes_of};
+use crate::insertions_by_number::{Bitmap, changed, changes_of};
 use crate::made_up::Generator;
 use range_collections::RangeSetRange;
 use range_tracker::{Command, TrackError, Tracker};

@@ -33,8 +33,10 @@ pub data Answer : Type 0 where
 -- what may be answered where these offsets are there
 abbrev pub MayBeAnswered : ℕ → Offsets → Option Request → Answer → Type 0
 MayBeAnswered limit had (Some (Do command)) (replied reply) = MayAnswer limit had command reply
-MayBeAnswered limit had (Some (Has range)) (truth b) = IsTrue b ↔ ((n : ℕ) → is_within range n ≡ true → had n ≡ true)
-MayBeAnswered limit had (Some (Missing len)) (list items) = IsListOf items (λ n. nat_lt n len && not (had n))
+MayBeAnswered limit had (Some (Has range)) (truth b) =
+    IsTrue b ↔ ((n : ℕ) → is_within range n ≡ true → had n ≡ true)
+MayBeAnswered limit had (Some (Missing len)) (list items) =
+    IsListOf items (λ n. nat_lt n len && not (had n))
 MayBeAnswered limit had (Some (Missing len)) no_memory = HasBoundaries had 0 → ⊥
 MayBeAnswered limit had (Some Ranges) (ranges items) = IsListOf items had
 MayBeAnswered limit had None bad_line = Unit {0}
@@ -51,7 +53,8 @@ AreAnswers limit had [] [] = Unit {0}
 AreAnswers limit had [] (answer ∷ answers) = ⊥
 AreAnswers limit had (request ∷ requests) [] = ⊥
 AreAnswers limit had (request ∷ requests) (answer ∷ answers) =
-    MayBeAnswered limit had request answer × AreAnswers limit (after_answer request answer had) requests answers
+    MayBeAnswered limit had request answer
+    × AreAnswers limit (after_answer request answer had) requests answers
 
 -- the reply to a command
 abbrev pub reply_text : Reply → List ℕ
@@ -87,7 +90,8 @@ abbrev pub answers_text : List Answer → List ℕ
 answers_text answers = flat_map (λ answer. answer_text answer ++ 10 ∷ []) answers
 
 -- a request was answered: with one that it may have, which stands with its newline behind what was written before
-pub record IsAnswered (limit : ℕ) (old new : Offsets) (request : Option Request) (before after : Option (List ℕ)) : Type 0 where
+pub record IsAnswered (limit : ℕ) (old new : Offsets) (request : Option Request)
+    (before after : Option (List ℕ)) : Type 0 where
   pub answer : Answer
   pub may : MayBeAnswered limit old request answer
   pub offsets : (n : ℕ) → new n ≡ after_answer request answer old n

@@ -22,5 +22,6 @@ IsLine line = All (λ b. b ≢ 10) line
 -- the first line of the text was read, with its newline or up to the end of the text, and its first 65 bytes are kept
 abbrev pub IsLineRead : List ℕ → List ℕ → Ending → Option (List ℕ) → Type 0
 IsLineRead text kept Newline None = ⊥
-IsLineRead text kept Newline (Some rest) = (line : List ℕ) × IsLine line × (text ≡ line ++ 10 ∷ rest) × (kept ≡ take 65 line)
+IsLineRead text kept Newline (Some rest) =
+    (line : List ℕ) × IsLine line × (text ≡ line ++ 10 ∷ rest) × (kept ≡ take 65 line)
 IsLineRead text kept Input rest = IsLine text × (kept ≡ take 65 text)

@@ -20,7 +20,9 @@ is_numeral word = nat_le 1 (length word) && nat_le (length word) 20 && all_ascii
 
 -- the number that the word writes, if it is a numeral within u64
 unfoldable pub number_of : List ℕ → Option ℕ
-number_of word = if is_numeral word && nat_lt (digits_value 10 word) (2 ^ 64) then Some (digits_value 10 word) else None
+number_of word =
+    if is_numeral word && nat_lt (digits_value 10 word) (2 ^ 64)
+    then Some (digits_value 10 word) else None
 
 -- the parts of the line between its blanks
 abbrev pub words_of : List ℕ → List (List ℕ)
@@ -41,13 +43,16 @@ asked_of_range word range =
 
 -- the range from one number to another, if both words write one
 abbrev pub range_of : List ℕ → List ℕ → Option (Range ℕ)
-range_of a b = option_and_then (λ start. option_map (λ end. record { start = start; end = end }) (number_of b)) (number_of a)
+range_of a b =
+    option_and_then (λ start. option_map (λ end. record { start = start; end = end }) (number_of b))
+    (number_of a)
 
 -- what the words ask, if they ask something: `ranges`, `missing N`, and `+`, `-` or `?` with two numbers
 unfoldable pub asked_by : List (List ℕ) → Option Request
 asked_by [] = None
 asked_by (word ∷ []) = if bytes_eq word (codes "ranges") then Some Ranges else None
-asked_by (word ∷ n ∷ []) = if bytes_eq word (codes "missing") then option_map Missing (number_of n) else None
+asked_by (word ∷ n ∷ []) =
+    if bytes_eq word (codes "missing") then option_map Missing (number_of n) else None
 asked_by (word ∷ a ∷ b ∷ []) = option_and_then (asked_of_range word) (range_of a b)
 asked_by (word ∷ a ∷ b ∷ c ∷ more) = None
 

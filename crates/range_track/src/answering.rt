@@ -1,6 +1,6 @@
 //! The answer to a line.
 ghost use Rattle.std.specs.Prelude.{◌≡◌, ℕ, OnOk, OnErr};
-ghost use Rattle.range_tracker.specs.Offsets.{offsets_of};
+ghost use Rattle.range_tracker.specs.Tracked.{recorded};
 ghost use Rattle.range_tracker.specs.Commands.{MayAnswer, after_command};
 ghost use Rattle.range_track.specs.Answers.{IsAnswered};
 ghost use Rattle.range_track.specs.Requests.{request_of};
@@ -12,8 +12,8 @@ use std::io::{self, Write};
 
 /// Answers the line with one line, and flushes it.
 pub fn answer<W: Write>(tracker: &mut Tracker, line: &[u8], out: &mut W) -> io::Result<()>
-    ensures answered { OnOk result (IsAnswered tracker.old.limit (offsets_of tracker.old.boundaries) (offsets_of tracker.new.boundaries)
-        (request_of line.now) (W.contents out.old) (W.contents out.new)) }
+    ensures answered { OnOk result (IsAnswered tracker.old.limit (recorded tracker.old)
+        (recorded tracker.new) (request_of line.now) (W.contents out.old) (W.contents out.new)) }
     ensures limit { tracker.new.limit ≡ tracker.old.limit }
 {
     write_answer(tracker, line, out)?;
@@ -22,8 +22,8 @@ pub fn answer<W: Write>(tracker: &mut Tracker, line: &[u8], out: &mut W) -> io::
 
 /// Writes the answer to the line.
 fn write_answer<W: Write>(tracker: &mut Tracker, line: &[u8], out: &mut W) -> io::Result<()>
-    ensures answered { OnOk result (IsAnswered tracker.old.limit (offsets_of tracker.old.boundaries) (offsets_of tracker.new.boundaries)
-        (request_of line.now) (W.contents out.old) (W.contents out.new)) }
+    ensures answered { OnOk result (IsAnswered tracker.old.limit (recorded tracker.old)
+        (recorded tracker.new) (request_of line.now) (W.contents out.old) (W.contents out.new)) }
     ensures limit { tracker.new.limit ≡ tracker.old.limit }
 {
     match Request::of(line) {
@@ -37,8 +37,9 @@ fn write_answer<W: Write>(tracker: &mut Tracker, line: &[u8], out: &mut W) -> io
 
 /// Does the command, and answers it.
 fn reply_to(tracker: &mut Tracker, command: Command) -> Result<(), TrackError>
-    ensures answer { MayAnswer tracker.old.limit (offsets_of tracker.old.boundaries) command result }
-    ensures ok { OnOk result ((n : ℕ) → offsets_of tracker.new.boundaries n ≡ after_command command (offsets_of tracker.old.boundaries) n) }
+    ensures answer { MayAnswer tracker.old.limit (recorded tracker.old) command result }
+    ensures ok { OnOk result ((n : ℕ) →
+        recorded tracker.new n ≡ after_command command (recorded tracker.old) n) }
     ensures unchanged { OnErr result (tracker.new ≡ tracker.old) }
     ensures limit { tracker.new.limit ≡ tracker.old.limit }
 {
@@ -50,8 +51,9 @@ fn reply_to(tracker: &mut Tracker, command: Command) -> Result<(), TrackError>
 
 /// Writes the offsets below the length that aren't there.
 fn write_missing<W: Write>(out: &mut W, tracker: &Tracker, len: u64) -> io::Result<()>
-    ensures { OnOk result (IsAnswered tracker.now.limit (offsets_of tracker.now.boundaries) (offsets_of tracker.now.boundaries)
-        (Some (Request.Missing len)) (W.contents out.old) (W.contents out.new)) }
+    ensures { OnOk result (IsAnswered tracker.now.limit (recorded tracker.now)
+        (recorded tracker.now) (Some (Request.Missing len))
+        (W.contents out.old) (W.contents out.new)) }
 {
     match tracker.missing(len) {
         Ok(missing) => write_list(out, missing.boundaries()),

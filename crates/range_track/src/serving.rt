@@ -1,7 +1,7 @@
 //! The lines of an input, answered one after another.
 ghost use Rattle.std.specs.Prelude.{◌≤◌, ◌-◌, List, map, false, OnOk, IfSome};
 ghost use Rattle.std.specs.Io.KnownBytes.{Appends};
-ghost use Rattle.range_tracker.specs.Offsets.{offsets_of};
+ghost use Rattle.range_tracker.specs.Tracked.{recorded};
 ghost use Rattle.range_track.specs.Answers.{Answer, AreAnswers, answers_text};
 ghost use Rattle.range_track.specs.Lines.{IsLine, lines_of};
 ghost use Rattle.range_track.specs.Requests.{request_of};
@@ -43,7 +43,8 @@ pub fn serve<R: Read + Drop, W: Write>(
 /// Answers what stands behind the last newline, if that isn't empty.
 fn answer_last<W: Write>(tracker: &mut Tracker, line: &[u8], out: &mut W) -> io::Result<()>
     requires { IsLine line.now }
-    ensures { OnOk result ((answers : List Answer) × AreAnswers tracker.old.limit (offsets_of tracker.old.boundaries) (map request_of (lines_of line.now)) answers ×
+    ensures { OnOk result ((answers : List Answer) × AreAnswers tracker.old.limit
+        (recorded tracker.old) (map request_of (lines_of line.now)) answers ×
         Appends (W.contents out.old) (W.contents out.new) (answers_text answers)) }
 {
     if line.is_empty() {

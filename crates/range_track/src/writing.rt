@@ -11,7 +11,8 @@ use std::io::{self, Write};
 
 /// The reply to a command.
 pub fn write_reply<W: Write>(out: &mut W, reply: Result<(), TrackError>) -> io::Result<()>
-    ensures { OnOk result (Appends (W.contents out.old) (W.contents out.new) (reply_text reply ++ 10 ∷ [])) }
+    ensures { OnOk result (Appends (W.contents out.old) (W.contents out.new)
+        (reply_text reply ++ 10 ∷ [])) }
 {
     match reply {
         Ok(()) => out.write_all(b"ok\n"),
@@ -22,7 +23,8 @@ pub fn write_reply<W: Write>(out: &mut W, reply: Result<(), TrackError>) -> io::
 
 /// `true` or `false`.
 pub fn write_truth<W: Write>(out: &mut W, truth: bool) -> io::Result<()>
-    ensures { OnOk result (Appends (W.contents out.old) (W.contents out.new) (truth_text truth ++ 10 ∷ [])) }
+    ensures { OnOk result (Appends (W.contents out.old) (W.contents out.new)
+        (truth_text truth ++ 10 ∷ [])) }
 {
     if truth {
         out.write_all(b"true\n")
@@ -33,7 +35,8 @@ pub fn write_truth<W: Write>(out: &mut W, truth: bool) -> io::Result<()>
 
 /// A list of boundaries as one word.
 pub fn write_list<W: Write>(out: &mut W, items: &[u64]) -> io::Result<()>
-    ensures { OnOk result (Appends (W.contents out.old) (W.contents out.new) (list_text items.now ++ 10 ∷ [])) }
+    ensures { OnOk result (Appends (W.contents out.old) (W.contents out.new)
+        (list_text items.now ++ 10 ∷ [])) }
 {
     let Some((first, rest)) = items.split_first() else {
         return out.write_all(b"-\n");
@@ -47,7 +50,8 @@ pub fn write_list<W: Write>(out: &mut W, items: &[u64]) -> io::Result<()>
 
 /// The ranges of a list of boundaries.
 pub fn write_ranges<W: Write>(out: &mut W, mut ranges: Iter<'_, u64>) -> io::Result<()>
-    ensures { OnOk result (Appends (W.contents out.old) (W.contents out.new) (ranges_line ranges.entry ++ 10 ∷ [])) }
+    ensures { OnOk result (Appends (W.contents out.old) (W.contents out.new)
+        (ranges_line ranges.entry ++ 10 ∷ [])) }
 {
     let Some(first) = ranges.next() else {
         return out.write_all(b"-\n");
@@ -62,7 +66,8 @@ pub fn write_ranges<W: Write>(out: &mut W, mut ranges: Iter<'_, u64>) -> io::Res
 
 /// One range.
 fn write_range<W: Write>(out: &mut W, range: &RangeSetRange<&u64>) -> io::Result<()>
-    ensures { OnOk result (Appends (W.contents out.old) (W.contents out.new) (range_text decimal (range_now range.now))) }
+    ensures { OnOk result (Appends (W.contents out.old) (W.contents out.new)
+        (range_text decimal (range_now range.now))) }
 {
     match range {
         RangeSetRange::Range(range) => write!(out, "{}..{}", range.start, range.end),

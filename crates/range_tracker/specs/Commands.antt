@@ -23,9 +23,11 @@ after_command (Forget range) had = λ n. had n && not (is_within range n)
 -- what a command may be answered, where these offsets are there
 pub record MayAnswer (limit : ℕ) (had : Offsets) (command : Command) (reply : Reply) : Type 0 where
   -- too many, with their number, exactly where the list of boundaries after the command is longer than the limit
-  pub too_many : (n : ℕ) → (reply ≡ Err (TooMany n)) ↔ (HasBoundaries (after_command command had) n × (limit < n))
+  pub too_many : (n : ℕ) →
+      (reply ≡ Err (TooMany n)) ↔ (HasBoundaries (after_command command had) n × (limit < n))
   -- memory isn't wanting where that list is no longer than the one before
-  pub no_growth : (m n : ℕ) → HasBoundaries had m → HasBoundaries (after_command command had) n → n ≤ m → reply ≢ Err OutOfMemory
+  pub no_growth : (m n : ℕ) → HasBoundaries had m → HasBoundaries (after_command command had) n →
+      n ≤ m → reply ≢ Err OutOfMemory
   -- nor where nothing was there
   pub first : HasBoundaries had 0 → reply ≢ Err OutOfMemory
 
@@ -38,7 +40,8 @@ after_reply command (Err why) had = had
 abbrev pub after_replies : List Command → List Reply → Offsets → Offsets
 after_replies [] replies had = had
 after_replies (command ∷ commands) [] had = had
-after_replies (command ∷ commands) (reply ∷ replies) had = after_replies commands replies (after_reply command reply had)
+after_replies (command ∷ commands) (reply ∷ replies) had =
+    after_replies commands replies (after_reply command reply had)
 
 -- there is a reply for each command, and each is one that the command may be answered after the accepted ones before it
 abbrev pub AreReplies : ℕ → Offsets → List Command → List Reply → Type 0
@@ -46,4 +49,5 @@ AreReplies limit had [] [] = Unit {0}
 AreReplies limit had [] (reply ∷ replies) = ⊥
 AreReplies limit had (command ∷ commands) [] = ⊥
 AreReplies limit had (command ∷ commands) (reply ∷ replies) =
-    MayAnswer limit had command reply × AreReplies limit (after_reply command reply had) commands replies
+    MayAnswer limit had command reply
+    × AreReplies limit (after_reply command reply had) commands replies

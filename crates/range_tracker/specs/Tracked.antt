@@ -2,11 +2,16 @@
 use Rattle.std.specs.Prelude.{ℕ, ◌-◌, ◌^◌, ◌≤◌, List, length}
 use Rattle.std.specs.Ordering.{nat_cmp}
 use Rattle.range_merge.specs.Boundaries.{IsAscending}
+use Rattle.range_tracker.specs.Offsets.{Offsets, offsets_of}
 
 -- the strictly sorted boundaries of the offsets that are there, and how many boundaries there may be
 pub record Tracked : Type 0 where
   pub boundaries : List ℕ
   pub limit : ℕ
+
+-- the offsets that are there
+abbrev pub recorded : Tracked → Offsets
+recorded tracker = offsets_of tracker.boundaries
 
 -- the boundaries are strictly sorted and no more than the limit, and the limit leaves room for two more
 pub record IsWithinLimit (boundaries : List ℕ) (limit : ℕ) : Type 0 where

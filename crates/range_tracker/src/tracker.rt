@@ -7,8 +7,9 @@ ghost use Rattle.range_merge.specs.Boundaries.{IsAscending};
 ghost use Rattle.range_collections.specs.Covered.{covered_of};
 ghost use Rattle.range_merge.specs.Connective.{Means, difference_table};
 ghost use Rattle.range_collections.specs.Ranges.{range_items};
-ghost use Rattle.range_tracker.specs.Offsets.{IsListOf, HasBoundaries, offsets_of, is_within};
+ghost use Rattle.range_tracker.specs.Offsets.{IsListOf, HasBoundaries, is_within};
 ghost use Rattle.range_tracker.specs.Commands.{MayAnswer, AreReplies, after_command, after_replies};
+ghost use Rattle.range_tracker.specs.Tracked.{recorded};
 
 use crate::command::Command;
 use crate::track_error::TrackError;
@@ -58,8 +59,9 @@ impl Tracker {
     ///
     /// The answer is `TooMany` exactly where the list would have more boundaries than the limit; this is known before memory is asked for. Where the list doesn't grow, and where nothing was there, it isn't `OutOfMemory`. An error leaves the tracker as it was.
     pub fn record(&mut self, range: Range<u64>) -> Result<(), TrackError>
-        ensures answer { MayAnswer self.old.limit (offsets_of self.old.boundaries) (Command.Add range) result }
-        ensures ok { OnOk result ((n : ℕ) → offsets_of self.new.boundaries n ≡ after_command (Command.Add range) (offsets_of self.old.boundaries) n) }
+        ensures answer { MayAnswer self.old.limit (recorded self.old) (Command.Add range) result }
+        ensures ok { OnOk result ((n : ℕ) →
+            recorded self.new n ≡ after_command (Command.Add range) (recorded self.old) n) }
         ensures unchanged { OnErr result (self.new ≡ self.old) }
         ensures limit { self.new.limit ≡ self.old.limit }
     {
@@ -72,8 +74,10 @@ impl Tracker {
     ///
     /// The answer is `TooMany` exactly where the list would have more boundaries than the limit; this is known before memory is asked for. Where the list doesn't grow, and where nothing was there, it isn't `OutOfMemory`. An error leaves the tracker as it was.
     pub fn forget(&mut self, range: Range<u64>) -> Result<(), TrackError>
-        ensures answer { MayAnswer self.old.limit (offsets_of self.old.boundaries) (Command.Forget range) result }
-        ensures ok { OnOk result ((n : ℕ) → offsets_of self.new.boundaries n ≡ after_command (Command.Forget range) (offsets_of self.old.boundaries) n) }
+        ensures answer { MayAnswer self.old.limit (recorded self.old)
+            (Command.Forget range) result }
+        ensures ok { OnOk result ((n : ℕ) →
+            recorded self.new n ≡ after_command (Command.Forget range) (recorded self.old) n) }
         ensures unchanged { OnErr result (self.new ≡ self.old) }
         ensures limit { self.new.limit ≡ self.old.limit }
     {
@@ -85,8 +89,9 @@ impl Tracker {
     /// Takes each command in turn, goes on after a refusal, and puts each answer at its command's place.
     pub fn run(&mut self, commands: &[Command], replies: &mut [Result<(), TrackError>])
         requires { length commands.now ≡ length replies.old }
-        ensures replies { AreReplies self.old.limit (offsets_of self.old.boundaries) commands.now replies.new }
-        ensures offsets { (n : ℕ) → offsets_of self.new.boundaries n ≡ after_replies commands.now replies.new (offsets_of self.old.boundaries) n }
+        ensures replies { AreReplies self.old.limit (recorded self.old) commands.now replies.new }
+        ensures offsets { (n : ℕ) →
+            recorded self.new n ≡ after_replies commands.now replies.new (recorded self.old) n }
         ensures limit { self.new.limit ≡ self.old.limit }
     {
         for (i, command) in commands.iter().enumerate() {
@@ -96,7 +101,8 @@ impl Tracker {
 
     /// Whether every offset of the range is there. It is so for an empty or reversed range.
     pub fn has(&self, range: Range<u64>) -> bool
-        ensures { IsTrue result ↔ ((n : ℕ) → is_within range n ≡ true → offsets_of self.now.boundaries n ≡ true) }
+        ensures { IsTrue result ↔ ((n : ℕ) →
+            is_within range n ≡ true → recorded self.now n ≡ true) }
     {
         let ends = [range.start, range.end];
         offsets_between(&ends).is_subset(self.set.as_ref())
@@ -104,8 +110,9 @@ impl Tracker {
 
     /// The offsets below `len` that aren't there. The one error is want of memory, and it doesn't come where nothing is there.
     pub fn missing(&self, len: u64) -> Result<RangeSet2<u64>, AllocError>
-        ensures missing { IfOk result (λ set. IsListOf set (λ n. nat_lt n len && not (offsets_of self.now.boundaries n))) }
-        ensures succeeds { HasBoundaries (offsets_of self.now.boundaries) 0 → IsOk result }
+        ensures missing { IfOk result (λ set.
+            IsListOf set (λ n. nat_lt n len && not (recorded self.now n))) }
+        ensures succeeds { HasBoundaries (recorded self.now) 0 → IsOk result }
     {
         let ends = [0, len];
         offsets_between(&ends).difference(self.alloc, self.set.as_ref())
@@ -128,15 +135,17 @@ impl Tracker {
 
     /// The parts of a range that aren't there, from the lowest on: none is empty, and each ends below the start of the next. It takes no memory.
     pub fn gaps<'a>(&'a self, within: Range<&'a u64>) -> Gaps<'a, u64>
-        ensures { Means nat_cmp difference_table result (range_items nat_cmp within.entry.start.now within.entry.end.now) self.now.boundaries }
+        ensures { Means nat_cmp difference_table result
+            (range_items nat_cmp within.entry.start.now within.entry.end.now) self.now.boundaries }
     {
         self.set.gaps(within)
     }
 
     // Takes one command.
     fn apply(&mut self, command: &Command) -> Result<(), TrackError>
-        ensures answer { MayAnswer self.old.limit (offsets_of self.old.boundaries) command.now result }
-        ensures ok { OnOk result ((n : ℕ) → offsets_of self.new.boundaries n ≡ after_command command.now (offsets_of self.old.boundaries) n) }
+        ensures answer { MayAnswer self.old.limit (recorded self.old) command.now result }
+        ensures ok { OnOk result ((n : ℕ) →
+            recorded self.new n ≡ after_command command.now (recorded self.old) n) }
         ensures unchanged { OnErr result (self.new ≡ self.old) }
         ensures limit { self.new.limit ≡ self.old.limit }
     {
@@ -150,7 +159,8 @@ impl Tracker {
     fn admit<O: MergeOperation>(&self, range: &Range<u64>, op: &O) -> Result<(), TrackError>
         requires { O.connective op.now false false ≡ false }
         ensures too_many { (n : ℕ) → (result ≡ Err (TrackError.TooMany n)) ↔
-            (HasBoundaries (λ x. O.connective op.now (offsets_of self.now.boundaries x) (is_within range.now x)) n × (self.now.limit < n)) }
+            (HasBoundaries (λ x. O.connective op.now (recorded self.now x)
+            (is_within range.now x)) n × (self.now.limit < n)) }
         ensures no_memory { result ≢ Err TrackError.OutOfMemory }
     {
         changes_mean_the_connective::<u64, Comparisons>();
@@ -167,7 +177,8 @@ impl Tracker {
 
 // The offsets from the first number up to the second, which is out: none where the first isn't below the second.
 fn offsets_between(ends: &[u64; 2]) -> RangeSetRef<'_, u64>
-    ensures { (start end : ℕ) → ends.now ≡ start ∷ end ∷ [] → result.boundaries.now ≡ range_items nat_cmp start end }
+    ensures { (start end : ℕ) →
+        ends.now ≡ start ∷ end ∷ [] → result.boundaries.now ≡ range_items nat_cmp start end }
 {
     RangeSetRef::new(ends).unwrap_or(RangeSetRef::empty())
 }

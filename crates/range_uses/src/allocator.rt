@@ -16,7 +16,8 @@ pub type Addresses = RangeSet<u64, 8>;
 /// The lowest free address. It takes no memory.
 pub fn lowest_free(free: &Addresses) -> Option<u64>
     ensures free { IfSome result (λ at. member nat_cmp free.now at ≡ true) }
-    ensures lowest { IfSome result (λ at. (lower : ℕ) → lower < at → member nat_cmp free.now lower ≡ false) }
+    ensures lowest { IfSome result (λ at. (lower : ℕ) →
+        lower < at → member nat_cmp free.now lower ≡ false) }
     ensures none { IfNone result ((at : ℕ) → member nat_cmp free.now at ≡ false) }
 {
     free.boundaries().first().copied()
@@ -24,12 +25,14 @@ pub fn lowest_free(free: &Addresses) -> Option<u64>
 
 /// Takes the lowest free address, where there is one. The greatest number of 64 bits is never given out. Where memory is refused, nothing is taken.
 pub fn take_lowest(free: &mut Addresses) -> Result<Option<u64>, AllocError>
-    ensures was_free { IfOk result (λ taken. IfSome taken (λ at. member nat_cmp free.old at ≡ true)) }
+    ensures was_free { IfOk result (λ taken.
+        IfSome taken (λ at. member nat_cmp free.old at ≡ true)) }
     ensures lowest { IfOk result (λ taken. IfSome taken (λ at.
         (lower : ℕ) → lower < at → member nat_cmp free.old lower ≡ false)) }
     ensures means { IfOk result (λ taken. IfSome taken (λ at.
         Means nat_cmp difference_table free.new free.old (range_items nat_cmp at (at + 1)))) }
-    ensures none { IfOk result (λ taken. IfNone taken ((at : ℕ) → at < 2 ^ 64 - 1 → member nat_cmp free.old at ≡ false)) }
+    ensures none { IfOk result (λ taken.
+        IfNone taken ((at : ℕ) → at < 2 ^ 64 - 1 → member nat_cmp free.old at ≡ false)) }
     ensures kept { IfOk result (λ taken. IfNone taken (free.new ≡ free.old)) }
     ensures unchanged { OnErr result (free.new ≡ free.old) }
 {
@@ -44,7 +47,8 @@ pub fn take_lowest(free: &mut Addresses) -> Result<Option<u64>, AllocError>
 
 /// Gives the addresses of the range back. Where memory is refused, the free addresses are as they were.
 pub fn give_back(free: &mut Addresses, given: Range<u64>) -> Result<(), AllocError>
-    ensures means { OnOk result (Means nat_cmp union_table free.new free.old (range_items nat_cmp given.start given.end)) }
+    ensures means { OnOk result
+        (Means nat_cmp union_table free.new free.old (range_items nat_cmp given.start given.end)) }
     ensures unchanged { OnErr result (free.new ≡ free.old) }
 {
     free.insert(given)
@@ -56,12 +60,15 @@ pub fn take_run(
     within: Range<u64>,
     len: u64,
 ) -> Result<Option<u64>, AllocError>
-    ensures fits { IfOk result (λ run. IfSome run (Fits nat_cmp (λ n. n) taken.old within.start within.end len)) }
+    ensures fits { IfOk result (λ run.
+        IfSome run (Fits nat_cmp (λ n. n) taken.old within.start within.end len)) }
     ensures lowest { IfOk result (λ run. IfSome run (λ at.
-        (other : ℕ) → Fits nat_cmp (λ n. n) taken.old within.start within.end len other → at ≤ other)) }
+        (other : ℕ) → Fits nat_cmp (λ n. n) taken.old within.start within.end len other →
+        at ≤ other)) }
     ensures means { IfOk result (λ run. IfSome run (λ at.
         Means nat_cmp union_table taken.new taken.old (range_items nat_cmp at (at + len)))) }
-    ensures none { IfOk result (λ run. IfNone run ((at : ℕ) → ¬ (Fits nat_cmp (λ n. n) taken.old within.start within.end len at))) }
+    ensures none { IfOk result (λ run. IfNone run ((at : ℕ) →
+        ¬ (Fits nat_cmp (λ n. n) taken.old within.start within.end len at))) }
     ensures kept { IfOk result (λ run. IfNone run (taken.new ≡ taken.old)) }
     ensures unchanged { OnErr result (taken.new ≡ taken.old) }
 {

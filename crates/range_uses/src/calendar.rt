@@ -13,7 +13,8 @@ pub type Minutes = RangeSet<u32, 8>;
 /// Adds the minutes at which someone else is busy. Where memory is refused, the calendar is as it was.
 pub fn add_busy(busy: &mut Minutes, more: &Minutes) -> Result<(), AllocError>
     ensures members { OnOk result ((minute : ℕ) →
-        member nat_cmp busy.new minute ≡ (member nat_cmp busy.old minute || member nat_cmp more.now minute)) }
+        member nat_cmp busy.new minute ≡
+        (member nat_cmp busy.old minute || member nat_cmp more.now minute)) }
     ensures unchanged { OnErr result (busy.new ≡ busy.old) }
 {
     busy.union_with(more.as_ref())
@@ -21,7 +22,8 @@ pub fn add_busy(busy: &mut Minutes, more: &Minutes) -> Result<(), AllocError>
 
 /// Whether no minute of the slot is busy.
 pub fn is_free(busy: &Minutes, slot: Range<u32>) -> bool
-    ensures { IsTrue result ↔ ((minute : ℕ) → slot.start ≤ minute → minute < slot.end → member nat_cmp busy.now minute ≡ false) }
+    ensures { IsTrue result ↔ ((minute : ℕ) →
+        slot.start ≤ minute → minute < slot.end → member nat_cmp busy.now minute ≡ false) }
 {
     !busy.intersects_range(slot)
 }
@@ -29,7 +31,8 @@ pub fn is_free(busy: &Minutes, slot: Range<u32>) -> bool
 /// The minutes of the day that are not busy.
 pub fn free_slots(alloc: Global, busy: &Minutes, day: Range<u32>) -> Result<Minutes, AllocError>
     ensures members { IfOk result (λ free. (minute : ℕ) → member nat_cmp free minute ≡
-        ((is_le (nat_cmp day.start minute) && is_lt (nat_cmp minute day.end)) && not (member nat_cmp busy.now minute))) }
+        ((is_le (nat_cmp day.start minute) && is_lt (nat_cmp minute day.end))
+        && not (member nat_cmp busy.now minute))) }
 {
     Minutes::from_range(alloc, day)?.difference(busy.as_ref())
 }

@@ -13,7 +13,8 @@ pub type CharacterClass = RangeSet<char, 8>;
 /// The characters of one class or the other.
 pub fn either(one: &CharacterClass, other: &CharacterClass) -> Result<CharacterClass, AllocError>
     ensures members { IfOk result (λ class. (code : ℕ) →
-        member nat_cmp class code ≡ (member nat_cmp one.now code || member nat_cmp other.now code)) }
+        member nat_cmp class code ≡
+        (member nat_cmp one.now code || member nat_cmp other.now code)) }
 {
     one | other
 }

@@ -14,7 +14,8 @@ pub type Offsets = RangeSet<u64, 8>;
 /// The offsets of a file of `length` bytes that have not come.
 pub fn still_missing(alloc: Global, come: &Offsets, length: u64) -> Result<Offsets, AllocError>
     ensures members { IfOk result (λ missing. (at : ℕ) → at < 2 ^ 64 →
-        member nat_cmp missing at ≡ (is_lt (nat_cmp at length) && not (member nat_cmp come.now at))) }
+        member nat_cmp missing at ≡
+        (is_lt (nat_cmp at length) && not (member nat_cmp come.now at))) }
 {
     Offsets::from_range_until(alloc, ..length)?.difference(come.as_ref())
 }

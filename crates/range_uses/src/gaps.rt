@@ -18,14 +18,16 @@ pub fn missing_between(
     there: &Numbers,
     ends: Range<i64>,
 ) -> Result<Numbers, AllocError>
-    ensures { IfOk result (λ missing. Means int_cmp difference_table missing (range_items int_cmp ends.start ends.end) there.now) }
+    ensures { IfOk result (λ missing. Means int_cmp difference_table missing
+        (range_items int_cmp ends.start ends.end) there.now) }
 {
     Numbers::from_range(alloc, ends)?.difference(there.as_ref())
 }
 
 /// Whether each number from the start up to the end is there. A set of one range takes no memory, so this is never refused.
 pub fn has_all(alloc: Global, there: &Numbers, ends: Range<i64>) -> Result<bool, AllocError>
-    ensures all { IfOk result (λ come. IsTrue come ↔ IsSubset int_cmp (range_items int_cmp ends.start ends.end) there.now) }
+    ensures all { IfOk result (λ come.
+        IsTrue come ↔ IsSubset int_cmp (range_items int_cmp ends.start ends.end) there.now) }
     ensures succeeds { IsOk result }
 {
     let wanted = RangeSet2::from_range(alloc, ends)?;

@@ -10,28 +10,40 @@ ghost use Rattle.range_collections.specs.Ranges.{ranges_of, range_items, IsInRan
 
 /// The gaps of a set within two ends are, in order and item by item, the ranges of the difference of that range and the set, and its ranges within them are those of the intersection.
 pub fn gaps_are_the_ranges_of_the_difference<T: Ord>()
-    ensures gaps { (start end : T) (items gaps list : List T) → Means T.cmp difference_table gaps (range_items T.cmp start end) items →
-        Means T.cmp difference_table list (range_items T.cmp start end) items → AllZip (IsEqualRange T.cmp) (ranges_of gaps) (ranges_of list) }
-    ensures within { (start end : T) (items parts list : List T) → Means T.cmp intersection_table parts (range_items T.cmp start end) items →
-        Means T.cmp intersection_table list (range_items T.cmp start end) items → AllZip (IsEqualRange T.cmp) (ranges_of parts) (ranges_of list) }
+    ensures gaps { (start end : T) (items gaps list : List T) →
+        Means T.cmp difference_table gaps (range_items T.cmp start end) items →
+        Means T.cmp difference_table list (range_items T.cmp start end) items →
+        AllZip (IsEqualRange T.cmp) (ranges_of gaps) (ranges_of list) }
+    ensures within { (start end : T) (items parts list : List T) →
+        Means T.cmp intersection_table parts (range_items T.cmp start end) items →
+        Means T.cmp intersection_table list (range_items T.cmp start end) items →
+        AllZip (IsEqualRange T.cmp) (ranges_of parts) (ranges_of list) }
 {}
 
 /// The gaps of a set within two ends have together just the elements between them that are no members, and its ranges within them just those that are. Each of these ranges has an element, and each ends below the start of the next. Where the start is not below the end there are none.
 pub fn gaps_have_what_is_not_in_the_set<T: Ord>()
-    ensures gaps { (start end x : T) (items gaps : List T) → Means T.cmp difference_table gaps (range_items T.cmp start end) items →
-        Any (λ r. IsInRange T.cmp r x) (ranges_of gaps) ↔ ((is_le (T.cmp start x) ≡ true) × (T.cmp x end ≡ Less) × (member T.cmp items x ≡ false)) }
-    ensures within { (start end x : T) (items parts : List T) → Means T.cmp intersection_table parts (range_items T.cmp start end) items →
-        Any (λ r. IsInRange T.cmp r x) (ranges_of parts) ↔ ((is_le (T.cmp start x) ≡ true) × (T.cmp x end ≡ Less) × (member T.cmp items x ≡ true)) }
-    ensures filled { (start end : T) (items gaps : List T) → Means T.cmp difference_table gaps (range_items T.cmp start end) items →
+    ensures gaps { (start end x : T) (items gaps : List T) →
+        Means T.cmp difference_table gaps (range_items T.cmp start end) items →
+        Any (λ r. IsInRange T.cmp r x) (ranges_of gaps) ↔
+        ((is_le (T.cmp start x) ≡ true) × (T.cmp x end ≡ Less) × (member T.cmp items x ≡ false)) }
+    ensures within { (start end x : T) (items parts : List T) →
+        Means T.cmp intersection_table parts (range_items T.cmp start end) items →
+        Any (λ r. IsInRange T.cmp r x) (ranges_of parts) ↔
+        ((is_le (T.cmp start x) ≡ true) × (T.cmp x end ≡ Less) × (member T.cmp items x ≡ true)) }
+    ensures filled { (start end : T) (items gaps : List T) →
+        Means T.cmp difference_table gaps (range_items T.cmp start end) items →
         All (λ r. (x : T) × IsInRange T.cmp r x) (ranges_of gaps) }
-    ensures apart { (start end : T) (items gaps : List T) → Means T.cmp difference_table gaps (range_items T.cmp start end) items →
+    ensures apart { (start end : T) (items gaps : List T) →
+        Means T.cmp difference_table gaps (range_items T.cmp start end) items →
         AllAdjacentBelow (EndsBelow T.cmp) (ranges_of gaps) (length (ranges_of gaps)) }
-    ensures nothing { (start end : T) (items gaps : List T) → Means T.cmp difference_table gaps (range_items T.cmp start end) items →
+    ensures nothing { (start end : T) (items gaps : List T) →
+        Means T.cmp difference_table gaps (range_items T.cmp start end) items →
         is_lt (T.cmp start end) ≡ false → gaps ≡ [] }
 {}
 
 /// Every element of a range is a member exactly if the difference of the range and the set is empty.
 pub fn a_range_is_contained_where_nothing_is_left<T: Ord>()
-    ensures { (start end : T) (items r : List T) → Means T.cmp difference_table r (range_items T.cmp start end) items →
+    ensures { (start end : T) (items r : List T) →
+        Means T.cmp difference_table r (range_items T.cmp start end) items →
         HasAllWithin T.cmp items start end ↔ (r ≡ []) }
 {}

@@ -10,15 +10,19 @@ ghost use Rattle.range_collections.specs.Ranges.{ranges_of, IsInRange, EndsBelow
 /// The ranges of a strictly sorted list: half as many as its items, rounded up; each has an element; each ends below the start of the next; together they have exactly the members.
 pub fn ranges_make_the_set<T: Ord>()
     ensures count { (items : List T) → length (ranges_of items) ≡ (length items + 1) / 2 }
-    ensures filled { (items : List T) → IsAscending T.cmp items → All (λ r. (x : T) × IsInRange T.cmp r x) (ranges_of items) }
-    ensures apart { (items : List T) → IsAscending T.cmp items → AllAdjacentBelow (EndsBelow T.cmp) (ranges_of items) (length (ranges_of items)) }
+    ensures filled { (items : List T) →
+        IsAscending T.cmp items → All (λ r. (x : T) × IsInRange T.cmp r x) (ranges_of items) }
+    ensures apart { (items : List T) → IsAscending T.cmp items →
+        AllAdjacentBelow (EndsBelow T.cmp) (ranges_of items) (length (ranges_of items)) }
     ensures members { (items : List T) (x : T) → IsAscending T.cmp items →
         (member T.cmp items x ≡ true) ↔ Any (λ r. IsInRange T.cmp r x) (ranges_of items) }
 {}
 
 /// Reading the array of a strictly sorted list of numbers of i64 gives that list, and no other.
 pub fn arrays_read_back()
-    ensures reads { (numbers : List ℤ) → IsAscending int_cmp numbers → All (FitsSigned w64) numbers → IsReadingOf (array_of numbers) numbers }
-    ensures only { (numbers items : List ℤ) → IsAscending int_cmp numbers → All (FitsSigned w64) numbers →
+    ensures reads { (numbers : List ℤ) → IsAscending int_cmp numbers →
+        All (FitsSigned w64) numbers → IsReadingOf (array_of numbers) numbers }
+    ensures only { (numbers items : List ℤ) →
+        IsAscending int_cmp numbers → All (FitsSigned w64) numbers →
         IsReadingOf (array_of numbers) items → items ≡ numbers }
 {}

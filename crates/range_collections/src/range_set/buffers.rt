@@ -25,8 +25,10 @@ impl<T: Ord, const N: usize> RangeSet<T, N> {
         requires off { O.connective op.now false false ≡ false }
         requires fits { length self.now + length that.boundaries.now < 2 ^ 64 }
         requires made { count.old < 2 ^ 64 }
-        ensures writes { WritesOperation T.cmp (O.connective op.now) self.now that.entry.boundaries.now out.old out.new result }
-        ensures comparisons { AddsAtMost count.old count.new (2 * weight T.cmp self.now that.entry.boundaries.now) }
+        ensures writes { WritesOperation T.cmp (O.connective op.now)
+            self.now that.entry.boundaries.now out.old out.new result }
+        ensures comparisons { AddsAtMost count.old count.new
+            (2 * weight T.cmp self.now that.entry.boundaries.now) }
     {
         self.as_ref().merge_into(that, op, out, count)
     }

@@ -19,7 +19,8 @@ impl<T: Ord + MadeWith<Global> + Drop, const N: usize> RangeSet<T, N> {
     /// The elements from the start up to the end, which is out. A range whose start isn't below its end gives the set of nothing.
     pub fn from_range(alloc: Global, range: Range<T>) -> Result<Self, AllocError>
         ensures boundaries { IfOk result (λ set. set ≡ range_items T.cmp range.start range.end) }
-        ensures members { IfOk result (λ set. (x : T) → member T.cmp set x ≡ (is_le (T.cmp range.start x) && is_lt (T.cmp x range.end))) }
+        ensures members { IfOk result (λ set. (x : T) →
+            member T.cmp set x ≡ (is_le (T.cmp range.start x) && is_lt (T.cmp x range.end))) }
         ensures succeeds { (2 ≤ N) ⊎ (is_lt (T.cmp range.start range.end) ≡ false) → IsOk result }
     {
         let Range { start, end } = range;
@@ -32,7 +33,8 @@ impl<T: Ord + MadeWith<Global> + Drop, const N: usize> RangeSet<T, N> {
     /// The elements at or above the start.
     pub fn from_range_from(alloc: Global, range: RangeFrom<T>) -> Result<Self, AllocError>
         ensures boundaries { IfOk result (λ set. set ≡ range.start ∷ []) }
-        ensures members { IfOk result (λ set. (x : T) → member T.cmp set x ≡ is_le (T.cmp range.start x)) }
+        ensures members { IfOk result (λ set. (x : T) →
+            member T.cmp set x ≡ is_le (T.cmp range.start x)) }
         ensures succeeds { 1 ≤ N → IsOk result }
     {
         Ok(RangeSet::new_unchecked(one_item(alloc, range.start)?))
@@ -41,7 +43,8 @@ impl<T: Ord + MadeWith<Global> + Drop, const N: usize> RangeSet<T, N> {
     /// The elements of the range: what `from_range` or `from_range_from` gives for it. The one error is want of memory.
     pub fn from_range_set_range(alloc: Global, range: RangeSetRange<T>) -> Result<Self, AllocError>
         ensures boundaries { IfOk result (λ set. set ≡ range_boundaries T.cmp range) }
-        ensures members { IfOk result (λ set. (x : T) → (member T.cmp set x ≡ true) ↔ IsInRange T.cmp range x) }
+        ensures members { IfOk result (λ set. (x : T) →
+            (member T.cmp set x ≡ true) ↔ IsInRange T.cmp range x) }
         ensures succeeds { length (range_boundaries T.cmp range) ≤ N → IsOk result }
     {
         match range {
@@ -54,9 +57,11 @@ impl<T: Ord + MadeWith<Global> + Drop, const N: usize> RangeSet<T, N> {
 impl<T: RangeSetEntry + MadeWith<Global> + Drop, const N: usize> RangeSet<T, N> {
     /// The values below the end: the end itself is a boundary, behind the least value, and where it is that there are none.
     pub fn from_range_until(alloc: Global, range: RangeTo<T>) -> Result<Self, AllocError>
-        ensures members { IfOk result (λ set. (x : T) → T.is_value x → member T.cmp set x ≡ is_lt (T.cmp x range.end)) }
+        ensures members { IfOk result (λ set. (x : T) →
+            T.is_value x → member T.cmp set x ≡ is_lt (T.cmp x range.end)) }
         ensures nothing { T.cmp range.end T.least ≡ Equal → result ≡ Ok [] }
-        ensures boundaries { T.cmp range.end T.least ≢ Equal → IfOk result (λ set. HasLeastInFront T.cmp T.least (range.end ∷ []) set) }
+        ensures boundaries { T.cmp range.end T.least ≢ Equal →
+            IfOk result (λ set. HasLeastInFront T.cmp T.least (range.end ∷ []) set) }
         ensures succeeds { 2 ≤ N → T.is_min_infallible → IsOk result }
     {
         let end = range.end;
@@ -89,8 +94,10 @@ impl<T: RangeSetEntry + MadeWith<Global> + Drop, const N: usize> RangeSet<T, N> 
 
     /// Every value where `everything` is true, else the set of nothing.
     pub fn from_bool(alloc: Global, everything: bool) -> Result<Self, AllocError>
-        ensures members { IfOk result (λ set. (x : T) → T.is_value x → member T.cmp set x ≡ everything) }
-        ensures boundaries { everything ≡ true → IfOk result (λ set. AreEqual T.cmp set (T.least ∷ [])) }
+        ensures members { IfOk result (λ set. (x : T) →
+            T.is_value x → member T.cmp set x ≡ everything) }
+        ensures boundaries { everything ≡ true →
+            IfOk result (λ set. AreEqual T.cmp set (T.least ∷ [])) }
         ensures nothing { everything ≡ false → result ≡ Ok [] }
         ensures succeeds { 1 ≤ N → T.is_min_infallible → IsOk result }
     {

@@ -13,7 +13,7 @@ impl<T: Ord + WholeNumber, const N: usize> fmt::Display for RangeSet<T, N> {
     ghost output = { λ set. Some (ranges_text T.digits (ranges_of set)) };
 
     fn fmt<W: fmt::Write>(&self, f: &mut fmt::Formatter<W>) -> fmt::Result {
-        write_ranges(self.iter(), f)
+        write!(f, "{}", self.as_ref())
     }
 }
 

@@ -12,7 +12,8 @@ impl<T: Ord, const N: usize> RangeSet<T, N> {
     /// The first range, or nothing where the set is empty.
     #[inline]
     pub fn first(&self) -> Option<RangeSetRange<&T>>
-        ensures { MatchOption result (self.now ≡ []) (λ range. slice_get (ranges_of self.now) 0 ≡ Some (range_now range)) }
+        ensures { MatchOption result (self.now ≡ []) (λ range.
+            slice_get (ranges_of self.now) 0 ≡ Some (range_now range)) }
     {
         self.as_ref().first()
     }
@@ -20,7 +21,8 @@ impl<T: Ord, const N: usize> RangeSet<T, N> {
     /// The last range, or nothing where the set is empty.
     #[inline]
     pub fn last(&self) -> Option<RangeSetRange<&T>>
-        ensures { MatchOption result (self.now ≡ []) (λ range. last_or None (ranges_of self.now) ≡ Some (range_now range)) }
+        ensures { MatchOption result (self.now ≡ []) (λ range.
+            last_or None (ranges_of self.now) ≡ Some (range_now range)) }
     {
         self.as_ref().last()
     }
@@ -28,7 +30,8 @@ impl<T: Ord, const N: usize> RangeSet<T, N> {
     /// From the start of the first range to the end of the last one, or without an end where that has none. Nothing where the set is empty.
     #[inline]
     pub fn span(&self) -> Option<RangeSetRange<&T>>
-        ensures { MatchOption result (self.now ≡ []) (λ range. IsSpan (ranges_of self.now) (range_now range)) }
+        ensures { MatchOption result (self.now ≡ []) (λ range.
+            IsSpan (ranges_of self.now) (range_now range)) }
     {
         self.as_ref().span()
     }

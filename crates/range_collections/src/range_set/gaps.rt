@@ -14,7 +14,8 @@ impl<T: Ord, const N: usize> RangeSet<T, N> {
     /// The parts of `within` that are not in the set, from the lowest on: none is empty, and each ends below the start of the next. A range whose start is not below its end has none.
     #[inline]
     pub fn gaps<'a>(&'a self, within: Range<&'a T>) -> Gaps<'a, T>
-        ensures { Means T.cmp difference_table result (range_items T.cmp within.entry.start.now within.entry.end.now) self.now }
+        ensures { Means T.cmp difference_table result
+            (range_items T.cmp within.entry.start.now within.entry.end.now) self.now }
     {
         self.as_ref().gaps(within)
     }
@@ -23,7 +24,8 @@ impl<T: Ord, const N: usize> RangeSet<T, N> {
     #[inline]
     pub fn gaps_counted<'a>(&'a self, within: Range<&'a T>, count: &mut Comparisons) -> Gaps<'a, T>
         requires { count.old < 2 ^ 64 }
-        ensures means { Means T.cmp difference_table result (range_items T.cmp within.entry.start.now within.entry.end.now) self.now }
+        ensures means { Means T.cmp difference_table result
+            (range_items T.cmp within.entry.start.now within.entry.end.now) self.now }
         ensures comparisons { AddsAtMost count.old count.new (2 * digits (length self.now) + 1) }
     {
         self.as_ref().gaps_counted(within, count)
@@ -32,7 +34,8 @@ impl<T: Ord, const N: usize> RangeSet<T, N> {
     /// The parts of `within` that are in the set, from the lowest on: none is empty, and each ends below the start of the next. A range whose start is not below its end has none.
     #[inline]
     pub fn ranges_within<'a>(&'a self, within: Range<&'a T>) -> RangesWithin<'a, T>
-        ensures { Means T.cmp intersection_table result (range_items T.cmp within.entry.start.now within.entry.end.now) self.now }
+        ensures { Means T.cmp intersection_table result
+            (range_items T.cmp within.entry.start.now within.entry.end.now) self.now }
     {
         self.as_ref().ranges_within(within)
     }
@@ -45,7 +48,8 @@ impl<T: Ord, const N: usize> RangeSet<T, N> {
         count: &mut Comparisons,
     ) -> RangesWithin<'a, T>
         requires { count.old < 2 ^ 64 }
-        ensures means { Means T.cmp intersection_table result (range_items T.cmp within.entry.start.now within.entry.end.now) self.now }
+        ensures means { Means T.cmp intersection_table result
+            (range_items T.cmp within.entry.start.now within.entry.end.now) self.now }
         ensures comparisons { AddsAtMost count.old count.new (2 * digits (length self.now) + 1) }
     {
         self.as_ref().ranges_within_counted(within, count)

@@ -28,8 +28,10 @@ impl<T: EntryClone + MadeWith<Global> + Drop, const N: usize> RangeSet<T, N> {
     ) -> Result<(), AllocError>
         requires off { O.connective op.now false false ≡ false }
         requires made { count.old < 2 ^ 64 }
-        ensures changed { IsChangedByView T.cmp T.is_copy T.is_infallible (O.connective op.now) N self.old that.entry.boundaries.now self.new result }
-        ensures comparisons { AddsAtMost count.old count.new (2 * weight T.cmp self.old that.entry.boundaries.now) }
+        ensures changed { IsChangedByView T.cmp T.is_copy T.is_infallible (O.connective op.now) N
+            self.old that.entry.boundaries.now self.new result }
+        ensures comparisons { AddsAtMost count.old count.new
+            (2 * weight T.cmp self.old that.entry.boundaries.now) }
     {
         changes_mean_the_connective::<T, Comparisons>();
         changes_are_marked_truly::<T, Comparisons>();
@@ -44,28 +46,32 @@ impl<T: EntryClone + MadeWith<Global> + Drop, const N: usize> RangeSet<T, N> {
 
     /// Keeps the members that are members of both.
     pub fn intersection_with(&mut self, that: RangeSetRef<T>) -> Result<(), AllocError>
-        ensures changed { IsChangedByView T.cmp T.is_copy T.is_infallible intersection_table N self.old that.entry.boundaries.now self.new result }
+        ensures changed { IsChangedByView T.cmp T.is_copy T.is_infallible intersection_table N
+            self.old that.entry.boundaries.now self.new result }
     {
         self.merge_ref(that, &IntersectionOp, &mut Comparisons::new())
     }
 
     /// Adds the members of `that`.
     pub fn union_with(&mut self, that: RangeSetRef<T>) -> Result<(), AllocError>
-        ensures changed { IsChangedByView T.cmp T.is_copy T.is_infallible union_table N self.old that.entry.boundaries.now self.new result }
+        ensures changed { IsChangedByView T.cmp T.is_copy T.is_infallible union_table N
+            self.old that.entry.boundaries.now self.new result }
     {
         self.merge_ref(that, &UnionOp, &mut Comparisons::new())
     }
 
     /// Takes out the members of `that`.
     pub fn difference_with(&mut self, that: RangeSetRef<T>) -> Result<(), AllocError>
-        ensures changed { IsChangedByView T.cmp T.is_copy T.is_infallible difference_table N self.old that.entry.boundaries.now self.new result }
+        ensures changed { IsChangedByView T.cmp T.is_copy T.is_infallible difference_table N
+            self.old that.entry.boundaries.now self.new result }
     {
         self.merge_ref(that, &DiffOp, &mut Comparisons::new())
     }
 
     /// Leaves the members of one of the two that are not members of the other.
     pub fn symmetric_difference_with(&mut self, that: RangeSetRef<T>) -> Result<(), AllocError>
-        ensures changed { IsChangedByView T.cmp T.is_copy T.is_infallible symmetric_difference_table N self.old that.entry.boundaries.now self.new result }
+        ensures changed { IsChangedByView T.cmp T.is_copy T.is_infallible
+            symmetric_difference_table N self.old that.entry.boundaries.now self.new result }
     {
         self.merge_ref(that, &XorOp, &mut Comparisons::new())
     }
@@ -81,7 +87,8 @@ impl<T: Ord + MadeWith<Global> + Drop, const N: usize> RangeSet<T, N> {
     ) -> Result<(), (AllocError, Self)>
         requires off { O.connective op.now false false ≡ false }
         requires made { count.old < 2 ^ 64 }
-        ensures changed { IsChangedByOwned T.cmp (O.connective op.now) N self.old that self.new result }
+        ensures changed { IsChangedByOwned T.cmp (O.connective op.now) N
+            self.old that self.new result }
         ensures comparisons { AddsAtMost count.old count.new (2 * weight T.cmp self.old that) }
     {
         changes_mean_the_connective::<T, Comparisons>();
@@ -94,7 +101,8 @@ impl<T: Ord + MadeWith<Global> + Drop, const N: usize> RangeSet<T, N> {
 
     /// Keeps the members that are members of both.
     pub fn bitand_assign(&mut self, that: Self) -> Result<(), (AllocError, Self)>
-        ensures changed { IsChangedByOwned T.cmp intersection_table N self.old that self.new result }
+        ensures changed { IsChangedByOwned T.cmp intersection_table N
+            self.old that self.new result }
     {
         self.merge_owned(that, &IntersectionOp, &mut Comparisons::new())
     }
@@ -115,7 +123,8 @@ impl<T: Ord + MadeWith<Global> + Drop, const N: usize> RangeSet<T, N> {
 
     /// Leaves the members of one of the two that are not members of the other.
     pub fn bitxor_assign(&mut self, that: Self) -> Result<(), (AllocError, Self)>
-        ensures changed { IsChangedByOwned T.cmp symmetric_difference_table N self.old that self.new result }
+        ensures changed { IsChangedByOwned T.cmp symmetric_difference_table N
+            self.old that self.new result }
     {
         self.merge_owned(that, &XorOp, &mut Comparisons::new())
     }

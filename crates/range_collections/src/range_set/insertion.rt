@@ -20,7 +20,8 @@ impl<T: Ord + MadeWith<Global> + Drop, const N: usize> RangeSet<T, N> {
     ///
     /// It asks for memory only where the set grows by two boundaries and has no room for two more, and before it changes anything. Where it is refused, the set is as it was and the range is dropped.
     pub fn insert(&mut self, range: Range<T>) -> Result<(), AllocError>
-        ensures changed { IsChangedByRange T.cmp union_table N self.old (range_items T.cmp range.start range.end) self.new result }
+        ensures changed { IsChangedByRange T.cmp union_table N
+            self.old (range_items T.cmp range.start range.end) self.new result }
     {
         self.insert_counted(range, &mut Comparisons::new())
     }
@@ -32,7 +33,8 @@ impl<T: Ord + MadeWith<Global> + Drop, const N: usize> RangeSet<T, N> {
         count: &mut Comparisons,
     ) -> Result<(), AllocError>
         requires made { count.old < 2 ^ 64 }
-        ensures changed { IsChangedByRange T.cmp union_table N self.old (range_items T.cmp range.start range.end) self.new result }
+        ensures changed { IsChangedByRange T.cmp union_table N
+            self.old (range_items T.cmp range.start range.end) self.new result }
         ensures comparisons { AddsAtMost count.old count.new (2 * digits (length self.old) + 1) }
     {
         set_range(&mut self.list, range, true, count)
@@ -42,7 +44,8 @@ impl<T: Ord + MadeWith<Global> + Drop, const N: usize> RangeSet<T, N> {
     ///
     /// It asks for memory only where the set grows by two boundaries and has no room for two more, and before it changes anything. Where it is refused, the set is as it was and the range is dropped.
     pub fn remove(&mut self, range: Range<T>) -> Result<(), AllocError>
-        ensures changed { IsChangedByRange T.cmp difference_table N self.old (range_items T.cmp range.start range.end) self.new result }
+        ensures changed { IsChangedByRange T.cmp difference_table N
+            self.old (range_items T.cmp range.start range.end) self.new result }
     {
         self.remove_counted(range, &mut Comparisons::new())
     }
@@ -54,7 +57,8 @@ impl<T: Ord + MadeWith<Global> + Drop, const N: usize> RangeSet<T, N> {
         count: &mut Comparisons,
     ) -> Result<(), AllocError>
         requires made { count.old < 2 ^ 64 }
-        ensures changed { IsChangedByRange T.cmp difference_table N self.old (range_items T.cmp range.start range.end) self.new result }
+        ensures changed { IsChangedByRange T.cmp difference_table N
+            self.old (range_items T.cmp range.start range.end) self.new result }
         ensures comparisons { AddsAtMost count.old count.new (2 * digits (length self.old) + 1) }
     {
         set_range(&mut self.list, range, false, count)

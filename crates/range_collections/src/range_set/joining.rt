@@ -40,7 +40,8 @@ pub(super) fn union_of<T: EntryClone + MadeWith<Global> + Drop, P: Part<T>, cons
     count: &mut Comparisons,
 ) -> Result<RangeSet<T, N>, AllocError>
     ensures gives { GivesUnion T.cmp T.is_copy T.is_infallible P.boundaries N parts.now result }
-    ensures comparisons { AddsAtMost count.old count.new (2 * length (flat_map P.boundaries parts.now) * digits (length parts.now - 1)) }
+    ensures comparisons { AddsAtMost count.old count.new
+        (2 * length (flat_map P.boundaries parts.now) * digits (length parts.now - 1)) }
 {
     match parts.len() {
         0 => Ok(RangeSet::empty(alloc)),
@@ -80,7 +81,8 @@ fn copied<T: EntryClone + MadeWith<Global> + Drop, P: Part<T>, const N: usize>(
     part: &P,
 ) -> Result<RangeSet<T, N>, AllocError>
     ensures copies { IfOk result (λ set. AllZip T.is_copy (P.boundaries part.now) set) }
-    ensures succeeds { length (P.boundaries part.now) ≤ N → All T.is_infallible (P.boundaries part.now) → IsOk result }
+    ensures succeeds { length (P.boundaries part.now) ≤ N →
+        All T.is_infallible (P.boundaries part.now) → IsOk result }
 {
     Ok(RangeSet::new_unchecked(copies(alloc, part)?))
 }
@@ -91,7 +93,8 @@ fn copies<T: EntryClone + MadeWith<Global> + Drop, P: Part<T>, const N: usize>(
     part: &P,
 ) -> Result<SmallVec<T, N>, AllocError>
     ensures copies { IfOk result (λ list. AllZip T.is_copy (P.boundaries part.now) list.items) }
-    ensures succeeds { length (P.boundaries part.now) ≤ N → All T.is_infallible (P.boundaries part.now) → IsOk result }
+    ensures succeeds { length (P.boundaries part.now) ≤ N →
+        All T.is_infallible (P.boundaries part.now) → IsOk result }
 {
     let len = part.len();
     let mut list = SmallVec::with_capacity(alloc, len)?;

@@ -35,7 +35,8 @@ impl<const N: usize> RangeSet<i64, N> {
     /// The set whose boundaries are the distinct numbers of an array, in order. All items are looked at before memory is asked for.
     pub fn from_json(alloc: Global, value: &Value) -> Result<Self, JsonError>
         ensures not_array { (result ≡ Err JsonError.NotArray) ↔ (as_array (view value.now) ≡ None) }
-        ensures not_integer { (i : ℕ) → (result ≡ Err (JsonError.NotInteger i)) ↔ (first_bad (view value.now) ≡ Some i) }
+        ensures not_integer { (i : ℕ) →
+            (result ≡ Err (JsonError.NotInteger i)) ↔ (first_bad (view value.now) ≡ Some i) }
         ensures ok { IfOk result (IsReadingOf (view value.now)) }
     {
         match value.as_array() {
@@ -74,7 +75,8 @@ fn bad_place(items: &[Value]) -> Option<usize>
 
 // The set of the distinct numbers among the values.
 fn read<const N: usize>(alloc: Global, items: &[Value]) -> Result<RangeSet<i64, N>, AllocError>
-    ensures { IfOk result (AreDistinctOf int_cmp (filter_map (λ v. whole_number (view v)) items.now)) }
+    ensures { IfOk result
+        (AreDistinctOf int_cmp (filter_map (λ v. whole_number (view v)) items.now)) }
 {
     let mut list = SmallVec::new(alloc);
     for item in items {

@@ -23,15 +23,18 @@ impl<T: EntryClone + MadeWith<Global> + Drop, const N: usize> RangeSet<T, N> {
     ) -> Result<RangeSet<T, M>, AllocError>
         requires off { O.connective op.now false false ≡ false }
         requires made { count.old < 2 ^ 64 }
-        ensures gives { GivesOperation T.cmp T.is_copy T.is_infallible (O.connective op.now) M self.now that.entry.boundaries.now result }
-        ensures comparisons { AddsAtMost count.old count.new (2 * weight T.cmp self.now that.entry.boundaries.now) }
+        ensures gives { GivesOperation T.cmp T.is_copy T.is_infallible (O.connective op.now) M
+            self.now that.entry.boundaries.now result }
+        ensures comparisons { AddsAtMost count.old count.new
+            (2 * weight T.cmp self.now that.entry.boundaries.now) }
     {
         self.as_ref().merge_new(self.allocator(), that, op, count)
     }
 
     /// The set of the elements that are members of one of the two, or of both.
     pub fn union<const M: usize>(&self, that: RangeSetRef<T>) -> Result<RangeSet<T, M>, AllocError>
-        ensures gives { GivesOperation T.cmp T.is_copy T.is_infallible union_table M self.now that.entry.boundaries.now result }
+        ensures gives { GivesOperation T.cmp T.is_copy T.is_infallible union_table M
+            self.now that.entry.boundaries.now result }
     {
         self.as_ref().union(self.allocator(), that)
     }
@@ -41,7 +44,8 @@ impl<T: EntryClone + MadeWith<Global> + Drop, const N: usize> RangeSet<T, N> {
         &self,
         that: RangeSetRef<T>,
     ) -> Result<RangeSet<T, M>, AllocError>
-        ensures gives { GivesOperation T.cmp T.is_copy T.is_infallible intersection_table M self.now that.entry.boundaries.now result }
+        ensures gives { GivesOperation T.cmp T.is_copy T.is_infallible intersection_table M
+            self.now that.entry.boundaries.now result }
     {
         self.as_ref().intersection(self.allocator(), that)
     }
@@ -51,7 +55,8 @@ impl<T: EntryClone + MadeWith<Global> + Drop, const N: usize> RangeSet<T, N> {
         &self,
         that: RangeSetRef<T>,
     ) -> Result<RangeSet<T, M>, AllocError>
-        ensures gives { GivesOperation T.cmp T.is_copy T.is_infallible difference_table M self.now that.entry.boundaries.now result }
+        ensures gives { GivesOperation T.cmp T.is_copy T.is_infallible difference_table M
+            self.now that.entry.boundaries.now result }
     {
         self.as_ref().difference(self.allocator(), that)
     }
@@ -61,7 +66,8 @@ impl<T: EntryClone + MadeWith<Global> + Drop, const N: usize> RangeSet<T, N> {
         &self,
         that: RangeSetRef<T>,
     ) -> Result<RangeSet<T, M>, AllocError>
-        ensures gives { GivesOperation T.cmp T.is_copy T.is_infallible symmetric_difference_table M self.now that.entry.boundaries.now result }
+        ensures gives { GivesOperation T.cmp T.is_copy T.is_infallible symmetric_difference_table M
+            self.now that.entry.boundaries.now result }
     {
         self.as_ref().symmetric_difference(self.allocator(), that)
     }

@@ -14,7 +14,8 @@ impl<T: EntryClone + MadeWith<Global> + Drop, const N: usize> BitAnd<&RangeSet<T
     for &RangeSet<T, N> {
     type Output = Result<RangeSet<T, N>, AllocError>;
 
-    ghost bitand_gives = { λ a b r. GivesOperation T.cmp T.is_copy T.is_infallible intersection_table N a.now b.now r };
+    ghost bitand_gives = { λ a b r.
+        GivesOperation T.cmp T.is_copy T.is_infallible intersection_table N a.now b.now r };
 
     /// The set of the elements that are members of both. It is what `intersection` gives; the one error is want of memory.
     fn bitand(self, that: &RangeSet<T, N>) -> Result<RangeSet<T, N>, AllocError> {
@@ -26,7 +27,8 @@ impl<T: EntryClone + MadeWith<Global> + Drop, const N: usize> BitAnd<RangeSet<T,
     for &RangeSet<T, N> {
     type Output = Result<RangeSet<T, N>, AllocError>;
 
-    ghost bitand_gives = { λ a b r. GivesOperation T.cmp T.is_copy T.is_infallible intersection_table N a.now b r };
+    ghost bitand_gives = { λ a b r.
+        GivesOperation T.cmp T.is_copy T.is_infallible intersection_table N a.now b r };
 
     /// The same of a reference and a set, which is dropped, also on an error.
     fn bitand(self, that: RangeSet<T, N>) -> Result<RangeSet<T, N>, AllocError> {
@@ -38,7 +40,8 @@ impl<T: EntryClone + MadeWith<Global> + Drop, const N: usize> BitAnd<&RangeSet<T
     for RangeSet<T, N> {
     type Output = Result<RangeSet<T, N>, AllocError>;
 
-    ghost bitand_gives = { λ a b r. GivesOperation T.cmp T.is_copy T.is_infallible intersection_table N a b.now r };
+    ghost bitand_gives = { λ a b r.
+        GivesOperation T.cmp T.is_copy T.is_infallible intersection_table N a b.now r };
 
     /// The same of a set, which is dropped, also on an error, and a reference.
     fn bitand(self, that: &RangeSet<T, N>) -> Result<RangeSet<T, N>, AllocError> {
@@ -49,7 +52,8 @@ impl<T: EntryClone + MadeWith<Global> + Drop, const N: usize> BitAnd<&RangeSet<T
 impl<T: EntryClone + MadeWith<Global> + Drop, const N: usize> BitAnd for RangeSet<T, N> {
     type Output = Result<RangeSet<T, N>, AllocError>;
 
-    ghost bitand_gives = { λ a b r. GivesOperation T.cmp T.is_copy T.is_infallible intersection_table N a b r };
+    ghost bitand_gives = { λ a b r.
+        GivesOperation T.cmp T.is_copy T.is_infallible intersection_table N a b r };
 
     /// The same of two sets. Both are dropped, also on an error.
     fn bitand(self, that: RangeSet<T, N>) -> Result<RangeSet<T, N>, AllocError> {
@@ -61,7 +65,8 @@ impl<T: EntryClone + MadeWith<Global> + Drop, const N: usize> BitOr<&RangeSet<T,
     for &RangeSet<T, N> {
     type Output = Result<RangeSet<T, N>, AllocError>;
 
-    ghost bitor_gives = { λ a b r. GivesOperation T.cmp T.is_copy T.is_infallible union_table N a.now b.now r };
+    ghost bitor_gives = { λ a b r.
+        GivesOperation T.cmp T.is_copy T.is_infallible union_table N a.now b.now r };
 
     /// The set of the elements that are members of one of the two, or of both. It is what `union` gives; the one error is want of memory.
     fn bitor(self, that: &RangeSet<T, N>) -> Result<RangeSet<T, N>, AllocError> {
@@ -73,7 +78,8 @@ impl<T: EntryClone + MadeWith<Global> + Drop, const N: usize> BitOr<RangeSet<T, 
     for &RangeSet<T, N> {
     type Output = Result<RangeSet<T, N>, AllocError>;
 
-    ghost bitor_gives = { λ a b r. GivesOperation T.cmp T.is_copy T.is_infallible union_table N a.now b r };
+    ghost bitor_gives = { λ a b r.
+        GivesOperation T.cmp T.is_copy T.is_infallible union_table N a.now b r };
 
     /// The same of a reference and a set, which is dropped, also on an error.
     fn bitor(self, that: RangeSet<T, N>) -> Result<RangeSet<T, N>, AllocError> {
@@ -85,7 +91,8 @@ impl<T: EntryClone + MadeWith<Global> + Drop, const N: usize> BitOr<&RangeSet<T,
     for RangeSet<T, N> {
     type Output = Result<RangeSet<T, N>, AllocError>;
 
-    ghost bitor_gives = { λ a b r. GivesOperation T.cmp T.is_copy T.is_infallible union_table N a b.now r };
+    ghost bitor_gives = { λ a b r.
+        GivesOperation T.cmp T.is_copy T.is_infallible union_table N a b.now r };
 
     /// The same of a set, which is dropped, also on an error, and a reference.
     fn bitor(self, that: &RangeSet<T, N>) -> Result<RangeSet<T, N>, AllocError> {
@@ -96,7 +103,8 @@ impl<T: EntryClone + MadeWith<Global> + Drop, const N: usize> BitOr<&RangeSet<T,
 impl<T: EntryClone + MadeWith<Global> + Drop, const N: usize> BitOr for RangeSet<T, N> {
     type Output = Result<RangeSet<T, N>, AllocError>;
 
-    ghost bitor_gives = { λ a b r. GivesOperation T.cmp T.is_copy T.is_infallible union_table N a b r };
+    ghost bitor_gives = { λ a b r.
+        GivesOperation T.cmp T.is_copy T.is_infallible union_table N a b r };
 
     /// The same of two sets. Both are dropped, also on an error.
     fn bitor(self, that: RangeSet<T, N>) -> Result<RangeSet<T, N>, AllocError> {
@@ -108,7 +116,8 @@ impl<T: EntryClone + MadeWith<Global> + Drop, const N: usize> BitXor<&RangeSet<T
     for &RangeSet<T, N> {
     type Output = Result<RangeSet<T, N>, AllocError>;
 
-    ghost bitxor_gives = { λ a b r. GivesOperation T.cmp T.is_copy T.is_infallible symmetric_difference_table N a.now b.now r };
+    ghost bitxor_gives = { λ a b r.
+        GivesOperation T.cmp T.is_copy T.is_infallible symmetric_difference_table N a.now b.now r };
 
     /// The set of the elements that are members of one of the two and not of the other. It is what `symmetric_difference` gives; the one error is want of memory.
     fn bitxor(self, that: &RangeSet<T, N>) -> Result<RangeSet<T, N>, AllocError> {
@@ -120,7 +129,8 @@ impl<T: EntryClone + MadeWith<Global> + Drop, const N: usize> BitXor<RangeSet<T,
     for &RangeSet<T, N> {
     type Output = Result<RangeSet<T, N>, AllocError>;
 
-    ghost bitxor_gives = { λ a b r. GivesOperation T.cmp T.is_copy T.is_infallible symmetric_difference_table N a.now b r };
+    ghost bitxor_gives = { λ a b r.
+        GivesOperation T.cmp T.is_copy T.is_infallible symmetric_difference_table N a.now b r };
 
     /// The same of a reference and a set, which is dropped, also on an error.
     fn bitxor(self, that: RangeSet<T, N>) -> Result<RangeSet<T, N>, AllocError> {
@@ -132,7 +142,8 @@ impl<T: EntryClone + MadeWith<Global> + Drop, const N: usize> BitXor<&RangeSet<T
     for RangeSet<T, N> {
     type Output = Result<RangeSet<T, N>, AllocError>;
 
-    ghost bitxor_gives = { λ a b r. GivesOperation T.cmp T.is_copy T.is_infallible symmetric_difference_table N a b.now r };
+    ghost bitxor_gives = { λ a b r.
+        GivesOperation T.cmp T.is_copy T.is_infallible symmetric_difference_table N a b.now r };
 
     /// The same of a set, which is dropped, also on an error, and a reference.
     fn bitxor(self, that: &RangeSet<T, N>) -> Result<RangeSet<T, N>, AllocError> {
@@ -143,7 +154,8 @@ impl<T: EntryClone + MadeWith<Global> + Drop, const N: usize> BitXor<&RangeSet<T
 impl<T: EntryClone + MadeWith<Global> + Drop, const N: usize> BitXor for RangeSet<T, N> {
     type Output = Result<RangeSet<T, N>, AllocError>;
 
-    ghost bitxor_gives = { λ a b r. GivesOperation T.cmp T.is_copy T.is_infallible symmetric_difference_table N a b r };
+    ghost bitxor_gives = { λ a b r.
+        GivesOperation T.cmp T.is_copy T.is_infallible symmetric_difference_table N a b r };
 
     /// The same of two sets. Both are dropped, also on an error.
     fn bitxor(self, that: RangeSet<T, N>) -> Result<RangeSet<T, N>, AllocError> {
@@ -155,7 +167,8 @@ impl<T: EntryClone + MadeWith<Global> + Drop, const N: usize> Sub<&RangeSet<T, N
     for &RangeSet<T, N> {
     type Output = Result<RangeSet<T, N>, AllocError>;
 
-    ghost sub_gives = { λ a b r. GivesOperation T.cmp T.is_copy T.is_infallible difference_table N a.now b.now r };
+    ghost sub_gives = { λ a b r.
+        GivesOperation T.cmp T.is_copy T.is_infallible difference_table N a.now b.now r };
 
     /// The set of the members of the left that are not members of the right. It is what `difference` gives; the one error is want of memory.
     fn sub(self, that: &RangeSet<T, N>) -> Result<RangeSet<T, N>, AllocError> {
@@ -167,7 +180,8 @@ impl<T: EntryClone + MadeWith<Global> + Drop, const N: usize> Sub<RangeSet<T, N>
     for &RangeSet<T, N> {
     type Output = Result<RangeSet<T, N>, AllocError>;
 
-    ghost sub_gives = { λ a b r. GivesOperation T.cmp T.is_copy T.is_infallible difference_table N a.now b r };
+    ghost sub_gives = { λ a b r.
+        GivesOperation T.cmp T.is_copy T.is_infallible difference_table N a.now b r };
 
     /// The same of a reference and a set, which is dropped, also on an error.
     fn sub(self, that: RangeSet<T, N>) -> Result<RangeSet<T, N>, AllocError> {
@@ -179,7 +193,8 @@ impl<T: EntryClone + MadeWith<Global> + Drop, const N: usize> Sub<&RangeSet<T, N
     for RangeSet<T, N> {
     type Output = Result<RangeSet<T, N>, AllocError>;
 
-    ghost sub_gives = { λ a b r. GivesOperation T.cmp T.is_copy T.is_infallible difference_table N a b.now r };
+    ghost sub_gives = { λ a b r.
+        GivesOperation T.cmp T.is_copy T.is_infallible difference_table N a b.now r };
 
     /// The same of a set, which is dropped, also on an error, and a reference.
     fn sub(self, that: &RangeSet<T, N>) -> Result<RangeSet<T, N>, AllocError> {
@@ -190,7 +205,8 @@ impl<T: EntryClone + MadeWith<Global> + Drop, const N: usize> Sub<&RangeSet<T, N
 impl<T: EntryClone + MadeWith<Global> + Drop, const N: usize> Sub for RangeSet<T, N> {
     type Output = Result<RangeSet<T, N>, AllocError>;
 
-    ghost sub_gives = { λ a b r. GivesOperation T.cmp T.is_copy T.is_infallible difference_table N a b r };
+    ghost sub_gives = { λ a b r.
+        GivesOperation T.cmp T.is_copy T.is_infallible difference_table N a b r };
 
     /// The same of two sets. Both are dropped, also on an error.
     fn sub(self, that: RangeSet<T, N>) -> Result<RangeSet<T, N>, AllocError> {

@@ -1,13 +1,14 @@
 //! Sets read from a text of ranges.
-ghost use Rattle.std.specs.Prelude.{◌≡◌, ◌≢◌, ◌↔◌, true, false, Any, IfOk, IfErr};
+ghost use Rattle.std.specs.Prelude.{◌≡◌, ◌≢◌, ◌↔◌, ◌≤◌, true, false, Any, length, IsOk, IfOk, IfErr};
 ghost use Rattle.range_merge.specs.Boundaries.{member};
 ghost use Rattle.range_collections.specs.Ranges.{IsInRange};
 ghost use Rattle.range_collections.specs.ParseErrors.{IsFaultIn};
-ghost use Rattle.range_collections.specs.Reading.{range_up_to, range_in, is_ranges, ranges_in};
+ghost use Rattle.range_collections.specs.Reading.{parts_of, range_up_to, range_in, is_ranges, ranges_in};
 ghost use Rattle.range_collections.specs.declared.range_set.parse_errors.ParseError.TheVariants.{OutOfMemory};
 
 use crate::range_set::RangeSet;
-use crate::range_set::parse_errors::{ParseError, fault_in};
+use crate::range_set::parse_errors::ParseError;
+use crate::range_set::scanning::fault_in;
 use crate::range_set_range::RangeSetRange;
 use crate::whole_number::WholeNumber;
 use range_entry::EntryClone;
@@ -17,10 +18,11 @@ use std::default::MadeWith;
 impl<T: EntryClone + WholeNumber + MadeWith<Global> + Drop, const N: usize> RangeSet<T, N> {
     /// The set of the elements that lie in one of the ranges of a text, as `0..10, 20..`: in any order, with commas between them and blanks around each. A text of blanks is the set of nothing.
     ///
-    /// The whole text is read before memory is asked for. An error names the byte at which the text stopped being one of ranges and what was expected there (that it is in the text or at its end is a clause, which byte it is no clause says), or it says that a number is past its type's, or that memory ran out.
+    /// The whole text is read before memory is asked for, and one range with room for its two boundaries asks for none. An error names the byte at which the text stopped being one of ranges and what was expected there, or it says that a number is past its type's, or that memory ran out.
     pub fn parse(alloc: Global, text: &str) -> Result<Self, ParseError>
         ensures ok { IfOk result (λ set. is_ranges T.number text.now ≡ true) }
         ensures members { IfOk result (λ set. (x : T) → (member T.cmp set x ≡ true) ↔ Any (λ range. IsInRange T.cmp range x) (ranges_in T.number text.now)) }
+        ensures succeeds { length (parts_of text.now) ≤ 1 → 2 ≤ N → is_ranges T.number text.now ≡ true → IsOk result }
         ensures malformed { IfErr result (λ error. error ≢ OutOfMemory → is_ranges T.number text.now ≡ false) }
         ensures fault { IfErr result (λ error. error ≢ OutOfMemory → IsFaultIn text.now error) }
         ensures out_of_memory { IfErr result (λ error. error ≡ OutOfMemory → is_ranges T.number text.now ≡ true) }
@@ -35,15 +37,22 @@ impl<T: EntryClone + WholeNumber + MadeWith<Global> + Drop, const N: usize> Rang
     }
 }
 
-// The set of the ranges of a text.
+// The set of the ranges of a text. One range needs no list.
 fn read<T: EntryClone + WholeNumber + MadeWith<Global> + Drop, const N: usize>(
     alloc: Global,
     text: &str,
 ) -> Result<RangeSet<T, N>, AllocError>
     ensures members { IfOk result (λ set. (x : T) → (member T.cmp set x ≡ true) ↔ Any (λ range. IsInRange T.cmp range x) (ranges_in T.number text.now)) }
+    ensures succeeds { length (parts_of text.now) ≤ 1 → 2 ≤ N → IsOk result }
 {
-    let ranges = ranges_in(alloc, text)?;
-    RangeSet::from_ranges(alloc, ranges.as_slice())
+    if text.contains(',') {
+        let ranges = ranges_in(alloc, text)?;
+        return RangeSet::from_ranges(alloc, ranges.as_slice());
+    }
+    match range_in(text) {
+        Some(range) => RangeSet::from_range_set_range(alloc, range),
+        None => Ok(RangeSet::empty(alloc)),
+    }
 }
 
 // Whether the text is one of blanks, or of ranges with commas between them.

@@ -48,8 +48,10 @@ impl<T: Ord, const N: usize> RangeSet<T, N> {
     ) -> bool
         requires off { O.connective op.now false false ≡ false }
         requires made { count.old < 2 ^ 64 }
-        ensures members { IsTrue result ↔ HasMember T.cmp (O.connective op.now) self.now that.entry.boundaries.now }
-        ensures comparisons { AddsAtMost count.old count.new (2 * weight T.cmp self.now that.entry.boundaries.now) }
+        ensures members { IsTrue result ↔ HasMember T.cmp (O.connective op.now)
+            self.now that.entry.boundaries.now }
+        ensures comparisons { AddsAtMost count.old count.new
+            (2 * weight T.cmp self.now that.entry.boundaries.now) }
     {
         self.as_ref().merge_test(that, op, count)
     }
@@ -64,11 +66,15 @@ impl<T: Ord, const N: usize> RangeSet<T, N> {
         requires off { O.connective op.now false false ≡ false }
         requires fits { length self.now + length that.boundaries.now < 2 ^ 64 }
         requires made { count.old < 2 ^ 64 }
-        ensures value { result ≡ length (changes T.cmp (O.connective op.now) self.now that.entry.boundaries.now) }
+        ensures value { result ≡ length (changes T.cmp (O.connective op.now)
+            self.now that.entry.boundaries.now) }
 
         // It is the length of every list that the operation may give.
-        ensures means { (items : List T) → Means T.cmp (O.connective op.now) items self.now that.entry.boundaries.now → length items ≡ result }
-        ensures comparisons { AddsAtMost count.old count.new (2 * weight T.cmp self.now that.entry.boundaries.now) }
+        ensures means { (items : List T) →
+            Means T.cmp (O.connective op.now) items self.now that.entry.boundaries.now →
+            length items ≡ result }
+        ensures comparisons { AddsAtMost count.old count.new
+            (2 * weight T.cmp self.now that.entry.boundaries.now) }
     {
         self.as_ref().merge_len(that, op, count)
     }

@@ -27,12 +27,17 @@ pub(crate) fn set_range<T: Ord + MadeWith<Global> + Drop, const N: usize>(
     requires sorted { IsAscending T.cmp list.old.items }
     requires made { count.old < 2 ^ 64 }
     ensures sorted { IsAscending T.cmp list.new.items }
-    ensures means { OnOk result (Means T.cmp (range_table inside) list.new.items list.old.items (range_items T.cmp range.start range.end)) }
-    ensures left_own_item { OnOk result (AreOwnElseOf T.cmp list.old.items (range_items T.cmp range.start range.end) list.new.items) }
+    ensures means { OnOk result (Means T.cmp (range_table inside) list.new.items list.old.items
+        (range_items T.cmp range.start range.end)) }
+    ensures left_own_item { OnOk result (AreOwnElseOf T.cmp list.old.items
+        (range_items T.cmp range.start range.end) list.new.items) }
     ensures unchanged { OnErr result (list.new.items ≡ list.old.items) }
-    ensures succeeds { (items : List T) → Means T.cmp (range_table inside) items list.old.items (range_items T.cmp range.start range.end) →
+    ensures succeeds { (items : List T) →
+        Means T.cmp (range_table inside) items list.old.items
+        (range_items T.cmp range.start range.end) →
         (length items ≤ length list.old.items) ⊎ (length items ≤ N) → IsOk result }
-    ensures empty { is_lt (T.cmp range.start range.end) ≡ false → (list.new.items ≡ list.old.items) × IsOk result }
+    ensures empty { is_lt (T.cmp range.start range.end) ≡ false →
+        (list.new.items ≡ list.old.items) × IsOk result }
     ensures comparisons { AddsAtMost count.old count.new (2 * digits (length list.old.items) + 1) }
 {
     let Range { start, end } = range;
@@ -82,10 +87,12 @@ fn splice<T: MadeWith<Global> + Drop, const N: usize>(
 ) -> Result<(), AllocError>
     requires ordered { from ≤ to }
     requires within { to ≤ length list.old.items }
-    requires parity { odd (from + length (option_to_list start)) ≡ odd (to + length (option_to_list end)) }
+    requires parity { odd (from + length (option_to_list start)) ≡
+        odd (to + length (option_to_list end)) }
     ensures items { OnOk result (list.new.items ≡ spliced list.old.items from to start end) }
     ensures unchanged { OnErr result (list.new.items ≡ list.old.items) }
-    ensures succeeds { (length (spliced list.old.items from to start end) ≤ length list.old.items) ⊎ (length (spliced list.old.items from to start end) ≤ N) → IsOk result }
+    ensures succeeds { (length (spliced list.old.items from to start end) ≤ length list.old.items)
+        ⊎ (length (spliced list.old.items from to start end) ≤ N) → IsOk result }
 {
     if from < to {
         replace_between(list, from, to, start, end);
@@ -116,7 +123,8 @@ fn replace_between<T: MadeWith<Global> + Drop, const N: usize>(
 // Puts the start and the end, where they are given, in the place of as many items from index `from` on. Answers the index behind them.
 #[inline(always)]
 fn overwrite_both<T: Drop>(items: &mut [T], from: usize, start: Option<T>, end: Option<T>) -> usize
-    requires { from + length (option_to_list start) + length (option_to_list end) ≤ length items.old }
+    requires { from + length (option_to_list start) + length (option_to_list end) ≤
+        length items.old }
     ensures items { items.new ≡ spliced items.old from result start end }
     ensures behind { result ≡ from + length (option_to_list start) + length (option_to_list end) }
 {
@@ -128,7 +136,8 @@ fn overwrite_both<T: Drop>(items: &mut [T], from: usize, start: Option<T>, end: 
 #[inline(always)]
 fn overwrite<T: Drop>(items: &mut [T], at: usize, item: Option<T>) -> usize
     requires { at + length (option_to_list item) ≤ length items.old }
-    ensures items { items.new ≡ take at items.old ++ (option_to_list item ++ drop result items.old) }
+    ensures items { items.new ≡
+        take at items.old ++ (option_to_list item ++ drop result items.old) }
     ensures behind { result ≡ at + length (option_to_list item) }
 {
     match item {
@@ -148,7 +157,8 @@ fn insert_both<T: MadeWith<Global> + Drop, const N: usize>(
     end: T,
 ) -> Result<(), AllocError>
     requires within { at ≤ length list.old.items }
-    ensures items { OnOk result (list.new.items ≡ take at list.old.items ++ (start ∷ end ∷ drop at list.old.items)) }
+    ensures items { OnOk result
+        (list.new.items ≡ take at list.old.items ++ (start ∷ end ∷ drop at list.old.items)) }
     ensures unchanged { OnErr result (list.new.items ≡ list.old.items) }
     ensures succeeds { length list.old.items + 2 ≤ N → IsOk result }
 {
@@ -165,7 +175,8 @@ fn insert_both<T: MadeWith<Global> + Drop, const N: usize>(
 #[inline(always)]
 fn move_last_two<T>(items: &mut [T], at: usize)
     requires { at + 2 ≤ length items.old }
-    ensures { (front : List T) (a b : T) → items.old ≡ front ++ a ∷ b ∷ [] → items.new ≡ take at front ++ (a ∷ b ∷ drop at front) }
+    ensures { (front : List T) (a b : T) →
+        items.old ≡ front ++ a ∷ b ∷ [] → items.new ≡ take at front ++ (a ∷ b ∷ drop at front) }
 {
     items[at..].rotate_right(2);
 }

@@ -27,7 +27,8 @@ pub(super) fn write_ranges<T: WholeNumber, W: fmt::Write>(
     mut ranges: Iter<'_, T>,
     f: &mut fmt::Formatter<W>,
 ) -> fmt::Result
-    ensures { WritesOnOk W.write_str_gives f.old result (ranges_text T.digits (ranges_of ranges.entry)) f.new }
+    ensures { WritesOnOk W.write_str_gives f.old result
+        (ranges_text T.digits (ranges_of ranges.entry)) f.new }
 {
     match ranges.next() {
         Some(first) => {
@@ -43,7 +44,8 @@ fn write_others<T: WholeNumber, W: fmt::Write>(
     ranges: Iter<'_, T>,
     f: &mut fmt::Formatter<W>,
 ) -> fmt::Result
-    ensures { WritesOnOk W.write_str_gives f.old result (others_text T.digits (ranges_of ranges.entry)) f.new }
+    ensures { WritesOnOk W.write_str_gives f.old result
+        (others_text T.digits (ranges_of ranges.entry)) f.new }
 {
     for range in ranges {
         f.write_str(", ")?;

@@ -19,7 +19,8 @@ use std::default::MadeWith;
 impl<T: EntryClone + MadeWith<Global> + Drop, const N: usize> RangeSet<T, N> {
     /// The set of the elements that are members of one of the sets at least.
     pub fn union_all(alloc: Global, sets: &[RangeSetRef<T>]) -> Result<Self, AllocError>
-        ensures gives { GivesUnion T.cmp T.is_copy T.is_infallible (λ set. set.boundaries.now) N sets.now result }
+        ensures gives { GivesUnion T.cmp T.is_copy T.is_infallible (λ set. set.boundaries.now) N
+            sets.now result }
     {
         Self::union_all_counted(alloc, sets, &mut Comparisons::new())
     }
@@ -32,8 +33,11 @@ impl<T: EntryClone + MadeWith<Global> + Drop, const N: usize> RangeSet<T, N> {
         sets: &[RangeSetRef<T>],
         count: &mut Comparisons,
     ) -> Result<Self, AllocError>
-        ensures gives { GivesUnion T.cmp T.is_copy T.is_infallible (λ set. set.boundaries.now) N sets.now result }
-        ensures comparisons { AddsAtMost count.old count.new (2 * length (flat_map (λ set. set.boundaries.now) sets.now) * digits (length sets.now - 1)) }
+        ensures gives { GivesUnion T.cmp T.is_copy T.is_infallible (λ set. set.boundaries.now) N
+            sets.now result }
+        ensures comparisons { AddsAtMost count.old count.new
+            (2 * length (flat_map (λ set. set.boundaries.now) sets.now)
+            * digits (length sets.now - 1)) }
     {
         union_of(alloc, sets, count)
     }
@@ -42,8 +46,10 @@ impl<T: EntryClone + MadeWith<Global> + Drop, const N: usize> RangeSet<T, N> {
     ///
     /// It copies the two ends of each range that has something in it, and then it unites halves, as `union_all` does.
     pub fn from_ranges(alloc: Global, ranges: &[RangeSetRange<T>]) -> Result<Self, AllocError>
-        ensures gives { GivesUnion T.cmp T.is_copy T.is_infallible (range_boundaries T.cmp) N ranges.now result }
-        ensures members { IfOk result (λ set. (x : T) → (member T.cmp set x ≡ true) ↔ Any (λ range. IsInRange T.cmp range x) ranges.now) }
+        ensures gives { GivesUnion T.cmp T.is_copy T.is_infallible (range_boundaries T.cmp) N
+            ranges.now result }
+        ensures members { IfOk result (λ set. (x : T) →
+            (member T.cmp set x ≡ true) ↔ Any (λ range. IsInRange T.cmp range x) ranges.now) }
     {
         union_of(alloc, ranges, &mut Comparisons::new())
     }

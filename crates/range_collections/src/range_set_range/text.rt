@@ -33,7 +33,8 @@ pub(crate) fn write_range<T: WholeNumber, W: fmt::Write>(
     range: &RangeSetRange<&T>,
     f: &mut fmt::Formatter<W>,
 ) -> fmt::Result
-    ensures { WritesOnOk W.write_str_gives f.old result (range_text T.digits (range_now range.now)) f.new }
+    ensures { WritesOnOk W.write_str_gives f.old result
+        (range_text T.digits (range_now range.now)) f.new }
 {
     match range {
         RangeSetRange::Range(range) => {

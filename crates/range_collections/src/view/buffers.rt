@@ -25,8 +25,10 @@ impl<'a, T: Ord> RangeSetRef<'a, T> {
         requires off { O.connective op.now false false ≡ false }
         requires fits { length self.now.boundaries.now + length that.boundaries.now < 2 ^ 64 }
         requires made { count.old < 2 ^ 64 }
-        ensures writes { WritesOperation T.cmp (O.connective op.now) self.now.boundaries.now that.entry.boundaries.now out.old out.new result }
-        ensures comparisons { AddsAtMost count.old count.new (2 * weight T.cmp self.now.boundaries.now that.entry.boundaries.now) }
+        ensures writes { WritesOperation T.cmp (O.connective op.now)
+            self.now.boundaries.now that.entry.boundaries.now out.old out.new result }
+        ensures comparisons { AddsAtMost count.old count.new
+            (2 * weight T.cmp self.now.boundaries.now that.entry.boundaries.now) }
     {
         changes_mean_the_connective::<T, Comparisons>();
         BufferMergeState::merge(self.boundaries, that.boundaries, out, op, count)

@@ -29,18 +29,26 @@ impl<'a, T: RangeSetEntry + EntryClone + MadeWith<Global> + Drop> RangeSetRef<'a
         count: &mut Comparisons,
     ) -> Result<RangeSet<T, M>, AllocError>
         requires made { count.old < 2 ^ 64 }
-        ensures means { IfOk result (λ set. MeansAmong T.cmp T.is_value (O.connective op.now) set self.now.boundaries.now that.entry.boundaries.now) }
+        ensures means { IfOk result (λ set. MeansAmong T.cmp T.is_value (O.connective op.now) set
+            self.now.boundaries.now that.entry.boundaries.now) }
         ensures left_own_item { O.connective op.now false false ≡ false → IfOk result (λ set.
-            AreCopies T.is_copy (changes T.cmp (O.connective op.now) self.now.boundaries.now that.entry.boundaries.now) set) }
+            AreCopies T.is_copy (changes T.cmp (O.connective op.now)
+            self.now.boundaries.now that.entry.boundaries.now) set) }
 
         // On while both sides are off: the changes, with the least value removed from the front or put there.
         ensures flipped { O.connective op.now false false ≡ true → IfOk result (λ set.
-            IsFlipped T.cmp T.least (taken_items (changes T.cmp (O.connective op.now) self.now.boundaries.now that.entry.boundaries.now)) set) }
-        ensures succeeds { O.connective op.now false false ≡ false → length self.now.boundaries.now + length that.entry.boundaries.now ≤ M →
-            All T.is_infallible self.now.boundaries.now → All T.is_infallible that.entry.boundaries.now → IsOk result }
-        ensures succeeds_flipped { O.connective op.now false false ≡ true → length self.now.boundaries.now + length that.entry.boundaries.now < M →
-            All T.is_infallible self.now.boundaries.now → All T.is_infallible that.entry.boundaries.now → T.is_min_infallible → IsOk result }
-        ensures comparisons { AddsAtMost count.old count.new (2 * weight T.cmp self.now.boundaries.now that.entry.boundaries.now) }
+            IsFlipped T.cmp T.least (taken_items (changes T.cmp (O.connective op.now)
+            self.now.boundaries.now that.entry.boundaries.now)) set) }
+        ensures succeeds { O.connective op.now false false ≡ false →
+            length self.now.boundaries.now + length that.entry.boundaries.now ≤ M →
+            All T.is_infallible self.now.boundaries.now →
+            All T.is_infallible that.entry.boundaries.now → IsOk result }
+        ensures succeeds_flipped { O.connective op.now false false ≡ true →
+            length self.now.boundaries.now + length that.entry.boundaries.now < M →
+            All T.is_infallible self.now.boundaries.now →
+            All T.is_infallible that.entry.boundaries.now → T.is_min_infallible → IsOk result }
+        ensures comparisons { AddsAtMost count.old count.new
+            (2 * weight T.cmp self.now.boundaries.now that.entry.boundaries.now) }
     {
         changes_are_at_most_the_lengths::<T, Comparisons>();
         changes_mean_the_connective::<T, Comparisons>();

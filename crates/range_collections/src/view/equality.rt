@@ -18,7 +18,8 @@ impl<'a, T: Ord> PartialEq for RangeSetRef<'a, T> {
     #[inline]
     fn eq(&self, other: &Self) -> bool
         ensures value { result ≡ pointwise T.eq self.now.boundaries.now other.now.boundaries.now }
-        ensures members { IsTrue result ↔ IsSameSet T.cmp self.now.boundaries.now other.now.boundaries.now }
+        ensures members { IsTrue result ↔
+            IsSameSet T.cmp self.now.boundaries.now other.now.boundaries.now }
     {
         self.boundaries == other.boundaries
     }
@@ -49,7 +50,8 @@ impl<'a, T: Ord> Ord for RangeSetRef<'a, T> {
 impl<'a, T: Ord> PartialOrd for RangeSetRef<'a, T> {
     ghost partial_cmp = { as_partial_cmp (on (λ set. set.boundaries.now) (slice_cmp T.cmp)) };
 
-    ghost laws = { po (on_total _ (lists_total T.total)) (λ x y. lists_ties T.cmp T.matches_eq x.boundaries.now y.boundaries.now) };
+    ghost laws = { po (on_total _ (lists_total T.total)) (λ x y.
+        lists_ties T.cmp T.matches_eq x.boundaries.now y.boundaries.now) };
 
     /// The order of `cmp`.
     #[inline]

@@ -13,7 +13,8 @@ impl<'a, T: Ord> RangeSetRef<'a, T> {
     /// The first range, or nothing where the set is empty.
     #[inline]
     pub fn first(&self) -> Option<RangeSetRange<&'a T>>
-        ensures { MatchOption result (self.now.boundaries.now ≡ []) (λ range. slice_get (ranges_of self.now.boundaries.now) 0 ≡ Some (range_now range)) }
+        ensures { MatchOption result (self.now.boundaries.now ≡ []) (λ range.
+            slice_get (ranges_of self.now.boundaries.now) 0 ≡ Some (range_now range)) }
     {
         self.iter().next()
     }
@@ -21,7 +22,8 @@ impl<'a, T: Ord> RangeSetRef<'a, T> {
     /// The last range, or nothing where the set is empty.
     #[inline]
     pub fn last(&self) -> Option<RangeSetRange<&'a T>>
-        ensures { MatchOption result (self.now.boundaries.now ≡ []) (λ range. last_or None (ranges_of self.now.boundaries.now) ≡ Some (range_now range)) }
+        ensures { MatchOption result (self.now.boundaries.now ≡ []) (λ range.
+            last_or None (ranges_of self.now.boundaries.now) ≡ Some (range_now range)) }
     {
         self.iter().next_back()
     }
@@ -29,7 +31,8 @@ impl<'a, T: Ord> RangeSetRef<'a, T> {
     /// From the start of the first range to the end of the last one, or without an end where that has none. Nothing where the set is empty.
     #[inline]
     pub fn span(&self) -> Option<RangeSetRange<&'a T>>
-        ensures { MatchOption result (self.now.boundaries.now ≡ []) (λ range. IsSpan (ranges_of self.now.boundaries.now) (range_now range)) }
+        ensures { MatchOption result (self.now.boundaries.now ≡ []) (λ range.
+            IsSpan (ranges_of self.now.boundaries.now) (range_now range)) }
     {
         let start = start_of(self.first()?);
         match self.last()? {

@@ -16,7 +16,9 @@ impl<'a, T: Ord> RangeSetRef<'a, T> {
     /// The parts of `within` that are not in the set, from the lowest on: none is empty, and each ends below the start of the next. A range whose start is not below its end has none.
     #[inline]
     pub fn gaps(&self, within: Range<&'a T>) -> Gaps<'a, T>
-        ensures { Means T.cmp difference_table result (range_items T.cmp within.entry.start.now within.entry.end.now) self.now.boundaries.now }
+        ensures { Means T.cmp difference_table result
+            (range_items T.cmp within.entry.start.now within.entry.end.now)
+            self.now.boundaries.now }
     {
         self.gaps_counted(within, &mut Comparisons::new())
     }
@@ -25,8 +27,11 @@ impl<'a, T: Ord> RangeSetRef<'a, T> {
     #[inline]
     pub fn gaps_counted(&self, within: Range<&'a T>, count: &mut Comparisons) -> Gaps<'a, T>
         requires { count.old < 2 ^ 64 }
-        ensures means { Means T.cmp difference_table result (range_items T.cmp within.entry.start.now within.entry.end.now) self.now.boundaries.now }
-        ensures comparisons { AddsAtMost count.old count.new (2 * digits (length self.now.boundaries.now) + 1) }
+        ensures means { Means T.cmp difference_table result
+            (range_items T.cmp within.entry.start.now within.entry.end.now)
+            self.now.boundaries.now }
+        ensures comparisons { AddsAtMost count.old count.new
+            (2 * digits (length self.now.boundaries.now) + 1) }
     {
         self.parts_within(within, false, count)
     }
@@ -34,7 +39,9 @@ impl<'a, T: Ord> RangeSetRef<'a, T> {
     /// The parts of `within` that are in the set, from the lowest on: none is empty, and each ends below the start of the next. A range whose start is not below its end has none.
     #[inline]
     pub fn ranges_within(&self, within: Range<&'a T>) -> RangesWithin<'a, T>
-        ensures { Means T.cmp intersection_table result (range_items T.cmp within.entry.start.now within.entry.end.now) self.now.boundaries.now }
+        ensures { Means T.cmp intersection_table result
+            (range_items T.cmp within.entry.start.now within.entry.end.now)
+            self.now.boundaries.now }
     {
         self.ranges_within_counted(within, &mut Comparisons::new())
     }
@@ -47,8 +54,11 @@ impl<'a, T: Ord> RangeSetRef<'a, T> {
         count: &mut Comparisons,
     ) -> RangesWithin<'a, T>
         requires { count.old < 2 ^ 64 }
-        ensures means { Means T.cmp intersection_table result (range_items T.cmp within.entry.start.now within.entry.end.now) self.now.boundaries.now }
-        ensures comparisons { AddsAtMost count.old count.new (2 * digits (length self.now.boundaries.now) + 1) }
+        ensures means { Means T.cmp intersection_table result
+            (range_items T.cmp within.entry.start.now within.entry.end.now)
+            self.now.boundaries.now }
+        ensures comparisons { AddsAtMost count.old count.new
+            (2 * digits (length self.now.boundaries.now) + 1) }
     {
         self.parts_within(within, true, count)
     }
@@ -61,8 +71,11 @@ impl<'a, T: Ord> RangeSetRef<'a, T> {
         count: &mut Comparisons,
     ) -> RangesWithin<'a, T>
         requires { count.old < 2 ^ 64 }
-        ensures means { Means T.cmp (within_table inside) result (range_items T.cmp within.entry.start.now within.entry.end.now) self.now.boundaries.now }
-        ensures comparisons { AddsAtMost count.old count.new (2 * digits (length self.now.boundaries.now) + 1) }
+        ensures means { Means T.cmp (within_table inside) result
+            (range_items T.cmp within.entry.start.now within.entry.end.now)
+            self.now.boundaries.now }
+        ensures comparisons { AddsAtMost count.old count.new
+            (2 * digits (length self.now.boundaries.now) + 1) }
     {
         if !count.compare(within.start, within.end).is_lt() {
             return RangesWithin::nothing();

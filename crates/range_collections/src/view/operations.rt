@@ -10,6 +10,7 @@ ghost use Rattle.range_collections.specs.Sets.{AreEqual};
 
 use crate::comparisons::{Comparisons, EntryCopier};
 use crate::range_set::RangeSet;
+use crate::range_set::room::give_back_room;
 use crate::view::RangeSetRef;
 use range_entry::EntryClone;
 use range_merge::laws::{changes_mean_the_connective, changes_mean_the_opposite};
@@ -29,8 +30,10 @@ impl<'a, T: EntryClone + MadeWith<Global> + Drop> RangeSetRef<'a, T> {
     ) -> Result<RangeSet<T, M>, AllocError>
         requires off { O.connective op.now false false ≡ false }
         requires made { count.old < 2 ^ 64 }
-        ensures gives { GivesOperation T.cmp T.is_copy T.is_infallible (O.connective op.now) M self.now.boundaries.now that.entry.boundaries.now result }
-        ensures comparisons { AddsAtMost count.old count.new (2 * weight T.cmp self.now.boundaries.now that.entry.boundaries.now) }
+        ensures gives { GivesOperation T.cmp T.is_copy T.is_infallible (O.connective op.now) M
+            self.now.boundaries.now that.entry.boundaries.now result }
+        ensures comparisons { AddsAtMost count.old count.new
+            (2 * weight T.cmp self.now.boundaries.now that.entry.boundaries.now) }
     {
         changes_mean_the_connective::<T, Comparisons>();
         self.merged(alloc, that, op, count)
@@ -45,17 +48,19 @@ impl<'a, T: EntryClone + MadeWith<Global> + Drop> RangeSetRef<'a, T> {
         count: &mut Comparisons,
     ) -> Result<RangeSet<T, M>, AllocError>
         requires made { count.old < 2 ^ 64 }
-        ensures copies { IfOk result (λ set.
-            AreCopies T.is_copy (changes T.cmp (O.connective op.now) self.now.boundaries.now that.entry.boundaries.now) set) }
-        ensures equal { IfOk result (λ set.
-            AreEqual T.cmp (taken_items (changes T.cmp (O.connective op.now) self.now.boundaries.now that.entry.boundaries.now)) set) }
+        ensures copies { IfOk result (λ set. AreCopies T.is_copy (changes T.cmp
+            (O.connective op.now) self.now.boundaries.now that.entry.boundaries.now) set) }
+        ensures equal { IfOk result (λ set. AreEqual T.cmp (taken_items (changes T.cmp
+            (O.connective op.now) self.now.boundaries.now that.entry.boundaries.now)) set) }
         ensures succeeds { length self.now.boundaries.now + length that.entry.boundaries.now ≤ M →
-            All T.is_infallible self.now.boundaries.now → All T.is_infallible that.entry.boundaries.now → IsOk result }
-        ensures comparisons { AddsAtMost count.old count.new (2 * weight T.cmp self.now.boundaries.now that.entry.boundaries.now) }
+            All T.is_infallible self.now.boundaries.now →
+            All T.is_infallible that.entry.boundaries.now → IsOk result }
+        ensures comparisons { AddsAtMost count.old count.new
+            (2 * weight T.cmp self.now.boundaries.now that.entry.boundaries.now) }
     {
         changes_mean_the_connective::<T, Comparisons>();
         changes_mean_the_opposite::<T, Comparisons>();
-        let list = SmallVecMergeState::<T, EntryCopier, M>::merge(
+        let mut list = SmallVecMergeState::<T, EntryCopier, M>::merge(
             SmallVec::new(alloc),
             self.boundaries,
             that.boundaries,
@@ -63,6 +68,7 @@ impl<'a, T: EntryClone + MadeWith<Global> + Drop> RangeSetRef<'a, T> {
             op,
             count,
         )?;
+        give_back_room(&mut list);
         Ok(RangeSet::new_unchecked(list))
     }
 
@@ -72,7 +78,8 @@ impl<'a, T: EntryClone + MadeWith<Global> + Drop> RangeSetRef<'a, T> {
         alloc: Global,
         that: RangeSetRef<T>,
     ) -> Result<RangeSet<T, M>, AllocError>
-        ensures gives { GivesOperation T.cmp T.is_copy T.is_infallible union_table M self.now.boundaries.now that.entry.boundaries.now result }
+        ensures gives { GivesOperation T.cmp T.is_copy T.is_infallible union_table M
+            self.now.boundaries.now that.entry.boundaries.now result }
     {
         self.merge_new(alloc, that, &UnionOp, &mut Comparisons::new())
     }
@@ -83,7 +90,8 @@ impl<'a, T: EntryClone + MadeWith<Global> + Drop> RangeSetRef<'a, T> {
         alloc: Global,
         that: RangeSetRef<T>,
     ) -> Result<RangeSet<T, M>, AllocError>
-        ensures gives { GivesOperation T.cmp T.is_copy T.is_infallible intersection_table M self.now.boundaries.now that.entry.boundaries.now result }
+        ensures gives { GivesOperation T.cmp T.is_copy T.is_infallible intersection_table M
+            self.now.boundaries.now that.entry.boundaries.now result }
     {
         self.merge_new(alloc, that, &IntersectionOp, &mut Comparisons::new())
     }
@@ -94,7 +102,8 @@ impl<'a, T: EntryClone + MadeWith<Global> + Drop> RangeSetRef<'a, T> {
         alloc: Global,
         that: RangeSetRef<T>,
     ) -> Result<RangeSet<T, M>, AllocError>
-        ensures gives { GivesOperation T.cmp T.is_copy T.is_infallible difference_table M self.now.boundaries.now that.entry.boundaries.now result }
+        ensures gives { GivesOperation T.cmp T.is_copy T.is_infallible difference_table M
+            self.now.boundaries.now that.entry.boundaries.now result }
     {
         self.merge_new(alloc, that, &DiffOp, &mut Comparisons::new())
     }
@@ -105,7 +114,8 @@ impl<'a, T: EntryClone + MadeWith<Global> + Drop> RangeSetRef<'a, T> {
         alloc: Global,
         that: RangeSetRef<T>,
     ) -> Result<RangeSet<T, M>, AllocError>
-        ensures gives { GivesOperation T.cmp T.is_copy T.is_infallible symmetric_difference_table M self.now.boundaries.now that.entry.boundaries.now result }
+        ensures gives { GivesOperation T.cmp T.is_copy T.is_infallible symmetric_difference_table M
+            self.now.boundaries.now that.entry.boundaries.now result }
     {
         self.merge_new(alloc, that, &XorOp, &mut Comparisons::new())
     }

@@ -21,7 +21,8 @@ impl<'a, T: Ord> RangeSetRef<'a, T> {
     #[inline]
     pub fn range_at(&self, value: &T) -> Option<RangeSetRange<&'a T>>
         ensures member { IsSome result ↔ (member T.cmp self.now.boundaries.now value.now ≡ true) }
-        ensures of_set { IfSome result (λ range. Contains (ranges_of self.now.boundaries.now) (range_now range)) }
+        ensures of_set { IfSome result (λ range.
+            Contains (ranges_of self.now.boundaries.now) (range_now range)) }
         ensures holds { IfSome result (λ range. IsInRange T.cmp (range_now range) value.now) }
     {
         self.range_at_counted(value, &mut Comparisons::new())
@@ -36,9 +37,11 @@ impl<'a, T: Ord> RangeSetRef<'a, T> {
     ) -> Option<RangeSetRange<&'a T>>
         requires { count.old < 2 ^ 64 }
         ensures member { IsSome result ↔ (member T.cmp self.now.boundaries.now value.now ≡ true) }
-        ensures of_set { IfSome result (λ range. Contains (ranges_of self.now.boundaries.now) (range_now range)) }
+        ensures of_set { IfSome result (λ range.
+            Contains (ranges_of self.now.boundaries.now) (range_now range)) }
         ensures holds { IfSome result (λ range. IsInRange T.cmp (range_now range) value.now) }
-        ensures comparisons { AddsAtMost count.old count.new (digits (length self.now.boundaries.now)) }
+        ensures comparisons { AddsAtMost count.old count.new
+            (digits (length self.now.boundaries.now)) }
     {
         let before = self.count_up_to(value, count);
         if before % 2 == 0 {
@@ -63,8 +66,10 @@ impl<'a, T: Ord> RangeSetRef<'a, T> {
     where
         T: Drop,
         requires { count.old < 2 ^ 64 }
-        ensures members { IsTrue result ↔ HasAllWithin T.cmp self.now.boundaries.now range.start range.end }
-        ensures comparisons { AddsAtMost count.old count.new (2 * digits (length self.now.boundaries.now) + 1) }
+        ensures members { IsTrue result ↔
+            HasAllWithin T.cmp self.now.boundaries.now range.start range.end }
+        ensures comparisons { AddsAtMost count.old count.new
+            (2 * digits (length self.now.boundaries.now) + 1) }
     {
         if !count.compare(&range.start, &range.end).is_lt() {
             return true;
@@ -81,9 +86,12 @@ impl<'a, T: Ord> RangeSetRef<'a, T> {
     pub(super) fn count_up_to(&self, value: &T, count: &mut Comparisons) -> usize
         requires { count.old < 2 ^ 127 }
         ensures within { result ≤ length self.now.boundaries.now }
-        ensures before { AllWithin (λ y. is_le (T.cmp y value.now) ≡ true) self.now.boundaries.now 0 result }
-        ensures from { AllWithin (λ y. T.cmp y value.now ≡ Greater) self.now.boundaries.now result (length self.now.boundaries.now) }
-        ensures comparisons { AddsAtMost count.old count.new (digits (length self.now.boundaries.now)) }
+        ensures before { AllWithin (λ y. is_le (T.cmp y value.now) ≡ true)
+            self.now.boundaries.now 0 result }
+        ensures from { AllWithin (λ y. T.cmp y value.now ≡ Greater)
+            self.now.boundaries.now result (length self.now.boundaries.now) }
+        ensures comparisons { AddsAtMost count.old count.new
+            (digits (length self.now.boundaries.now)) }
     {
         match search(self.boundaries, value, count) {
             Ok(i) => i + 1,
@@ -96,9 +104,12 @@ impl<'a, T: Ord> RangeSetRef<'a, T> {
     pub(super) fn count_below(&self, value: &T, count: &mut Comparisons) -> usize
         requires { count.old < 2 ^ 127 }
         ensures within { result ≤ length self.now.boundaries.now }
-        ensures before { AllWithin (λ y. T.cmp y value.now ≡ Less) self.now.boundaries.now 0 result }
-        ensures from { AllWithin (λ y. is_le (T.cmp value.now y) ≡ true) self.now.boundaries.now result (length self.now.boundaries.now) }
-        ensures comparisons { AddsAtMost count.old count.new (digits (length self.now.boundaries.now)) }
+        ensures before { AllWithin (λ y. T.cmp y value.now ≡ Less)
+            self.now.boundaries.now 0 result }
+        ensures from { AllWithin (λ y. is_le (T.cmp value.now y) ≡ true)
+            self.now.boundaries.now result (length self.now.boundaries.now) }
+        ensures comparisons { AddsAtMost count.old count.new
+            (digits (length self.now.boundaries.now)) }
     {
         match search(self.boundaries, value, count) {
             Ok(i) => i,

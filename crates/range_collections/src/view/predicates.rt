@@ -28,7 +28,8 @@ impl<'a, T: Ord> RangeSetRef<'a, T> {
     pub fn contains_counted(&self, value: &T, count: &mut Comparisons) -> bool
         requires { count.old < 2 ^ 64 }
         ensures member { result ≡ member T.cmp self.now.boundaries.now value.now }
-        ensures comparisons { AddsAtMost count.old count.new (digits (length self.now.boundaries.now)) }
+        ensures comparisons { AddsAtMost count.old count.new
+            (digits (length self.now.boundaries.now)) }
     {
         match search(self.boundaries, value, count) {
             Ok(i) => i % 2 == 0,
@@ -53,8 +54,10 @@ impl<'a, T: Ord> RangeSetRef<'a, T> {
     ) -> bool
         requires off { O.connective op.now false false ≡ false }
         requires made { count.old < 2 ^ 64 }
-        ensures members { IsTrue result ↔ HasMember T.cmp (O.connective op.now) self.now.boundaries.now that.entry.boundaries.now }
-        ensures comparisons { AddsAtMost count.old count.new (2 * weight T.cmp self.now.boundaries.now that.entry.boundaries.now) }
+        ensures members { IsTrue result ↔ HasMember T.cmp (O.connective op.now)
+            self.now.boundaries.now that.entry.boundaries.now }
+        ensures comparisons { AddsAtMost count.old count.new
+            (2 * weight T.cmp self.now.boundaries.now that.entry.boundaries.now) }
     {
         changes_mean_the_connective::<T, Comparisons>();
         BoolOpMergeState::merge(self.boundaries, that.boundaries, op, count)
@@ -70,11 +73,15 @@ impl<'a, T: Ord> RangeSetRef<'a, T> {
         requires off { O.connective op.now false false ≡ false }
         requires fits { length self.now.boundaries.now + length that.boundaries.now < 2 ^ 64 }
         requires made { count.old < 2 ^ 64 }
-        ensures value { result ≡ length (changes T.cmp (O.connective op.now) self.now.boundaries.now that.entry.boundaries.now) }
+        ensures value { result ≡ length (changes T.cmp (O.connective op.now)
+            self.now.boundaries.now that.entry.boundaries.now) }
 
         // It is the length of every list that the operation may give.
-        ensures means { (items : List T) → Means T.cmp (O.connective op.now) items self.now.boundaries.now that.entry.boundaries.now → length items ≡ result }
-        ensures comparisons { AddsAtMost count.old count.new (2 * weight T.cmp self.now.boundaries.now that.entry.boundaries.now) }
+        ensures means { (items : List T) →
+            Means T.cmp (O.connective op.now) items
+            self.now.boundaries.now that.entry.boundaries.now → length items ≡ result }
+        ensures comparisons { AddsAtMost count.old count.new
+            (2 * weight T.cmp self.now.boundaries.now that.entry.boundaries.now) }
     {
         changes_mean_the_connective::<T, Comparisons>();
         CountMergeState::merge(self.boundaries, that.boundaries, op, count)
@@ -82,14 +89,16 @@ impl<'a, T: Ord> RangeSetRef<'a, T> {
 
     /// Whether some element is a member of both.
     pub fn intersects(&self, that: RangeSetRef<T>) -> bool
-        ensures { IsTrue result ↔ Intersects T.cmp self.now.boundaries.now that.entry.boundaries.now }
+        ensures { IsTrue result ↔
+            Intersects T.cmp self.now.boundaries.now that.entry.boundaries.now }
     {
         self.merge_test(that, &IntersectionOp, &mut Comparisons::new())
     }
 
     /// Whether no element is a member of both.
     pub fn is_disjoint(&self, that: RangeSetRef<T>) -> bool
-        ensures { IsTrue result ↔ IsDisjoint T.cmp self.now.boundaries.now that.entry.boundaries.now }
+        ensures { IsTrue result ↔
+            IsDisjoint T.cmp self.now.boundaries.now that.entry.boundaries.now }
     {
         !self.merge_test(that, &IntersectionOp, &mut Comparisons::new())
     }

@@ -21,7 +21,8 @@ impl<'a, T: Ord> RangeSetRef<'a, T> {
     pub fn intersects_range(&self, range: Range<T>) -> bool
     where
         T: Drop,
-        ensures { IsTrue result ↔ HasMemberWithin T.cmp self.now.boundaries.now range.start range.end }
+        ensures { IsTrue result ↔
+            HasMemberWithin T.cmp self.now.boundaries.now range.start range.end }
     {
         if !range.start.cmp(&range.end).is_lt() {
             return false;

@@ -17,7 +17,8 @@ impl<'a, T: Ord> RangeSetRef<'a, T> {
         T: Drop,
         ensures left { result.0.boundaries.now ≡ split_left T.cmp self.now.boundaries.now at }
         ensures right { result.1.boundaries.now ≡ split_right T.cmp self.now.boundaries.now at }
-        ensures least_below { IsLeastBelow T.cmp at result.0.boundaries.now self.now.boundaries.now }
+        ensures least_below { IsLeastBelow T.cmp at result.0.boundaries.now
+            self.now.boundaries.now }
         ensures least_from { IsLeastFrom T.cmp at result.1.boundaries.now self.now.boundaries.now }
     {
         self.split_counted(at, &mut Comparisons::new())
@@ -35,9 +36,11 @@ impl<'a, T: Ord> RangeSetRef<'a, T> {
         requires { count.old < 2 ^ 64 }
         ensures left { result.0.boundaries.now ≡ split_left T.cmp self.now.boundaries.now at }
         ensures right { result.1.boundaries.now ≡ split_right T.cmp self.now.boundaries.now at }
-        ensures least_below { IsLeastBelow T.cmp at result.0.boundaries.now self.now.boundaries.now }
+        ensures least_below { IsLeastBelow T.cmp at result.0.boundaries.now
+            self.now.boundaries.now }
         ensures least_from { IsLeastFrom T.cmp at result.1.boundaries.now self.now.boundaries.now }
-        ensures comparisons { AddsAtMost count.old count.new (digits (length self.now.boundaries.now)) }
+        ensures comparisons { AddsAtMost count.old count.new
+            (digits (length self.now.boundaries.now)) }
     {
         match search(self.boundaries, &at, count) {
             Ok(i) => self.parts(i, i + i % 2),

@@ -1,5 +1,6 @@
 //! A list that grows at its end, by value or borrowed.
 ghost use Rattle.std.specs.Prelude.{◌≡◌, ℕ, Bool, true, false, ◌+◌, ◌≤◌, ◌<◌, List, ◌++◌, ◌∷◌, [], length, IsOk, IsErr, OnOk, All};
+ghost use Rattle.std.specs.Vec.{vec_capacity};
 ghost use Rattle.range_merge.specs.Copies.{IsAppended, items_if};
 
 use crate::compare::Copier;
@@ -36,6 +37,25 @@ impl<K: MadeWith<Global> + Drop, const M: usize> Sink<K> for SmallVec<K, M> {
     #[inline(always)]
     fn reserve(&mut self, n: usize) -> Result<(), AllocError> {
         SmallVec::reserve(self, n)
+    }
+
+    #[inline(always)]
+    fn push(&mut self, item: K) {
+        self.push_reserved(item);
+    }
+}
+
+impl<K> Sink<K> for Vec<K> {
+    ghost items = { λ list. list.items };
+
+    ghost room = { λ list. vec_capacity list };
+
+    #[inline(always)]
+    fn reserve(&mut self, n: usize) -> Result<(), AllocError> {
+        if n <= self.capacity() - self.len() {
+            return Ok(());
+        }
+        Vec::reserve(self, n)
     }
 
     #[inline(always)]

@@ -1,5 +1,5 @@
 //! A merge that copies what is taken into a list.
-ghost use Rattle.std.specs.Prelude.{◌≡◌, ◌+◌, ◌*◌, ◌^◌, ◌<◌, ◌≤◌, false, [], length, map, All, IsOk, IfOk, ⊤};
+ghost use Rattle.std.specs.Prelude.{◌≡◌, ◌+◌, ◌*◌, ◌^◌, ◌<◌, ◌≤◌, ◌↔◌, false, [], length, map, All, IsOk, IfOk, IsTrue, ⊤};
 ghost use Rattle.range_merge.specs.Boundaries.{IsAscending};
 ghost use Rattle.range_merge.specs.Changes.{changes, from_left};
 ghost use Rattle.range_merge.specs.Copies.{AreCopies, AreKeptThenCopies};
@@ -49,9 +49,33 @@ impl<'a, K: MadeWith<Global> + Drop, P: Copier<K>, const M: usize> SmallVecMerge
 
     /// Fills the empty list `r` with copies of the items at which the connective of `op` changes between two strictly sorted lists.
     ///
-    /// It asks for room once for each run that is taken, and for what the copies ask (seen by reading). Where both lengths together are at most `M` and no copy is refused, it succeeds. A refusal drops `r`.
+    /// It asks for room for both lengths at once where they are more than a few; where that is refused, and for a few, for each run that is taken; and for what the copies ask (seen by reading). Where both lengths together are at most `M` and no copy is refused, it succeeds. A refusal drops `r`.
     /// It makes at most twice the weight of the two lists in comparisons, also where it is refused.
     pub fn merge<O: MergeOperation, C: Compare<K>>(
+        r: SmallVec<K, M>,
+        a: &'a [K],
+        b: &'a [K],
+        copier: &'a P,
+        op: &O,
+        cmp: &mut C,
+    ) -> Result<SmallVec<K, M>, AllocError>
+        requires empty { r.items ≡ [] }
+        requires left_ascending { IsAscending C.order a.now }
+        requires right_ascending { IsAscending C.order b.now }
+        requires made { C.count cmp.old < 2 ^ 64 }
+        ensures copied { IfOk result (λ list. AreCopies P.alike (changes C.order (O.connective op.now) a.now b.now) list.items) }
+        ensures succeeds { length a.now + length b.now ≤ M → All P.is_infallible a.now → All P.is_infallible b.now → IsOk result }
+        ensures comparisons { AddsAtMost (C.count cmp.old) (C.count cmp.new) (2 * weight C.order a.now b.now) }
+    {
+        if fit_together(a.len(), b.len(), FEW.max(M)) {
+            Self::merge_few(r, a, b, copier, op, cmp)
+        } else {
+            Self::merge_many(r, a, b, copier, op, cmp)
+        }
+    }
+
+    // Appends to the list where it lies, which is inline as far as there is room.
+    fn merge_few<O: MergeOperation, C: Compare<K>>(
         mut r: SmallVec<K, M>,
         a: &'a [K],
         b: &'a [K],
@@ -74,6 +98,52 @@ impl<'a, K: MadeWith<Global> + Drop, P: Copier<K>, const M: usize> SmallVecMerge
         let _went_through = merging::merge(&mut state, op, cmp)?;
         Ok(mem::replace(state.result(), SmallVec::new(alloc)))
     }
+
+    // Appends to a `Vec`, whose end is found without a look at where it lies. What fits inline comes to lie there at the end.
+    fn merge_many<O: MergeOperation, C: Compare<K>>(
+        r: SmallVec<K, M>,
+        a: &'a [K],
+        b: &'a [K],
+        copier: &'a P,
+        op: &O,
+        cmp: &mut C,
+    ) -> Result<SmallVec<K, M>, AllocError>
+        requires empty { r.items ≡ [] }
+        requires left_ascending { IsAscending C.order a.now }
+        requires right_ascending { IsAscending C.order b.now }
+        requires made { C.count cmp.old < 2 ^ 64 }
+        ensures copied { IfOk result (λ list. AreCopies P.alike (changes C.order (O.connective op.now) a.now b.now) list.items) }
+        ensures comparisons { AddsAtMost (C.count cmp.old) (C.count cmp.new) (2 * weight C.order a.now b.now) }
+    {
+        let alloc = *r.allocator();
+        let mut list = r.into_vec()?;
+        // Where there is no room for both at once, the list grows run by run.
+        let _asked = list.reserve(a.len().saturating_add(b.len()));
+        let mut state = SliceMergeState::over(a, b, &mut list, Copying { copier, began: 0 });
+        let _went_through = merging::merge(&mut state, op, cmp)?;
+        Ok(inline_if_few(mem::replace(state.result(), Vec::new(alloc))))
+    }
+}
+
+// Of so few items together, most merges take no more than fit inline or in a list that grows once.
+const FEW: usize = 8;
+
+// The items inline if they fit there, and else where they lie.
+fn inline_if_few<K: MadeWith<Global> + Drop, const M: usize>(items: Vec<K>) -> SmallVec<K, M>
+    ensures { result.items ≡ items.items }
+{
+    let mut list = SmallVec::from_vec(items);
+    if list.len() <= M {
+        list.shrink_to_fit();
+    }
+    list
+}
+
+// Whether so many items of two lists are together at most `room`.
+fn fit_together(a: usize, b: usize, room: usize) -> bool
+    ensures { IsTrue result ↔ (a + b ≤ room) }
+{
+    a <= room && b <= room - a
 }
 
 /// How a list is appended to: by copies that the copier makes, behind the items that it had at first.

@@ -1,7 +1,8 @@
-use Rattle.std.proofs.Common.{◌≤◌, ◌≡◌, ◌+◌, ◌*◌, ◌/◌, length, arith, sym}
+use Rattle.std.proofs.Common.{◌≤◌, ◌≡◌, ◌+◌, ◌*◌, ◌/◌, [], ◌++◌, length, arith, sym, ap, ◌∙◌}
+use Rattle.std.proofs.lemmas.List.{append-nil}
 use Rattle.std.specs.List.{flat_map}
 use Rattle.range_merge.specs.Counting.{AddsAtMost}
-use Rattle.range_collections.proofs.Unions.{AddsAtMost-front, AddsAtMost-halves, GivesUnion-none, GivesUnion-one, GivesUnion-front_refused, GivesUnion-back_refused, GivesUnion-joined, length-halves}
+use Rattle.range_collections.proofs.Unions.{AddsAtMost-front, AddsAtMost-halves, GivesUnion-none, GivesUnion-one, GivesUnion-refused, GivesUnion-joined, length-halves}
 use Rattle.range_collections.proofs.range_set.joining.+union_of.Goals as goal
 
 pub returns-in-0-clause-gives : goal.returns-in-0-clause-gives
@@ -18,16 +19,16 @@ returns-in-1-clause-gives g t c =
 
 pub returns-in_err-set-in_default-clause-gives : goal.returns-in_err-set-in_default-clause-gives
 returns-in_err-set-in_default-clause-gives g t c =
-    GivesUnion-front_refused g.met.T.Ord.total g.T.EntryClone.is_copy g.T.EntryClone.is_infallible g.met.T.EntryClone.copy_is_equal g.P.Part.boundaries _
-    c.args.parts.now c.split_at.result.0.now c.split_at.result.1.now c.in_err-set-in_default.field-0.0
+    GivesUnion-refused g.met.T.Ord.total g.T.EntryClone.is_copy g.T.EntryClone.is_infallible g.met.T.EntryClone.copy_is_equal g.P.Part.boundaries _
+    c.args.parts.now [] c.split_at.result.0.now c.split_at.result.1.now c.in_err-set-in_default.field-0.0
     c.from_residual.result c.split_at.ensures.by_index.0 c.from_residual.ensures.0 c.in_err-set-in_default.ensures.gives
 
 pub returns-in_err-that-in_default-clause-gives : goal.returns-in_err-that-in_default-clause-gives
 returns-in_err-that-in_default-clause-gives g t c =
-    GivesUnion-back_refused g.met.T.Ord.total g.T.EntryClone.is_copy g.T.EntryClone.is_infallible g.met.T.EntryClone.copy_is_equal g.P.Part.boundaries _
-    c.args.parts.now c.split_at.result.0.now c.split_at.result.1.now c.in_err-that-in_default.field-0.0
-    c.from_residual-in_err-that-in_default.result c.split_at.ensures.by_index.0 c.from_residual-in_err-that-in_default.ensures.0
-    c.in_err-that-in_default.ensures.gives
+    GivesUnion-refused g.met.T.Ord.total g.T.EntryClone.is_copy g.T.EntryClone.is_infallible g.met.T.EntryClone.copy_is_equal g.P.Part.boundaries _
+    c.args.parts.now c.split_at.result.0.now c.split_at.result.1.now [] c.in_err-that-in_default.field-0.0
+    c.from_residual-in_err-that-in_default.result (c.split_at.ensures.by_index.0 ∙ ap (λ back. c.split_at.result.0.now ++ back) (sym (append-nil c.split_at.result.1.now)))
+    c.from_residual-in_err-that-in_default.ensures.0 c.in_err-that-in_default.ensures.gives
 
 pub returns-in_ok-that-in_default-clause-gives : goal.returns-in_ok-that-in_default-clause-gives
 returns-in_ok-that-in_default-clause-gives g t c =

@@ -17,8 +17,8 @@ new_unchecked-requires g c =
       search rules,
       (
         search rules,
-        IsAscending-copies g.met.T.Ord.total (changes g.T.Ord.cmp f a b) c.in_ok-list.list.items
-            (copied-equal g.met.T.EntryClone.copy_is_equal (changes g.T.Ord.cmp f a b) c.in_ok-list.list.items c.in_ok-list.ensures.copied) ascending,
+        rw c.give_back_room.ensures (IsAscending-copies g.met.T.Ord.total (changes g.T.Ord.cmp f a b) c.in_ok-list.list.items
+            (copied-equal g.met.T.EntryClone.copy_is_equal (changes g.T.Ord.cmp f a b) c.in_ok-list.list.items c.in_ok-list.ensures.copied) ascending),
       ),
     )
 
@@ -29,7 +29,7 @@ returns-clause-equal g c =
     let b = c.args.that.boundaries.now in
     let ts = changes g.T.Ord.cmp f a b in
     let xs = c.in_ok-list.list.items in
-    rw c.new_unchecked.ensures (AreEqual-copies g.T.Ord.cmp ts xs (copied-equal g.met.T.EntryClone.copy_is_equal ts xs c.in_ok-list.ensures.copied))
+    rw (c.new_unchecked.ensures, c.give_back_room.ensures) (AreEqual-copies g.T.Ord.cmp ts xs (copied-equal g.met.T.EntryClone.copy_is_equal ts xs c.in_ok-list.ensures.copied))
 
 pub returns-clause-copies : goal.returns-clause-copies
-returns-clause-copies g c = rw c.new_unchecked.ensures c.in_ok-list.ensures.copied
+returns-clause-copies g c = rw (c.new_unchecked.ensures, c.give_back_room.ensures) c.in_ok-list.ensures.copied

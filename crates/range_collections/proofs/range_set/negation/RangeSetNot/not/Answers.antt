@@ -10,7 +10,7 @@ new_unchecked-requires g c =
       search rules,
       (
         search rules,
-        rw c.remove-least.ensures.items
+        rw (c.give_back_room.ensures, c.remove-least.ensures.items)
             (Negates-removed g.met.T.Ord.total entry.is_value entry.least g.met.T.RangeSetEntry.least_is_value
             g.met.T.RangeSetEntry.least_is_least c.into_inner-list.result.items
             (rw c.as_slice.ensures at (c.begins_at_least.ensures.begins.0 c.if-begins_at_least.true)) c.into_inner-list.ensures.sorted).sorted,
@@ -23,7 +23,7 @@ returns-then-begins_at_least g c =
     GivesOwnNegation-removed g.met.T.Ord.total entry.is_value entry.least g.met.T.RangeSetEntry.least_is_value
     g.met.T.RangeSetEntry.least_is_least _ c.args.self c.into_inner-list.result.items c.as_slice.result.now c.new_unchecked.result
     c.begins_at_least.result c.into_inner-list.ensures.items c.as_slice.ensures c.into_inner-list.ensures.sorted c.begins_at_least.ensures.begins
-    c.if-begins_at_least.true (rw c.new_unchecked.ensures c.remove-least.ensures.items)
+    c.if-begins_at_least.true (rw (c.new_unchecked.ensures, c.give_back_room.ensures) c.remove-least.ensures.items)
 
 pub returns-in_err-least : goal.returns-in_err-least
 returns-in_err-least g c =

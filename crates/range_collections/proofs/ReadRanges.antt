@@ -1,0 +1,277 @@
+-- A text of ranges with numbers of any size, as it is read character by character.
+use Rattle.std.proofs.Common.{◌≡◌, refl, sym, ap, ◌∙◌, ℕ, ◌==◌, Bool, true, false, cond, ◌&&◌, ◌||◌, List, [], ◌∷◌, length, arith, Option, Some, None, inl, inr}
+use Rattle.std.specs.List.{list_all, onto_first}
+use Rattle.std.specs.Option.{is_some}
+use Rattle.std.specs.Str.{skip_leading_whitespace, drop_trailing_whitespace}
+use Rattle.std.proofs.lemmas.Bool.Decides.{eqb_tells}
+use Rattle.range_collections.specs.Reading.{any_number, range_of, parts_of}
+use Rattle.range_collections.specs.Scanning.{kind_of, is_range_end, is_end, behind}
+use Rattle.range_collections.specs.declared.range_set.scanning.Kind.{Kind}
+use Rattle.range_collections.specs.declared.range_set.scanning.Kind.TheVariants.{Blank, Comma, Dot, Sign, Digit, Other}
+use Rattle.range_collections.specs.declared.range_set.scanning.Place.{Place}
+use Rattle.range_collections.specs.declared.range_set.scanning.Place.TheVariants.{First, Start, End, InEnd, Behind}
+use Rattle.range_collections.proofs.ReadRange.{is_blank, is_comma, has_kind, follow, within, ends_range, is_range}
+
+-- a part between commas
+
+-- the place behind a character of a part
+abbrev along : Place → Kind → Option Place
+along place Comma = None
+along place kind = behind place kind
+
+-- the characters go on from the place to the end of a range, or to blanks behind one
+abbrev pub ends_part : List ℕ → Place → Bool
+ends_part [] place = is_range_end place
+ends_part (c ∷ cs) place = follow (along place (kind_of c)) (ends_part cs)
+
+-- no characters but blanks
+abbrev are_blanks : List ℕ → Bool
+are_blanks cs = length (drop_trailing_whitespace cs) == 0
+
+trailing : (c : ℕ) (cs : List ℕ) →
+    drop_trailing_whitespace (c ∷ cs) ≡ cond (is_blank (kind_of c) && are_blanks cs) [] (c ∷ drop_trailing_whitespace cs)
+trailing c cs = ap (λ t. cond (t && are_blanks cs) [] (c ∷ drop_trailing_whitespace cs)) (has_kind c).blank
+
+leading : (c : ℕ) (cs : List ℕ) → skip_leading_whitespace (c ∷ cs) ≡ cond (is_blank (kind_of c)) (skip_leading_whitespace cs) (c ∷ cs)
+leading c cs = ap (λ t. cond t (skip_leading_whitespace cs) (c ∷ cs)) (has_kind c).blank
+
+not_empty : (c : ℕ) (cs : List ℕ) → (length (c ∷ cs) == 0) ≡ false
+not_empty c cs =
+    elim (eqb_tells (length (c ∷ cs)) 0) as (λ _. (length (c ∷ cs) == 0) ≡ false) [
+      | inl same ↦ absurd (omega (arith, same.1))
+      | inr other ↦ other.0
+    ]
+
+more_blanks : (c : ℕ) (cs : List ℕ) → are_blanks (c ∷ cs) ≡ (is_blank (kind_of c) && are_blanks cs)
+more_blanks c cs = ap (λ ds. length ds == 0) (trailing c cs) ∙ go (is_blank (kind_of c) && are_blanks cs) where
+  go : (b : Bool) → (length (cond b [] (c ∷ drop_trailing_whitespace cs)) == 0) ≡ b
+  go true = refl
+  go false = not_empty c (drop_trailing_whitespace cs)
+
+behind_part : (cs : List ℕ) → ends_part cs Behind ≡ are_blanks cs
+behind_part [] = refl
+behind_part (c ∷ cs) = go (behind_part cs) (kind_of c) ∙ sym (more_blanks c cs) where
+  go : ends_part cs Behind ≡ are_blanks cs → (kind : Kind) → follow (along Behind kind) (ends_part cs) ≡ (is_blank kind && are_blanks cs)
+  go h Blank = h
+  go h _ = refl
+
+-- the place is inside of a range
+abbrev is_inside : Place → Bool
+is_inside First = false
+is_inside Start = false
+is_inside Behind = false
+is_inside _ = true
+
+abbrev all_inside : Option Place → Bool
+all_inside None = true
+all_inside (Some place) = is_inside place
+
+within_inside : (place : Place) (kind : Kind) → all_inside (within place kind) ≡ true
+within_inside place Blank = refl
+within_inside place Comma = refl
+within_inside place Other = refl
+within_inside First Dot = refl
+within_inside _ Dot = refl
+within_inside First Sign = refl
+within_inside _ Sign = refl
+within_inside First Digit = refl
+within_inside _ Digit = refl
+
+same_inside : (f g : Place → Bool) → ((place : Place) → is_inside place ≡ true → f place ≡ g place) → (o : Option Place) → all_inside o ≡ true → follow o f ≡ follow o g
+same_inside f g h None e = refl
+same_inside f g h (Some place) e = h place e
+
+-- by the kind of a character that is not blank
+no_blank : (kind : Kind) (place : Place) → is_blank kind ≡ false → along place kind ≡ within place kind
+no_blank Blank place e = cc
+no_blank Comma place e = refl
+no_blank Dot place e = refl
+no_blank Sign place e = refl
+no_blank Digit place e = refl
+no_blank Other place e = refl
+
+no_range_of_blank : (c : ℕ) (cs : List ℕ) (place : Place) → is_blank (kind_of c) ≡ true → ends_range (c ∷ cs) place ≡ false
+no_range_of_blank c cs place e = go (kind_of c) e where
+  go : (kind : Kind) → is_blank kind ≡ true → follow (within place kind) (ends_range cs) ≡ false
+  go Blank e = refl
+  go Comma e = refl
+  go Dot e = cc
+  go Sign e = cc
+  go Digit e = cc
+  go Other e = refl
+
+and_true : (b : Bool) → (b && true) ≡ b
+and_true true = refl
+and_true false = refl
+
+and_false : (b : Bool) → (b && false) ≡ false
+and_false true = refl
+and_false false = refl
+
+blank_inside : (cs : List ℕ) (place : Place) → is_inside place ≡ true → follow (along place Blank) (ends_part cs) ≡ (are_blanks cs && is_range_end place)
+blank_inside cs First e = cc
+blank_inside cs Start e = cc
+blank_inside cs Behind e = cc
+blank_inside cs End e = behind_part cs ∙ sym (and_true (are_blanks cs))
+blank_inside cs InEnd e = behind_part cs ∙ sym (and_true (are_blanks cs))
+blank_inside cs place e = sym (and_false (are_blanks cs))
+
+inside_part : (cs : List ℕ) (place : Place) → is_inside place ≡ true → ends_part cs place ≡ ends_range (drop_trailing_whitespace cs) place
+inside_part [] place e = refl
+inside_part (c ∷ cs) place e = go (inside_part cs) (kind_of c) refl ∙ ap (λ ds. ends_range ds place) (sym (trailing c cs)) where
+  go : ((q : Place) → is_inside q ≡ true → ends_part cs q ≡ ends_range (drop_trailing_whitespace cs) q) → (kind : Kind) → kind_of c ≡ kind → follow (along place (kind_of c)) (ends_part cs) ≡
+      ends_range (cond (is_blank (kind_of c) && are_blanks cs) [] (c ∷ drop_trailing_whitespace cs)) place
+  go h Blank k =
+      ap (λ t. follow (along place t) (ends_part cs)) k ∙ blank_inside cs place e ∙ blank (are_blanks cs)
+      ∙ ap (λ t. ends_range (cond (is_blank t && are_blanks cs) [] (c ∷ drop_trailing_whitespace cs)) place) (sym k)
+    where
+      blank : (b : Bool) → (b && is_range_end place) ≡ ends_range (cond b [] (c ∷ drop_trailing_whitespace cs)) place
+      blank true = refl
+      blank false = sym (no_range_of_blank c (drop_trailing_whitespace cs) place (ap is_blank k))
+  go h kind k =
+      ap (λ o. follow o (ends_part cs)) (no_blank (kind_of c) place (ap is_blank k))
+      ∙ same_inside (ends_part cs) (ends_range (drop_trailing_whitespace cs)) h (within place (kind_of c)) (within_inside place (kind_of c))
+      ∙ ap (λ t. ends_range (cond (t && are_blanks cs) [] (c ∷ drop_trailing_whitespace cs)) place) (sym (ap is_blank k))
+
+-- the characters without blanks at both ends
+abbrev pub between_blanks : List ℕ → List ℕ
+between_blanks cs = drop_trailing_whitespace (skip_leading_whitespace cs)
+
+pub start_part : (cs : List ℕ) → ends_part cs Start ≡ ends_range (between_blanks cs) Start
+start_part [] = refl
+start_part (c ∷ cs) = go (start_part cs) (kind_of c) refl ∙ ap (λ ds. ends_range (drop_trailing_whitespace ds) Start) (sym (leading c cs)) where
+  go : ends_part cs Start ≡ ends_range (between_blanks cs) Start → (kind : Kind) → kind_of c ≡ kind → follow (along Start (kind_of c)) (ends_part cs) ≡
+      ends_range (drop_trailing_whitespace (cond (is_blank (kind_of c)) (skip_leading_whitespace cs) (c ∷ cs))) Start
+  go h Blank k =
+      ap (λ t. follow (along Start t) (ends_part cs)) k ∙ h
+      ∙ ap (λ t. ends_range (drop_trailing_whitespace (cond (is_blank t) (skip_leading_whitespace cs) (c ∷ cs))) Start) (sym k)
+  go h kind k =
+      ap (λ o. follow o (ends_part cs)) (no_blank (kind_of c) Start (ap is_blank k))
+      ∙ same_inside (ends_part cs) (ends_range (drop_trailing_whitespace cs)) (inside_part cs) (within Start (kind_of c)) (within_inside Start (kind_of c))
+      ∙ ap (λ t. ends_range (cond (t && are_blanks cs) [] (c ∷ drop_trailing_whitespace cs)) Start) (sym (ap is_blank k))
+      ∙ ap (λ ds. ends_range ds Start) (sym (trailing c cs))
+      ∙ ap (λ t. ends_range (drop_trailing_whitespace (cond t (skip_leading_whitespace cs) (c ∷ cs))) Start) (sym (ap is_blank k))
+
+-- a part is a range between blanks
+part_is_range : (cs : List ℕ) → ends_part cs Start ≡ is_some (range_of any_number (between_blanks cs))
+part_is_range cs = start_part cs ∙ is_range (between_blanks cs)
+
+-- all parts
+
+-- the characters go on from the place to the end of the text behind a range
+abbrev ends_ranges : List ℕ → Place → Bool
+ends_ranges [] place = is_range_end place
+ends_ranges (c ∷ cs) place = follow (behind place (kind_of c)) (ends_ranges cs)
+
+-- the first part goes on from the place, and each later one is a range
+abbrev parts_end : List (List ℕ) → Place → Bool
+parts_end [] place = false
+parts_end (part ∷ parts) place = ends_part part place && list_all (λ p. ends_part p Start) parts
+
+pub first_part : (cs : List ℕ) → (part : List ℕ) × (parts : List (List ℕ)) × (parts_of cs ≡ part ∷ parts)
+first_part [] = ([], [], refl)
+first_part (c ∷ cs) = go (first_part cs) (c == 44) where
+  go : (part : List ℕ) × (parts : List (List ℕ)) × (parts_of cs ≡ part ∷ parts) → (b : Bool) →
+      (part : List ℕ) × (parts : List (List ℕ)) × (cond b ([] ∷ parts_of cs) (onto_first c (parts_of cs)) ≡ part ∷ parts)
+  go h true = ([], parts_of cs, refl)
+  go h false = (c ∷ h.0, h.1, ap (onto_first c) h.2)
+
+follow_and : (o : Option Place) (f g : Place → Bool) (t : Bool) → ((place : Place) → f place ≡ (g place && t)) → follow o f ≡ (follow o g && t)
+follow_and None f g t h = refl
+follow_and (Some place) f g t h = h place
+
+ranges_by_parts : (cs : List ℕ) (place : Place) → ends_ranges cs place ≡ parts_end (parts_of cs) place
+ranges_by_parts [] place = sym (and_true (is_range_end place))
+ranges_by_parts (c ∷ cs) place =
+    let split = first_part cs in
+    go (ranges_by_parts cs) split.0 split.1 split.2 (kind_of c) refl ∙ ap (λ t. parts_end (cond t ([] ∷ parts_of cs) (onto_first c (parts_of cs))) place) (sym (has_kind c).comma)
+  where
+    go : ((q : Place) → ends_ranges cs q ≡ parts_end (parts_of cs) q) → (part : List ℕ) (parts : List (List ℕ)) → parts_of cs ≡ part ∷ parts → (kind : Kind) → kind_of c ≡ kind →
+        follow (behind place (kind_of c)) (ends_ranges cs) ≡ parts_end (cond (is_comma (kind_of c)) ([] ∷ parts_of cs) (onto_first c (parts_of cs))) place
+    go h part parts split Comma k =
+        ap (λ t. follow (behind place t) (ends_ranges cs)) k ∙ comma (is_range_end place)
+        ∙ ap (λ t. parts_end (cond (is_comma t) ([] ∷ parts_of cs) (onto_first c (parts_of cs))) place) (sym k)
+      where
+        comma : (b : Bool) → follow (cond b (Some Start) None) (ends_ranges cs) ≡ (b && list_all (λ p. ends_part p Start) (parts_of cs))
+        comma true = h Start ∙ ap (λ ps. parts_end ps Start) split ∙ ap (list_all (λ p. ends_part p Start)) (sym split)
+        comma false = refl
+    go h part parts split kind k =
+        follow_and (behind place (kind_of c)) (ends_ranges cs) (ends_part part) (list_all (λ p. ends_part p Start) parts)
+        (λ q. h q ∙ ap (λ ps. parts_end ps q) split)
+        ∙ ap (λ o. follow o (ends_part part) && list_all (λ p. ends_part p Start) parts) (no_comma (kind_of c) (ap is_comma k))
+        ∙ ap (λ ps. parts_end (onto_first c ps) place) (sym split)
+        ∙ ap (λ t. parts_end (cond t ([] ∷ parts_of cs) (onto_first c (parts_of cs))) place) (sym (ap is_comma k))
+      where
+        no_comma : (kind : Kind) → is_comma kind ≡ false → behind place kind ≡ along place kind
+        no_comma Comma e = cc
+        no_comma Blank e = refl
+        no_comma Dot e = refl
+        no_comma Sign e = refl
+        no_comma Digit e = refl
+        no_comma Other e = refl
+
+-- the characters go on from the place to the end of a text of ranges
+abbrev pub ends : List ℕ → Place → Bool
+ends [] place = is_end place
+ends (c ∷ cs) place = follow (behind place (kind_of c)) (ends cs)
+
+-- the place is not at the start of the text
+abbrev is_later : Place → Bool
+is_later First = false
+is_later _ = true
+
+abbrev all_later : Option Place → Bool
+all_later None = true
+all_later (Some place) = is_later place
+
+behind_later : (place : Place) (kind : Kind) → is_later place ≡ true → all_later (behind place kind) ≡ true
+behind_later First kind e = cc
+behind_later Start Blank e = refl
+behind_later _ Blank e = refl
+behind_later Start Comma e = refl
+behind_later _ Comma e = refl
+behind_later Start Dot e = refl
+behind_later _ Dot e = refl
+behind_later Start Sign e = refl
+behind_later _ Sign e = refl
+behind_later Start Digit e = refl
+behind_later _ Digit e = refl
+behind_later Start Other e = refl
+behind_later _ Other e = refl
+
+same_later : (f g : Place → Bool) → ((place : Place) → is_later place ≡ true → f place ≡ g place) → (o : Option Place) → all_later o ≡ true → follow o f ≡ follow o g
+same_later f g h None e = refl
+same_later f g h (Some place) e = h place e
+
+later_ends : (cs : List ℕ) (place : Place) → is_later place ≡ true → ends cs place ≡ ends_ranges cs place
+later_ends [] First e = cc
+later_ends [] place e = refl
+later_ends (c ∷ cs) place e = same_later (ends cs) (ends_ranges cs) (later_ends cs) (behind place (kind_of c)) (behind_later place (kind_of c) e)
+
+first_ends : (cs : List ℕ) → ends cs First ≡ ((length (between_blanks cs) == 0) || ends_ranges cs Start)
+first_ends [] = refl
+first_ends (c ∷ cs) = go (first_ends cs) (kind_of c) refl ∙ ap (λ ds. (length (drop_trailing_whitespace ds) == 0) || ends_ranges (c ∷ cs) Start) (sym (leading c cs)) where
+  go : ends cs First ≡ ((length (between_blanks cs) == 0) || ends_ranges cs Start) → (kind : Kind) → kind_of c ≡ kind → follow (behind First (kind_of c)) (ends cs) ≡
+      ((length (drop_trailing_whitespace (cond (is_blank (kind_of c)) (skip_leading_whitespace cs) (c ∷ cs))) == 0) || follow (behind Start (kind_of c)) (ends_ranges cs))
+  go h Blank k =
+      ap (λ t. follow (behind First t) (ends cs)) k ∙ h
+      ∙ ap (λ t. (length (drop_trailing_whitespace (cond (is_blank t) (skip_leading_whitespace cs) (c ∷ cs))) == 0) || follow (behind Start t) (ends_ranges cs)) (sym k)
+  go h kind k =
+      ap (λ o. follow o (ends cs)) (same (kind_of c) (ap is_blank k))
+      ∙ same_later (ends cs) (ends_ranges cs) (later_ends cs) (behind Start (kind_of c)) (behind_later Start (kind_of c) refl)
+      ∙ ap (λ t. t || follow (behind Start (kind_of c)) (ends_ranges cs)) (sym (more_blanks c cs ∙ ap (λ t. t && are_blanks cs) (ap is_blank k)))
+      ∙ ap (λ t. (length (drop_trailing_whitespace (cond t (skip_leading_whitespace cs) (c ∷ cs))) == 0) || follow (behind Start (kind_of c)) (ends_ranges cs)) (sym (ap is_blank k))
+    where
+      same : (kind : Kind) → is_blank kind ≡ false → behind First kind ≡ behind Start kind
+      same Blank e = cc
+      same Comma e = refl
+      same Dot e = refl
+      same Sign e = refl
+      same Digit e = refl
+      same Other e = refl
+
+-- in characters, what the text of ranges is in bytes
+pub ends_by_parts : (cs : List ℕ) → ends cs First ≡ ((length (between_blanks cs) == 0) || list_all (λ p. ends_part p Start) (parts_of cs))
+ends_by_parts cs =
+    let split = first_part cs in
+    first_ends cs ∙ ap (λ t. (length (between_blanks cs) == 0) || t) (ranges_by_parts cs Start ∙ ap (λ ps. parts_end ps Start) split.2 ∙ ap (list_all (λ p. ends_part p Start)) (sym split.2))
