@@ -11,7 +11,7 @@ use Rattle.serde_json.specs.Find.{as_array}
 use Rattle.range_collections.specs.Json.{items_in, whole_number, is_bad, first_bad}
 use Rattle.range_collections.specs.declared.range_set.json.JsonError.{JsonError}
 use Rattle.range_collections.specs.declared.range_set.json.JsonError.TheVariants.{NotArray, NotInteger, OutOfMemory}
-use Rattle.range_calc.specs.Words.{json}
+use Rattle.range_calc.specs.Words.{of_json}
 use Rattle.range_calc.specs.Replies.{IsReadable}
 use Rattle.range_calc.specs.Outcome.{IsReplyTo}
 use Rattle.range_calc.specs.Faults.{IsFaultOfText, fault_of_value}
@@ -32,7 +32,7 @@ first_bad-numbers d zs e = rw (position_or_len-numbers (items_in d) zs e, le-ltb
 
 -- a text that isn't read, and what comes of it
 pub IsReplyTo-unread : {A : Type 0} (text : List ℕ) (r : Result (String A) Fault) (error : Error) → (¬ (IsMemory error) → read text ≡ None)
-    → IsErrAnd r (IsFaultOfText error) → IsReplyTo (json text) r
+    → IsErrAnd r (IsFaultOfText error) → IsReplyTo (of_json text) r
 IsReplyTo-unread text (Ok line) error unread h = absurd h
 IsReplyTo-unread text (Err fault.NoMemory) error unread h = tt
 IsReplyTo-unread text (Err fault.BadJson) error unread h = λ readable.
@@ -46,13 +46,13 @@ IsReplyTo-unread text (Err fault.NotSorted) error unread h = λ sorted.
     cc
 
 module _ (text : List ℕ) (d : Data) (reads : read text ≡ Some d) where
-  pub unreadable-not_array : as_array d ≡ None → ¬ (IsReadable (json text))
+  pub unreadable-not_array : as_array d ≡ None → ¬ (IsReadable (of_json text))
   unreadable-not_array none (items, (value, is, reading)) =
       let same : value ≡ d = cc in
       let some : IsSome (as_array d) = rw same at reading.is_array in
       true≢false (sym some ∙ ap is_some none)
 
-  pub unreadable-not_integer : (i : ℕ) → first_bad d ≡ Some i → ¬ (IsReadable (json text))
+  pub unreadable-not_integer : (i : ℕ) → first_bad d ≡ Some i → ¬ (IsReadable (of_json text))
   unreadable-not_integer i bad (items, (value, is, reading)) =
       let same : value ≡ d = cc in
       let none : first_bad value ≡ None = first_bad-numbers value reading.numbers reading.reads in
@@ -61,7 +61,7 @@ module _ (text : List ℕ) (d : Data) (reads : read text ≡ Some d) where
   -- a value that isn't a list, and what comes of it
   pub IsReplyTo-refused : {A S : Type 0} (r : Result (String A) Fault) (s : Result S JsonError) (e : JsonError) → s ≡ Err e
       → ((s ≡ Err NotArray) ↔ (as_array d ≡ None)) → ((i : ℕ) → (s ≡ Err (NotInteger i)) ↔ (first_bad d ≡ Some i))
-      → IsErrAnd r (λ fault. fault ≡ fault_of_value e) → IsReplyTo (json text) r
+      → IsErrAnd r (λ fault. fault ≡ fault_of_value e) → IsReplyTo (of_json text) r
   IsReplyTo-refused (Ok line) s e is not_array not_integer h = absurd h
   IsReplyTo-refused (Err fault) s NotArray is not_array not_integer h = rw h (unreadable-not_array (not_array.0 is))
   IsReplyTo-refused (Err fault) s (NotInteger i) is not_array not_integer h = rw h (unreadable-not_integer i ((not_integer i).0 is))

@@ -14,15 +14,11 @@ use Rattle.range_calc.specs.declared.status.Status.TheVariants.{Answered, NoMemo
 -- strictly sorted, or its JSON text holds no list, or memory ran out
 abbrev pub IsOutcome : Option Query → Status → List ℕ → Type 0
 IsOutcome None BadWords line = line ≡ codes "bad words"
-IsOutcome None Answered line = ⊥
-IsOutcome None NotSorted line = ⊥
-IsOutcome None BadJson line = ⊥
-IsOutcome None NoMemory line = ⊥
 IsOutcome (Some query) Answered line = IsSorted query × IsReply query line
 IsOutcome (Some query) NotSorted line = ¬ (IsSorted query) × (line ≡ codes "not strictly sorted")
 IsOutcome (Some query) BadJson line = ¬ (IsReadable query) × (line ≡ codes "bad json")
 IsOutcome (Some query) NoMemory line = line ≡ codes "out of memory"
-IsOutcome (Some query) BadWords line = ⊥
+IsOutcome _ _ line = ⊥
 
 -- the text is a line that answers the query, with the newline
 abbrev pub IsReplyText : {A : Type 0} → Query → String A → Type 0

@@ -2,7 +2,6 @@
 --     IsListLine f a b line          the line is the list that a table makes of two
 --     IsTestLine R a b line          the line says whether a relation holds of two lists
 --     IsNegationLine a line          the line is the list of the numbers of i64 that aren't members
---     IsReadingLine text line        the line is the list that a JSON text holds
 --     IsReply query line             the line answers the query
 --     IsSorted query                 each list of the query is strictly sorted
 --     IsReadable query               a JSON text of the query holds a list
@@ -19,7 +18,10 @@ use Rattle.range_collections.specs.Sets.{IsDisjoint, IsSubset}
 use Rattle.range_collections.specs.Split.{split_left, split_right}
 use Rattle.range_collections.specs.Text.{set_text}
 use Rattle.range_collections.specs.Values.{Negates}
-use Rattle.range_calc.specs.Words.{Query, union, intersection, difference, symmetric_difference, disjoint, subset, superset, contains, split, negation, show, to_json, json}
+use Rattle.range_calc.specs.Words.{Query, of_list, of_two_lists, of_list_and_number, of_json}
+use Rattle.range_calc.specs.declared.commands.TwoLists.TheVariants.{Union, Intersection, Difference, SymmetricDifference, Disjoint, Subset, Superset}
+use Rattle.range_calc.specs.declared.commands.ListAndNumber.TheVariants.{Contains, Split}
+use Rattle.range_calc.specs.declared.commands.OneList.TheVariants.{Not, Show, ToJson}
 use Rattle.range_calc.specs.Line.{list_text, array_text, truth_text}
 
 -- the line is the text of the one list that the table makes of the two
@@ -40,48 +42,31 @@ IsNegationLine a line =
 abbrev pub HoldsItems : List ℕ → List ℤ → Type 0
 HoldsItems text items = (value : Data) × (read text ≡ Some value) × IsReadingOf value items
 
--- the line is the text of the list that the JSON text holds
-abbrev pub IsReadingLine : List ℕ → List ℕ → Type 0
-IsReadingLine text line = (items : List ℤ) × HoldsItems text items × (line ≡ list_text items)
-
 -- the line answers the query
 abbrev pub IsReply : Query → List ℕ → Type 0
-IsReply (union a b) line = IsListLine union_table a b line
-IsReply (intersection a b) line = IsListLine intersection_table a b line
-IsReply (difference a b) line = IsListLine difference_table a b line
-IsReply (symmetric_difference a b) line = IsListLine symmetric_difference_table a b line
-IsReply (disjoint a b) line = IsTestLine (IsDisjoint int_cmp) a b line
-IsReply (subset a b) line = IsTestLine (IsSubset int_cmp) a b line
-IsReply (superset a b) line = IsTestLine (IsSubset int_cmp) b a line
-IsReply (contains a n) line = line ≡ truth_text (member int_cmp a n)
-IsReply (split a n) line =
+IsReply (of_two_lists Union a b) line = IsListLine union_table a b line
+IsReply (of_two_lists Intersection a b) line = IsListLine intersection_table a b line
+IsReply (of_two_lists Difference a b) line = IsListLine difference_table a b line
+IsReply (of_two_lists SymmetricDifference a b) line = IsListLine symmetric_difference_table a b line
+IsReply (of_two_lists Disjoint a b) line = IsTestLine (IsDisjoint int_cmp) a b line
+IsReply (of_two_lists Subset a b) line = IsTestLine (IsSubset int_cmp) a b line
+IsReply (of_two_lists Superset a b) line = IsTestLine (IsSubset int_cmp) b a line
+IsReply (of_list_and_number Contains a n) line = line ≡ truth_text (member int_cmp a n)
+IsReply (of_list_and_number Split a n) line =
     line ≡ list_text (split_left int_cmp a n) ++ 32 ∷ list_text (split_right int_cmp a n)
-IsReply (negation a) line = IsNegationLine a line
-IsReply (show a) line = line ≡ set_text signed_decimal a
-IsReply (to_json a) line = line ≡ array_text a
-IsReply (json text) line = IsReadingLine text line
-
--- both lists are strictly sorted
-abbrev pub AreSorted : List ℤ → List ℤ → Type 0
-AreSorted a b = IsAscending int_cmp a × IsAscending int_cmp b
+IsReply (of_list Not a) line = IsNegationLine a line
+IsReply (of_list Show a) line = line ≡ set_text signed_decimal a
+IsReply (of_list ToJson a) line = line ≡ array_text a
+IsReply (of_json text) line = (items : List ℤ) × HoldsItems text items × (line ≡ list_text items)
 
 -- each list of the query is strictly sorted
 abbrev pub IsSorted : Query → Type 0
-IsSorted (union a b) = AreSorted a b
-IsSorted (intersection a b) = AreSorted a b
-IsSorted (difference a b) = AreSorted a b
-IsSorted (symmetric_difference a b) = AreSorted a b
-IsSorted (disjoint a b) = AreSorted a b
-IsSorted (subset a b) = AreSorted a b
-IsSorted (superset a b) = AreSorted a b
-IsSorted (contains a n) = IsAscending int_cmp a
-IsSorted (split a n) = IsAscending int_cmp a
-IsSorted (negation a) = IsAscending int_cmp a
-IsSorted (show a) = IsAscending int_cmp a
-IsSorted (to_json a) = IsAscending int_cmp a
-IsSorted (json text) = Unit {0}
+IsSorted (of_list command a) = IsAscending int_cmp a
+IsSorted (of_two_lists command a b) = IsAscending int_cmp a × IsAscending int_cmp b
+IsSorted (of_list_and_number command a n) = IsAscending int_cmp a
+IsSorted (of_json text) = Unit {0}
 
 -- the text of a `json` query holds a list; no other query has such a text
 abbrev pub IsReadable : Query → Type 0
-IsReadable (json text) = (items : List ℤ) × HoldsItems text items
+IsReadable (of_json text) = (items : List ℤ) × HoldsItems text items
 IsReadable _ = Unit {0}

@@ -1,8 +1,6 @@
 //! The commands, by what they take.
 ghost use Rattle.std.specs.Prelude.{◌≡◌};
-ghost use Rattle.std.specs.Option.{option_map};
 ghost use Rattle.range_calc.specs.Words.{one_list, two_lists, list_and_number};
-ghost use Rattle.range_calc.specs.Requests.{query_on, query_for, query_at};
 
 /// A command with one list.
 #[derive(Clone, Copy)]
@@ -18,7 +16,7 @@ pub enum OneList {
 impl OneList {
     /// The command with this word, if there is one.
     pub fn named(word: &str) -> Option<OneList>
-        ensures { one_list word.now ≡ option_map query_on result }
+        ensures { one_list word.now ≡ result }
     {
         match word {
             "not" => Some(OneList::Not),
@@ -51,7 +49,7 @@ pub enum TwoLists {
 impl TwoLists {
     /// The command with this word, if there is one.
     pub fn named(word: &str) -> Option<TwoLists>
-        ensures { two_lists word.now ≡ option_map query_for result }
+        ensures { two_lists word.now ≡ result }
     {
         match word {
             "union" => Some(TwoLists::Union),
@@ -78,7 +76,7 @@ pub enum ListAndNumber {
 impl ListAndNumber {
     /// The command with this word, if there is one.
     pub fn named(word: &str) -> Option<ListAndNumber>
-        ensures { list_and_number word.now ≡ option_map query_at result }
+        ensures { list_and_number word.now ≡ result }
     {
         match word {
             "contains" => Some(ListAndNumber::Contains),

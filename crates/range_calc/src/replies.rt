@@ -2,8 +2,8 @@
 ghost use Rattle.std.specs.Prelude.{All, FitsSigned, IfOk};
 ghost use Rattle.std.specs.Int.{w64};
 ghost use Rattle.range_calc.specs.Outcome.{IsReplyText, IsReplyTo};
-ghost use Rattle.range_calc.specs.Requests.{query_for, query_at, query_on, query_asked};
-ghost use Rattle.range_calc.specs.Words.{numbers_of, negation, json};
+ghost use Rattle.range_calc.specs.Requests.{query_asked};
+ghost use Rattle.range_calc.specs.Words.{numbers_of, of_list, of_two_lists, of_list_and_number, of_json};
 
 use crate::commands::{ListAndNumber, OneList, TwoLists};
 use crate::fault::Fault;
@@ -27,7 +27,7 @@ pub fn reply(alloc: Global, request: Request<'_>) -> Result<String, Fault>
 
 /// The line of a command with one list.
 fn list_reply(alloc: Global, command: OneList, a: &str) -> Result<String, Fault>
-    ensures { IsReplyTo (query_on command (numbers_of a.now)) result }
+    ensures { IsReplyTo (of_list command (numbers_of a.now)) result }
 {
     let list = numbers(alloc, a)?;
     let set = RangeSet2::new(list).ok_or(Fault::NotSorted)?;
@@ -38,7 +38,7 @@ fn list_reply(alloc: Global, command: OneList, a: &str) -> Result<String, Fault>
 /// The line of a command with one set.
 fn set_reply(alloc: Global, command: OneList, set: RangeSet2<i64>) -> Result<String, AllocError>
     requires { All (FitsSigned w64) set }
-    ensures { IfOk result (IsReplyText (query_on command set)) }
+    ensures { IfOk result (IsReplyText (of_list command set)) }
 {
     match command {
         OneList::Not => negation_reply(alloc, set),
@@ -50,7 +50,7 @@ fn set_reply(alloc: Global, command: OneList, set: RangeSet2<i64>) -> Result<Str
 /// The line of the numbers that are no members.
 fn negation_reply(alloc: Global, set: RangeSet2<i64>) -> Result<String, AllocError>
     requires { All (FitsSigned w64) set }
-    ensures { IfOk result (IsReplyText (negation set)) }
+    ensures { IfOk result (IsReplyText (of_list OneList.Not set)) }
 {
     let negated = (!set)?;
     set_line(alloc, negated)
@@ -58,7 +58,7 @@ fn negation_reply(alloc: Global, set: RangeSet2<i64>) -> Result<String, AllocErr
 
 /// The line of a command with two lists.
 fn two_lists_reply(alloc: Global, command: TwoLists, a: &str, b: &str) -> Result<String, Fault>
-    ensures { IsReplyTo (query_for command (numbers_of a.now) (numbers_of b.now)) result }
+    ensures { IsReplyTo (of_two_lists command (numbers_of a.now) (numbers_of b.now)) result }
 {
     let left = numbers(alloc, a)?;
     let right = numbers(alloc, b)?;
@@ -75,7 +75,7 @@ fn two_sets_reply(
     left: &RangeSet2<i64>,
     right: RangeSetRef<'_, i64>,
 ) -> Result<String, AllocError>
-    ensures { IfOk result (IsReplyText (query_for command left.now right.entry.boundaries.now)) }
+    ensures { IfOk result (IsReplyText (of_two_lists command left.now right.entry.boundaries.now)) }
 {
     match command {
         TwoLists::Union => set_line(alloc, left.union(right)?),
@@ -95,7 +95,7 @@ fn list_and_number_reply(
     a: &str,
     n: i64,
 ) -> Result<String, Fault>
-    ensures { IsReplyTo (query_at command (numbers_of a.now) n) result }
+    ensures { IsReplyTo (of_list_and_number command (numbers_of a.now) n) result }
 {
     let list = numbers(alloc, a)?;
     let set = RangeSet2::new(list).ok_or(Fault::NotSorted)?;
@@ -110,7 +110,7 @@ fn set_and_number_reply(
     set: &RangeSet2<i64>,
     n: i64,
 ) -> Result<String, AllocError>
-    ensures { IfOk result (IsReplyText (query_at command set.now n)) }
+    ensures { IfOk result (IsReplyText (of_list_and_number command set.now n)) }
 {
     match command {
         ListAndNumber::Contains => truth_line(alloc, set.contains(&n)),
@@ -123,7 +123,7 @@ fn set_and_number_reply(
 
 /// The line of the list that a JSON text holds.
 fn json_reply(alloc: Global, text: &str) -> Result<String, Fault>
-    ensures { IsReplyTo (json text.now) result }
+    ensures { IsReplyTo (of_json text.now) result }
 {
     let value = Value::from_str(alloc, text)?;
     let set = RangeSet2::from_json(alloc, &value)?;

@@ -1,7 +1,8 @@
 //! The words of a command: they are read without memory, and each list of them is built afterwards.
 ghost use Rattle.std.specs.Prelude.{◌≡◌, [], ◌∷◌, IfOk, codes};
 ghost use Rattle.std.specs.Option.{option_map, option_and_then};
-ghost use Rattle.range_calc.specs.Words.{number_of, is_list, list_of, numbers_of, one_list, two_lists, list_and_number, query_of_both, query_of, texts};
+ghost use Rattle.range_collections.specs.Reading.{signed_number};
+ghost use Rattle.range_calc.specs.Words.{of_list, of_two_lists, of_list_and_number, is_list, list_of, numbers_of, one_list, two_lists, list_and_number, query_of_both, query_of, texts};
 ghost use Rattle.range_calc.specs.Requests.{query_asked};
 
 use crate::commands::{ListAndNumber, OneList, TwoLists};
@@ -74,7 +75,7 @@ fn three_words<'a>(command: &'a str, a: &'a str, b: &'a str) -> Option<Request<'
 
 /// What a command with one list asks of the word, if it is one.
 fn of_list<'a>(command: &'a str, a: &'a str) -> Option<Request<'a>>
-    ensures { option_and_then (λ query. option_map query (list_of a.now)) (one_list command.now) ≡
+    ensures { option_and_then (λ found. option_map (of_list found) (list_of a.now)) (one_list command.now) ≡
         option_map query_asked result }
 {
     let command = OneList::named(command)?;
@@ -87,7 +88,7 @@ fn of_list<'a>(command: &'a str, a: &'a str) -> Option<Request<'a>>
 
 /// What a command with two lists asks of two words, if they are lists.
 fn of_two_lists<'a>(command: &'a str, a: &'a str, b: &'a str) -> Option<Request<'a>>
-    ensures { option_and_then (λ query. query_of_both query (list_of a.now) (list_of b.now))
+    ensures { option_and_then (λ found. query_of_both (of_two_lists found) (list_of a.now) (list_of b.now))
         (two_lists command.now) ≡ option_map query_asked result }
 {
     let command = TwoLists::named(command)?;
@@ -100,8 +101,8 @@ fn of_two_lists<'a>(command: &'a str, a: &'a str, b: &'a str) -> Option<Request<
 
 /// What a command with a list and a number asks of two words, if they are these.
 fn of_list_and_number<'a>(command: &'a str, a: &'a str, n: &'a str) -> Option<Request<'a>>
-    ensures { option_and_then (λ query. query_of_both query (list_of a.now) (number_of n.now))
-        (list_and_number command.now) ≡ option_map query_asked result }
+    ensures { option_and_then (λ found. query_of_both (of_list_and_number found)
+        (list_of a.now) (signed_number 63 n.now)) (list_and_number command.now) ≡ option_map query_asked result }
 {
     let command = ListAndNumber::named(command)?;
     let n = number(n)?;
@@ -121,7 +122,7 @@ fn is_list(word: &str) -> bool
 
 /// The whole number that the word writes, if it is one within i64.
 fn number(word: &str) -> Option<i64>
-    ensures { result ≡ number_of word.now }
+    ensures { result ≡ signed_number 63 word.now }
 {
     word.parse::<i64>().ok()
 }

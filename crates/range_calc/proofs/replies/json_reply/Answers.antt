@@ -1,6 +1,6 @@
 use Rattle.std.proofs.Common.{refl}
 use Rattle.serde_json.specs.View.{view}
-use Rattle.range_calc.specs.Words.{json}
+use Rattle.range_calc.specs.Words.{of_json}
 use Rattle.range_calc.specs.Line.{list_text}
 use Rattle.range_calc.proofs.Outcomes.{IsReplyTo-no_memory}
 use Rattle.range_calc.proofs.Readings.{IsReplyTo-unread, IsReplyTo-refused}
@@ -16,7 +16,7 @@ returns-in_err-set c =
     c.in_err-set.was c.from_json.ensures.not_array c.from_json.ensures.not_integer c.from_residual-in_err-set.ensures.1
 
 pub returns-in_err-line : goal.returns-in_err-line
-returns-in_err-line c = IsReplyTo-no_memory (json c.args.text.now) c.from_residual-in_err-line.result c.from_residual-in_err-line.ensures.1
+returns-in_err-line c = IsReplyTo-no_memory (of_json c.args.text.now) c.from_residual-in_err-line.result c.from_residual-in_err-line.ensures.1
 
 pub returns : goal.returns
 returns c =

@@ -1,6 +1,6 @@
 use Rattle.std.proofs.Common.{◌∙◌}
-use Rattle.range_calc.proofs.Numbers.{number_of-parsed}
+use Rattle.range_calc.proofs.Numbers.{signed_number-parsed}
 use Rattle.range_calc.proofs.words.number.Goals as goal
 
 pub returns : goal.returns
-returns c = c.ok.ensures.value ∙ number_of-parsed c.args.word.now c.parse.result c.parse.ensures.value.0
+returns c = c.ok.ensures.value ∙ signed_number-parsed c.args.word.now c.parse.result c.parse.ensures.value.0

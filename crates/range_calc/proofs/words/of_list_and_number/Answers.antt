@@ -2,7 +2,7 @@ use Rattle.std.proofs.Common.{◌≡◌, Option, Some, None, refl, sym, ◌∙�
 use Rattle.std.specs.Int.{w64}
 use Rattle.std.proofs.lemmas.Int.{to_z-of_z}
 use Rattle.range_calc.specs.Words.{Query, query_of_both, list_of}
-use Rattle.range_calc.proofs.Numbers.{number_of-fits}
+use Rattle.range_calc.proofs.Numbers.{signed_number-fits}
 use Rattle.range_calc.proofs.words.of_list_and_number.Goals as goal
 
 query_of_both-None : {A B : Type 0} (query : A → B → Query) (a : Option A) → query_of_both query a None ≡ None
@@ -18,7 +18,7 @@ returns-in_err-n c = rw (c.in_ok-command.ensures, sym c.in_err-n.ensures, c.from
 pub returns-then-is_list : goal.returns-then-is_list
 returns-then-is_list c =
     let read = sym c.in_ok-n.ensures in
-    let fits = number_of-fits c.args.n.now c.in_ok-n.n read in
+    let fits = signed_number-fits c.args.n.now c.in_ok-n.n read in
     rw (c.in_ok-command.ensures, read, sym c.is_list.ensures ∙ c.if-is_list.true, to_z-of_z w64 c.in_ok-n.n fits) refl
 
 pub returns-else-is_list : goal.returns-else-is_list
