@@ -5,7 +5,7 @@ use Rattle.std.proofs.Math.Path.{fun_ext}
 use Rattle.std.specs.Io.KnownBytes.{Appends}
 use Rattle.std.proofs.lemmas.List.{flat_map_more}
 use Rattle.std.proofs.lemmas.List.Concat.{flat_map-append}
-use Rattle.range_tracker.specs.Offsets.{Offsets, offsets_of}
+use Rattle.range_tracker.specs.Offsets.{Offsets}
 use Rattle.range_track.specs.Answers.{Answer, AreAnswers, IsAnswered, answer_text, answers_text}
 use Rattle.range_track.specs.Lines.{IsLine, IsLineRead, lines_of}
 use Rattle.range_track.specs.Requests.{request_of}
@@ -14,6 +14,7 @@ use Rattle.range_track.proofs.LinesLemmas.{lines_of-newline, request_of-kept, re
 use Rattle.range_track.proofs.Written.{Appends-nothing, Appends-then}
 use Rattle.range_merge.proofs.Members.{member-nil}
 use Rattle.std.specs.Ordering.{nat_cmp}
+use Rattle.range_merge.specs.Boundaries.{member}
 
 -- the answers of the lines before the rest were written, and with those of the rest they are those of the text
 pub record Served (limit : ℕ) (text rest : List ℕ) (had : Offsets) (before after : Option (List ℕ)) : Type 0 where
@@ -23,12 +24,12 @@ pub record Served (limit : ℕ) (text rest : List ℕ) (had : Offsets) (before a
       AreAnswers limit (λ _. false) (map request_of (lines_of text)) (given ++ more)
 
 pub Served-start : (limit : ℕ) (text boundaries : List ℕ) (known : Option (List ℕ)) → boundaries ≡ [] →
-    Served limit text text (offsets_of boundaries) known known
+    Served limit text text (member nat_cmp boundaries) known known
 Served-start limit text boundaries known none = record {
   given = [];
   written = Appends-nothing known;
   goes_on = λ more are.
-      let nothing : offsets_of boundaries ≡ (λ _. false) = fun_ext (λ n. ap (λ items. offsets_of items n) none ∙ member-nil nat_cmp n) in
+      let nothing : member nat_cmp boundaries ≡ (λ _. false) = fun_ext (λ n. ap (λ items. member nat_cmp items n) none ∙ member-nil nat_cmp n) in
       subst (λ (had : Offsets). AreAnswers limit had (map request_of (lines_of text)) more) nothing are;
 }
 

@@ -17,7 +17,7 @@ use Rattle.range_merge.proofs.SameSet.{same_items}
 use Rattle.range_collections.specs.Ranges.{range_items}
 use Rattle.range_collections.proofs.Values.{IsAscending-two, member-two, nothing_between}
 use Rattle.range_collections.proofs.Ascending.{IsAscending-nil}
-use Rattle.range_tracker.specs.Offsets.{Offsets, is_within, offsets_of, IsListOf, HasBoundaries}
+use Rattle.range_tracker.specs.Offsets.{Offsets, is_within, IsListOf, HasBoundaries}
 
 -- the order of numbers
 
@@ -59,7 +59,7 @@ IsAscending-range_items start end = chosen (is_lt (nat_cmp start end)) refl
     chosen false h = IsAscending-nil nat_cmp
 
 pub offsets_of-range_items : (range : Range ℕ) (n : ℕ) →
-    offsets_of (range_items nat_cmp range.start range.end) n ≡ is_within range n
+    member nat_cmp (range_items nat_cmp range.start range.end) n ≡ is_within range n
 offsets_of-range_items range n =
     chosen (is_lt (nat_cmp range.start range.end)) refl
     ∙ ap₂ (λ a b. a && b) (is_le-nat_cmp range.start n) (is_lt-nat_cmp n range.end)
@@ -73,18 +73,18 @@ offsets_of-range_items range n =
 
 pub IsListOf-from_means : (f : Table) (items a : List ℕ) (range : Range ℕ) →
     Means nat_cmp f items a (range_items nat_cmp range.start range.end) →
-    IsListOf items (λ n. f (offsets_of a n) (is_within range n))
+    IsListOf items (λ n. f (member nat_cmp a n) (is_within range n))
 IsListOf-from_means f items a range m = record {
   sorted = m.sorted;
-  offsets = λ n. m.members n ∙ ap (f (offsets_of a n)) (offsets_of-range_items range n);
+  offsets = λ n. m.members n ∙ ap (f (member nat_cmp a n)) (offsets_of-range_items range n);
 }
 
 pub Means-from_list : (f : Table) (items a : List ℕ) (range : Range ℕ) →
-    IsListOf items (λ n. f (offsets_of a n) (is_within range n)) →
+    IsListOf items (λ n. f (member nat_cmp a n) (is_within range n)) →
     Means nat_cmp f items a (range_items nat_cmp range.start range.end)
 Means-from_list f items a range l = record {
   sorted = l.sorted;
-  members = λ n. l.offsets n ∙ ap (f (offsets_of a n)) (sym (offsets_of-range_items range n));
+  members = λ n. l.offsets n ∙ ap (f (member nat_cmp a n)) (sym (offsets_of-range_items range n));
 }
 
 -- the lists of the same offsets have one length
@@ -97,14 +97,14 @@ same_length had a b p q =
 pub HasBoundaries-unique : (had : Offsets) (m n : ℕ) → HasBoundaries had m → HasBoundaries had n → m ≡ n
 HasBoundaries-unique had m n p q = sym p.2 ∙ same_length had p.0 q.0 p.1 q.1 ∙ q.2
 
-pub IsListOf-self : (items : List ℕ) → IsAscending nat_cmp items → IsListOf items (offsets_of items)
+pub IsListOf-self : (items : List ℕ) → IsAscending nat_cmp items → IsListOf items (member nat_cmp items)
 IsListOf-self items up = record { sorted = up; offsets = λ n. refl }
 
 -- where nothing is there
 
 nothing_there : (had : Offsets) → HasBoundaries had 0 → (n : ℕ) → had n ≡ false
 nothing_there had p n =
-    sym (p.1.offsets n) ∙ ap (λ items. offsets_of items n) (nil_from_length p.0 p.2) ∙ member-nil nat_cmp n
+    sym (p.1.offsets n) ∙ ap (λ items. member nat_cmp items n) (nil_from_length p.0 p.2) ∙ member-nil nat_cmp n
 
 pub IsListOf-first_added : (had : Offsets) (range : Range ℕ) → HasBoundaries had 0 →
     IsListOf (range_items nat_cmp range.start range.end) (λ n. had n || is_within range n)
@@ -125,19 +125,19 @@ IsListOf-first_forgotten had range p = record {
 module _ (f : Table) (a : List ℕ) (range : Range ℕ)
     (fails : (items : List ℕ) → Means nat_cmp f items a (range_items nat_cmp range.start range.end) →
     (length items ≤ length a) ⊎ (length items ≤ 2) → ⊥) where
-  pub refused-grows : IsAscending nat_cmp a → (m n : ℕ) → HasBoundaries (offsets_of a) m →
-      HasBoundaries (λ x. f (offsets_of a x) (is_within range x)) n → n ≤ m → ⊥
+  pub refused-grows : IsAscending nat_cmp a → (m n : ℕ) → HasBoundaries (member nat_cmp a) m →
+      HasBoundaries (λ x. f (member nat_cmp a x) (is_within range x)) n → n ≤ m → ⊥
   refused-grows up m n p q few =
-      let same : length a ≡ m = same_length (offsets_of a) a p.0 (IsListOf-self a up) p.1 ∙ p.2 in
+      let same : length a ≡ m = same_length (member nat_cmp a) a p.0 (IsListOf-self a up) p.1 ∙ p.2 in
       let long : length q.0 ≡ n = q.2 in
       fails q.0 (Means-from_list f q.0 a range q.1) (inl (omega arith))
 
-  pub refused-not_first : (items : List ℕ) → IsListOf items (λ x. f (offsets_of a x) (is_within range x)) → length items ≤ 2 → ⊥
+  pub refused-not_first : (items : List ℕ) → IsListOf items (λ x. f (member nat_cmp a x) (is_within range x)) → length items ≤ 2 → ⊥
   refused-not_first items l few = fails items (Means-from_list f items a range l) (inr few)
 
 -- the offsets below a length
 
-pub offsets_of-below : (len n : ℕ) → offsets_of (range_items nat_cmp 0 len) n ≡ nat_lt n len
+pub offsets_of-below : (len n : ℕ) → member nat_cmp (range_items nat_cmp 0 len) n ≡ nat_lt n len
 offsets_of-below len n =
     let range : Range ℕ = record { start = 0; end = len } in
     let least : nat_le 0 n ≡ true = grind (arith, nat_tests) in

@@ -38,16 +38,14 @@ after_reply command (Err why) had = had
 
 -- the offsets after the commands, over those that were accepted
 abbrev pub after_replies : List Command → List Reply → Offsets → Offsets
-after_replies [] replies had = had
-after_replies (command ∷ commands) [] had = had
 after_replies (command ∷ commands) (reply ∷ replies) had =
     after_replies commands replies (after_reply command reply had)
+after_replies _ _ had = had
 
 -- there is a reply for each command, and each is one that the command may be answered after the accepted ones before it
 abbrev pub AreReplies : ℕ → Offsets → List Command → List Reply → Type 0
 AreReplies limit had [] [] = Unit {0}
-AreReplies limit had [] (reply ∷ replies) = ⊥
-AreReplies limit had (command ∷ commands) [] = ⊥
 AreReplies limit had (command ∷ commands) (reply ∷ replies) =
     MayAnswer limit had command reply
     × AreReplies limit (after_reply command reply had) commands replies
+AreReplies limit had _ _ = ⊥

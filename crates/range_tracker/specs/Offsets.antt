@@ -1,7 +1,6 @@
 -- Sets of offsets, and the list of boundaries of one.
 --     Offsets                  which offsets are there
 --     is_within range n        n is an offset of the range
---     offsets_of items         the offsets of a list of boundaries
 --     IsListOf items had       the items are the strictly sorted list of boundaries of these offsets
 --     HasBoundaries had n      that list has n boundaries
 use Rattle.std.specs.Prelude.{◌≡◌, ℕ, Bool, ◌&&◌, nat_le, nat_lt, List, length}
@@ -17,14 +16,10 @@ Offsets = ℕ → Bool
 abbrev pub is_within : Range ℕ → Offsets
 is_within range n = nat_le range.start n && nat_lt n range.end
 
--- the offsets of a list of boundaries
-abbrev pub offsets_of : List ℕ → Offsets
-offsets_of items n = member nat_cmp items n
-
 -- the items are strictly sorted, and these are their offsets
 pub record IsListOf (items : List ℕ) (had : Offsets) : Type 0 where
   pub sorted : IsAscending nat_cmp items
-  pub offsets : (n : ℕ) → offsets_of items n ≡ had n
+  pub offsets : (n : ℕ) → member nat_cmp items n ≡ had n
 
 -- the strictly sorted list of boundaries of these offsets has n of them
 abbrev pub HasBoundaries : Offsets → ℕ → Type 0

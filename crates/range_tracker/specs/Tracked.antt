@@ -1,8 +1,8 @@
 -- What a tracker holds, and what is always so of it.
 use Rattle.std.specs.Prelude.{ℕ, ◌-◌, ◌^◌, ◌≤◌, List, length}
 use Rattle.std.specs.Ordering.{nat_cmp}
-use Rattle.range_merge.specs.Boundaries.{IsAscending}
-use Rattle.range_tracker.specs.Offsets.{Offsets, offsets_of}
+use Rattle.range_merge.specs.Boundaries.{IsAscending, member}
+use Rattle.range_tracker.specs.Offsets.{Offsets}
 
 -- the strictly sorted boundaries of the offsets that are there, and how many boundaries there may be
 pub record Tracked : Type 0 where
@@ -11,7 +11,7 @@ pub record Tracked : Type 0 where
 
 -- the offsets that are there
 abbrev pub recorded : Tracked → Offsets
-recorded tracker = offsets_of tracker.boundaries
+recorded tracker = member nat_cmp tracker.boundaries
 
 -- the boundaries are strictly sorted and no more than the limit, and the limit leaves room for two more
 pub record IsWithinLimit (boundaries : List ℕ) (limit : ℕ) : Type 0 where

@@ -3,8 +3,8 @@ use Rattle.std.proofs.lemmas.Result.{err_from_is_err_and}
 use Rattle.std.specs.Ordering.{nat_cmp}
 use Rattle.range_merge.specs.Connective.{Means, union_table}
 use Rattle.range_collections.specs.Ranges.{range_items}
-use Rattle.range_tracker.specs.Offsets.{offsets_of}
 use Rattle.range_tracker.proofs.OffsetsLemmas.{length-range_items, IsListOf-from_means, IsListOf-first_added, refused-grows, refused-not_first, length-within}
+use Rattle.range_merge.specs.Boundaries.{member}
 use Rattle.range_tracker.proofs.tracker.Tracker.record.Goals as goal
 
 pub returns-in_err-admit-clause-answer : goal.returns-in_err-admit-clause-answer
@@ -28,7 +28,7 @@ returns-in_err-insert-clause-answer c =
     rw (p.1, p.2, ← c.self.view_is) (record {
       too_many = λ n. (λ same. cc, λ many. let done = (rw (← c.self.view_is) at c.in_ok-admit.ensures.too_many n).1 many in cc);
       no_growth = λ m n old new few bad. refused-grows union_table a range fails c.self.invariant.sorted m n old new few;
-      first = λ none bad. refused-not_first union_table a range fails (range_items nat_cmp c.args.range.start c.args.range.end) (IsListOf-first_added (offsets_of a) range none) (length-range_items c.args.range.start c.args.range.end);
+      first = λ none bad. refused-not_first union_table a range fails (range_items nat_cmp c.args.range.start c.args.range.end) (IsListOf-first_added (member nat_cmp a) range none) (length-range_items c.args.range.start c.args.range.end);
     })
 
 pub invariant_of-self-2 : goal.invariant_of-self-2
