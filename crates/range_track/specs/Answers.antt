@@ -50,11 +50,10 @@ after_answer request answer had = had
 -- there is an answer for each request, and each is one that the request may have after the answers before it
 abbrev pub AreAnswers : ℕ → Offsets → List (Option Request) → List Answer → Type 0
 AreAnswers limit had [] [] = Unit {0}
-AreAnswers limit had [] (answer ∷ answers) = ⊥
-AreAnswers limit had (request ∷ requests) [] = ⊥
 AreAnswers limit had (request ∷ requests) (answer ∷ answers) =
     MayBeAnswered limit had request answer
     × AreAnswers limit (after_answer request answer had) requests answers
+AreAnswers limit had _ _ = ⊥
 
 -- the reply to a command
 abbrev pub reply_text : Reply → List ℕ

@@ -49,12 +49,11 @@ range_of a b =
 
 -- what the words ask, if they ask something: `ranges`, `missing N`, and `+`, `-` or `?` with two numbers
 unfoldable pub asked_by : List (List ℕ) → Option Request
-asked_by [] = None
 asked_by (word ∷ []) = if bytes_eq word (codes "ranges") then Some Ranges else None
 asked_by (word ∷ n ∷ []) =
     if bytes_eq word (codes "missing") then option_map Missing (number_of n) else None
 asked_by (word ∷ a ∷ b ∷ []) = option_and_then (asked_of_range word) (range_of a b)
-asked_by (word ∷ a ∷ b ∷ c ∷ more) = None
+asked_by _ = None
 
 -- what the line asks, if it is a text of at most 64 bytes that asks something
 unfoldable pub request_of : List ℕ → Option Request
