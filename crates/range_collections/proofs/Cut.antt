@@ -16,7 +16,7 @@ use Rattle.range_merge.proofs.Members.{by_Ordering, count_below-nil, count_below
 use Rattle.range_merge.proofs.Orders.{Greater-from_less, Less-from_greater}
 use Rattle.range_merge.proofs.Pairs.{AllPairs-drop}
 use Rattle.range_merge.proofs.Parity.{is_odd-add}
-use Rattle.range_collections.specs.Split.{right_place, split_left, split_right, AgreesBelow, AgreesFrom, IsLeastBelow, IsLeastFrom}
+use Rattle.range_collections.specs.Split.{right_place, split_left, split_right, AgreesWhere, IsLeastBelow, IsLeastFrom}
 use Rattle.range_collections.proofs.Ascending.{IsAscending-head, IsAscending-tail, IsAscending-cons}
 use Rattle.range_collections.proofs.CountUpTo.{count_up_to-cons_in, count_up_to-found, count_up_to-missing}
 use Rattle.range_collections.proofs.Shortest.{is_le-cases, count_up_to-append, count_up_to-all, count_up_to-none, Less-then_le, le-trans, le-from_greater, length-least}
@@ -90,7 +90,7 @@ module _ {K : Type 0} {order : K → K → Ordering} (o : IsTotalOrder order) wh
         same (get_or (take i xs) k d) low ∙ sym (agrees (get_or (take i xs) k d) low));
   }
     where
-      agrees : AgreesBelow order cut (take i xs) xs
+      agrees : AgreesWhere order (λ x. order x cut ≡ Less) (take i xs) xs
       agrees x low =
           let none : count_up_to order (drop i xs) x ≡ 0 =
           count_up_to-none order x (drop i xs)
@@ -136,7 +136,7 @@ module _ {K : Type 0} {order : K → K → Ordering} (o : IsTotalOrder order) wh
         other (λ x far. same x far ∙ sym (agrees x far));
   }
     where
-      agrees : AgreesFrom order cut (drop j xs) xs
+      agrees : AgreesWhere order (λ x. is_le (order cut x) ≡ true) (drop j xs) xs
       agrees x far =
           let all : count_up_to order (take j xs) x ≡ j =
           count_up_to-all order x (take j xs)
