@@ -36,23 +36,11 @@ mod everyday_traits;
 #[cfg(test)]
 mod flags;
 #[cfg(test)]
-mod flags_of_advances;
-#[cfg(test)]
-mod flags_of_clones;
-#[cfg(test)]
-mod flags_of_connectives;
-#[cfg(test)]
-mod flags_of_merges;
-#[cfg(test)]
 mod forms;
 #[cfg(test)]
 mod given;
 #[cfg(test)]
-mod in_place;
-#[cfg(test)]
 mod insertions;
-#[cfg(test)]
-mod insertions_by_number;
 #[cfg(test)]
 mod json;
 #[cfg(test)]
@@ -84,13 +72,11 @@ mod ranges;
 #[cfg(test)]
 mod refusals;
 #[cfg(test)]
-mod refusals_of_connectives;
+mod refusals_of_advances;
 #[cfg(test)]
 mod refusals_of_copies;
 #[cfg(test)]
 mod refusals_of_lists;
-#[cfg(test)]
-mod refusals_of_merges;
 #[cfg(test)]
 mod refusals_of_unions;
 #[cfg(test)]
@@ -115,6 +101,8 @@ mod tracker;
 mod tracker_refusals;
 #[cfg(test)]
 mod values;
+#[cfg(test)]
+mod ways;
 
 #[cfg(test)]
 use range_starving as starved;

@@ -1,108 +1,121 @@
-//! Operations whose requests for memory are refused in turn: each form answers want of memory, or else what it answers with ample memory, and what it was lent stays as it was. Where the result has room, none is needed.
-use crate::forms::{FORMS, Form, OPERATIONS, Operation};
-use crate::given::set_of;
-use crate::starved::{Answer, Starved};
-use range_collections::{Comparisons, RangeSet, RangeSet2, RangeSetRange};
-use smallvec::SmallVec;
+//! Operations and constructors whose requests for memory are refused in turn: each answers want of memory, or else what it answers with ample memory, and what it was handed stays as it was. Where the result has room, none is needed.
+use crate::forms::OPERATIONS;
+use crate::operations::Row;
+use crate::starved::Starved;
+use crate::ways::{Case, WAYS, Way, case_of, set_is};
+use range_collections::{RangeSet, RangeSetRange};
 use std::alloc::{AllocError, Global};
 use std::test::Fail;
 
-// Two lists of boundaries, and those of each operation.
-type Row<'a> = (&'a [i64], &'a [i64], [&'a [i64]; 4]);
-
-// Both sides.
-fn sides_of<const N: usize>(
-    alloc: Global,
-    row: &Row,
-) -> Option<(RangeSet<i64, N>, RangeSet<i64, N>)> {
-    let left = RangeSet::new(SmallVec::from_slice(alloc, row.0).ok()?)?;
-    let right = RangeSet::new(SmallVec::from_slice(alloc, row.1).ok()?)?;
-    Some((left, right))
-}
-
-// Whether the form needs memory: in place for the boundaries of both sides, and else for those of the result.
-fn needs_memory(form: Form, row: &Row, want: &[i64], room: usize) -> bool {
-    if form.is_in_place() {
-        row.0.len().saturating_add(row.1.len()) > room
+// Whether the call needs memory with this room: in place for the boundaries of both sides, and else for those of the result.
+fn needs_memory(way: Way, case: &Case<i64>, room: usize) -> bool {
+    let items = if way.is_in_place() {
+        case.left.len().saturating_add(case.right.len())
+    } else if way == Way::StateNew {
+        case.first.len().saturating_add(case.want.len())
     } else {
-        want.len() > room
-    }
+        case.want.len()
+    };
+    items > room
 }
 
-// Whether the form is refused in turn, or needs no memory, with room for two boundaries.
-fn is_right(
-    form: Form,
-    op: Operation,
+// Whether the call is refused in turn, or needs no memory.
+fn is_right<const N: usize>(
+    way: Way,
     alloc: Global,
     starved: &mut Starved,
-    row: &Row,
-    want: &[i64],
+    case: &Case<i64>,
 ) -> bool {
-    if needs_memory(form, row, want, 2) {
+    if needs_memory(way, case, N) {
         starved.refuses_in_turn(
-            || sides_of::<2>(alloc, row),
-            |(left, right)| form
-                .call(op, alloc, left, right, &mut Comparisons::new())
-                .answer(want, row.0, row.1),
+            || case.given::<N>(alloc),
+            |given| case.answer(way, alloc, given),
         )
     } else {
         starved.is_right_for(
-            || sides_of::<2>(alloc, row),
-            |(left, right)| form
-                .call(op, alloc, left, right, &mut Comparisons::new())
-                .answer(want, row.0, row.1),
+            || case.given::<N>(alloc),
+            |given| case.answer(way, alloc, given),
         )
     }
 }
 
-// The first form that isn't.
-fn first_wrong(
-    op: Operation,
-    alloc: Global,
-    row: &Row,
-    want: &[i64],
-) -> Result<Option<Form>, AllocError> {
+// The first call that isn't.
+fn first_wrong<const N: usize>(alloc: Global, case: &Case<i64>) -> Result<Option<Way>, AllocError> {
     let mut starved = Starved::new(alloc)?;
-    for form in FORMS {
-        if !is_right(form, op, alloc, &mut starved, row, want) {
-            return Ok(Some(form));
+    for way in WAYS {
+        if case.has(way) && !is_right::<N>(way, alloc, &mut starved, case) {
+            return Ok(Some(way));
         }
     }
     Ok(None)
 }
 
-// Sides that fit in a set and sides that don't, whose results do and don't.
-const ROWS: [Row; 4] = [
+// Sides that fit in a set with room for two and sides that don't, whose results do and don't, and what a state's list begins with.
+const ROWS: [(Row, &[i64]); 6] = [
     (
-        &[0, 10, 20],
-        &[5, 15, 25],
-        [
-            &[0, 15, 20],
-            &[5, 10, 25],
-            &[0, 5, 20, 25],
-            &[0, 5, 10, 15, 20, 25],
-        ],
+        (
+            &[0, 10, 20],
+            &[5, 15, 25],
+            [
+                &[0, 15, 20],
+                &[5, 10, 25],
+                &[0, 5, 20, 25],
+                &[0, 5, 10, 15, 20, 25],
+            ],
+            12,
+        ),
+        &[-1],
     ),
     (
-        &[0, 10],
-        &[20, 30, 40],
-        [&[0, 10, 20, 30, 40], &[], &[0, 10], &[0, 10, 20, 30, 40]],
+        (
+            &[0, 10],
+            &[20, 30, 40],
+            [&[0, 10, 20, 30, 40], &[], &[0, 10], &[0, 10, 20, 30, 40]],
+            8,
+        ),
+        &[],
     ),
-    (&[0, 10], &[20], [&[0, 10, 20], &[], &[0, 10], &[0, 10, 20]]),
-    (&[0], &[20], [&[0], &[20], &[0, 20], &[0, 20]]),
+    (
+        (
+            &[0, 10],
+            &[20],
+            [&[0, 10, 20], &[], &[0, 10], &[0, 10, 20]],
+            6,
+        ),
+        &[-1],
+    ),
+    ((&[0], &[20], [&[0], &[20], &[0, 20], &[0, 20]], 4), &[]),
+    (
+        (
+            &[0, 10],
+            &[5, 15],
+            [&[0, 15], &[5, 10], &[0, 5], &[0, 5, 10, 15]],
+            8,
+        ),
+        &[],
+    ),
+    (
+        (
+            &[0, 1, 2, 3, 4, 5, 6],
+            &[3, 8],
+            [
+                &[0, 1, 2],
+                &[4, 5, 6, 8],
+                &[0, 1, 2, 3, 8],
+                &[0, 1, 2, 4, 5, 6, 8],
+            ],
+            12,
+        ),
+        &[-2, -1],
+    ),
 ];
 
 #[test]
-fn each_form_is_refused_in_turn(rt: HostRuntime) -> Result<(), Fail> {
-    for row in &ROWS {
+fn each_call_is_refused_in_turn(rt: HostRuntime) -> Result<(), Fail> {
+    for (row, first) in &ROWS {
         for (op, want) in OPERATIONS.iter().zip(&row.2) {
-            assert_eq!(rt;
-                first_wrong(*op, rt.alloc(), row, want)?,
-                None,
-                "{op:?} of {:?} and {:?}",
-                row.0,
-                row.1
-            );
+            let wrong = first_wrong::<2>(rt.alloc(), &case_of(*op, row, first, want))?;
+            assert_eq!(rt; wrong, None, "{op:?} of {:?} and {:?}", row.0, row.1);
         }
     }
     Ok(())
@@ -118,32 +131,50 @@ const SHORT: Row = (
         &[0, 1, 4, 5],
         &[0, 1, 2, 3, 4, 5, 6, 7],
     ],
+    16,
 );
 
 #[test]
 fn sides_with_room_need_no_memory(rt: HostRuntime) -> Result<(), Fail> {
-    let alloc = rt.alloc();
     for (op, want) in OPERATIONS.iter().zip(&SHORT.2) {
-        let mut starved = Starved::new(alloc)?;
-        for form in FORMS {
-            let is_right = starved.is_right_for(
-                || sides_of::<8>(alloc, &SHORT),
-                |(left, right)| form
-                    .call(*op, alloc, left, right, &mut Comparisons::new())
-                    .answer(want, SHORT.0, SHORT.1),
-            );
-            assert!(rt; is_right, "{op:?}, {form:?}");
-        }
+        let wrong = first_wrong::<8>(rt.alloc(), &case_of(*op, &SHORT, &[], want))?;
+        assert_eq!(rt; wrong, None, "{op:?}");
     }
     Ok(())
 }
 
-// What an answer with a set says.
-fn set_is<const N: usize>(made: Result<RangeSet<i64, N>, AllocError>, want: &[i64]) -> Answer {
-    match made {
-        Ok(set) => Answer::right_if(set.boundaries() == want),
-        Err(_) => Answer::Refused,
+const LEAST: i64 = i64::MIN;
+
+// Tables, two lists, and what they make of them.
+const CONNECTED: [([u8; 4], &[i64], &[i64], &[i64]); 6] = [
+    ([0, 1, 1, 1], &[0, 10], &[20, 30, 40], &[0, 10, 20, 30, 40]),
+    ([0, 0, 1, 1], &[0, 10], &[20, 30, 40], &[20, 30, 40]),
+    (
+        [1, 0, 0, 0],
+        &[0, 10],
+        &[20, 30, 40],
+        &[LEAST, 0, 10, 20, 30, 40],
+    ),
+    ([1, 1, 0, 0], &[0, 10], &[20, 30, 40], &[LEAST, 20, 30, 40]),
+    ([0, 1, 1, 0], &[0], &[5], &[0, 5]),
+    ([1, 0, 1, 0], &[0], &[], &[LEAST, 0]),
+];
+
+#[test]
+fn connectives_are_refused_in_turn_beyond_their_room(rt: HostRuntime) -> Result<(), Fail> {
+    for (table, left, right, want) in &CONNECTED {
+        let case = Case {
+            table: *table,
+            op: None,
+            left,
+            right,
+            first: &[],
+            want,
+            most: 8,
+        };
+        assert_eq!(rt; first_wrong::<2>(rt.alloc(), &case)?, None, "{table:?}");
     }
+    Ok(())
 }
 
 // A constructor.
@@ -198,13 +229,13 @@ impl Constructor {
 // Whether a constructor needs no memory where its boundaries have room, and is refused in turn where they don't.
 fn is_made(alloc: Global, starved: &mut Starved, call: Constructor, want: &[i64]) -> bool {
     let with_room = match want.len() {
-        0 => starved.is_right_without_memory(|()| set_is::<0>(call.made(alloc), want)),
-        1 => starved.is_right_without_memory(|()| set_is::<1>(call.made(alloc), want)),
-        _ => starved.is_right_without_memory(|()| set_is::<2>(call.made(alloc), want)),
+        0 => starved.is_right_without_memory(|()| set_is::<_, 0>(call.made(alloc), want)),
+        1 => starved.is_right_without_memory(|()| set_is::<_, 1>(call.made(alloc), want)),
+        _ => starved.is_right_without_memory(|()| set_is::<_, 2>(call.made(alloc), want)),
     };
     with_room
         && (want.is_empty()
-            || starved.refuses_in_turn(|| Some(()), |()| set_is::<0>(call.made(alloc), want)))
+            || starved.refuses_in_turn(|| Some(()), |()| set_is::<_, 0>(call.made(alloc), want)))
 }
 
 #[test]
@@ -214,47 +245,5 @@ fn constructors_are_refused_in_turn_beyond_their_room(rt: HostRuntime) -> Result
     for (call, want) in CONSTRUCTORS {
         assert!(rt; is_made(alloc, &mut starved, call, want), "{call:?}");
     }
-    Ok(())
-}
-
-#[test]
-fn copies_are_refused_in_turn(rt: HostRuntime) -> Result<(), Fail> {
-    let alloc = rt.alloc();
-    let set = set_of(alloc, &[20, 30, 40]).ok_or("sorted")?;
-    let (same, negated) = ([20, 30, 40].as_slice(), [i64::MIN, 20, 30, 40].as_slice());
-    let mut starved = Starved::new(alloc)?;
-    assert!(rt; starved.refuses_in_turn(|| Some(()), |()| set_is(set.clone(), same)));
-    assert!(rt; starved.refuses_in_turn(|| Some(()), |()| set_is(!&set, negated)));
-    assert!(rt;
-        starved.refuses_in_turn(|| set_of(alloc, &[20, 30, 40]), |set| set_is(!set, negated))
-    );
-    assert!(rt; set.boundaries() == same);
-    Ok(())
-}
-
-// Copies of sets with room for one boundary, which is all that they have.
-fn copies_of_one(alloc: Global) -> Answer {
-    let made: Option<(RangeSet<i64, 1>, RangeSet<i64, 1>, RangeSet<i64, 1>)> = ones(alloc);
-    let Some((five, least, again)) = made else {
-        return Answer::Wrong;
-    };
-    let cloned = matches!(five.clone(), Ok(set) if set.boundaries() == [5].as_slice());
-    let negated = matches!(!&least, Ok(set) if set.boundaries().is_empty());
-    Answer::right_if(cloned && negated && matches!(!again, Ok(set) if set.boundaries().is_empty()))
-}
-
-// The set of 5, and twice that of the least number.
-fn ones(alloc: Global) -> Option<(RangeSet<i64, 1>, RangeSet<i64, 1>, RangeSet<i64, 1>)> {
-    let five = RangeSet::new(SmallVec::from_slice(alloc, &[5]).ok()?)?;
-    let least = RangeSet::new(SmallVec::from_slice(alloc, &[i64::MIN]).ok()?)?;
-    let again = RangeSet::new(SmallVec::from_slice(alloc, &[i64::MIN]).ok()?)?;
-    Some((five, least, again))
-}
-
-#[test]
-fn copies_with_room_need_no_memory(rt: HostRuntime) -> Result<(), Fail> {
-    let alloc = rt.alloc();
-    let mut starved = Starved::new(alloc)?;
-    assert!(rt; starved.is_right_without_memory(|()| copies_of_one(alloc)));
     Ok(())
 }

@@ -1,58 +1,25 @@
-//! Copies of elements and of ranges, and sets of ranges, whose requests for memory are refused in turn: what is copied stays as it was.
-use crate::starved::{Answer, Call, Starved};
-use range_collections::{Copier, EntryClone, EntryCopier, RangeSet, RangeSetRange};
+//! Copies of elements, ranges and sets, whose requests for memory are refused in turn, and whose items are flagged, each in turn, so that a copy of it is refused. A constructor takes the ends of a range as they are, and copies none.
+use crate::elements::{Flagged, with_flag};
+use crate::flags::flagged;
+use crate::forms::own;
+use crate::starved::{Answer, Starved};
+use crate::ways::set_is;
+use range_collections::{Copier, EntryClone, EntryCopier, RangeSet, RangeSet2, RangeSetRange};
 use std::alloc::{AllocError, Global};
-use std::ops::{Range, RangeFrom};
 use std::test::Fail;
 
-// Want of memory, if what was copied is as it was.
-fn refused_if(stands: bool) -> Answer {
-    if stands {
-        Answer::Refused
-    } else {
-        Answer::Wrong
+// What a copy says of the value that was copied.
+fn copied<T: PartialEq + Drop>(made: Result<T, AllocError>, value: &T) -> Answer {
+    match made {
+        Ok(made) => Answer::right_if(made == *value),
+        Err(_) => Answer::Refused,
     }
 }
 
-// An element that is cloned, by a copier or by itself, and one that is equal to it.
-#[derive(Drop)]
-struct Cloned<'a, T> {
-    item: &'a T,
-    again: &'a T,
-    by_copier: bool,
-}
-
-impl<'a, T: EntryClone + Drop> Call for Cloned<'a, T> {
-    type Given = ();
-
-    fn given(&self) -> Option<()> {
-        Some(())
-    }
-
-    fn answer(&self, _given: ()) -> Answer {
-        let made = if self.by_copier {
-            EntryCopier.copy(self.item)
-        } else {
-            self.item.entry_clone()
-        };
-        match made {
-            Ok(made) => Answer::right_if(made == *self.again && *self.item == *self.again),
-            Err(_) => refused_if(*self.item == *self.again),
-        }
-    }
-}
-
-// Whether copies of an element, and clones of it, are refused in turn.
-fn copies_refuse<T: EntryClone + Drop>(starved: &mut Starved, item: &T, again: &T) -> bool {
-    starved.refuses(&Cloned {
-        item,
-        again,
-        by_copier: true,
-    }) && starved.refuses(&Cloned {
-        item,
-        again,
-        by_copier: false,
-    })
+// Whether a clone of the element, and a copy by a copier, are refused in turn.
+fn copies_refuse<T: EntryClone + Drop>(starved: &mut Starved, item: &T) -> bool {
+    starved.refuses_in_turn(|| Some(()), |()| copied(item.entry_clone(), item))
+        && starved.refuses_in_turn(|| Some(()), |()| copied(EntryCopier.copy(item), item))
 }
 
 fn text(alloc: Global, text: &str) -> Result<String, AllocError> {
@@ -71,80 +38,66 @@ fn options(alloc: Global) -> Result<Vec<Option<String>>, AllocError> {
 #[test]
 fn copies_of_elements_are_refused_in_turn(rt: HostRuntime) -> Result<(), Fail> {
     let alloc = rt.alloc();
-    let (one, again) = (text(alloc, "ab")?, text(alloc, "ab")?);
-    let (some, some_again) = (Some(text(alloc, "ab")?), Some(text(alloc, "ab")?));
-    let (bytes, bytes_again) = ([1u8, 2].to_vec(alloc)?, [1u8, 2].to_vec(alloc)?);
-    let (list, list_again) = (options(alloc)?, options(alloc)?);
+    let (one, some) = (text(alloc, "ab")?, Some(text(alloc, "ab")?));
+    let (bytes, list) = ([1u8, 2].to_vec(alloc)?, options(alloc)?);
     let mut starved = Starved::new(alloc)?;
-    assert!(rt; copies_refuse(&mut starved, &one, &again), "a text");
-    assert!(rt;
-        copies_refuse(&mut starved, &some, &some_again),
-        "an option"
-    );
-    assert!(rt;
-        copies_refuse(&mut starved, &bytes, &bytes_again),
-        "a list of bytes"
-    );
-    assert!(rt;
-        copies_refuse(&mut starved, &list, &list_again),
-        "a list of options"
-    );
+    assert!(rt; copies_refuse(&mut starved, &one), "a text");
+    assert!(rt; copies_refuse(&mut starved, &some), "an option");
+    assert!(rt; copies_refuse(&mut starved, &bytes), "a list of bytes");
+    assert!(rt; copies_refuse(&mut starved, &list), "a list of options");
     Ok(())
 }
 
-// Whether the range is from `ab` to `cd`, or without an end from `ab` on.
-fn is_as(range: &RangeSetRange<String>, has_end: bool) -> bool {
-    match range {
-        RangeSetRange::Range(Range { start, end }) => {
-            has_end && start.as_str() == "ab" && end.as_str() == "cd"
+// Whether both copies of the element answer so.
+fn both_answer<T: EntryClone + Drop>(item: &T, want: Answer) -> bool {
+    copied(item.entry_clone(), item) == want && copied(EntryCopier.copy(item), item) == want
+}
+
+// Want of memory, where one of so many items has its flag set at the place.
+fn refused_at(place: usize, items: usize) -> Answer {
+    if place < items {
+        Answer::Refused
+    } else {
+        Answer::Right
+    }
+}
+
+#[test]
+fn copies_of_elements_refuse_flagged_items(rt: HostRuntime) -> Result<(), Fail> {
+    let alloc = rt.alloc();
+    for place in 0..5usize {
+        let flag = place..place.saturating_add(1);
+        let items = flagged(alloc, &[1, 3, 5, 7], flag)?;
+        let mut options = Vec::new(alloc);
+        options.push(None)?;
+        for item in items.as_slice() {
+            options.push(Some(*item))?;
         }
-        RangeSetRange::RangeFrom(RangeFrom { start }) => !has_end && start.as_str() == "ab",
+        let want = refused_at(place, 4);
+        assert!(rt; both_answer(&options, want), "options, {place}");
+        assert!(rt; both_answer(&items, want), "a list, {place}");
+        assert!(rt;
+            both_answer(&Some(items), want),
+            "an option of a list, {place}"
+        );
     }
+    for (flag, want) in [(true, Answer::Refused), (false, Answer::Right)] {
+        let item = with_flag(7, flag);
+        assert!(rt; both_answer(&item, want), "{flag}");
+        assert!(rt; both_answer(&Some(item), want), "an option, {flag}");
+    }
+    assert!(rt; both_answer::<Option<Flagged>>(&None, Answer::Right));
+    Ok(())
 }
 
-// A range of references that is copied, and one of texts that is cloned.
-#[derive(Drop)]
-struct RangeCopied<'a> {
-    ends: RangeSetRange<&'a String>,
-    has_end: bool,
-}
-
-impl<'a> Call for RangeCopied<'a> {
-    type Given = ();
-
-    fn given(&self) -> Option<()> {
-        Some(())
-    }
-
-    fn answer(&self, _given: ()) -> Answer {
-        match self.ends.cloned() {
-            Ok(made) => Answer::right_if(is_as(&made, self.has_end)),
-            Err(_) => Answer::Refused,
-        }
-    }
-}
-
-#[derive(Drop)]
-struct RangeCloned<'a> {
-    range: &'a RangeSetRange<String>,
-    has_end: bool,
-}
-
-impl<'a> Call for RangeCloned<'a> {
-    type Given = ();
-
-    fn given(&self) -> Option<()> {
-        Some(())
-    }
-
-    fn answer(&self, _given: ()) -> Answer {
-        match self.range.clone() {
-            Ok(made) => {
-                Answer::right_if(is_as(&made, self.has_end) && is_as(self.range, self.has_end))
-            }
-            Err(_) => refused_if(is_as(self.range, self.has_end)),
-        }
-    }
+// Whether a copy of a range of references, and a clone of the range, are refused in turn.
+fn range_refuses(
+    starved: &mut Starved,
+    lent: &RangeSetRange<&String>,
+    range: &RangeSetRange<String>,
+) -> bool {
+    starved.refuses_in_turn(|| Some(()), |()| copied(lent.cloned(), range))
+        && starved.refuses_in_turn(|| Some(()), |()| copied(range.clone(), range))
 }
 
 #[test]
@@ -154,84 +107,108 @@ fn copies_of_ranges_are_refused_in_turn(rt: HostRuntime) -> Result<(), Fail> {
     let range = RangeSetRange::from(text(alloc, "ab")?..text(alloc, "cd")?);
     let endless = RangeSetRange::from(text(alloc, "ab")?..);
     let mut starved = Starved::new(alloc)?;
-    for (range, ends, has_end) in [
-        (&range, RangeSetRange::from(&start..&end), true),
-        (&endless, RangeSetRange::from(&start..), false),
-    ] {
-        assert!(rt;
-            starved.refuses(&RangeCopied { ends, has_end }),
-            "copied, {has_end}"
-        );
-        assert!(rt;
-            starved.refuses(&RangeCloned { range, has_end }),
-            "cloned, {has_end}"
-        );
-    }
-    assert!(rt; start.as_str() == "ab" && end.as_str() == "cd");
+    assert!(rt; range_refuses(&mut starved, &RangeSetRange::from(&start..&end), &range));
+    assert!(rt; range_refuses(&mut starved, &RangeSetRange::from(&start..), &endless));
     Ok(())
 }
 
-// What a set that is made of a range says.
-fn set_is<const N: usize>(made: Result<RangeSet<i64, N>, AllocError>, want: &[i64]) -> Answer {
-    match made {
-        Ok(set) => Answer::right_if(set.boundaries() == want),
-        Err(_) => Answer::Refused,
-    }
-}
-
-// A range of numbers that becomes a set with room for none, one or two boundaries in itself.
-#[derive(Drop)]
-struct SetOf {
+// Whether both copies of a range of flagged ends answer so, and its set is made of the ends themselves.
+fn range_answers(
     alloc: Global,
-    room: u8,
-    ends: (i64, Option<i64>),
-    want: &'static [i64],
+    lent: &RangeSetRange<&Flagged>,
+    range: RangeSetRange<Flagged>,
+    ends: &[Flagged],
+    want: Answer,
+) -> bool {
+    let copies = [copied(lent.cloned(), &range), copied(range.clone(), &range)];
+    let made: Result<RangeSet<Flagged, 2>, AllocError> = RangeSet::from_range_set_range(
+        alloc, range,
+    );
+    copies == [want, want] && set_is(made, ends) == Answer::Right
 }
 
-impl Call for SetOf {
-    type Given = RangeSetRange<i64>;
-
-    fn given(&self) -> Option<RangeSetRange<i64>> {
-        Some(match self.ends {
-            (start, Some(end)) => RangeSetRange::from(start..end),
-            (start, None) => RangeSetRange::from(start..),
-        })
-    }
-
-    fn answer(&self, range: RangeSetRange<i64>) -> Answer {
-        let (alloc, want) = (self.alloc, self.want);
-        match self.room {
-            0 => set_is::<0>(RangeSet::from_range_set_range(alloc, range), want),
-            1 => set_is::<1>(RangeSet::from_range_set_range(alloc, range), want),
-            _ => set_is::<2>(RangeSet::from_range_set_range(alloc, range), want),
-        }
-    }
-}
-
-fn set_of_range(
-    alloc: Global,
-    room: u8,
-    start: i64,
-    end: Option<i64>,
-    want: &'static [i64],
-) -> SetOf {
-    SetOf {
-        alloc,
-        room,
-        ends: (start, end),
-        want,
-    }
-}
-
-// What has room in the set asks for none, and neither does a range of nothing.
 #[test]
-fn sets_of_ranges_are_refused_where_they_have_no_room(rt: HostRuntime) -> Result<(), Fail> {
+fn copies_of_ranges_refuse_flagged_ends(rt: HostRuntime) {
     let alloc = rt.alloc();
+    for (start, end) in [(false, false), (true, false), (false, true), (true, true)] {
+        let (low, high) = (with_flag(1, start), with_flag(2, end));
+        let want = refused_at(0, usize::from(start || end));
+        let (lent, range) = (
+            RangeSetRange::from(&low..&high),
+            RangeSetRange::from(low..high),
+        );
+        assert!(rt;
+            range_answers(alloc, &lent, range, &[low, high], want),
+            "{start} and {end}"
+        );
+        let (lent, range) = (
+            RangeSetRange::from(&high..&low),
+            RangeSetRange::from(high..low),
+        );
+        assert!(rt;
+            range_answers(alloc, &lent, range, &[], want),
+            "{start} and {end}, reversed"
+        );
+        let want = refused_at(0, usize::from(start));
+        let (lent, range) = (RangeSetRange::from(&low..), RangeSetRange::from(low..));
+        assert!(rt;
+            range_answers(alloc, &lent, range, &[low], want),
+            "{start}, without an end"
+        );
+    }
+}
+
+const NUMBERS: [i64; 3] = [20, 30, 40];
+
+const NEGATED: [i64; 4] = [i64::MIN, 20, 30, 40];
+
+#[test]
+fn copies_of_sets_are_refused_in_turn(rt: HostRuntime) -> Result<(), Fail> {
+    let alloc = rt.alloc();
+    let set: RangeSet2<i64> = own(alloc, &NUMBERS).ok_or("sorted")?;
     let mut starved = Starved::new(alloc)?;
-    assert!(rt; starved.refuses(&set_of_range(alloc, 0, 1, Some(5), &[1, 5])));
-    assert!(rt; starved.refuses(&set_of_range(alloc, 0, 4, None, &[4])));
-    assert!(rt; starved.needs_none(&set_of_range(alloc, 2, 1, Some(5), &[1, 5])));
-    assert!(rt; starved.needs_none(&set_of_range(alloc, 1, 4, None, &[4])));
-    assert!(rt; starved.needs_none(&set_of_range(alloc, 0, 5, Some(1), &[])));
+    assert!(rt; starved.refuses_in_turn(|| Some(()), |()| set_is(set.clone(), &NUMBERS)));
+    assert!(rt; starved.refuses_in_turn(|| Some(()), |()| set_is(!&set, &NEGATED)));
+    assert!(rt;
+        starved.refuses_in_turn(
+            || own::<i64, 2>(alloc, &NUMBERS),
+            |set| set_is(!set, &NEGATED)
+        )
+    );
+    Ok(())
+}
+
+#[test]
+fn copies_of_sets_with_room_need_no_memory(rt: HostRuntime) -> Result<(), Fail> {
+    let alloc = rt.alloc();
+    let five: RangeSet<i64, 1> = own(alloc, &[5]).ok_or("sorted")?;
+    let least: RangeSet<i64, 1> = own(alloc, &[i64::MIN]).ok_or("sorted")?;
+    let mut starved = Starved::new(alloc)?;
+    assert!(rt; starved.is_right_without_memory(|()| set_is(five.clone(), &[5])));
+    assert!(rt; starved.is_right_without_memory(|()| set_is(!&least, &[])));
+    assert!(rt;
+        starved.is_right_for(
+            || own::<i64, 1>(alloc, &[i64::MIN]),
+            |set| set_is(!set, &[])
+        )
+    );
+    Ok(())
+}
+
+#[test]
+fn copies_of_sets_refuse_flagged_items(rt: HostRuntime) -> Result<(), Fail> {
+    let alloc = rt.alloc();
+    let negated = flagged(alloc, &NEGATED, 0..0)?;
+    for place in 0..4usize {
+        let items = flagged(alloc, &NUMBERS, place..place.saturating_add(1))?;
+        let set: RangeSet<Flagged, 2> = own(alloc, items.as_slice()).ok_or("sorted")?;
+        let want = refused_at(place, 3);
+        assert!(rt; set_is(set.clone(), items.as_slice()) == want, "{place}");
+        assert!(rt; set_is(!&set, negated.as_slice()) == want, "{place}");
+        assert!(rt;
+            set_is(!set, negated.as_slice()) == Answer::Right,
+            "{place}, owned"
+        );
+    }
     Ok(())
 }

@@ -1,137 +1,94 @@
-//! Unions of many sets, sets of ranges and sets of texts, whose requests for memory and whose copies are refused in turn.
+//! Unions of many sets, sets of ranges and sets of texts, whose requests for memory are refused in turn, and whose items are flagged, each in turn, so that a copy of it is refused.
 ghost use Rattle.std.specs.Prelude.{◌≤◌};
 
 use crate::drawn::is_on;
 use crate::elements::{Flagged, with_flag};
 use crate::everyday_drawn::all_u8;
-use crate::flags::numbers_are;
 use crate::made_up::Generator;
-use crate::starved::{Answer, Call, Starved};
+use crate::starved::{Answer, Starved};
+use crate::ways::set_is;
 use range_collections::{ParseError, RangeSet, RangeSet2, RangeSetRange, RangeSetRef};
 use std::alloc::{AllocError, Global};
 use std::test::Fail;
 
-const SETS: [&[i64]; 3] = [&[0, 4, 20, 30], &[8], &[2, 6]];
-
-const UNION: [i64; 3] = [0, 6, 8];
-
-// What a call is given.
-#[derive(Clone, Copy, Debug)]
-enum Source {
-    Sets,
-    Ranges,
-    Text,
-}
-
-// A set that is made of many.
-#[derive(Drop)]
-struct Many {
-    alloc: Global,
-    source: Source,
-}
-
-impl Call for Many {
-    type Given = ();
-
-    fn given(&self) -> Option<()> {
-        Some(())
-    }
-
-    fn answer(&self, _given: ()) -> Answer {
-        match self.source {
-            Source::Sets => united(self.alloc),
-            Source::Ranges => of_ranges(self.alloc),
-            Source::Text => of_text(self.alloc),
-        }
+// The set of a text, or the error unless it is want of memory.
+fn parsed(alloc: Global, text: &str) -> Result<Result<RangeSet2<i64>, ParseError>, AllocError> {
+    match RangeSet::parse(alloc, text) {
+        Err(ParseError::OutOfMemory) => Err(AllocError),
+        made => Ok(made),
     }
 }
 
-// What an answer with a set says.
-fn set_is(made: Result<RangeSet2<i64>, AllocError>) -> Answer {
-    match made {
-        Ok(set) => Answer::right_if(set.boundaries() == UNION.as_slice()),
-        Err(_) => Answer::Refused,
+// What a text says, which is no text of ranges where nothing is wanted.
+fn text_is(alloc: Global, text: &str, want: Option<&[i64]>) -> Answer {
+    match (parsed(alloc, text), want) {
+        (Ok(Ok(set)), Some(want)) => Answer::right_if(set.boundaries() == want),
+        (Ok(Err(_)), None) => Answer::Right,
+        (Err(_), _) => Answer::Refused,
+        _ => Answer::Wrong,
     }
 }
 
-fn united(alloc: Global) -> Answer {
-    let sets = SETS.map(|items| RangeSetRef::new(items).unwrap_or_default());
-    set_is(RangeSet::union_all(alloc, &sets))
-}
-
-fn of_ranges(alloc: Global) -> Answer {
+#[test]
+fn sets_of_many_are_refused_in_turn(rt: HostRuntime) -> Result<(), Fail> {
+    let (alloc, want) = (rt.alloc(), [0, 6, 8].as_slice());
+    let lists: [&[i64]; 3] = [&[0, 4, 20, 30], &[8], &[2, 6]];
+    let sets = lists.map(|items| RangeSetRef::new(items).unwrap_or_default());
     let ranges = [
         RangeSetRange::from(8..),
         RangeSetRange::from(2..6),
         RangeSetRange::from(9..3),
         RangeSetRange::from(0..4),
     ];
-    set_is(RangeSet::from_ranges(alloc, &ranges))
+    let text = "8.., 2..6, 9..3, 0..4";
+    let mut starved = Starved::new(alloc)?;
+    let of_sets = starved.refuses_in_turn(
+        || Some(()),
+        |()| set_is(RangeSet2::union_all(alloc, &sets), want),
+    );
+    assert!(rt; of_sets, "sets");
+    let of_ranges = starved.refuses_in_turn(
+        || Some(()),
+        |()| set_is(RangeSet2::from_ranges(alloc, &ranges), want),
+    );
+    assert!(rt; of_ranges, "ranges");
+    let of_text = starved.refuses_in_turn(|| Some(()), |()| text_is(alloc, text, Some(want)));
+    assert!(rt; of_text, "a text");
+    Ok(())
 }
 
-fn of_text(alloc: Global) -> Answer {
-    let made: Result<RangeSet2<i64>, ParseError> = RangeSet::parse(alloc, "8.., 2..6, 9..3, 0..4");
-    match made {
-        Ok(set) => Answer::right_if(set.boundaries() == UNION.as_slice()),
-        Err(error) => {
-            if error == ParseError::OutOfMemory {
-                Answer::Refused
-            } else {
-                Answer::Wrong
-            }
-        }
+#[test]
+fn bad_texts_need_no_memory(rt: HostRuntime) -> Result<(), Fail> {
+    let alloc = rt.alloc();
+    let mut starved = Starved::new(alloc)?;
+    for text in ["1..2..3", "1..2,", "x", "1..99999999999999999999"] {
+        let is_right = starved.is_right_without_memory(|()| text_is(alloc, text, None));
+        assert!(rt; is_right, "{text}");
     }
+    Ok(())
 }
 
-// A text that is no text of ranges, and what it is refused for.
-#[derive(Drop)]
-struct BadText {
-    alloc: Global,
-    text: &'static str,
-}
-
-impl Call for BadText {
-    type Given = ();
-
-    fn given(&self) -> Option<()> {
-        Some(())
-    }
-
-    fn answer(&self, _given: ()) -> Answer {
-        let made: Result<RangeSet2<i64>, ParseError> = RangeSet::parse(self.alloc, self.text);
-        match made {
-            Err(error) => Answer::right_if(error != ParseError::OutOfMemory),
-            Ok(_) => Answer::Wrong,
-        }
-    }
-}
-
-// Whether the union of two sets of one range each is refused, with the flag set at this number.
-fn is_refused(alloc: Global, flag: i64) -> bool {
-    let item = |number| with_flag(number, number == flag);
-    let (left, right) = ([item(0), item(4)], [item(2), item(6)]);
-    let sets = [
-        RangeSetRef::new(&left).unwrap_or_default(),
-        RangeSetRef::new(&right).unwrap_or_default(),
-    ];
-    let made: Result<RangeSet<Flagged, 8>, AllocError> = RangeSet::union_all(alloc, &sets);
-    match made {
-        Ok(set) => !numbers_are(set.boundaries(), &[0, 6]),
-        Err(_) => true,
-    }
-}
-
-// The same of the set of both ranges.
-fn ranges_are_refused(alloc: Global, flag: i64) -> bool {
-    let item = |number| with_flag(number, number == flag);
-    let ranges = [
-        RangeSetRange::from(item(0)..item(4)),
-        RangeSetRange::from(item(2)..item(6)),
-    ];
-    let made: Result<RangeSet<Flagged, 8>, AllocError> = RangeSet::from_ranges(alloc, &ranges);
-    match made {
-        Ok(set) => !numbers_are(set.boundaries(), &[0, 6]),
-        Err(_) => true,
+#[test]
+fn a_flagged_boundary_refuses_the_union(rt: HostRuntime) {
+    let alloc = rt.alloc();
+    for (flag, want) in [
+        (0, Answer::Refused),
+        (2, Answer::Refused),
+        (4, Answer::Refused),
+        (6, Answer::Refused),
+        (9, Answer::Right),
+    ] {
+        let [a, b, c, d] = [0, 2, 4, 6].map(|number| with_flag(number, number == flag));
+        let (left, right) = ([a, c], [b, d]);
+        let sets = [
+            RangeSetRef::new(&left).unwrap_or_default(),
+            RangeSetRef::new(&right).unwrap_or_default(),
+        ];
+        let made: Result<RangeSet<Flagged, 8>, AllocError> = RangeSet::union_all(alloc, &sets);
+        assert!(rt; set_is(made, &[a, d]) == want, "sets, {flag}");
+        let ranges = [RangeSetRange::from(a..c), RangeSetRange::from(b..d)];
+        let made: Result<RangeSet<Flagged, 8>, AllocError> = RangeSet::from_ranges(alloc, &ranges);
+        assert!(rt; set_is(made, &[a, d]) == want, "ranges, {flag}");
     }
 }
 
@@ -154,37 +111,6 @@ fn wrong(alloc: Global, draws: &mut Generator, one_in: u64) -> Result<u64, Alloc
         }
     }
     Ok(wrong)
-}
-
-#[test]
-fn sets_of_many_are_refused_in_turn(rt: HostRuntime) -> Result<(), Fail> {
-    let alloc = rt.alloc();
-    let mut starved = Starved::new(alloc)?;
-    for source in [Source::Sets, Source::Ranges, Source::Text] {
-        assert!(rt; starved.refuses(&Many { alloc, source }), "{source:?}");
-    }
-    Ok(())
-}
-
-#[test]
-fn bad_texts_need_no_memory(rt: HostRuntime) -> Result<(), Fail> {
-    let alloc = rt.alloc();
-    let mut starved = Starved::new(alloc)?;
-    for text in ["1..2..3", "1..2,", "x", "1..99999999999999999999"] {
-        assert!(rt; starved.needs_none(&BadText { alloc, text }), "{text}");
-    }
-    Ok(())
-}
-
-#[test]
-fn a_flagged_boundary_refuses_the_union(rt: HostRuntime) {
-    let alloc = rt.alloc();
-    for flag in [0, 2, 4, 6] {
-        assert!(rt; is_refused(alloc, flag), "sets, {flag}");
-        assert!(rt; ranges_are_refused(alloc, flag), "ranges, {flag}");
-    }
-    assert!(rt; !is_refused(alloc, 9));
-    assert!(rt; !ranges_are_refused(alloc, 9));
 }
 
 #[test]

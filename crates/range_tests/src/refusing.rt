@@ -11,12 +11,9 @@ pub(crate) struct Refusing<'a, K> {
     b: &'a [K],
     ac: bool,
     bc: bool,
-    // How many advances are made before one is refused.
+    // How many advances are made before one is refused, how many were made, and how many refused.
     until: usize,
-    // How many were made, and how many of the items were taken.
     made: usize,
-    taken: usize,
-    // How many were refused.
     refused: usize,
 }
 
@@ -35,18 +32,20 @@ impl<'a, K> Refusing<'a, K> {
             bc: false,
             until,
             made: 0,
-            taken: 0,
             refused: 0,
         }
     }
 
-    // How many advances were made, how many items were taken, and how many advances were refused.
-    pub(crate) fn counts(&self) -> (usize, usize, usize) {
-        (self.made, self.taken, self.refused)
+    pub(crate) fn made(&self) -> usize {
+        self.made
     }
 
-    // One more advance, which takes so many items, or a refusal.
-    fn advance(&mut self, items: usize) -> Result<(), AllocError>
+    pub(crate) fn refused(&self) -> usize {
+        self.refused
+    }
+
+    // One more advance, or a refusal.
+    fn advance(&mut self) -> Result<(), AllocError>
         ensures left { self.new.a ≡ self.old.a }
         ensures right { self.new.b ≡ self.old.b }
         ensures left_on { self.new.ac ≡ self.old.ac }
@@ -57,14 +56,8 @@ impl<'a, K> Refusing<'a, K> {
             return Err(AllocError);
         }
         self.made = self.made.saturating_add(1);
-        self.taken = self.taken.saturating_add(items);
         Ok(())
     }
-}
-
-// How many of the items are taken.
-fn many_if(take: bool, items: usize) -> usize {
-    if take { items } else { 0 }
 }
 
 impl<'a, K> MergeState for Refusing<'a, K> {
@@ -104,22 +97,22 @@ impl<'a, K> MergeStateMut for Refusing<'a, K> {
 
     ghost infallible = { λ _. ⊥ };
 
-    fn advance_a(&mut self, n: usize, take: bool) -> Result<bool, AllocError> {
-        self.advance(many_if(take, n))?;
+    fn advance_a(&mut self, n: usize, _take: bool) -> Result<bool, AllocError> {
+        self.advance()?;
         self.ac = self.ac != (n % 2 == 1);
         self.a = &self.a[n..];
         Ok(true)
     }
 
-    fn advance_b(&mut self, n: usize, take: bool) -> Result<bool, AllocError> {
-        self.advance(many_if(take, n))?;
+    fn advance_b(&mut self, n: usize, _take: bool) -> Result<bool, AllocError> {
+        self.advance()?;
         self.bc = self.bc != (n % 2 == 1);
         self.b = &self.b[n..];
         Ok(true)
     }
 
-    fn advance_both(&mut self, take: bool) -> Result<bool, AllocError> {
-        self.advance(many_if(take, 1))?;
+    fn advance_both(&mut self, _take: bool) -> Result<bool, AllocError> {
+        self.advance()?;
         self.ac = !self.ac;
         self.bc = !self.bc;
         self.a = &self.a[1..];

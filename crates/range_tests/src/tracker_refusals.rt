@@ -1,22 +1,15 @@
 //! A tracker whose requests for memory are refused in turn: a refused command changes nothing, and one that is too many stays so.
-use crate::starved::{Answer, Call, Starved};
-use crate::tracker::{COMMANDS, has_ranges, is_missing, too_many};
+use crate::starved::{Answer, Starved};
+use crate::tracker::{FOUR, Reply, has_ranges};
+use crate::ways::refused_if;
 use range_tracker::{Command, TrackError, Tracker};
 use std::alloc::{AllocError, Global};
 
-const NOTHING: Result<(), TrackError> = Err(TrackError::OutOfMemory);
+const NOTHING: Reply = Err(TrackError::OutOfMemory);
 
-// Commands for a tracker that begins with the offsets from 0 to 10 and from 20 to 30, under a limit; their replies and the ranges behind them with ample memory, and where memory is refused.
-#[derive(Drop)]
-struct Run {
-    alloc: Global,
-    limit: usize,
-    commands: [Command; 3],
-    replies: [Result<(), TrackError>; 3],
-    ranges: &'static [(u64, u64)],
-    refused: [Result<(), TrackError>; 3],
-    stays: &'static [(u64, u64)],
-}
+const EIGHT: Reply = Err(TrackError::TooMany { boundaries: 8 });
+
+const BEGUN: &[u64] = &[0, 10, 20, 30];
 
 // A tracker with two ranges.
 fn begun(alloc: Global, limit: usize) -> Option<Tracker> {
@@ -26,247 +19,174 @@ fn begun(alloc: Global, limit: usize) -> Option<Tracker> {
     Some(tracker)
 }
 
-impl Call for Run {
-    type Given = Tracker;
+// A limit, commands for a tracker with two ranges, and their replies and the boundaries behind them: with ample memory, and where memory is refused.
+type Row<'a> = (
+    usize,
+    [Command; 3],
+    ([Reply; 3], &'a [u64]),
+    ([Reply; 3], &'a [u64]),
+);
 
-    fn given(&self) -> Option<Tracker> {
-        begun(self.alloc, self.limit)
-    }
+const ROWS: [Row; 3] = [
+    (
+        100,
+        [
+            Command::Add(40..50),
+            Command::Add(5..5),
+            Command::Forget(60..70),
+        ],
+        ([Ok(()); 3], &[0, 10, 20, 30, 40, 50]),
+        ([NOTHING, Ok(()), Ok(())], BEGUN),
+    ),
+    (
+        100,
+        [
+            Command::Forget(4..5),
+            Command::Add(5..5),
+            Command::Forget(60..70),
+        ],
+        ([Ok(()); 3], &[0, 4, 5, 10, 20, 30]),
+        ([NOTHING, Ok(()), Ok(())], BEGUN),
+    ),
+    // Too many behind the first command alone.
+    (
+        6,
+        [
+            Command::Add(40..50),
+            Command::Forget(25..26),
+            Command::Add(10..20),
+        ],
+        ([Ok(()), EIGHT, Ok(())], &[0, 30, 40, 50]),
+        ([NOTHING, NOTHING, Ok(())], &[0, 30]),
+    ),
+];
 
-    fn answer(&self, mut tracker: Tracker) -> Answer {
-        let mut replies = [Ok(()); 3];
-        tracker.run(&self.commands, &mut replies);
-        if replies == self.replies && has_ranges(&tracker, self.ranges) {
-            Answer::Right
-        } else if replies == self.refused && has_ranges(&tracker, self.stays) {
-            Answer::Refused
-        } else {
-            Answer::Wrong
-        }
+fn run(row: &Row, mut tracker: Tracker) -> Answer {
+    let mut replies = [Ok(()); 3];
+    tracker.run(&row.1, &mut replies);
+    if replies == row.2.0 && has_ranges(&tracker, row.2.1) {
+        Answer::Right
+    } else {
+        refused_if(replies == row.3.0 && has_ranges(&tracker, row.3.1))
     }
 }
-
-const BEGUN: &[(u64, u64)] = &[(0, 10), (20, 30)];
 
 #[test]
 fn a_run_goes_on_after_each_refusal(rt: HostRuntime) -> Result<(), AllocError> {
     let alloc = rt.alloc();
     let mut starved = Starved::new(alloc)?;
-    let records = Run {
-        alloc,
-        limit: 100,
-        commands: [
-            Command::Add(40..50),
-            Command::Add(5..5),
-            Command::Forget(60..70),
-        ],
-        replies: [Ok(()); 3],
-        ranges: &[(0, 10), (20, 30), (40, 50)],
-        refused: [NOTHING, Ok(()), Ok(())],
-        stays: BEGUN,
-    };
-    assert!(rt; starved.refuses(&records), "what is recorded");
-    let forgets = Run {
-        alloc,
-        limit: 100,
-        commands: [
-            Command::Forget(4..5),
-            Command::Add(5..5),
-            Command::Forget(60..70),
-        ],
-        replies: [Ok(()); 3],
-        ranges: &[(0, 4), (5, 10), (20, 30)],
-        refused: [NOTHING, Ok(()), Ok(())],
-        stays: BEGUN,
-    };
-    assert!(rt; starved.refuses(&forgets), "what is forgotten");
-    let mixed = Run {
-        alloc,
-        limit: 6,
-        commands: [
-            Command::Add(40..50),
-            Command::Forget(25..26),
-            Command::Add(10..20),
-        ],
-        replies: [Ok(()), too_many(8), Ok(())],
-        ranges: &[(0, 30), (40, 50)],
-        refused: [NOTHING, NOTHING, Ok(())],
-        stays: &[(0, 30)],
-    };
-    assert!(rt;
-        starved.refuses(&mixed),
-        "too many behind the first command alone"
-    );
+    for row in &ROWS {
+        let is_right = starved.refuses_in_turn(|| begun(alloc, row.0), |tracker| run(row, tracker));
+        assert!(rt; is_right, "{:?}", row.1);
+    }
     Ok(())
 }
 
-// What `record` and `forget` themselves say, of a range that makes the list grow.
-#[derive(Drop)]
-struct Grow {
-    alloc: Global,
-    is_record: bool,
+// What `record` or `forget` says, where the list grows.
+fn grown(mut tracker: Tracker, is_record: bool) -> Answer {
+    let (reply, want) = if is_record {
+        (tracker.record(40..50), [0, 10, 20, 30, 40, 50])
+    } else {
+        (tracker.forget(4..5), [0, 4, 5, 10, 20, 30])
+    };
+    match reply {
+        Ok(()) => Answer::right_if(has_ranges(&tracker, &want)),
+        Err(error) => refused_if(error == TrackError::OutOfMemory && has_ranges(&tracker, BEGUN)),
+    }
 }
 
-impl Call for Grow {
-    type Given = Tracker;
-
-    fn given(&self) -> Option<Tracker> {
-        begun(self.alloc, 100)
-    }
-
-    fn answer(&self, mut tracker: Tracker) -> Answer {
-        let (reply, want): (_, &[(u64, u64)]) = if self.is_record {
-            (tracker.record(40..50), &[(0, 10), (20, 30), (40, 50)])
-        } else {
-            (tracker.forget(4..5), &[(0, 4), (5, 10), (20, 30)])
-        };
-        match reply {
-            Ok(()) => Answer::right_if(has_ranges(&tracker, want)),
-            Err(TrackError::OutOfMemory) if has_ranges(&tracker, BEGUN) => Answer::Refused,
-            Err(_) => Answer::Wrong,
-        }
+// What is missing, which is refused where it has no room.
+fn missing(tracker: &Tracker, len: u64, want: &[u64]) -> Answer {
+    match tracker.missing(len) {
+        Ok(missing) => Answer::right_if(missing.boundaries() == want),
+        Err(_) => Answer::Refused,
     }
 }
 
 #[test]
-fn record_and_forget_are_refused_in_turn(rt: HostRuntime) -> Result<(), AllocError> {
+fn record_forget_and_missing_are_refused_in_turn(rt: HostRuntime) -> Result<(), AllocError> {
     let alloc = rt.alloc();
     let mut starved = Starved::new(alloc)?;
     for is_record in [true, false] {
-        assert!(rt;
-            starved.refuses(&Grow { alloc, is_record }),
-            "record: {is_record}"
+        let is_right = starved.refuses_in_turn(
+            || begun(alloc, 100),
+            |tracker| grown(tracker, is_record),
         );
+        assert!(rt; is_right, "record: {is_record}");
     }
+    let is_right = starved.refuses_in_turn(
+        || begun(alloc, 4),
+        |tracker| missing(&tracker, 60, &[10, 20, 30, 60]),
+    );
+    assert!(rt; is_right, "missing");
     Ok(())
 }
 
-// A run under the limit of four boundaries whose first command would leave too many, and what is missing behind it.
-#[derive(Drop)]
-struct Missing {
-    alloc: Global,
-}
+// A limit, commands for a tracker without ranges, and their replies and the boundaries behind them where no memory is left.
+type Bare<'a> = (usize, [Command; 5], [Reply; 5], &'a [u64]);
 
-impl Call for Missing {
-    type Given = Tracker;
-
-    fn given(&self) -> Option<Tracker> {
-        begun(self.alloc, 4)
-    }
-
-    fn answer(&self, mut tracker: Tracker) -> Answer {
-        let mut replies = [Ok(()); 3];
-        let commands = [
-            Command::Forget(25..26),
+const BARE: [Bare; 3] = [
+    // Ranges in the set itself.
+    (
+        4,
+        [
+            Command::Add(0..10),
+            Command::Add(5..20),
+            Command::Forget(0..30),
+            Command::Add(7..8),
+            Command::Forget(7..8),
+        ],
+        [Ok(()); 5],
+        &[],
+    ),
+    // Too many.
+    (
+        2,
+        [
+            Command::Add(0..10),
+            Command::Add(20..30),
+            Command::Forget(4..5),
             Command::Add(10..20),
+            Command::Forget(4..5),
+        ],
+        [Ok(()), FOUR, FOUR, Ok(()), FOUR],
+        &[0, 20],
+    ),
+    // Those that need some are refused in place.
+    (
+        4,
+        [
+            Command::Add(0..10),
+            Command::Add(20..30),
             Command::Add(40..50),
-        ];
-        tracker.run(&commands, &mut replies);
-        let made = tracker.missing(60);
-        if replies != [too_many(6), Ok(()), Ok(())] || !has_ranges(&tracker, &[(0, 30), (40, 50)]) {
-            return Answer::Wrong;
-        }
-        match made {
-            Ok(missing) => Answer::right_if(missing.boundaries() == [30, 40, 50, 60].as_slice()),
-            Err(_) => Answer::Refused,
-        }
-    }
-}
+            Command::Add(10..20),
+            Command::Forget(5..6),
+        ],
+        [Ok(()), NOTHING, NOTHING, Ok(()), NOTHING],
+        &[0, 20],
+    ),
+];
 
-#[test]
-fn too_many_stays_so_while_memory_is_refused(rt: HostRuntime) -> Result<(), AllocError> {
-    let alloc = rt.alloc();
-    let mut starved = Starved::new(alloc)?;
-    assert!(rt; starved.refuses(&Missing { alloc }));
-    Ok(())
-}
-
-// What needs no memory: ranges that meet, all of them forgotten, and what is missing of few offsets.
-#[derive(Drop)]
-struct InItself {
-    alloc: Global,
-}
-
-impl Call for InItself {
-    type Given = ();
-
-    fn given(&self) -> Option<()> {
-        Some(())
-    }
-
-    fn answer(&self, _given: ()) -> Answer {
-        let mut tracker = Tracker::new(self.alloc, 4);
-        let first = tracker.record(0..10);
-        let second = tracker.record(5..20);
-        let cleared = tracker.forget(0..30);
-        Answer::right_if(
-            first.is_ok()
-                && second.is_ok()
-                && cleared.is_ok()
-                && has_ranges(&tracker, &[])
-                && is_missing(&tracker, 7, &[0, 7]),
-        )
-    }
-}
-
-// Commands that would leave too many boundaries, where no memory is left.
-#[derive(Drop)]
-struct TooMany {
-    alloc: Global,
-}
-
-impl Call for TooMany {
-    type Given = ();
-
-    fn given(&self) -> Option<()> {
-        Some(())
-    }
-
-    fn answer(&self, _given: ()) -> Answer {
-        let mut tracker = Tracker::new(self.alloc, 2);
-        let first = tracker.record(0..10);
-        let more = tracker.record(20..30);
-        let hole = tracker.forget(4..5);
-        Answer::right_if(
-            first.is_ok()
-                && more == too_many(4)
-                && hole == too_many(4)
-                && has_ranges(&tracker, &[(0, 10)]),
-        )
-    }
-}
-
-// Five commands where no memory is left: those that need some are refused in place.
-#[derive(Drop)]
-struct Five {
-    alloc: Global,
-}
-
-impl Call for Five {
-    type Given = ();
-
-    fn given(&self) -> Option<()> {
-        Some(())
-    }
-
-    fn answer(&self, _given: ()) -> Answer {
-        let mut tracker = Tracker::new(self.alloc, 4);
-        let mut replies = [Ok(()); 5];
-        tracker.run(&COMMANDS, &mut replies);
-        let want = [Ok(()), NOTHING, NOTHING, Ok(()), NOTHING];
-        Answer::right_if(replies == want && has_ranges(&tracker, &[(0, 20)]))
-    }
+fn run_bare(alloc: Global, row: &Bare) -> Answer {
+    let mut tracker = Tracker::new(alloc, row.0.min(100));
+    let mut replies = [Ok(()); 5];
+    tracker.run(&row.1, &mut replies);
+    Answer::right_if(replies == row.2 && has_ranges(&tracker, row.3))
 }
 
 #[test]
 fn what_needs_no_memory_is_answered_without(rt: HostRuntime) -> Result<(), AllocError> {
     let alloc = rt.alloc();
     let mut starved = Starved::new(alloc)?;
-    assert!(rt;
-        starved.needs_none(&InItself { alloc }),
-        "ranges in the set itself"
-    );
-    assert!(rt; starved.needs_none(&TooMany { alloc }), "too many");
-    assert!(rt; starved.needs_none(&Five { alloc }), "five commands");
+    for row in &BARE {
+        let is_right = starved.is_right_without_memory(|()| run_bare(alloc, row));
+        assert!(rt; is_right, "{:?}", row.1);
+    }
+    let is_right = starved.is_right_without_memory(|()| missing(
+        &Tracker::new(alloc, 4),
+        7,
+        &[0, 7],
+    ));
+    assert!(rt; is_right, "missing");
     Ok(())
 }
