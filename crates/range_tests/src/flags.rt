@@ -4,7 +4,7 @@ use crate::elements::{Flagged, with_flag};
 use crate::forms::OPERATIONS;
 use crate::operations::ROWS;
 use crate::starved::Answer;
-use crate::ways::{Case, WAYS, Way, case_of};
+use crate::ways::{Case, WAYS, Way, case_of, wanted};
 use std::alloc::{AllocError, Global};
 use std::ops::Range;
 use std::test::Fail;
@@ -61,11 +61,7 @@ fn wrong_at(
     let from_right = matches!(row.right.get(other), Some(number)
         if row.want.contains(number) && !row.left.contains(number));
     for way in WAYS {
-        let want = if is_refused(way, from_left || from_right, other < row.right.len()) {
-            Answer::Refused
-        } else {
-            Answer::Right
-        };
+        let want = wanted(is_refused(way, from_left || from_right, other < row.right.len()));
         if case.has(way) && !answers(alloc, &case, way, want) {
             return Ok(Some(way));
         }

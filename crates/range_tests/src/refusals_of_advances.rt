@@ -2,6 +2,7 @@
 use crate::elements::with_flag;
 use crate::flags::flagged;
 use crate::starved::{Answer, Starved};
+use crate::ways::wanted;
 use range_collections::{EntryClone, EntryCopier};
 use range_merge::{MergeState, MergeStateMut, SmallVecMergeState};
 use smallvec::SmallVec;
@@ -125,11 +126,7 @@ fn flag_answers(
         first: &[with_flag(-1, true)],
         taken: taken.as_slice(),
     };
-    let want = if at < row.1 || other < row.2 {
-        Answer::Refused
-    } else {
-        Answer::Right
-    };
+    let want = wanted(at < row.1 || other < row.2);
     Ok(match (case.list(alloc), case.list(alloc)) {
         (Some(list), Some(again)) => {
             case.answer(true, list) == want && case.answer(false, again) == Answer::Right

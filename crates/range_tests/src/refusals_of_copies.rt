@@ -3,7 +3,7 @@ use crate::elements::{Flagged, with_flag};
 use crate::flags::flagged;
 use crate::forms::own;
 use crate::starved::{Answer, Starved};
-use crate::ways::set_is;
+use crate::ways::{set_is, wanted};
 use range_collections::{Copier, EntryClone, EntryCopier, RangeSet, RangeSet2, RangeSetRange};
 use std::alloc::{AllocError, Global};
 use std::test::Fail;
@@ -53,15 +53,6 @@ fn both_answer<T: EntryClone + Drop>(item: &T, want: Answer) -> bool {
     copied(item.entry_clone(), item) == want && copied(EntryCopier.copy(item), item) == want
 }
 
-// Want of memory, where one of so many items has its flag set at the place.
-fn refused_at(place: usize, items: usize) -> Answer {
-    if place < items {
-        Answer::Refused
-    } else {
-        Answer::Right
-    }
-}
-
 #[test]
 fn copies_of_elements_refuse_flagged_items(rt: HostRuntime) -> Result<(), Fail> {
     let alloc = rt.alloc();
@@ -73,7 +64,7 @@ fn copies_of_elements_refuse_flagged_items(rt: HostRuntime) -> Result<(), Fail> 
         for item in items.as_slice() {
             options.push(Some(*item))?;
         }
-        let want = refused_at(place, 4);
+        let want = wanted(place < 4);
         assert!(rt; both_answer(&options, want), "options, {place}");
         assert!(rt; both_answer(&items, want), "a list, {place}");
         assert!(rt;
@@ -81,8 +72,8 @@ fn copies_of_elements_refuse_flagged_items(rt: HostRuntime) -> Result<(), Fail> 
             "an option of a list, {place}"
         );
     }
-    for (flag, want) in [(true, Answer::Refused), (false, Answer::Right)] {
-        let item = with_flag(7, flag);
+    for flag in [true, false] {
+        let (item, want) = (with_flag(7, flag), wanted(flag));
         assert!(rt; both_answer(&item, want), "{flag}");
         assert!(rt; both_answer(&Some(item), want), "an option, {flag}");
     }
@@ -132,7 +123,7 @@ fn copies_of_ranges_refuse_flagged_ends(rt: HostRuntime) {
     let alloc = rt.alloc();
     for (start, end) in [(false, false), (true, false), (false, true), (true, true)] {
         let (low, high) = (with_flag(1, start), with_flag(2, end));
-        let want = refused_at(0, usize::from(start || end));
+        let want = wanted(start || end);
         let (lent, range) = (
             RangeSetRange::from(&low..&high),
             RangeSetRange::from(low..high),
@@ -149,7 +140,7 @@ fn copies_of_ranges_refuse_flagged_ends(rt: HostRuntime) {
             range_answers(alloc, &lent, range, &[], want),
             "{start} and {end}, reversed"
         );
-        let want = refused_at(0, usize::from(start));
+        let want = wanted(start);
         let (lent, range) = (RangeSetRange::from(&low..), RangeSetRange::from(low..));
         assert!(rt;
             range_answers(alloc, &lent, range, &[low], want),
@@ -202,7 +193,7 @@ fn copies_of_sets_refuse_flagged_items(rt: HostRuntime) -> Result<(), Fail> {
     for place in 0..4usize {
         let items = flagged(alloc, &NUMBERS, place..place.saturating_add(1))?;
         let set: RangeSet<Flagged, 2> = own(alloc, items.as_slice()).ok_or("sorted")?;
-        let want = refused_at(place, 3);
+        let want = wanted(place < 3);
         assert!(rt; set_is(set.clone(), items.as_slice()) == want, "{place}");
         assert!(rt; set_is(!&set, negated.as_slice()) == want, "{place}");
         assert!(rt;

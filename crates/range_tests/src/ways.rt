@@ -111,6 +111,15 @@ pub(crate) fn refused_if(stands: bool) -> Answer {
     }
 }
 
+// What is wanted of a call, by whether a copy that it makes is refused.
+pub(crate) fn wanted(is_refused: bool) -> Answer {
+    if is_refused {
+        Answer::Refused
+    } else {
+        Answer::Right
+    }
+}
+
 // What an answer with a set says.
 pub(crate) fn set_is<T: Ord + Drop, const N: usize>(
     made: Result<RangeSet<T, N>, AllocError>,
