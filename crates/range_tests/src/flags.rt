@@ -31,32 +31,59 @@ fn is_refused(way: Way, is_taken: bool, is_right: bool) -> bool {
     }
 }
 
+// The items of a row, with the flag at this place of the left list and at that one of the right.
+#[derive(Drop)]
+pub(crate) struct Items {
+    left: Vec<Flagged>,
+    right: Vec<Flagged>,
+    first: Vec<Flagged>,
+    want: Vec<Flagged>,
+}
+
+impl Items {
+    pub(crate) fn of(
+        alloc: Global,
+        row: &Case<i64>,
+        at: usize,
+        other: usize,
+    ) -> Result<Items, AllocError> {
+        Ok(Items {
+            left: flagged(alloc, row.left, at..at.saturating_add(1))?,
+            right: flagged(alloc, row.right, other..other.saturating_add(1))?,
+            first: flagged(alloc, row.first, 0..usize::MAX)?,
+            want: flagged(alloc, row.want, 0..0)?,
+        })
+    }
+
+    pub(crate) fn case<'a>(&'a self, row: &Case<i64>) -> Case<'a, Flagged> {
+        Case {
+            table: row.table,
+            op: row.op,
+            left: self.left.as_slice(),
+            right: self.right.as_slice(),
+            first: self.first.as_slice(),
+            want: self.want.as_slice(),
+            most: row.most,
+        }
+    }
+}
+
 fn answers(alloc: Global, case: &Case<Flagged>, way: Way, want: Answer) -> bool {
-    match case.given::<8>(alloc) {
+    match case.given(alloc) {
         Some(given) => case.answer(way, alloc, given) == want,
         None => false,
     }
 }
 
-// The first call that answers otherwise with the flag at this place of the left list and at that one of the right. Of equal items the left's is taken.
+// The first call that answers otherwise with the flag at these places. Of equal items the left's is taken.
 fn wrong_at(
     alloc: Global,
     row: &Case<i64>,
     at: usize,
     other: usize,
 ) -> Result<Option<Way>, AllocError> {
-    let left = flagged(alloc, row.left, at..at.saturating_add(1))?;
-    let right = flagged(alloc, row.right, other..other.saturating_add(1))?;
-    let want = flagged(alloc, row.want, 0..0)?;
-    let case = Case {
-        table: row.table,
-        op: row.op,
-        left: left.as_slice(),
-        right: right.as_slice(),
-        first: &[with_flag(-1, true)],
-        want: want.as_slice(),
-        most: row.most,
-    };
+    let items = Items::of(alloc, row, at, other)?;
+    let case = items.case(row);
     let from_left = matches!(row.left.get(at), Some(number) if row.want.contains(number));
     let from_right = matches!(row.right.get(other), Some(number)
         if row.want.contains(number) && !row.left.contains(number));
@@ -88,7 +115,7 @@ fn first_wrong(alloc: Global, row: &Case<i64>) -> Result<Option<(usize, Way)>, A
 fn an_operation_is_refused_where_it_copies_the_flagged_item(rt: HostRuntime) -> Result<(), Fail> {
     for row in &ROWS {
         for (op, want) in OPERATIONS.iter().zip(&row.2) {
-            let wrong = first_wrong(rt.alloc(), &case_of(*op, row, &[], want))?;
+            let wrong = first_wrong(rt.alloc(), &case_of(*op, row, &[-1], want))?;
             assert_eq!(rt; wrong, None, "{op:?} of {:?} and {:?}", row.0, row.1);
         }
     }
@@ -125,7 +152,7 @@ fn a_connective_is_refused_where_it_copies_the_flagged_item(rt: HostRuntime) -> 
             op: None,
             left: &[0, 2, 4, 6],
             right: &[1, 3, 5, 7],
-            first: &[],
+            first: &[-1],
             want,
             most: 16,
         };

@@ -1,4 +1,6 @@
 //! Operations and constructors whose requests for memory are refused in turn: each answers want of memory, or else what it answers with ample memory, and what it was handed stays as it was. Where the result has room, none is needed.
+use crate::elements::Flagged;
+use crate::flags::Items;
 use crate::forms::OPERATIONS;
 use crate::operations::Row;
 use crate::starved::Starved;
@@ -7,8 +9,8 @@ use range_collections::{RangeSet, RangeSetRange};
 use std::alloc::{AllocError, Global};
 use std::test::Fail;
 
-// Whether the call needs memory with this room: in place for the boundaries of both sides, and else for those of the result.
-fn needs_memory(way: Way, case: &Case<i64>, room: usize) -> bool {
+// Whether the call needs memory with room for two: in place for the boundaries of both sides, and else for those of the result.
+fn needs_memory(way: Way, case: &Case<Flagged>) -> bool {
     let items = if way.is_in_place() {
         case.left.len().saturating_add(case.right.len())
     } else if way == Way::StateNew {
@@ -16,34 +18,25 @@ fn needs_memory(way: Way, case: &Case<i64>, room: usize) -> bool {
     } else {
         case.want.len()
     };
-    items > room
+    items > 2
 }
 
 // Whether the call is refused in turn, or needs no memory.
-fn is_right<const N: usize>(
-    way: Way,
-    alloc: Global,
-    starved: &mut Starved,
-    case: &Case<i64>,
-) -> bool {
-    if needs_memory(way, case, N) {
-        starved.refuses_in_turn(
-            || case.given::<N>(alloc),
-            |given| case.answer(way, alloc, given),
-        )
+fn is_right(way: Way, alloc: Global, starved: &mut Starved, case: &Case<Flagged>) -> bool {
+    if needs_memory(way, case) {
+        starved.refuses_in_turn(|| case.given(alloc), |given| case.answer(way, alloc, given))
     } else {
-        starved.is_right_for(
-            || case.given::<N>(alloc),
-            |given| case.answer(way, alloc, given),
-        )
+        starved.is_right_for(|| case.given(alloc), |given| case.answer(way, alloc, given))
     }
 }
 
 // The first call that isn't.
-fn first_wrong<const N: usize>(alloc: Global, case: &Case<i64>) -> Result<Option<Way>, AllocError> {
+fn first_wrong(alloc: Global, row: &Case<i64>) -> Result<Option<Way>, AllocError> {
+    let items = Items::of(alloc, row, usize::MAX, usize::MAX)?;
+    let case = items.case(row);
     let mut starved = Starved::new(alloc)?;
     for way in WAYS {
-        if case.has(way) && !is_right::<N>(way, alloc, &mut starved, case) {
+        if case.has(way) && !is_right(way, alloc, &mut starved, &case) {
             return Ok(Some(way));
         }
     }
@@ -51,7 +44,7 @@ fn first_wrong<const N: usize>(alloc: Global, case: &Case<i64>) -> Result<Option
 }
 
 // Sides that fit in a set with room for two and sides that don't, whose results do and don't, and what a state's list begins with.
-const ROWS: [(Row, &[i64]); 6] = [
+const ROWS: [(Row, &[i64]); 7] = [
     (
         (
             &[0, 10, 20],
@@ -85,6 +78,7 @@ const ROWS: [(Row, &[i64]); 6] = [
         &[-1],
     ),
     ((&[0], &[20], [&[0], &[20], &[0, 20], &[0, 20]], 4), &[]),
+    ((&[], &[0, 10], [&[0, 10], &[], &[], &[0, 10]], 4), &[]),
     (
         (
             &[0, 10],
@@ -111,34 +105,12 @@ const ROWS: [(Row, &[i64]); 6] = [
 ];
 
 #[test]
-fn each_call_is_refused_in_turn(rt: HostRuntime) -> Result<(), Fail> {
+fn each_call_is_refused_in_turn_beyond_its_room(rt: HostRuntime) -> Result<(), Fail> {
     for (row, first) in &ROWS {
         for (op, want) in OPERATIONS.iter().zip(&row.2) {
-            let wrong = first_wrong::<2>(rt.alloc(), &case_of(*op, row, first, want))?;
+            let wrong = first_wrong(rt.alloc(), &case_of(*op, row, first, want))?;
             assert_eq!(rt; wrong, None, "{op:?} of {:?} and {:?}", row.0, row.1);
         }
-    }
-    Ok(())
-}
-
-// Sides that have room in one set.
-const SHORT: Row = (
-    &[0, 2, 4, 6],
-    &[1, 3, 5, 7],
-    [
-        &[0, 3, 4, 7],
-        &[1, 2, 5, 6],
-        &[0, 1, 4, 5],
-        &[0, 1, 2, 3, 4, 5, 6, 7],
-    ],
-    16,
-);
-
-#[test]
-fn sides_with_room_need_no_memory(rt: HostRuntime) -> Result<(), Fail> {
-    for (op, want) in OPERATIONS.iter().zip(&SHORT.2) {
-        let wrong = first_wrong::<8>(rt.alloc(), &case_of(*op, &SHORT, &[], want))?;
-        assert_eq!(rt; wrong, None, "{op:?}");
     }
     Ok(())
 }
@@ -172,7 +144,7 @@ fn connectives_are_refused_in_turn_beyond_their_room(rt: HostRuntime) -> Result<
             want,
             most: 8,
         };
-        assert_eq!(rt; first_wrong::<2>(rt.alloc(), &case)?, None, "{table:?}");
+        assert_eq!(rt; first_wrong(rt.alloc(), &case)?, None, "{table:?}");
     }
     Ok(())
 }

@@ -1,13 +1,12 @@
 //! Advances of a state over a list, whose requests for memory are refused in turn, and whose items are flagged, each in turn, so that a copy of it is refused. One that drops what it passes asks for nothing.
-use crate::elements::with_flag;
+use crate::elements::{Flagged, with_flag};
 use crate::flags::flagged;
 use crate::starved::{Answer, Starved};
 use crate::ways::wanted;
-use range_collections::{EntryClone, EntryCopier};
+use range_collections::EntryCopier;
 use range_merge::{MergeState, MergeStateMut, SmallVecMergeState};
 use smallvec::SmallVec;
 use std::alloc::{AllocError, Global};
-use std::default::MadeWith;
 use std::test::Fail;
 
 // Past so many items of the left list, past so many of the right one, or past one of each.
@@ -33,21 +32,21 @@ impl Advance {
 
 // An advance over two lists, the items that the list of the state begins with, and those that it takes.
 #[derive(Clone, Copy)]
-struct Case<'a, T> {
+struct Case<'a> {
     advance: Advance,
-    left: &'a [T],
-    right: &'a [T],
-    first: &'a [T],
-    taken: &'a [T],
+    left: &'a [Flagged],
+    right: &'a [Flagged],
+    first: &'a [Flagged],
+    taken: &'a [Flagged],
 }
 
-impl<'a, T: EntryClone + MadeWith<Global> + Drop + Copy> Case<'a, T> {
-    fn list(&self, alloc: Global) -> Option<SmallVec<T, 2>> {
+impl<'a> Case<'a> {
+    fn list(&self, alloc: Global) -> Option<SmallVec<Flagged, 2>> {
         SmallVec::from_slice(alloc, self.first).ok()
     }
 
     // What the advance answers that takes the items, or drops them.
-    fn answer(&self, take: bool, list: SmallVec<T, 2>) -> Answer {
+    fn answer(&self, take: bool, list: SmallVec<Flagged, 2>) -> Answer {
         let mut state = SmallVecMergeState::new(self.left, self.right, list, &EntryCopier);
         let taken = if take { self.taken } else { &[] };
         match self.advance.made(&mut state, take) {
@@ -78,7 +77,7 @@ const ROWS: [(Advance, usize, usize, &[i64]); 7] = [
 ];
 
 // Whether the advance that takes is refused in turn where the list has no room, and no other needs memory.
-fn is_right(alloc: Global, starved: &mut Starved, case: &Case<i64>) -> bool {
+fn is_right(alloc: Global, starved: &mut Starved, case: &Case) -> bool {
     let is_taken = if case.first.len().saturating_add(case.taken.len()) > 2 {
         starved.refuses_in_turn(|| case.list(alloc), |list| case.answer(true, list))
     } else {
@@ -90,19 +89,23 @@ fn is_right(alloc: Global, starved: &mut Starved, case: &Case<i64>) -> bool {
 #[test]
 fn advances_are_refused_in_turn_beyond_their_room(rt: HostRuntime) -> Result<(), Fail> {
     let alloc = rt.alloc();
-    let mut starved = Starved::new(alloc)?;
-    for (advance, _, _, taken) in ROWS {
-        for first in [[].as_slice(), &[-1], &[-2, -1]] {
+    let left = flagged(alloc, &LEFT, 0..0)?;
+    let right = flagged(alloc, &RIGHT, 0..0)?;
+    let first = [with_flag(-2, true), with_flag(-1, true)];
+    for (advance, _, _, numbers) in ROWS {
+        let taken = flagged(alloc, numbers, 0..0)?;
+        let mut starved = Starved::new(alloc)?;
+        for began in 0..3usize {
             let case = Case {
                 advance,
-                left: &LEFT,
-                right: &RIGHT,
-                first,
-                taken,
+                left: left.as_slice(),
+                right: right.as_slice(),
+                first: &first[..began],
+                taken: taken.as_slice(),
             };
             assert!(rt;
                 is_right(alloc, &mut starved, &case),
-                "{advance:?} behind {first:?}"
+                "{advance:?} behind {began}"
             );
         }
     }

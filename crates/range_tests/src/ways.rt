@@ -2,14 +2,14 @@
 ghost use Rattle.std.specs.Prelude.{◌<◌, ◌^◌};
 
 use crate::drawn::connective;
+use crate::elements::Flagged;
 use crate::forms::{Form, Operation, own};
 use crate::operations::Row;
 use crate::starved::Answer;
-use range_collections::{Comparisons, EntryClone, EntryCopier, RangeSet, RangeSetEntry};
+use range_collections::{Comparisons, EntryCopier, RangeSet};
 use range_merge::{InPlaceMergeState, InPlaceMergeStateRef, SmallVecMergeState, merge};
 use smallvec::SmallVec;
 use std::alloc::{AllocError, Global};
-use std::default::MadeWith;
 
 // A call: an operation in a form, the connective of views and of a set and a view, a merge of lists into a new one and in place with the right one lent or owned, and one over a state of each kind.
 #[derive(Clone, Copy, PartialEq, Eq, Debug)]
@@ -131,10 +131,12 @@ pub(crate) fn set_is<T: Ord + Drop, const N: usize>(
     }
 }
 
-// Both sides, and the list that a state begins with.
-type Given<T, const N: usize> = (RangeSet<T, N>, RangeSet<T, N>, SmallVec<T, N>);
+type Set = RangeSet<Flagged, 2>;
 
-impl<'a, T: EntryClone + RangeSetEntry + MadeWith<Global> + Drop + Copy> Case<'a, T> {
+// Both sides, and the list that a state begins with.
+type Given = (Set, Set, SmallVec<Flagged, 2>);
+
+impl<'a> Case<'a, Flagged> {
     // Whether there is a call in this way: lists are merged where nothing is on at first.
     pub(crate) fn has(&self, way: Way) -> bool {
         match way {
@@ -144,18 +146,13 @@ impl<'a, T: EntryClone + RangeSetEntry + MadeWith<Global> + Drop + Copy> Case<'a
         }
     }
 
-    pub(crate) fn given<const N: usize>(&self, alloc: Global) -> Option<Given<T, N>> {
+    pub(crate) fn given(&self, alloc: Global) -> Option<Given> {
         let list = SmallVec::from_slice(alloc, self.first).ok()?;
         Some((own(alloc, self.left)?, own(alloc, self.right)?, list))
     }
 
     // What the call answers, which is wrong where it compared more than it may.
-    pub(crate) fn answer<const N: usize>(
-        &self,
-        way: Way,
-        alloc: Global,
-        given: Given<T, N>,
-    ) -> Answer {
+    pub(crate) fn answer(&self, way: Way, alloc: Global, given: Given) -> Answer {
         let (left, right, list) = given;
         let mut count = Comparisons::new();
         let answer = match way {
@@ -172,12 +169,12 @@ impl<'a, T: EntryClone + RangeSetEntry + MadeWith<Global> + Drop + Copy> Case<'a
         }
     }
 
-    fn formed<const N: usize>(
+    fn formed(
         &self,
         form: Form,
         alloc: Global,
-        left: RangeSet<T, N>,
-        right: RangeSet<T, N>,
+        left: Set,
+        right: Set,
         count: &mut Comparisons,
     ) -> Answer
         requires { count.old < 2 ^ 64 }
@@ -191,18 +188,18 @@ impl<'a, T: EntryClone + RangeSetEntry + MadeWith<Global> + Drop + Copy> Case<'a
         }
     }
 
-    fn made_new<const N: usize>(
+    fn made_new(
         &self,
         way: Way,
         alloc: Global,
-        left: &RangeSet<T, N>,
-        right: &RangeSet<T, N>,
+        left: &Set,
+        right: &Set,
         count: &mut Comparisons,
     ) -> Answer
         requires { count.old < 2 ^ 64 }
     {
         let op = connective(self.table);
-        let made: Result<RangeSet<T, N>, AllocError> = match way {
+        let made: Result<Set, AllocError> = match way {
             Way::CombineViews => left.as_ref().combine(alloc, right.as_ref(), &op, count),
             Way::CombineSets => left.combine(right.as_ref(), &op, count),
             _ => return self.merged(alloc, left, right, count),
@@ -210,16 +207,10 @@ impl<'a, T: EntryClone + RangeSetEntry + MadeWith<Global> + Drop + Copy> Case<'a
         set_is(made, self.want)
     }
 
-    fn merged<const N: usize>(
-        &self,
-        alloc: Global,
-        left: &RangeSet<T, N>,
-        right: &RangeSet<T, N>,
-        count: &mut Comparisons,
-    ) -> Answer
+    fn merged(&self, alloc: Global, left: &Set, right: &Set, count: &mut Comparisons) -> Answer
         requires { count.old < 2 ^ 64 }
     {
-        let (list, op): (SmallVec<T, N>, _) = (SmallVec::new(alloc), connective(self.table));
+        let (list, op): (SmallVec<Flagged, 2>, _) = (SmallVec::new(alloc), connective(self.table));
         let (a, b) = (left.boundaries(), right.boundaries());
         match SmallVecMergeState::merge(list, a, b, &EntryCopier, &op, count) {
             Ok(list) => Answer::right_if(list.as_slice() == self.want),
@@ -227,11 +218,11 @@ impl<'a, T: EntryClone + RangeSetEntry + MadeWith<Global> + Drop + Copy> Case<'a
         }
     }
 
-    fn appended<const N: usize>(
+    fn appended(
         &self,
-        left: &RangeSet<T, N>,
-        right: &RangeSet<T, N>,
-        list: SmallVec<T, N>,
+        left: &Set,
+        right: &Set,
+        list: SmallVec<Flagged, 2>,
         count: &mut Comparisons,
     ) -> Answer
         requires { count.old < 2 ^ 64 }
@@ -248,13 +239,7 @@ impl<'a, T: EntryClone + RangeSetEntry + MadeWith<Global> + Drop + Copy> Case<'a
         }
     }
 
-    fn changed_by_owned<const N: usize>(
-        &self,
-        way: Way,
-        left: RangeSet<T, N>,
-        right: RangeSet<T, N>,
-        count: &mut Comparisons,
-    ) -> Answer
+    fn changed_by_owned(&self, way: Way, left: Set, right: Set, count: &mut Comparisons) -> Answer
         requires { count.old < 2 ^ 64 }
     {
         let op = connective(self.table);
@@ -274,13 +259,7 @@ impl<'a, T: EntryClone + RangeSetEntry + MadeWith<Global> + Drop + Copy> Case<'a
         }
     }
 
-    fn changed_by_lent<const N: usize>(
-        &self,
-        way: Way,
-        left: RangeSet<T, N>,
-        right: &RangeSet<T, N>,
-        count: &mut Comparisons,
-    ) -> Answer
+    fn changed_by_lent(&self, way: Way, left: Set, right: &Set, count: &mut Comparisons) -> Answer
         requires { count.old < 2 ^ 64 }
     {
         let (op, b) = (connective(self.table), right.boundaries());
@@ -301,7 +280,7 @@ impl<'a, T: EntryClone + RangeSetEntry + MadeWith<Global> + Drop + Copy> Case<'a
     }
 
     // Want of memory, if both lists are as they were.
-    fn stand(&self, left: &[T], right: &[T]) -> Answer {
+    fn stand(&self, left: &[Flagged], right: &[Flagged]) -> Answer {
         refused_if(left == self.left && right == self.right)
     }
 }
