@@ -1,9 +1,8 @@
 //! Advances of a state over a list, whose requests for memory are refused in turn, and whose items are flagged, each in turn, so that a copy of it is refused. One that drops what it passes asks for nothing.
-use crate::elements::{Flagged, with_flag};
+use crate::elements::{Flagged, FlaggedCopier, with_flag};
 use crate::flags::flagged;
 use crate::starved::{Answer, Starved};
 use crate::ways::wanted;
-use range_collections::EntryCopier;
 use range_merge::{MergeState, MergeStateMut, SmallVecMergeState};
 use smallvec::SmallVec;
 use std::alloc::{AllocError, Global};
@@ -47,7 +46,7 @@ impl<'a> Case<'a> {
 
     // What the advance answers that takes the items, or drops them.
     fn answer(&self, take: bool, list: SmallVec<Flagged, 2>) -> Answer {
-        let mut state = SmallVecMergeState::new(self.left, self.right, list, &EntryCopier);
+        let mut state = SmallVecMergeState::new(self.left, self.right, list, &FlaggedCopier);
         let taken = if take { self.taken } else { &[] };
         match self.advance.made(&mut state, take) {
             Some(Ok(goes_on)) => {
@@ -91,21 +90,23 @@ fn advances_are_refused_in_turn_beyond_their_room(rt: HostRuntime) -> Result<(),
     let alloc = rt.alloc();
     let left = flagged(alloc, &LEFT, 0..0)?;
     let right = flagged(alloc, &RIGHT, 0..0)?;
-    let first = [with_flag(-2, true), with_flag(-1, true)];
+    let one = [with_flag(-1, true)];
+    let two = [with_flag(-2, true), with_flag(-1, true)];
     for (advance, _, _, numbers) in ROWS {
         let taken = flagged(alloc, numbers, 0..0)?;
         let mut starved = Starved::new(alloc)?;
-        for began in 0..3usize {
+        for first in [[].as_slice(), &one, &two] {
             let case = Case {
                 advance,
                 left: left.as_slice(),
                 right: right.as_slice(),
-                first: &first[..began],
+                first,
                 taken: taken.as_slice(),
             };
             assert!(rt;
                 is_right(alloc, &mut starved, &case),
-                "{advance:?} behind {began}"
+                "{advance:?} behind {}",
+                first.len()
             );
         }
     }

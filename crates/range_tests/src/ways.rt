@@ -2,11 +2,11 @@
 ghost use Rattle.std.specs.Prelude.{◌<◌, ◌^◌};
 
 use crate::drawn::connective;
-use crate::elements::Flagged;
+use crate::elements::{Flagged, FlaggedCopier};
 use crate::forms::{Form, Operation, own};
 use crate::operations::Row;
 use crate::starved::Answer;
-use range_collections::{Comparisons, EntryCopier, RangeSet};
+use range_collections::{Comparisons, RangeSet};
 use range_merge::{InPlaceMergeState, InPlaceMergeStateRef, SmallVecMergeState, merge};
 use smallvec::SmallVec;
 use std::alloc::{AllocError, Global};
@@ -212,7 +212,7 @@ impl<'a> Case<'a, Flagged> {
     {
         let (list, op): (SmallVec<Flagged, 2>, _) = (SmallVec::new(alloc), connective(self.table));
         let (a, b) = (left.boundaries(), right.boundaries());
-        match SmallVecMergeState::merge(list, a, b, &EntryCopier, &op, count) {
+        match SmallVecMergeState::merge(list, a, b, &FlaggedCopier, &op, count) {
             Ok(list) => Answer::right_if(list.as_slice() == self.want),
             Err(_) => Answer::Refused,
         }
@@ -228,7 +228,7 @@ impl<'a> Case<'a, Flagged> {
         requires { count.old < 2 ^ 64 }
     {
         let (a, b) = (left.boundaries(), right.boundaries());
-        let mut state = SmallVecMergeState::new(a, b, list, &EntryCopier);
+        let mut state = SmallVecMergeState::new(a, b, list, &FlaggedCopier);
         match merge(&mut state, &connective(self.table), count) {
             Ok(ended) => {
                 let list = state.result();
@@ -265,12 +265,12 @@ impl<'a> Case<'a, Flagged> {
         let (op, b) = (connective(self.table), right.boundaries());
         let mut list = left.into_inner();
         if way == Way::MergeLent {
-            return match InPlaceMergeStateRef::merge(&mut list, b, &EntryCopier, &op, count) {
+            return match InPlaceMergeStateRef::merge(&mut list, b, &FlaggedCopier, &op, count) {
                 Ok(()) => Answer::right_if(list.as_slice() == self.want),
                 Err(_) => self.stand(list.as_slice(), b),
             };
         }
-        match InPlaceMergeStateRef::new(list, b, &EntryCopier) {
+        match InPlaceMergeStateRef::new(list, b, &FlaggedCopier) {
             Ok(mut state) => {
                 let ended = merge(&mut state, &op, count) == Ok(true);
                 Answer::right_if(ended && state.result().as_slice() == self.want)

@@ -8,6 +8,7 @@ ghost use Rattle.std.specs.Ordering.{int_cmp, int_eq, on, as_partial_cmp};
 ghost use Rattle.range_entry.specs.Copies.{same-equal};
 
 use range_entry::{EntryClone, RangeSetEntry};
+use range_merge::Copier;
 use std::alloc::{AllocError, Global};
 use std::cmp::Ordering;
 
@@ -101,4 +102,21 @@ impl EntryClone for Flagged {
     }
 
     ghost copy_is_equal = { same-equal Self.cmp (Prim.search (comparing, rules)) };
+}
+
+// Copies such numbers, and refuses where the flag is set.
+pub(crate) struct FlaggedCopier;
+
+impl Copier<Flagged> for FlaggedCopier {
+    ghost alike = { λ x y. x ≡ y };
+
+    ghost is_infallible = { λ item. item.flag ≡ false };
+
+    fn copy(&self, item: &Flagged) -> Result<Flagged, AllocError> {
+        if item.flag {
+            Err(AllocError)
+        } else {
+            Ok(*item)
+        }
+    }
 }
