@@ -1,9 +1,13 @@
 //! The element types: each implementation called through its bound, and that these calls find memory where there is some.
+use crate::elements::{from_end, letters_are, with_letter};
+use crate::given::numbers;
+use crate::numbers::Copies;
+use range_collections::{Copier, EntryCopier};
 use range_entry::{
     EntryClone, NonZeroU8, NonZeroU16, NonZeroU32, NonZeroU64, NonZeroU128, NonZeroUsize,
     RangeSetEntry,
 };
-use std::alloc::Global;
+use std::alloc::{AllocError, Global};
 use std::num;
 use std::test::Fail;
 
@@ -15,12 +19,31 @@ fn has_least<T: RangeSetEntry + Drop>(alloc: Global, least: &T) -> bool {
     }
 }
 
-// Whether the element is cloned, and the clone equals it.
+// Whether the element is cloned, in both forms, and the clones equal it.
 fn is_cloned<T: EntryClone + Drop>(item: &T) -> bool {
-    match item.entry_clone() {
-        Ok(copied) => copied == *item,
-        Err(_) => false,
+    match (item.entry_clone(), EntryCopier.copy(item)) {
+        (Ok(copied), Ok(again)) => copied == *item && again == *item,
+        _ => false,
     }
+}
+
+// Whether copies of the items are appended behind the front of a list, which stays, by the type and by the copier.
+fn are_appended<T: EntryClone + Drop>(
+    alloc: Global,
+    front: &T,
+    items: &[T],
+) -> Result<bool, AllocError> {
+    let (mut list, mut again) = (Vec::new(alloc), Vec::new(alloc));
+    list.push(front.entry_clone()?)?;
+    again.push(front.entry_clone()?)?;
+    T::append_clones(&mut list, items)?;
+    EntryCopier.append(&mut again, items)?;
+    Ok(stands_before(&list, front, items) && stands_before(&again, front, items))
+}
+
+// Whether the list is this item, and then these.
+fn stands_before<T: Ord>(list: &Vec<T>, front: &T, items: &[T]) -> bool {
+    list.as_slice().first() == Some(front) && list.as_slice().get(1..) == Some(items)
 }
 
 // Whether `least` is the least value of its type, `other` isn't, and both are cloned.
@@ -51,7 +74,7 @@ fn are_least_and_another<T: RangeSetEntry + EntryClone + Drop>(
 }
 
 #[test]
-fn whole_numbers(rt: HostRuntime) {
+fn whole_numbers_begin_with_their_least(rt: HostRuntime) {
     let alloc = rt.alloc();
     assert!(rt; are_least_and_other(alloc, &0u8, &255));
     assert!(rt; are_least_and_other(alloc, &0u16, &65_535));
@@ -68,7 +91,7 @@ fn whole_numbers(rt: HostRuntime) {
 }
 
 #[test]
-fn numbers_other_than_0(rt: HostRuntime) {
+fn numbers_other_than_0_begin_with_1(rt: HostRuntime) {
     let alloc = rt.alloc();
     assert!(rt; are_least_and_another(alloc, NonZeroU8::new(1), NonZeroU8::new(255)));
     assert!(rt; are_least_and_another(alloc, NonZeroU16::new(1), NonZeroU16::new(2)));
@@ -81,7 +104,7 @@ fn numbers_other_than_0(rt: HostRuntime) {
 }
 
 #[test]
-fn numbers_other_than_0_of_the_library(rt: HostRuntime) {
+fn those_of_the_library_begin_with_1(rt: HostRuntime) {
     let alloc = rt.alloc();
     assert!(rt; are_least_and_other(alloc, &num::NonZeroU8::MIN, &num::NonZeroU8::MAX));
     assert!(rt; are_least_and_other(alloc, &num::NonZeroU16::MIN, &num::NonZeroU16::MAX));
@@ -92,34 +115,54 @@ fn numbers_other_than_0_of_the_library(rt: HostRuntime) {
 }
 
 #[test]
-fn options(rt: HostRuntime) {
-    assert!(rt; are_least_and_other(rt.alloc(), &None, &Some(0u8)));
-    assert!(rt; matches!(Some(3u8).entry_clone(), Ok(Some(3))));
-}
-
-#[test]
-fn lent_texts_and_lists(rt: HostRuntime) {
-    let none: &[u8] = &[];
-    assert!(rt; are_least_and_other(rt.alloc(), &"", &"ab"));
-    assert!(rt; are_least_and_other(rt.alloc(), &none, &[1, 2].as_slice()));
-}
-
-#[test]
-fn texts(rt: HostRuntime) -> Result<(), Fail> {
+fn options_texts_and_lists_begin_with_the_empty_one(rt: HostRuntime) -> Result<(), Fail> {
     let alloc = rt.alloc();
-    let text = String::from_str(alloc, "ab")?;
+    let none: &[u8] = &[];
+    let (text, list) = (String::from_str(alloc, "ab")?, [1u8, 2].to_vec(alloc)?);
+    assert!(rt; are_least_and_other(alloc, &None, &Some(0u8)));
+    assert!(rt; are_least_and_other(alloc, &"", &"ab"));
+    assert!(rt; are_least_and_other(alloc, &none, &[1, 2].as_slice()));
     assert!(rt; are_least_and_other(alloc, &String::new(alloc), &text));
-    assert!(rt; String::min_value(alloc)?.as_str() == "");
-    assert!(rt; text.entry_clone()?.as_str() == "ab");
+    assert!(rt; are_least_and_other(alloc, &Vec::new(alloc), &list));
     Ok(())
 }
 
 #[test]
-fn lists(rt: HostRuntime) -> Result<(), Fail> {
+fn copies_in_bulk_are_all_items_in_order(rt: HostRuntime) -> Result<(), Fail> {
     let alloc = rt.alloc();
-    let list = [1u8, 2].to_vec(alloc)?;
-    assert!(rt; are_least_and_other(alloc, &Vec::new(alloc), &list));
-    assert!(rt; Vec::<u8>::min_value(alloc)?.is_empty());
-    assert!(rt; list.entry_clone()?.as_slice() == [1, 2].as_slice());
+    let many = numbers(alloc, 0, 1000)?;
+    assert!(rt; are_appended(alloc, &-7i64, many.as_slice())?);
+    assert!(rt; are_appended(alloc, &-7i64, &[])?);
+    assert!(rt; are_appended(alloc, &9u8, &[3, 1, 2, 3])?);
+    assert!(rt; are_appended(alloc, &None, &[Some(3u8), None, Some(1)])?);
+    assert!(rt;
+        are_appended(
+            alloc,
+            &from_end(7),
+            &[from_end(5), from_end(9), from_end(5)]
+        )?
+    );
+    let texts = [
+        String::from_str(alloc, "ab")?,
+        String::new(alloc),
+        String::from_str(alloc, "c")?,
+    ];
+    assert!(rt; are_appended(alloc, &String::from_str(alloc, "front")?, &texts)?);
+    let lists = [[1u8, 2].to_vec(alloc)?, Vec::new(alloc)];
+    assert!(rt; are_appended(alloc, &[3].to_vec(alloc)?, &lists)?);
+    Ok(())
+}
+
+// Elements that are equal to the order alone, and a copier of the tests' own, whose bulk is the one that the trait gives.
+#[test]
+fn copies_in_bulk_are_those_of_the_items(rt: HostRuntime) -> Result<(), Fail> {
+    let mut list = Vec::new(rt.alloc());
+    list.push(with_letter(1, b'a'))?;
+    EntryClone::append_clones(&mut list, &[with_letter(1, b'b'), with_letter(1, b'c')])?;
+    assert!(rt; letters_are(list.as_slice(), &[(1, b'a'), (1, b'b'), (1, b'c')]));
+    let mut more = Vec::new(rt.alloc());
+    more.push(5i64)?;
+    Copies.append(&mut more, &[7, 6])?;
+    assert!(rt; more.as_slice() == [5, 7, 6].as_slice());
     Ok(())
 }

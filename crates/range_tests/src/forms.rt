@@ -1,9 +1,10 @@
 //! The four operations, and the forms in which each of them can be called, all by one driver.
-ghost use Rattle.std.specs.Prelude.{◌<◌, ◌^◌};
+ghost use Rattle.std.specs.Prelude.{◌≡◌, ◌<◌, ◌^◌, false};
 
 use crate::starved::Answer;
 use range_collections::{
-    Comparisons, DiffOp, EntryClone, IntersectionOp, RangeSet, RangeSetRef, UnionOp, XorOp,
+    Comparisons, DiffOp, EntryClone, IntersectionOp, MergeOperation, RangeSet, RangeSetRef,
+    UnionOp, XorOp,
 };
 use smallvec::SmallVec;
 use std::alloc::{AllocError, Global};
@@ -16,183 +17,6 @@ pub(crate) enum Operation {
     Intersection,
     Difference,
     SymmetricDifference,
-}
-
-impl Operation {
-    // The named call, on a view and on a set.
-    fn of_views<T: EntryClone + MadeWith<Global> + Drop, const N: usize>(
-        self,
-        alloc: Global,
-        left: RangeSetRef<T>,
-        right: RangeSetRef<T>,
-    ) -> Result<RangeSet<T, N>, AllocError> {
-        match self {
-            Operation::Union => left.union(alloc, right),
-            Operation::Intersection => left.intersection(alloc, right),
-            Operation::Difference => left.difference(alloc, right),
-            Operation::SymmetricDifference => left.symmetric_difference(alloc, right),
-        }
-    }
-
-    fn of_set<T: EntryClone + MadeWith<Global> + Drop, const N: usize>(
-        self,
-        left: &RangeSet<T, N>,
-        right: RangeSetRef<T>,
-    ) -> Result<RangeSet<T, N>, AllocError> {
-        match self {
-            Operation::Union => left.union(right),
-            Operation::Intersection => left.intersection(right),
-            Operation::Difference => left.difference(right),
-            Operation::SymmetricDifference => left.symmetric_difference(right),
-        }
-    }
-
-    // The operator, with each side lent or owned.
-    fn of_lent<T: EntryClone + MadeWith<Global> + Drop, const N: usize>(
-        self,
-        left: &RangeSet<T, N>,
-        right: &RangeSet<T, N>,
-    ) -> Result<RangeSet<T, N>, AllocError> {
-        match self {
-            Operation::Union => left | right,
-            Operation::Intersection => left & right,
-            Operation::Difference => left - right,
-            Operation::SymmetricDifference => left ^ right,
-        }
-    }
-
-    fn of_lent_and_owned<T: EntryClone + MadeWith<Global> + Drop, const N: usize>(
-        self,
-        left: &RangeSet<T, N>,
-        right: RangeSet<T, N>,
-    ) -> Result<RangeSet<T, N>, AllocError> {
-        match self {
-            Operation::Union => left | right,
-            Operation::Intersection => left & right,
-            Operation::Difference => left - right,
-            Operation::SymmetricDifference => left ^ right,
-        }
-    }
-
-    fn of_owned_and_lent<T: EntryClone + MadeWith<Global> + Drop, const N: usize>(
-        self,
-        left: RangeSet<T, N>,
-        right: &RangeSet<T, N>,
-    ) -> Result<RangeSet<T, N>, AllocError> {
-        match self {
-            Operation::Union => left | right,
-            Operation::Intersection => left & right,
-            Operation::Difference => left - right,
-            Operation::SymmetricDifference => left ^ right,
-        }
-    }
-
-    fn of_owned<T: EntryClone + MadeWith<Global> + Drop, const N: usize>(
-        self,
-        left: RangeSet<T, N>,
-        right: RangeSet<T, N>,
-    ) -> Result<RangeSet<T, N>, AllocError> {
-        match self {
-            Operation::Union => left | right,
-            Operation::Intersection => left & right,
-            Operation::Difference => left - right,
-            Operation::SymmetricDifference => left ^ right,
-        }
-    }
-
-    // The change in place, with the right side lent or owned.
-    fn change<T: EntryClone + MadeWith<Global> + Drop, const N: usize>(
-        self,
-        left: &mut RangeSet<T, N>,
-        right: RangeSetRef<T>,
-    ) -> Result<(), AllocError> {
-        match self {
-            Operation::Union => left.union_with(right),
-            Operation::Intersection => left.intersection_with(right),
-            Operation::Difference => left.difference_with(right),
-            Operation::SymmetricDifference => left.symmetric_difference_with(right),
-        }
-    }
-
-    fn assign<T: EntryClone + MadeWith<Global> + Drop, const N: usize>(
-        self,
-        left: &mut RangeSet<T, N>,
-        right: RangeSet<T, N>,
-    ) -> Result<(), (AllocError, RangeSet<T, N>)> {
-        match self {
-            Operation::Union => left.bitor_assign(right),
-            Operation::Intersection => left.bitand_assign(right),
-            Operation::Difference => left.sub_assign(right),
-            Operation::SymmetricDifference => left.bitxor_assign(right),
-        }
-    }
-
-    // The counted merge into a new set, of views and of a set and a view.
-    fn merge_views<T: EntryClone + MadeWith<Global> + Drop, const N: usize>(
-        self,
-        alloc: Global,
-        left: RangeSetRef<T>,
-        right: RangeSetRef<T>,
-        count: &mut Comparisons,
-    ) -> Result<RangeSet<T, N>, AllocError>
-        requires { count.old < 2 ^ 64 }
-    {
-        match self {
-            Operation::Union => left.merge_new(alloc, right, &UnionOp, count),
-            Operation::Intersection => left.merge_new(alloc, right, &IntersectionOp, count),
-            Operation::Difference => left.merge_new(alloc, right, &DiffOp, count),
-            Operation::SymmetricDifference => left.merge_new(alloc, right, &XorOp, count),
-        }
-    }
-
-    fn merge_set<T: EntryClone + MadeWith<Global> + Drop, const N: usize>(
-        self,
-        left: &RangeSet<T, N>,
-        right: RangeSetRef<T>,
-        count: &mut Comparisons,
-    ) -> Result<RangeSet<T, N>, AllocError>
-        requires { count.old < 2 ^ 64 }
-    {
-        match self {
-            Operation::Union => left.merge_new(right, &UnionOp, count),
-            Operation::Intersection => left.merge_new(right, &IntersectionOp, count),
-            Operation::Difference => left.merge_new(right, &DiffOp, count),
-            Operation::SymmetricDifference => left.merge_new(right, &XorOp, count),
-        }
-    }
-
-    // The counted merge in place, with the right side lent or owned.
-    fn merge_lent<T: EntryClone + MadeWith<Global> + Drop, const N: usize>(
-        self,
-        left: &mut RangeSet<T, N>,
-        right: RangeSetRef<T>,
-        count: &mut Comparisons,
-    ) -> Result<(), AllocError>
-        requires { count.old < 2 ^ 64 }
-    {
-        match self {
-            Operation::Union => left.merge_ref(right, &UnionOp, count),
-            Operation::Intersection => left.merge_ref(right, &IntersectionOp, count),
-            Operation::Difference => left.merge_ref(right, &DiffOp, count),
-            Operation::SymmetricDifference => left.merge_ref(right, &XorOp, count),
-        }
-    }
-
-    fn merge_owned<T: EntryClone + MadeWith<Global> + Drop, const N: usize>(
-        self,
-        left: &mut RangeSet<T, N>,
-        right: RangeSet<T, N>,
-        count: &mut Comparisons,
-    ) -> Result<(), (AllocError, RangeSet<T, N>)>
-        requires { count.old < 2 ^ 64 }
-    {
-        match self {
-            Operation::Union => left.merge_owned(right, &UnionOp, count),
-            Operation::Intersection => left.merge_owned(right, &IntersectionOp, count),
-            Operation::Difference => left.merge_owned(right, &DiffOp, count),
-            Operation::SymmetricDifference => left.merge_owned(right, &XorOp, count),
-        }
-    }
 }
 
 // The operations, in the order of the lists in a row.
@@ -235,6 +59,11 @@ pub(crate) const FORMS: [Form; 12] = [
     Form::MergeOwned,
 ];
 
+// What a call makes, and what a change in place of an owned right side answers.
+type Made<T, const N: usize> = Result<RangeSet<T, N>, AllocError>;
+
+type Assigned<T, const N: usize> = Result<(), (AllocError, RangeSet<T, N>)>;
+
 // What a call made, if it wasn't refused, and the sides that it left.
 #[derive(Drop)]
 pub(crate) struct Outcome<T: Ord, const N: usize> {
@@ -252,52 +81,37 @@ fn stands<T: Ord, const N: usize>(side: &Option<RangeSet<T, N>>, items: &[T]) ->
 }
 
 impl<T: Ord + Drop, const N: usize> Outcome<T, N> {
-    // Of a call that was lent both sides.
-    fn of_lent(
-        made: Result<RangeSet<T, N>, AllocError>,
-        left: RangeSet<T, N>,
-        right: RangeSet<T, N>,
-    ) -> Self {
+    // Of a call that made a set, and left these sides.
+    fn of(made: Made<T, N>, left: Option<RangeSet<T, N>>, right: Option<RangeSet<T, N>>) -> Self {
         Outcome {
             made: made.ok(),
-            left: Some(left),
-            right: Some(right),
+            left,
+            right,
         }
     }
 
-    // Of a call that changed the left side, and was lent the right one.
-    fn of_change(
-        made: Result<(), AllocError>,
-        left: RangeSet<T, N>,
-        right: RangeSet<T, N>,
-    ) -> Self {
-        match made {
-            Ok(()) => Outcome {
+    // Of a call that changed the left side, and leaves the right one if it was lent it or was refused.
+    fn of_change(is_made: bool, left: RangeSet<T, N>, right: Option<RangeSet<T, N>>) -> Self {
+        if is_made {
+            Outcome {
                 made: Some(left),
                 left: None,
-                right: Some(right),
-            },
-            Err(_) => Outcome {
+                right,
+            }
+        } else {
+            Outcome {
                 made: None,
                 left: Some(left),
-                right: Some(right),
-            },
+                right,
+            }
         }
     }
 
     // Of a call that changed the left side, and was handed the right one.
-    fn of_assignment(made: Result<(), (AllocError, RangeSet<T, N>)>, left: RangeSet<T, N>) -> Self {
+    fn of_assignment(made: Assigned<T, N>, left: RangeSet<T, N>) -> Self {
         match made {
-            Ok(()) => Outcome {
-                made: Some(left),
-                left: None,
-                right: None,
-            },
-            Err((_, right)) => Outcome {
-                made: None,
-                left: Some(left),
-                right: Some(right),
-            },
+            Ok(()) => Outcome::of_change(true, left, None),
+            Err((_, right)) => Outcome::of_change(false, left, Some(right)),
         }
     }
 
@@ -321,6 +135,155 @@ impl<T: Ord + Drop, const N: usize> Outcome<T, N> {
             Answer::Refused
         } else {
             Answer::right_if(self.gives(want, left, right))
+        }
+    }
+}
+
+// The calls of each operation.
+impl<T: EntryClone + MadeWith<Global> + Drop, const N: usize> Outcome<T, N> {
+    // By name, of views and of a set.
+    fn of_views(
+        op: Operation,
+        alloc: Global,
+        left: RangeSetRef<T>,
+        right: RangeSetRef<T>,
+    ) -> Made<T, N> {
+        match op {
+            Operation::Union => left.union(alloc, right),
+            Operation::Intersection => left.intersection(alloc, right),
+            Operation::Difference => left.difference(alloc, right),
+            Operation::SymmetricDifference => left.symmetric_difference(alloc, right),
+        }
+    }
+
+    fn of_set(op: Operation, left: &RangeSet<T, N>, right: RangeSetRef<T>) -> Made<T, N> {
+        match op {
+            Operation::Union => left.union(right),
+            Operation::Intersection => left.intersection(right),
+            Operation::Difference => left.difference(right),
+            Operation::SymmetricDifference => left.symmetric_difference(right),
+        }
+    }
+
+    // By the operator, with each side lent or owned.
+    fn of_lent(op: Operation, left: &RangeSet<T, N>, right: &RangeSet<T, N>) -> Made<T, N> {
+        match op {
+            Operation::Union => left | right,
+            Operation::Intersection => left & right,
+            Operation::Difference => left - right,
+            Operation::SymmetricDifference => left ^ right,
+        }
+    }
+
+    fn of_lent_and_owned(
+        op: Operation,
+        left: &RangeSet<T, N>,
+        right: RangeSet<T, N>,
+    ) -> Made<T, N> {
+        match op {
+            Operation::Union => left | right,
+            Operation::Intersection => left & right,
+            Operation::Difference => left - right,
+            Operation::SymmetricDifference => left ^ right,
+        }
+    }
+
+    fn of_owned_and_lent(
+        op: Operation,
+        left: RangeSet<T, N>,
+        right: &RangeSet<T, N>,
+    ) -> Made<T, N> {
+        match op {
+            Operation::Union => left | right,
+            Operation::Intersection => left & right,
+            Operation::Difference => left - right,
+            Operation::SymmetricDifference => left ^ right,
+        }
+    }
+
+    fn of_owned(op: Operation, left: RangeSet<T, N>, right: RangeSet<T, N>) -> Made<T, N> {
+        match op {
+            Operation::Union => left | right,
+            Operation::Intersection => left & right,
+            Operation::Difference => left - right,
+            Operation::SymmetricDifference => left ^ right,
+        }
+    }
+
+    // In place, with the right side lent or owned.
+    fn with(
+        op: Operation,
+        left: &mut RangeSet<T, N>,
+        right: RangeSetRef<T>,
+    ) -> Result<(), AllocError> {
+        match op {
+            Operation::Union => left.union_with(right),
+            Operation::Intersection => left.intersection_with(right),
+            Operation::Difference => left.difference_with(right),
+            Operation::SymmetricDifference => left.symmetric_difference_with(right),
+        }
+    }
+
+    fn assign(op: Operation, left: &mut RangeSet<T, N>, right: RangeSet<T, N>) -> Assigned<T, N> {
+        match op {
+            Operation::Union => left.bitor_assign(right),
+            Operation::Intersection => left.bitand_assign(right),
+            Operation::Difference => left.sub_assign(right),
+            Operation::SymmetricDifference => left.bitxor_assign(right),
+        }
+    }
+
+    // By the counted merge in this form.
+    fn merged<O: MergeOperation>(
+        form: Form,
+        op: &O,
+        alloc: Global,
+        mut left: RangeSet<T, N>,
+        right: RangeSet<T, N>,
+        count: &mut Comparisons,
+    ) -> Self
+        requires off { O.connective op.now false false ≡ false }
+        requires counter { count.old < 2 ^ 64 }
+    {
+        match form {
+            Form::MergeOwned => {
+                let made = left.merge_owned(right, op, count);
+                Outcome::of_assignment(made, left)
+            }
+            Form::MergeLent => {
+                let made = left.merge_ref(right.as_ref(), op, count);
+                Outcome::of_change(made.is_ok(), left, Some(right))
+            }
+            Form::MergeSet => {
+                let made = left.merge_new(right.as_ref(), op, count);
+                Outcome::of(made, Some(left), Some(right))
+            }
+            _ => {
+                let made = left.as_ref().merge_new(alloc, right.as_ref(), op, count);
+                Outcome::of(made, Some(left), Some(right))
+            }
+        }
+    }
+
+    fn of_merge(
+        form: Form,
+        op: Operation,
+        alloc: Global,
+        left: RangeSet<T, N>,
+        right: RangeSet<T, N>,
+        count: &mut Comparisons,
+    ) -> Self
+        requires { count.old < 2 ^ 64 }
+    {
+        match op {
+            Operation::Union => Outcome::merged(form, &UnionOp, alloc, left, right, count),
+            Operation::Intersection => {
+                Outcome::merged(form, &IntersectionOp, alloc, left, right, count)
+            }
+            Operation::Difference => Outcome::merged(form, &DiffOp, alloc, left, right, count),
+            Operation::SymmetricDifference => {
+                Outcome::merged(form, &XorOp, alloc, left, right, count)
+            }
         }
     }
 }
@@ -362,60 +325,6 @@ impl Form {
         self,
         op: Operation,
         alloc: Global,
-        left: RangeSet<T, N>,
-        right: RangeSet<T, N>,
-        count: &mut Comparisons,
-    ) -> Outcome<T, N>
-        requires { count.old < 2 ^ 64 }
-    {
-        match self {
-            Form::OfOwned => Outcome {
-                made: op.of_owned(left, right).ok(),
-                left: None,
-                right: None,
-            },
-            Form::OfLentAndOwned => Outcome {
-                made: op.of_lent_and_owned(&left, right).ok(),
-                left: Some(left),
-                right: None,
-            },
-            Form::OfOwnedAndLent => Outcome {
-                made: op.of_owned_and_lent(left, &right).ok(),
-                left: None,
-                right: Some(right),
-            },
-            _ if self.is_in_place() => self.change(op, left, right, count),
-            _ => {
-                let made = self.lend(op, alloc, &left, &right, count);
-                Outcome::of_lent(made, left, right)
-            }
-        }
-    }
-
-    // The same of a form that is lent both sides.
-    fn lend<T: EntryClone + MadeWith<Global> + Drop, const N: usize>(
-        self,
-        op: Operation,
-        alloc: Global,
-        left: &RangeSet<T, N>,
-        right: &RangeSet<T, N>,
-        count: &mut Comparisons,
-    ) -> Result<RangeSet<T, N>, AllocError>
-        requires { count.old < 2 ^ 64 }
-    {
-        match self {
-            Form::OfViews => op.of_views(alloc, left.as_ref(), right.as_ref()),
-            Form::OfSet => op.of_set(left, right.as_ref()),
-            Form::MergeViews => op.merge_views(alloc, left.as_ref(), right.as_ref(), count),
-            Form::MergeSet => op.merge_set(left, right.as_ref(), count),
-            _ => op.of_lent(left, right),
-        }
-    }
-
-    // The same of a form in place.
-    fn change<T: EntryClone + MadeWith<Global> + Drop, const N: usize>(
-        self,
-        op: Operation,
         mut left: RangeSet<T, N>,
         right: RangeSet<T, N>,
         count: &mut Comparisons,
@@ -423,22 +332,36 @@ impl Form {
         requires { count.old < 2 ^ 64 }
     {
         match self {
+            Form::OfViews => {
+                let made = Outcome::of_views(op, alloc, left.as_ref(), right.as_ref());
+                Outcome::of(made, Some(left), Some(right))
+            }
+            Form::OfSet => {
+                let made = Outcome::of_set(op, &left, right.as_ref());
+                Outcome::of(made, Some(left), Some(right))
+            }
+            Form::OfLent => {
+                let made = Outcome::of_lent(op, &left, &right);
+                Outcome::of(made, Some(left), Some(right))
+            }
+            Form::OfLentAndOwned => {
+                let made = Outcome::of_lent_and_owned(op, &left, right);
+                Outcome::of(made, Some(left), None)
+            }
+            Form::OfOwnedAndLent => {
+                let made = Outcome::of_owned_and_lent(op, left, &right);
+                Outcome::of(made, None, Some(right))
+            }
+            Form::OfOwned => Outcome::of(Outcome::of_owned(op, left, right), None, None),
+            Form::Change => {
+                let made = Outcome::with(op, &mut left, right.as_ref());
+                Outcome::of_change(made.is_ok(), left, Some(right))
+            }
             Form::Assign => {
-                let made = op.assign(&mut left, right);
+                let made = Outcome::assign(op, &mut left, right);
                 Outcome::of_assignment(made, left)
             }
-            Form::MergeOwned => {
-                let made = op.merge_owned(&mut left, right, count);
-                Outcome::of_assignment(made, left)
-            }
-            Form::MergeLent => {
-                let made = op.merge_lent(&mut left, right.as_ref(), count);
-                Outcome::of_change(made, left, right)
-            }
-            _ => {
-                let made = op.change(&mut left, right.as_ref());
-                Outcome::of_change(made, left, right)
-            }
+            _ => Outcome::of_merge(self, op, alloc, left, right, count),
         }
     }
 }

@@ -1,5 +1,5 @@
 //! What the tests begin with, and how they look at an answer.
-use range_collections::{RangeSet, RangeSet2};
+use range_collections::{RangeSet, RangeSet2, RangeSetRange};
 use smallvec::SmallVec;
 use std::alloc::{AllocError, Global};
 use std::fmt::Debug;
@@ -10,11 +10,21 @@ pub(crate) fn set_of(alloc: Global, items: &[i64]) -> Option<RangeSet2<i64>> {
 }
 
 // Whether a set was made, with these boundaries.
-pub(crate) fn gives(made: Result<RangeSet2<i64>, AllocError>, want: &[i64]) -> bool {
+pub(crate) fn gives<T: Ord + Drop, E: Drop>(made: Result<RangeSet2<T>, E>, want: &[T]) -> bool {
     match made {
         Ok(set) => set.boundaries() == want,
         Err(_) => false,
     }
+}
+
+// Whether the set of the range, if there is one, has these boundaries.
+pub(crate) fn is_range<T: Ord>(range: Option<RangeSetRange<&T>>, want: &[T]) -> bool {
+    let (start, end) = match range {
+        Some(RangeSetRange::Range(range)) => (Some(range.start), Some(range.end)),
+        Some(RangeSetRange::RangeFrom(range)) => (Some(range.start), None),
+        None => (None, None),
+    };
+    want.len() <= 2 && want.first() == start && want.get(1) == end
 }
 
 // The numbers from `low` on, below `high`.

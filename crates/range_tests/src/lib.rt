@@ -2,37 +2,15 @@
 #![tactic(auto)]
 
 #[cfg(test)]
-mod calls;
-#[cfg(test)]
-mod connectives;
-#[cfg(test)]
-mod contains;
-#[cfg(test)]
-mod counted;
-#[cfg(test)]
-mod counts;
-#[cfg(test)]
 mod drawn;
 #[cfg(test)]
 mod elements;
 #[cfg(test)]
 mod entries;
 #[cfg(test)]
-mod everyday_chars;
-#[cfg(test)]
-mod everyday_covered;
-#[cfg(test)]
-mod everyday_display;
-#[cfg(test)]
 mod everyday_drawn;
 #[cfg(test)]
-mod everyday_fits;
-#[cfg(test)]
-mod everyday_gaps;
-#[cfg(test)]
 mod everyday_points;
-#[cfg(test)]
-mod everyday_traits;
 #[cfg(test)]
 mod flags;
 #[cfg(test)]
@@ -42,19 +20,7 @@ mod given;
 #[cfg(test)]
 mod insertions;
 #[cfg(test)]
-mod json;
-#[cfg(test)]
-mod lengths;
-#[cfg(test)]
 mod made_up;
-#[cfg(test)]
-mod made_up_lengths;
-#[cfg(test)]
-mod made_up_parts;
-#[cfg(test)]
-mod made_up_questions;
-#[cfg(test)]
-mod made_up_values;
 #[cfg(test)]
 mod merging;
 #[cfg(test)]
@@ -64,11 +30,7 @@ mod operations;
 #[cfg(test)]
 mod parsing;
 #[cfg(test)]
-mod parts;
-#[cfg(test)]
 mod questions;
-#[cfg(test)]
-mod ranges;
 #[cfg(test)]
 mod refusals;
 #[cfg(test)]
@@ -86,15 +48,9 @@ mod refusing;
 #[cfg(test)]
 mod rooms;
 #[cfg(test)]
-mod searching;
-#[cfg(test)]
-mod smoke;
-#[cfg(test)]
 mod tally;
 #[cfg(test)]
-mod tally_of_ranges;
-#[cfg(test)]
-mod tally_of_searches;
+mod texts;
 #[cfg(test)]
 mod tracker;
 #[cfg(test)]

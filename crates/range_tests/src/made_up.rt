@@ -1,17 +1,21 @@
 //! Made-up pairs of lists, by one generator that always begins alike, and what is expected of them: by membership alone, element by element.
 ghost use Rattle.std.specs.Prelude.{◌<◌, ◌≤◌};
 
-use crate::forms::{Form, OPERATIONS, Operation};
-use crate::operations::{Case, first_wrong};
+use crate::drawn::{NOT_LEFT, TABLES, combines, connective, is_on, turns};
+use crate::given::{gives, set_of};
+use crate::merging::{gives_count, set_counts};
+use crate::operations::{Wrong, wrong};
+use range_collections::{RangeSet, RangeSet2, RangeSetRef};
+use serde_json::Value;
 use std::alloc::{AllocError, Global};
 use std::ops::Range;
 use std::test::Fail;
 
 // How many pairs there are.
-pub(crate) const PAIRS: u64 = 2_000;
+const PAIRS: u64 = 2_000;
 
 // What the lists are made of, in order. No boundary lies between two of these, so a set is the same at all elements from one of them up to the next.
-pub(crate) const POINTS: [i64; 19] = [
+const POINTS: [i64; 19] = [
     i64::MIN,
     -4,
     -3,
@@ -35,9 +39,9 @@ pub(crate) const POINTS: [i64; 19] = [
 
 // Two lists of boundaries.
 #[derive(Drop)]
-pub(crate) struct Pair {
-    pub(crate) left: Vec<i64>,
-    pub(crate) right: Vec<i64>,
+struct Pair {
+    left: Vec<i64>,
+    right: Vec<i64>,
 }
 
 // A linear congruential generator that always begins alike, so a number names what it makes.
@@ -80,19 +84,6 @@ impl Generator {
         }
     }
 
-    // The next strictly sorted list of values, in which about one of so many is a boundary.
-    pub(crate) fn boundaries(&mut self, alloc: Global, sparsity: u64) -> Result<Vec<u8>, AllocError>
-        requires { 1 ≤ sparsity }
-    {
-        let mut items = Vec::new(alloc);
-        for value in 0..=255u8 {
-            if self.bits() % sparsity == 0 {
-                items.push(value)?;
-            }
-        }
-        Ok(items)
-    }
-
     // One of the items, where there is one.
     pub(crate) fn one_of<'a, T>(&mut self, items: &'a [T]) -> Option<&'a T> {
         let at = self.bits() as usize;
@@ -117,116 +108,165 @@ impl Generator {
         Ok(items)
     }
 
-    // A list with one in sixteen of the points, one in eight, one in four, half of them, or three in four.
+    // Of sixteen of the points about 1, 2, 4, 8, or 12, in order.
     fn list(&mut self, alloc: Global) -> Result<Vec<i64>, AllocError> {
-        let (some, others) = (self.bits(), self.bits());
-        let few = self.bits() & self.bits();
-        let chosen = match self.bits() % 5 {
-            0 => few & some & others,
-            1 => few & some,
-            2 => few,
-            3 => some,
-            _ => some | others,
+        let most = match self.below(5) {
+            0 => 1,
+            1 => 2,
+            2 => 4,
+            3 => 8,
+            _ => 12,
         };
-        points_of(alloc, chosen)
+        let mut items = Vec::new(alloc);
+        for point in POINTS {
+            if self.below(16) < most {
+                items.push(point)?;
+            }
+        }
+        Ok(items)
     }
 
     // The next pair.
-    pub(crate) fn pair(&mut self, alloc: Global) -> Result<Pair, AllocError> {
+    fn pair(&mut self, alloc: Global) -> Result<Pair, AllocError> {
         let left = self.list(alloc)?;
         let right = self.list(alloc)?;
         Ok(Pair { left, right })
     }
 }
 
-// The points whose bit is set, in order.
-fn points_of(alloc: Global, chosen: u64) -> Result<Vec<i64>, AllocError> {
-    let mut items = Vec::new(alloc);
-    let mut bits = chosen;
-    for point in POINTS {
-        if bits % 2 == 1 {
-            items.push(point)?;
-        }
-        bits /= 2;
-    }
-    Ok(items)
+// What an operation of the pair gives.
+fn wanted(alloc: Global, pair: &Pair, table: [u8; 4]) -> Result<Vec<i64>, AllocError> {
+    let sides = (pair.left.as_slice(), pair.right.as_slice());
+    turns(alloc, &POINTS, table, sides, false)
 }
 
-// Whether an odd number of boundaries is at or below the element.
-pub(crate) fn member(items: &[i64], x: i64) -> bool {
-    let mut odd = false;
-    for item in items {
-        if *item <= x {
-            odd = !odd;
-        }
-    }
-    odd
-}
-
-// Whether an operation has a member that is in the left set and in the right one as said.
-pub(crate) fn holds(op: Operation, left: bool, right: bool) -> bool {
-    match op {
-        Operation::Union => left || right,
-        Operation::Intersection => left && right,
-        Operation::Difference => left && !right,
-        Operation::SymmetricDifference => left != right,
-    }
-}
-
-// The boundaries of an operation's result: the points at which its membership turns.
-fn wanted(alloc: Global, op: Operation, pair: &Pair) -> Result<Vec<i64>, AllocError> {
+// The operation of a pair, and its form or merge, that gives another list, or compares more than twice as often as there are boundaries.
+fn wrong_operation(alloc: Global, pair: &Pair) -> Result<Wrong, AllocError> {
     let (left, right) = (pair.left.as_slice(), pair.right.as_slice());
-    let mut items = Vec::new(alloc);
-    let mut on = false;
-    for point in POINTS {
-        if holds(op, member(left, point), member(right, point)) != on {
-            items.push(point)?;
-            on = !on;
-        }
-    }
-    Ok(items)
-}
-
-// The boundaries of a list's complement.
-pub(crate) fn complement(alloc: Global, list: &[i64]) -> Result<Vec<i64>, AllocError> {
-    let mut items = Vec::new(alloc);
-    let mut on = false;
-    for point in POINTS {
-        if member(list, point) == on {
-            items.push(point)?;
-            on = !on;
-        }
-    }
-    Ok(items)
-}
-
-// The first operation and form that gives another list, or compares more than twice as often as there are boundaries.
-fn wrong_form(alloc: Global, pair: &Pair) -> Result<Option<(Operation, Form)>, AllocError> {
-    let (left, right) = (pair.left.as_slice(), pair.right.as_slice());
+    let union = wanted(alloc, pair, [0, 1, 1, 1])?;
+    let meet = wanted(alloc, pair, [0, 0, 0, 1])?;
+    let less = wanted(alloc, pair, [0, 1, 0, 0])?;
+    let xor = wanted(alloc, pair, [0, 1, 1, 0])?;
     let all = left.len().saturating_add(right.len());
-    for op in OPERATIONS {
-        let want = wanted(alloc, op, pair)?;
-        let case = Case {
-            op,
-            left,
-            right,
-            want: want.as_slice(),
-            most: 2 * all as u128,
-        };
-        if let Some(form) = first_wrong(alloc, case) {
-            return Ok(Some((op, form)));
-        }
+    let wants = [
+        union.as_slice(),
+        meet.as_slice(),
+        less.as_slice(),
+        xor.as_slice(),
+    ];
+    Ok(wrong(alloc, &(left, right, wants, 2 * all as u128)))
+}
+
+// The first call that doesn't tell where the table's answer turns between both lists.
+fn wrong_call(
+    alloc: Global,
+    table: [u8; 4],
+    pair: &Pair,
+) -> Result<Option<&'static str>, AllocError> {
+    let (a, b) = (pair.left.as_slice(), pair.right.as_slice());
+    let (Some(set), Some(that)) = (set_of(alloc, a), RangeSetRef::new(b)) else {
+        return Ok(Some("the sides"));
+    };
+    let op = connective(table);
+    let most = 2 * a.len().saturating_add(b.len()) as u128;
+    if !combines(
+        alloc,
+        &set,
+        that,
+        &op,
+        wanted(alloc, pair, table)?.as_slice(),
+    ) {
+        return Ok(Some("the connective"));
+    }
+    let changes = turns(alloc, &POINTS, table, (a, b), op.neither)?.len();
+    if !gives_count(set.as_ref(), that, &op, changes, most) {
+        return Ok(Some("a count"));
+    }
+    if !op.neither && !set_counts(&set, that, &op, changes, most) {
+        return Ok(Some("a length, or a test"));
     }
     Ok(None)
 }
 
+// The set that is read from the text of a set's JSON.
+fn read_again(alloc: Global, set: &RangeSet2<i64>) -> Option<RangeSet2<i64>> {
+    let text = set.to_json().ok()?.to_string(alloc).ok()?;
+    let value = Value::from_str(alloc, text.as_str()).ok()?;
+    RangeSet::from_json(alloc, &value).ok()
+}
+
+// What leads from a list to another one than it should, if anything does: `!`, its JSON, or the parts at some point.
+fn wrong_list(alloc: Global, items: &[i64]) -> Result<Option<&'static str>, AllocError> {
+    let Some(set) = set_of(alloc, items) else {
+        return Ok(Some("the set"));
+    };
+    for at in POINTS {
+        if !are_parts(items, at, set.split(at)) || !are_parts(items, at, set.as_ref().split(at)) {
+            return Ok(Some("split"));
+        }
+    }
+    if read_again(alloc, &set).as_ref() != Some(&set) {
+        return Ok(Some("JSON"));
+    }
+    let others = turns(alloc, &POINTS, NOT_LEFT, (items, &[]), false)?;
+    if !gives(!&set, others.as_slice()) || !gives(!set, others.as_slice()) {
+        return Ok(Some("!"));
+    }
+    Ok(None)
+}
+
+// Whether both parts of a list agree with it on their side of the point.
+fn are_parts(items: &[i64], at: i64, parts: (RangeSetRef<i64>, RangeSetRef<i64>)) -> bool {
+    let (below, from) = parts;
+    for point in POINTS {
+        let part = if point < at { below } else { from };
+        if is_on(part.boundaries(), &point) != is_on(items, &point) {
+            return false;
+        }
+    }
+    true
+}
+
+// Many of the pairs meet, and many don't.
 #[test]
 fn every_form_of_made_up_pairs(rt: HostRuntime) -> Result<(), Fail> {
     let alloc = rt.alloc();
     let mut generator = Generator::new();
+    let mut meeting = 0u64;
     for number in 0..PAIRS {
         let pair = generator.pair(alloc)?;
-        assert_eq!(rt; wrong_form(alloc, &pair)?, None, "pair {number}");
+        let found = wrong_operation(alloc, &pair)?;
+        assert_eq!(rt; found, (None, None), "pair {number}");
+        if !wanted(alloc, &pair, [0, 0, 0, 1])?.is_empty() {
+            meeting = meeting.saturating_add(1);
+        }
+    }
+    assert!(rt; meeting >= 100 && meeting <= PAIRS - 100, "{meeting} meet");
+    Ok(())
+}
+
+#[test]
+fn every_connective_of_made_up_pairs(rt: HostRuntime) -> Result<(), Fail> {
+    let alloc = rt.alloc();
+    let mut generator = Generator::new();
+    for number in 0..PAIRS {
+        let pair = generator.pair(alloc)?;
+        for table in TABLES {
+            let found = wrong_call(alloc, table, &pair)?;
+            assert_eq!(rt; found, None, "{table:?} of pair {number}");
+        }
+    }
+    Ok(())
+}
+
+#[test]
+fn complements_parts_and_json_of_made_up_lists(rt: HostRuntime) -> Result<(), Fail> {
+    let alloc = rt.alloc();
+    let mut generator = Generator::new();
+    for number in 0..2 * PAIRS {
+        let list = generator.list(alloc)?;
+        let found = wrong_list(alloc, list.as_slice())?;
+        assert_eq!(rt; found, None, "list {number}, {list:?}");
     }
     Ok(())
 }

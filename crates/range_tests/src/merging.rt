@@ -1,9 +1,14 @@
-//! Operations and merges of lists of numbers, by a comparer and a copier of the tests' own.
+//! Searches, first runs and merges of lists of numbers: by a comparer and a copier of the tests' own into a list, a count and a test, and by sets and views into a count and a test.
+ghost use Rattle.std.specs.Prelude.{◌≡◌, false};
+
+use crate::forms::Operation;
+use crate::given::set_of;
 use crate::numbers::{Copies, NoCopies, Numbers};
-use range_collections::RangeSetRef;
+use crate::operations::Row;
+use range_collections::{Comparisons, RangeSet2, RangeSetRef};
 use range_merge::{
-    BoolOpMergeState, Compare, Copier, DiffOp, IntersectionOp, MergeOperation, SliceIterator,
-    SmallVecMergeState, UnionOp, XorOp, merge,
+    BoolOpMergeState, Compare, Copier, CountMergeState, DiffOp, IntersectionOp, MergeOperation,
+    Run, SliceIterator, SmallVecMergeState, UnionOp, XorOp, merge, run_length, search,
 };
 use smallvec::SmallVec;
 use std::alloc::{AllocError, Global};
@@ -38,109 +43,167 @@ fn merged<P: Copier<i64>, O: MergeOperation>(
     copier: &P,
     op: &O,
 ) -> Result<(SmallVec<i64, 2>, u128), AllocError> {
+    let (a, b) = (left.boundaries(), right.boundaries());
     let mut numbers = Numbers { made: 0 };
-    let list = SmallVecMergeState::merge(
-        SmallVec::new(alloc),
-        left.boundaries(),
-        right.boundaries(),
-        copier,
-        op,
-        &mut numbers,
-    )?;
+    let list = SmallVecMergeState::merge(SmallVec::new(alloc), a, b, copier, op, &mut numbers)?;
     Ok((list, numbers.made()))
 }
 
-// Whether the merge of two lists is this list, made in at most so many comparisons.
-fn merge_is<O: MergeOperation>(
+// The merge on a state over two lists and a list that holds -1 already, and whether it ended.
+fn appended<O: MergeOperation>(
     alloc: Global,
     left: RangeSetRef<i64>,
     right: RangeSetRef<i64>,
     op: &O,
-    want: &[i64],
-    most: u128,
-) -> bool {
-    match merged(alloc, left, right, &Copies, op) {
-        Ok((list, made)) => list.as_slice() == want && made <= most,
-        Err(_) => false,
-    }
-}
-
-// The same, of two slices.
-fn merges<O: MergeOperation>(
-    alloc: Global,
-    a: &[i64],
-    b: &[i64],
-    op: &O,
-    want: &[i64],
-    most: u128,
-) -> bool {
-    match (RangeSetRef::new(a), RangeSetRef::new(b)) {
-        (Some(left), Some(right)) => merge_is(alloc, left, right, op, want, most),
-        _ => false,
-    }
-}
-
-// Whether a union of two lists is refused where each copy is.
-fn refuses_copies(alloc: Global, a: &[i64], b: &[i64]) -> bool {
-    match (RangeSetRef::new(a), RangeSetRef::new(b)) {
-        (Some(left), Some(right)) => merged(alloc, left, right, &NoCopies, &UnionOp).is_err(),
-        _ => false,
-    }
-}
-
-// Whether the connective changes anywhere between two lists.
-fn changes_anywhere<O: MergeOperation>(a: &[i64], b: &[i64], op: &O) -> Option<bool> {
-    let left = RangeSetRef::new(a)?;
-    let right = RangeSetRef::new(b)?;
-    let mut numbers = Numbers { made: 0 };
-    Some(BoolOpMergeState::merge(left.boundaries(), right.boundaries(), op, &mut numbers))
-}
-
-// What a merge on a state over two lists and a list answers, and the list then.
-fn list_state(
-    list: SmallVec<i64, 4>,
-    left: RangeSetRef<i64>,
-    right: RangeSetRef<i64>,
 ) -> Result<(bool, SmallVec<i64, 4>), AllocError> {
+    let list = SmallVec::from_slice(alloc, &[-1])?;
     let mut state = SmallVecMergeState::new(left.boundaries(), right.boundaries(), list, &Copies);
-    let ended = merge(&mut state, &UnionOp, &mut Numbers { made: 0 })?;
-    Ok((ended, state.result()))
-}
-
-// Whether a merge on such a state ends, with this list.
-fn list_state_gives(alloc: Global, first: &[i64], a: &[i64], b: &[i64], want: &[i64]) -> bool {
-    let (Some(left), Some(right)) = (RangeSetRef::new(a), RangeSetRef::new(b)) else {
-        return false;
-    };
-    let Ok(list) = SmallVec::from_slice(alloc, first) else {
-        return false;
-    };
-    match list_state(list, left, right) {
-        Ok((ended, list)) => ended && list.as_slice() == want,
-        Err(_) => false,
-    }
-}
-
-// What a merge on a state that tests answers, and whether anything was taken.
-fn testing_state<O: MergeOperation>(
-    left: RangeSetRef<i64>,
-    right: RangeSetRef<i64>,
-    op: &O,
-) -> Result<(bool, bool), AllocError> {
-    let mut state = BoolOpMergeState::new(left.boundaries(), right.boundaries());
     let ended = merge(&mut state, op, &mut Numbers { made: 0 })?;
     Ok((ended, state.result()))
 }
 
-// Whether a merge on such a state gives these answers.
-fn testing_state_gives<O: MergeOperation>(
-    a: &[i64],
-    b: &[i64],
+// Whether both are this list, the first made in at most so many comparisons, the second behind what was there.
+fn gives_list<O: MergeOperation>(
+    alloc: Global,
+    left: RangeSetRef<i64>,
+    right: RangeSetRef<i64>,
     op: &O,
-    want: (bool, bool),
+    want: &[i64],
+    most: u128,
 ) -> bool {
+    match (
+        merged(alloc, left, right, &Copies, op),
+        appended(alloc, left, right, op),
+    ) {
+        (Ok((list, made)), Ok((ended, longer))) => {
+            list.as_slice() == want
+                && made <= most
+                && ended
+                && longer.as_slice().first() == Some(&-1)
+                && longer.as_slice().get(1..) == Some(want)
+        }
+        _ => false,
+    }
+}
+
+// Whether the merges that count find so many changes, in at most so many comparisons.
+pub(crate) fn gives_count<O: MergeOperation>(
+    left: RangeSetRef<i64>,
+    right: RangeSetRef<i64>,
+    op: &O,
+    want: usize,
+    most: u128,
+) -> bool {
+    let (a, b) = (left.boundaries(), right.boundaries());
+    if a.len().checked_add(b.len()).is_none() {
+        return false;
+    }
+    let mut numbers = Numbers { made: 0 };
+    let count = CountMergeState::merge(a, b, op, &mut numbers);
+    let mut state = CountMergeState::new(a, b);
+    let ended = merge(&mut state, op, &mut Numbers { made: 0 });
+    count == want && numbers.made() <= most && ended == Ok(true) && state.result() == want
+}
+
+// Whether the merges that test find a change or none, in at most so many comparisons.
+fn gives_test<O: MergeOperation>(
+    left: RangeSetRef<i64>,
+    right: RangeSetRef<i64>,
+    op: &O,
+    want: bool,
+    most: u128,
+) -> bool {
+    let (a, b) = (left.boundaries(), right.boundaries());
+    let mut numbers = Numbers { made: 0 };
+    let test = BoolOpMergeState::merge(a, b, op, &mut numbers);
+    let mut state = BoolOpMergeState::new(a, b);
+    let ended = merge(&mut state, op, &mut Numbers { made: 0 });
+    test == want && numbers.made() <= most && ended == Ok(!want) && state.result() == want
+}
+
+// Whether a set and its view count so many boundaries, and find a member where there is one, in at most so many comparisons each.
+pub(crate) fn set_counts<O: MergeOperation>(
+    set: &RangeSet2<i64>,
+    that: RangeSetRef<i64>,
+    op: &O,
+    want: usize,
+    most: u128,
+) -> bool
+    requires { O.connective op.now false false ≡ false }
+{
+    if set
+        .boundaries()
+        .len()
+        .checked_add(that.boundaries().len())
+        .is_none()
+    {
+        return false;
+    }
+    let (mut count, mut again) = (Comparisons::new(), Comparisons::new());
+    let lengths = (
+        set.merge_len(that, op, &mut count),
+        set.as_ref().merge_len(that, op, &mut again),
+    );
+    let (mut tested, mut tested_again) = (Comparisons::new(), Comparisons::new());
+    let tests = (
+        set.merge_test(that, op, &mut tested),
+        set.as_ref().merge_test(that, op, &mut tested_again),
+    );
+    lengths == (want, want)
+        && tests == (want > 0, want > 0)
+        && [count, again, tested, tested_again]
+            .iter()
+            .all(|count| count.made() <= most)
+}
+
+// The first merge of a row by the operation that answers otherwise, or compares more often than the row says.
+fn wrong_by<O: MergeOperation>(
+    alloc: Global,
+    row: &Row,
+    op: &O,
+    want: &[i64],
+) -> Option<&'static str>
+    requires { O.connective op.now false false ≡ false }
+{
+    let (Some(set), Some(right)) = (set_of(alloc, row.0), RangeSetRef::new(row.1)) else {
+        return Some("the sides");
+    };
+    let (left, length) = (set.as_ref(), want.len());
+    if !gives_list(alloc, left, right, op, want, row.3) {
+        return Some("a list");
+    }
+    if !gives_count(left, right, op, length, row.3) {
+        return Some("a count");
+    }
+    if !gives_test(left, right, op, length > 0, row.3) {
+        return Some("a test");
+    }
+    if !set_counts(&set, right, op, length, row.3) {
+        return Some("a count or a test of sets");
+    }
+    None
+}
+
+// The first merge of a row that does, by its operation.
+pub(crate) fn wrong_merge(alloc: Global, row: &Row) -> Option<(Operation, &'static str)> {
+    let [union, meet, less, xor] = row.2;
+    if let Some(name) = wrong_by(alloc, row, &UnionOp, union) {
+        return Some((Operation::Union, name));
+    }
+    if let Some(name) = wrong_by(alloc, row, &IntersectionOp, meet) {
+        return Some((Operation::Intersection, name));
+    }
+    if let Some(name) = wrong_by(alloc, row, &DiffOp, less) {
+        return Some((Operation::Difference, name));
+    }
+    let name = wrong_by(alloc, row, &XorOp, xor)?;
+    Some((Operation::SymmetricDifference, name))
+}
+
+// Whether a union of two lists is refused where each copy is.
+fn refuses_copies(a: &[i64], b: &[i64], alloc: Global) -> bool {
     match (RangeSetRef::new(a), RangeSetRef::new(b)) {
-        (Some(left), Some(right)) => testing_state(left, right, op) == Ok(want),
+        (Some(left), Some(right)) => merged(alloc, left, right, &NoCopies, &UnionOp).is_err(),
         _ => false,
     }
 }
@@ -158,42 +221,10 @@ fn operations_answer_by_their_tables(rt: HostRuntime) {
 }
 
 #[test]
-fn merges_into_lists(rt: HostRuntime) {
-    let alloc = rt.alloc();
-    assert!(rt; merges(alloc, &[0, 10], &[20], &UnionOp, &[0, 10, 20], 6));
-    assert!(rt; merges(alloc, &[0, 5], &[5, 10], &UnionOp, &[0, 10], 6));
-    assert!(rt; merges(alloc, &[0, 10], &[5, 15], &IntersectionOp, &[5, 10], 8));
-    assert!(rt; merges(alloc, &[0, 10], &[3, 5], &DiffOp, &[0, 3, 5, 10], 8));
-    assert!(rt; merges(alloc, &[0, 10], &[5, 15], &XorOp, &[0, 5, 10, 15], 8));
-    assert!(rt; merges(alloc, &[0, 10], &[0, 10], &XorOp, &[], 4));
-    assert!(rt; merges(alloc, &[0, 2, 4], &[1, 3, 5], &UnionOp, &[0, 3, 4], 12));
-}
-
-#[test]
 fn a_refused_copy_refuses_the_merge(rt: HostRuntime) {
-    assert!(rt; refuses_copies(rt.alloc(), &[0, 10], &[20]));
-    assert!(rt; refuses_copies(rt.alloc(), &[], &[20]));
-    assert!(rt; !refuses_copies(rt.alloc(), &[], &[]));
-}
-
-#[test]
-fn tells_whether_anything_is_taken(rt: HostRuntime) {
-    assert!(rt; changes_anywhere(&[0, 5], &[0, 10], &DiffOp) == Some(false));
-    assert!(rt; changes_anywhere(&[0, 10], &[0, 5], &DiffOp) == Some(true));
-    assert!(rt; changes_anywhere(&[0, 10], &[5, 15], &IntersectionOp) == Some(true));
-    assert!(rt; changes_anywhere(&[0, 10], &[20], &IntersectionOp) == Some(false));
-    assert!(rt; changes_anywhere(&[], &[], &UnionOp) == Some(false));
-}
-
-#[test]
-fn states_are_merged(rt: HostRuntime) {
-    // The list holds something already, and the merge appends to it.
-    assert!(rt; list_state_gives(rt.alloc(), &[-1], &[0, 10], &[20], &[-1, 0, 10, 20]));
-    assert!(rt; list_state_gives(rt.alloc(), &[], &[0, 10], &[20], &[0, 10, 20]));
-    assert!(rt; testing_state_gives(&[0, 10], &[20], &IntersectionOp, (true, false)));
-    assert!(rt; testing_state_gives(&[0, 5], &[0, 10], &DiffOp, (true, false)));
-    assert!(rt; testing_state_gives(&[0, 5], &[0, 10], &UnionOp, (false, true)));
-    assert!(rt; testing_state_gives(&[0, 10], &[20], &UnionOp, (false, true)));
+    assert!(rt; refuses_copies(&[0, 10], &[20], rt.alloc()));
+    assert!(rt; refuses_copies(&[], &[20], rt.alloc()));
+    assert!(rt; !refuses_copies(&[], &[], rt.alloc()));
 }
 
 #[test]
@@ -208,4 +239,59 @@ fn slices_are_read_from_the_front(rt: HostRuntime) {
     for item in unread {
         assert!(rt; *item == 5);
     }
+}
+
+// Whether a search of a list gives this answer, in at most so many comparisons.
+fn finds(items: &[i64], key: i64, want: Result<usize, usize>, most: u128) -> bool {
+    let mut numbers = Numbers { made: 0 };
+    match RangeSetRef::new(items) {
+        Some(list) => {
+            search(list.boundaries(), &key, &mut numbers) == want && numbers.made() <= most
+        }
+        None => false,
+    }
+}
+
+// The first run of two lists that are not empty, and how many comparisons it took.
+fn first_run(a: &[i64], b: &[i64]) -> Option<(Run, u128)> {
+    let (a, b) = (
+        RangeSetRef::new(a)?.boundaries(),
+        RangeSetRef::new(b)?.boundaries(),
+    );
+    if a.is_empty() || b.is_empty() {
+        return None;
+    }
+    let mut numbers = Numbers { made: 0 };
+    let run = run_length(&BoolOpMergeState::new(a, b), &mut numbers);
+    Some((run, numbers.made()))
+}
+
+#[test]
+fn searches_find_the_place(rt: HostRuntime) {
+    for (key, want) in [
+        (4, Ok(2)),
+        (5, Err(3)),
+        (0, Ok(0)),
+        (-1, Err(0)),
+        (9, Err(4)),
+    ] {
+        assert!(rt; finds(&[0, 2, 4, 8], key, want, 3), "for {key}");
+    }
+}
+
+#[test]
+fn first_runs_are_measured(rt: HostRuntime) {
+    let rows: [(&[i64], &[i64], Run, u128); 3] = [
+        (&[0, 1, 2, 7], &[3, 5], Run::Left(3), 4),
+        (&[3], &[3, 5], Run::Both, 2),
+        (&[3, 5], &[0, 1, 2, 7], Run::Right(3), 4),
+    ];
+    for (a, b, want, most) in rows {
+        let found = first_run(a, b);
+        assert!(rt;
+            matches!(found, Some((run, made)) if run == want && made <= most),
+            "{want:?}"
+        );
+    }
+    assert!(rt; Run::Left(3) != Run::Right(3) && Run::Left(3) != Run::Left(2));
 }

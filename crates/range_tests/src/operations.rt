@@ -1,7 +1,8 @@
 //! Worked cases of the four operations in every form: the list that each gives, how often it may compare, and whose boundaries stay.
 use crate::elements::{Lettered, letters_are, with_letter};
 use crate::forms::{FORMS, Form, OPERATIONS, Operation, own};
-use crate::given::{numbers, set_of};
+use crate::given::numbers;
+use crate::merging::wrong_merge;
 use range_collections::{Comparisons, RangeSet2};
 use std::alloc::{AllocError, Global};
 use std::test::Fail;
@@ -96,60 +97,41 @@ pub(crate) const ROWS: [Row; 19] = [
     ),
 ];
 
-// An operation of two lists, what it gives, and how many comparisons it may take.
-#[derive(Clone, Copy)]
-pub(crate) struct Case<'a> {
-    pub(crate) op: Operation,
-    pub(crate) left: &'a [i64],
-    pub(crate) right: &'a [i64],
-    pub(crate) want: &'a [i64],
-    pub(crate) most: u128,
-}
-
-// Whether the form gives the list, and leaves what it was lent as it was.
-fn gives(form: Form, alloc: Global, case: Case) -> bool {
-    let (Some(left), Some(right)) = (set_of(alloc, case.left), set_of(alloc, case.right)) else {
+// Whether the form gives the list, leaves what it was lent as it was, and compares no more often than the row says.
+fn gives(form: Form, op: Operation, alloc: Global, row: &Row, want: &[i64]) -> bool {
+    let (Some(left), Some(right)) = (own::<i64, 2>(alloc, row.0), own(alloc, row.1)) else {
         return false;
     };
     let mut count = Comparisons::new();
-    let outcome = form.call(case.op, alloc, left, right, &mut count);
-    outcome.gives(case.want, case.left, case.right) && count.made() <= case.most
+    let outcome = form.call(op, alloc, left, right, &mut count);
+    outcome.gives(want, row.0, row.1) && count.made() <= row.3
 }
 
-// The first form that doesn't.
-pub(crate) fn first_wrong(alloc: Global, case: Case) -> Option<Form> {
-    for form in FORMS {
-        if !gives(form, alloc, case) {
-            return Some(form);
+// The first operation and form that doesn't.
+fn wrong_form(alloc: Global, row: &Row) -> Option<(Operation, Form)> {
+    for (op, want) in OPERATIONS.iter().zip(&row.2) {
+        for form in FORMS {
+            if !gives(form, *op, alloc, row, want) {
+                return Some((*op, form));
+            }
         }
     }
     None
 }
 
-#[test]
-fn every_form_gives_the_rows(rt: HostRuntime) {
-    for row in &ROWS {
-        for (op, want) in OPERATIONS.iter().zip(&row.2) {
-            let case = Case {
-                op: *op,
-                left: row.0,
-                right: row.1,
-                want,
-                most: row.3,
-            };
-            assert_eq!(rt;
-                first_wrong(rt.alloc(), case),
-                None,
-                "{op:?} of {:?} and {:?}",
-                row.0,
-                row.1
-            );
-        }
-    }
+// What of a row doesn't hold, by the operation: a form, and a merge.
+pub(crate) type Wrong = (Option<(Operation, Form)>, Option<(Operation, &'static str)>);
+
+pub(crate) fn wrong(alloc: Global, row: &Row) -> Wrong {
+    (wrong_form(alloc, row), wrong_merge(alloc, row))
 }
 
-// The numbers with the letter.
-fn lettered(alloc: Global, numbers: &[i64], letter: u8) -> Result<Vec<Lettered>, AllocError> {
+// The numbers, each with the letter.
+pub(crate) fn lettered(
+    alloc: Global,
+    numbers: &[i64],
+    letter: u8,
+) -> Result<Vec<Lettered>, AllocError> {
     let mut items = Vec::new(alloc);
     for number in numbers {
         items.push(with_letter(*number, letter))?;
@@ -157,71 +139,62 @@ fn lettered(alloc: Global, numbers: &[i64], letter: u8) -> Result<Vec<Lettered>,
     Ok(items)
 }
 
-// What an operation makes of two lists with letters, `a` on the left and `b` on the right: of equal boundaries the left's.
-fn own_items(alloc: Global, left: &[i64], want: &[i64]) -> Result<Vec<(i64, u8)>, AllocError> {
-    let mut items = Vec::new(alloc);
-    for number in want {
-        let letter = if left.contains(number) { b'a' } else { b'b' };
-        items.push((*number, letter))?;
-    }
-    Ok(items)
-}
-
-// Whether the form makes exactly these items, letters included.
-fn gives_own(
+// Whether the form makes these numbers, each with the letter of its side: `a` of the left and of both, `b` of the right.
+fn keeps_left(
     form: Form,
-    op: Operation,
-    alloc: Global,
-    sides: (&[Lettered], &[Lettered]),
-    want: &[(i64, u8)],
-) -> bool {
-    let (Some(left), Some(right)) = (own(alloc, sides.0), own(alloc, sides.1)) else {
-        return false;
-    };
-    let outcome = form.call(op, alloc, left, right, &mut Comparisons::new());
-    let made: &Option<RangeSet2<Lettered>> = &outcome.made;
-    match made {
-        Some(set) => letters_are(set.boundaries(), want),
-        None => false,
-    }
-}
-
-// The first form that doesn't.
-fn first_wrong_own(
     op: Operation,
     alloc: Global,
     row: &Row,
     want: &[i64],
-) -> Result<Option<Form>, AllocError> {
-    let left = lettered(alloc, row.0, b'a')?;
-    let right = lettered(alloc, row.1, b'b')?;
-    let items = own_items(alloc, row.0, want)?;
-    let sides = (left.as_slice(), right.as_slice());
-    for form in FORMS {
-        if !gives_own(form, op, alloc, sides, items.as_slice()) {
-            return Ok(Some(form));
-        }
+) -> Result<bool, AllocError> {
+    let (a, b) = (lettered(alloc, row.0, b'a')?, lettered(alloc, row.1, b'b')?);
+    let (Some(left), Some(right)) = (own(alloc, a.as_slice()), own(alloc, b.as_slice())) else {
+        return Ok(false);
+    };
+    let outcome = form.call(op, alloc, left, right, &mut Comparisons::new());
+    let made: Option<RangeSet2<Lettered>> = outcome.made;
+    let Some(set) = made else {
+        return Ok(false);
+    };
+    let mut items = Vec::new(alloc);
+    for number in want {
+        let letter = if row.0.contains(number) { b'a' } else { b'b' };
+        items.push((*number, letter))?;
     }
-    Ok(None)
+    Ok(letters_are(set.boundaries(), items.as_slice()))
+}
+
+#[test]
+fn every_form_gives_the_rows(rt: HostRuntime) {
+    for row in &ROWS {
+        let found = wrong(rt.alloc(), row);
+        assert_eq!(rt; found, (None, None), "of {:?} and {:?}", row.0, row.1);
+    }
 }
 
 #[test]
 fn of_equal_boundaries_the_left_one_stays(rt: HostRuntime) -> Result<(), Fail> {
     for row in &ROWS {
         for (op, want) in OPERATIONS.iter().zip(&row.2) {
-            assert_eq!(rt;
-                first_wrong_own(*op, rt.alloc(), row, want)?,
-                None,
-                "{op:?} of {:?} and {:?}",
-                row.0,
-                row.1
-            );
+            for form in FORMS {
+                assert!(rt;
+                    keeps_left(form, *op, rt.alloc(), row, want)?,
+                    "{op:?} {form:?} of {:?} and {:?}",
+                    row.0,
+                    row.1
+                );
+            }
         }
     }
     Ok(())
 }
 
-// Two numbers of each four from 0 on, below 128.
+// The items from one place on, up to another.
+fn part(items: &[i64], from: usize, to: usize) -> &[i64] {
+    items.get(from..to).unwrap_or(&[])
+}
+
+// Of each four numbers from 0 on, below 128, these two.
 fn of_each_four(alloc: Global, first: i64, second: i64) -> Result<Vec<i64>, AllocError> {
     let mut items = Vec::new(alloc);
     for x in 0..128i64 {
@@ -232,89 +205,119 @@ fn of_each_four(alloc: Global, first: i64, second: i64) -> Result<Vec<i64>, Allo
     Ok(items)
 }
 
-// An operation, two lists, what it gives, and how many comparisons it may take.
-type LongRow<'a> = (Operation, &'a [i64], &'a [i64], &'a [i64], u128);
-
-// The first row that a form doesn't give, with that form.
-fn wrong_row(alloc: Global, rows: &[LongRow]) -> Option<(usize, Form)> {
-    for (number, (op, left, right, want, most)) in rows.iter().enumerate() {
-        let case = Case {
-            op: *op,
-            left,
-            right,
-            want,
-            most: *most,
-        };
-        if let Some(form) = first_wrong(alloc, case) {
-            return Some((number, form));
-        }
+// The items of both lists in turn.
+fn joined(alloc: Global, front: &[i64], back: &[i64]) -> Result<Vec<i64>, AllocError> {
+    let mut items = Vec::new(alloc);
+    for item in front.iter().chain(back) {
+        items.push(*item)?;
     }
-    None
+    Ok(items)
 }
 
-// Lists that lie apart.
+// Lists that lie apart, lists with two numbers of each four in turn, and lists of which the one's last half is the other's first.
 #[test]
 fn every_form_gives_long_lists(rt: HostRuntime) -> Result<(), Fail> {
     let alloc = rt.alloc();
-    let low = numbers(alloc, 0, 64)?;
-    let mut longer = numbers(alloc, 0, 64)?;
-    longer.push(100)?;
-    longer.push(200)?;
-    let (low, longer) = (low.as_slice(), longer.as_slice());
-    let rows: [LongRow; 7] = [
-        (Operation::Union, &[100, 200], low, longer, 18),
-        (Operation::Intersection, &[100, 200], low, &[], 18),
-        (Operation::Difference, &[100, 200], low, &[100, 200], 18),
-        (Operation::SymmetricDifference, &[100, 200], low, longer, 18),
-        (Operation::Union, low, &[-5, 100], &[-5, 100], 18),
-        (Operation::Intersection, low, &[-5, 100], low, 18),
-        (Operation::Difference, low, &[-5, 100], &[], 18),
-    ];
-    assert_eq!(rt; wrong_row(alloc, &rows), None);
-    Ok(())
-}
-
-// Lists with two numbers of each four in turn.
-#[test]
-fn every_form_gives_long_crossing_lists(rt: HostRuntime) -> Result<(), Fail> {
-    let alloc = rt.alloc();
-    let (left, right) = (of_each_four(alloc, 0, 2)?, of_each_four(alloc, 1, 3)?);
-    let union = of_each_four(alloc, 0, 3)?;
-    let intersection = of_each_four(alloc, 1, 2)?;
-    let difference = of_each_four(alloc, 0, 1)?;
     let all = numbers(alloc, 0, 128)?;
-    let (a, b, all) = (left.as_slice(), right.as_slice(), all.as_slice());
-    let (union, intersection) = (union.as_slice(), intersection.as_slice());
-    let difference = difference.as_slice();
-    let rows: [LongRow; 4] = [
-        (Operation::Union, a, b, union, 256),
-        (Operation::Intersection, a, b, intersection, 256),
-        (Operation::Difference, a, b, difference, 256),
-        (Operation::SymmetricDifference, a, b, all, 256),
+    let all = all.as_slice();
+    let low = part(all, 0, 64);
+    let longer = joined(alloc, low, &[100, 200])?;
+    let wider = joined(alloc, &[-5], part(all, 0, 64))?;
+    let wider = joined(alloc, wider.as_slice(), &[100])?;
+    let (a, b) = (of_each_four(alloc, 0, 2)?, of_each_four(alloc, 1, 3)?);
+    let (union, meet) = (of_each_four(alloc, 0, 3)?, of_each_four(alloc, 1, 2)?);
+    let less = of_each_four(alloc, 0, 1)?;
+    let ends = joined(alloc, part(all, 0, 32), part(all, 64, 96))?;
+    let (below, shared) = (part(all, 0, 32), part(all, 32, 64));
+    let rows: [Row; 4] = [
+        (
+            &[100, 200],
+            low,
+            [longer.as_slice(), &[], &[100, 200], longer.as_slice()],
+            18,
+        ),
+        (
+            low,
+            &[-5, 100],
+            [&[-5, 100], low, &[], wider.as_slice()],
+            18,
+        ),
+        (
+            a.as_slice(),
+            b.as_slice(),
+            [union.as_slice(), meet.as_slice(), less.as_slice(), all],
+            256,
+        ),
+        (
+            low,
+            part(all, 32, 96),
+            [part(all, 0, 96), shared, below, ends.as_slice()],
+            88,
+        ),
     ];
-    assert_eq!(rt; wrong_row(alloc, &rows), None);
+    for (number, row) in rows.iter().enumerate() {
+        assert_eq!(rt; wrong(alloc, row), (None, None), "row {number}");
+    }
     Ok(())
 }
 
-// The last half of the left side's boundaries are the first half of the right side's.
-#[test]
-fn every_form_gives_long_lists_that_share_boundaries(rt: HostRuntime) -> Result<(), Fail> {
-    let alloc = rt.alloc();
-    let (left, right) = (numbers(alloc, 0, 64)?, numbers(alloc, 32, 96)?);
-    let (below, shared) = (numbers(alloc, 0, 32)?, numbers(alloc, 32, 64)?);
-    let all = numbers(alloc, 0, 96)?;
-    let mut ends = numbers(alloc, 0, 32)?;
-    for x in 64..96i64 {
-        ends.push(x)?;
+// So many numbers wholly below as many others.
+fn blocks<'a>(all: &'a [i64], length: usize, most: u128) -> Row<'a> {
+    let end = length.saturating_mul(2);
+    let (low, high, both) = (
+        part(all, 0, length),
+        part(all, length, end),
+        part(all, 0, end),
+    );
+    if length % 2 == 0 {
+        (low, high, [both, &[], low, both], most)
+    } else {
+        (low, high, [low, high, both, both], most)
     }
-    let (a, b, all) = (left.as_slice(), right.as_slice(), all.as_slice());
-    let (below, shared, ends) = (below.as_slice(), shared.as_slice(), ends.as_slice());
-    let rows: [LongRow; 4] = [
-        (Operation::Union, a, b, all, 88),
-        (Operation::Intersection, a, b, shared, 88),
-        (Operation::Difference, a, b, below, 88),
-        (Operation::SymmetricDifference, a, b, ends, 88),
+}
+
+// At most four times as many as the length has binary digits.
+#[test]
+fn blocks_cost_their_digits(rt: HostRuntime) -> Result<(), Fail> {
+    let all = numbers(rt.alloc(), 0, 20_000)?;
+    for (length, most) in [
+        (1, 4),
+        (2, 8),
+        (3, 8),
+        (4, 12),
+        (7, 12),
+        (8, 16),
+        (63, 24),
+        (64, 28),
+        (10_000, 56),
+    ] {
+        let row = blocks(all.as_slice(), length, most);
+        assert_eq!(rt; wrong(rt.alloc(), &row), (None, None), "at {length}");
+    }
+    Ok(())
+}
+
+#[test]
+fn one_boundary_beside_ten_thousand(rt: HostRuntime) -> Result<(), Fail> {
+    let alloc = rt.alloc();
+    let wide = numbers(alloc, -1, 10_001)?;
+    let wide = wide.as_slice();
+    let (low, up) = (part(wide, 0, 10_001), part(wide, 1, 10_002));
+    let long = part(wide, 1, 10_001);
+    let (until, beyond) = (part(wide, 1, 5_001), part(wide, 5_002, 10_001));
+    let (within, from) = (part(wide, 1, 5_002), part(wide, 5_001, 10_001));
+    let others = joined(alloc, until, beyond)?;
+    let others = others.as_slice();
+    let rows: [Row; 6] = [
+        (&[-1], long, [&[-1], long, low, low], 30),
+        (long, &[-1], [&[-1], long, &[], low], 30),
+        (&[5_000], long, [within, from, beyond, others], 30),
+        (long, &[5_000], [within, from, until, others], 30),
+        (&[10_000], long, [up, &[], &[10_000], up], 30),
+        (long, &[10_000], [up, &[], long, up], 30),
     ];
-    assert_eq!(rt; wrong_row(alloc, &rows), None);
+    for (number, row) in rows.iter().enumerate() {
+        assert_eq!(rt; wrong(alloc, row), (None, None), "row {number}");
+    }
     Ok(())
 }

@@ -1,6 +1,13 @@
-//! Sets read from texts: what is read, and at which byte a text that isn't one is refused.
-use range_collections::{Expected, ParseError, RangeSet, RangeSet2, RangeSetRange, RangeSetRef};
+//! Sets read from texts: what is read, and at which byte a text that isn't one is refused. Sets of many ranges, from lists in any order, and from JSON.
+use crate::elements::{Lettered, letters_are, with_letter};
+use crate::given::gives;
+use range_collections::{
+    Expected, JsonError, ParseError, RangeSet, RangeSet2, RangeSetRange, RangeSetRef,
+};
+use serde_json::Value;
+use smallvec::SmallVec;
 use std::alloc::Global;
+use std::test::Fail;
 
 // Texts that write no ranges, with the byte behind the longest front that begins some text of ranges, and what was expected there.
 const MALFORMED: [(&str, usize, Expected); 67] = [
@@ -106,63 +113,20 @@ const PAST: [&str; 6] = [
     "99999999999999999999..1",
 ];
 
-// Whether a text is read as the set of these boundaries.
-fn is_read(alloc: Global, text: &str, want: &[i64]) -> bool {
-    let set: Result<RangeSet2<i64>, ParseError> = RangeSet::parse(alloc, text);
-    match set {
-        Ok(set) => set.boundaries() == want,
-        Err(_) => false,
-    }
-}
-
-// Whether a text is refused for this cause.
-fn refuses(alloc: Global, text: &str, want: ParseError) -> bool {
-    let set: Result<RangeSet2<i64>, ParseError> = RangeSet::parse(alloc, text);
-    match set {
-        Ok(_) => false,
-        Err(error) => error == want,
-    }
-}
-
-// Whether a text has a number that u8 doesn't have.
-fn is_past(alloc: Global, text: &str) -> bool {
-    let set: Result<RangeSet2<u8>, ParseError> = RangeSet::parse(alloc, text);
-    match set {
-        Ok(_) => false,
-        Err(error) => error == ParseError::OutOfRange,
-    }
-}
-
-// Whether the set of these ranges has these boundaries.
-fn makes(alloc: Global, ranges: &[RangeSetRange<i64>], want: &[i64]) -> bool {
-    let set: Option<RangeSet2<i64>> = RangeSet::from_ranges(alloc, ranges).ok();
-    match set {
-        Some(set) => set.boundaries() == want,
-        None => false,
-    }
-}
-
-// Whether the union of these sets has these boundaries.
-fn unites(alloc: Global, sets: &[RangeSetRef<i64>], want: &[i64]) -> bool {
-    let set: Option<RangeSet2<i64>> = RangeSet::union_all(alloc, sets).ok();
-    match set {
-        Some(set) => set.boundaries() == want,
-        None => false,
-    }
-}
-
 #[test]
 fn texts_of_ranges_are_read(rt: HostRuntime) {
     for (text, want) in READ {
-        assert!(rt; is_read(rt.alloc(), text, want), "{text}");
+        assert!(rt; gives(RangeSet::parse(rt.alloc(), text), want), "{text}");
     }
 }
 
 #[test]
 fn other_texts_are_refused_at_a_byte(rt: HostRuntime) {
     for (text, at, expected) in MALFORMED {
-        assert!(rt;
-            refuses(rt.alloc(), text, ParseError::Malformed { at, expected }),
+        let found = RangeSet2::<i64>::parse(rt.alloc(), text).err();
+        assert_eq!(rt;
+            found,
+            Some(ParseError::Malformed { at, expected }),
             "{text}"
         );
     }
@@ -171,30 +135,112 @@ fn other_texts_are_refused_at_a_byte(rt: HostRuntime) {
 #[test]
 fn numbers_past_the_type_are_refused(rt: HostRuntime) {
     for text in PAST {
-        assert!(rt; is_past(rt.alloc(), text), "{text}");
+        let found = RangeSet2::<u8>::parse(rt.alloc(), text).err();
+        assert_eq!(rt; found, Some(ParseError::OutOfRange), "{text}");
     }
 }
 
 #[test]
-fn ranges_in_any_order(rt: HostRuntime) {
+fn ranges_in_any_order_are_united(rt: HostRuntime) {
     let ranges = [
         RangeSetRange::from(20..),
-        RangeSetRange::from(5..9),
+        RangeSetRange::from(5i64..9),
         RangeSetRange::from(7..3),
         RangeSetRange::from(0..5),
         RangeSetRange::from(4..4),
     ];
-    assert!(rt; makes(rt.alloc(), &ranges, &[0, 9, 20]));
-    assert!(rt; makes(rt.alloc(), &[], &[]));
+    assert!(rt; gives(RangeSet::from_ranges(rt.alloc(), &ranges), &[0, 9, 20]));
+    assert!(rt; gives::<i64, _>(RangeSet::from_ranges(rt.alloc(), &[]), &[]));
 }
 
 #[test]
 fn sets_are_united(rt: HostRuntime) {
     let sets = [
         RangeSetRef::new(&[0i64, 4]).unwrap_or_default(),
-        RangeSetRef::new(&[8i64]).unwrap_or_default(),
-        RangeSetRef::new(&[2i64, 6, 7, 9]).unwrap_or_default(),
+        RangeSetRef::new(&[8]).unwrap_or_default(),
+        RangeSetRef::new(&[2, 6, 7, 9]).unwrap_or_default(),
     ];
-    assert!(rt; unites(rt.alloc(), &sets, &[0, 6, 7]));
-    assert!(rt; unites(rt.alloc(), &[], &[]));
+    assert!(rt; gives(RangeSet::union_all(rt.alloc(), &sets), &[0, 6, 7]));
+    assert!(rt; gives::<i64, _>(RangeSet::union_all(rt.alloc(), &[]), &[]));
+}
+
+// Texts of JSON that are not read as sets, and why.
+const REFUSED: [(&str, JsonError); 10] = [
+    ("{}", JsonError::NotArray),
+    ("\"5\"", JsonError::NotArray),
+    ("null", JsonError::NotArray),
+    ("[1,2.5]", JsonError::NotInteger { index: 1 }),
+    ("[9223372036854775808]", JsonError::NotInteger { index: 0 }),
+    ("[1,null,2.5]", JsonError::NotInteger { index: 1 }),
+    ("[1,[2],\"x\"]", JsonError::NotInteger { index: 1 }),
+    ("[1,2,true]", JsonError::NotInteger { index: 2 }),
+    ("[-0]", JsonError::NotInteger { index: 0 }),
+    ("[1.0]", JsonError::NotInteger { index: 0 }),
+];
+
+// What a text of JSON is read as.
+fn read(alloc: Global, text: &str) -> Option<Result<RangeSet2<i64>, JsonError>> {
+    let value = Value::from_str(alloc, text).ok()?;
+    Some(RangeSet::from_json(alloc, &value))
+}
+
+// The text of a set's JSON.
+fn written(alloc: Global, set: &RangeSet2<i64>) -> Option<String> {
+    set.to_json().ok()?.to_string(alloc).ok()
+}
+
+// The set of a list of lettered numbers in any order.
+fn sorted(alloc: Global, items: &[Lettered]) -> Option<RangeSet2<Lettered>> {
+    RangeSet::from_unsorted(SmallVec::from_slice(alloc, items).ok()?).ok()
+}
+
+#[test]
+fn lists_in_any_order_are_sorted(rt: HostRuntime) -> Result<(), Fail> {
+    for (items, want) in [([5, 1, 5].as_slice(), [1i64, 5].as_slice()), (&[], &[])] {
+        let list = SmallVec::from_slice(rt.alloc(), items)?;
+        assert!(rt; gives(RangeSet::from_unsorted(list), want), "{items:?}");
+    }
+    Ok(())
+}
+
+#[test]
+fn the_first_of_equal_items_is_kept(rt: HostRuntime) {
+    let items = [
+        with_letter(5, b'a'),
+        with_letter(1, b'a'),
+        with_letter(5, b'b'),
+    ];
+    assert!(rt;
+        matches!(sorted(rt.alloc(), &items), Some(set) if letters_are(set.boundaries(), &[(1, b'a'), (5, b'a')]))
+    );
+}
+
+#[test]
+fn arrays_in_any_order_are_read_and_written_sorted(rt: HostRuntime) -> Result<(), Fail> {
+    let alloc = rt.alloc();
+    for (text, want, sorted) in [
+        ("[5,1,5]", [1i64, 5].as_slice(), "[1,5]"),
+        ("[]", &[], "[]"),
+        ("[2,1,2]", &[1, 2], "[1,2]"),
+    ] {
+        let Some(Ok(set)) = read(alloc, text) else {
+            return Err(text.into());
+        };
+        assert!(rt; set.boundaries() == want, "{text}");
+        assert!(rt;
+            matches!(written(alloc, &set), Some(json) if json.as_str() == sorted),
+            "{text}"
+        );
+    }
+    Ok(())
+}
+
+#[test]
+fn other_values_are_refused(rt: HostRuntime) {
+    for (text, want) in REFUSED {
+        assert!(rt;
+            matches!(read(rt.alloc(), text), Some(Err(error)) if error == want),
+            "{text}"
+        );
+    }
 }

@@ -1,14 +1,16 @@
-//! Every comparison of a call goes through its counter: over elements that add to a tally whenever they are compared, a counted call raises the tally by what it adds to `made`, and a plain call raises it by as much as its counted form.
+//! Every comparison of a call goes through its counter: over elements that add to a tally whenever they are compared, a counted call raises the tally by what it adds to `made`, and a plain call, of a view or a set, raises it by as much as its counted form.
 ghost use Rattle.std.specs.Prelude.{◌≡◌, false};
 
-use crate::drawn::{TABLES, connective};
+use crate::drawn::{NOT_LEFT, TABLES, connective};
 use crate::elements::{Tallied, with_tally};
 use crate::forms::{FORMS, Form, OPERATIONS, Operation, own};
 use crate::given::numbers;
+use crate::operations::{ROWS, Row};
 use range_collections::{
-    Comparisons, DiffOp, IntersectionOp, MergeOperation, RangeSet2, RangeSetRef, UnionOp, XorOp,
+    Comparisons, Connective, DiffOp, IntersectionOp, MergeOperation, RangeSet, RangeSet2,
+    RangeSetRef, UnionOp, XorOp,
 };
-use smallvec::SmallVec;
+use range_merge::search;
 use std::alloc::{AllocError, Global};
 use std::cell::Cell;
 use std::test::Fail;
@@ -26,324 +28,412 @@ pub(crate) fn tallied<'t>(
     Ok(items)
 }
 
-// The set of a view's boundaries.
-pub(crate) fn set_of<'t>(
-    alloc: Global,
-    view: RangeSetRef<'t, Tallied<'t>>,
-) -> Option<RangeSet2<Tallied<'t>>> {
-    RangeSet2::new(SmallVec::from_slice(alloc, view.boundaries()).ok()?)
+// What stood on the tally once a call had answered; nothing stands on it then.
+fn cost<R>(tally: &Cell<u128>, _answer: &R) -> u128 {
+    let cost = tally.get();
+    tally.set(0);
+    cost
 }
 
-// What the tally stands at, if the counter stands there too.
-pub(crate) fn counted_alike(tally: &Cell<u128>, count: &Comparisons) -> Option<u128> {
-    let raised = tally.get();
-    if raised == count.made() {
-        Some(raised)
-    } else {
-        None
-    }
+// Whether all of these are the same, and at most so many.
+fn alike(costs: &[u128], most: u128) -> bool {
+    let first = costs.first();
+    costs
+        .iter()
+        .all(|cost| Some(cost) == first && *cost <= most)
 }
 
-// Two views, and the tally of their elements.
-#[derive(Clone, Copy, Drop)]
-struct Pair<'a> {
-    left: RangeSetRef<'a, Tallied<'a>>,
-    right: RangeSetRef<'a, Tallied<'a>>,
+// A set and a view, and the tally of their elements.
+#[derive(Clone, Copy)]
+struct Sides<'a, 't> {
+    set: &'a RangeSet2<Tallied<'t>>,
+    that: RangeSetRef<'a, Tallied<'t>>,
     tally: &'a Cell<u128>,
 }
 
-// Two lists, whether each operation has a member, and how many comparisons it may make.
-type Row<'a> = (&'a [i64], &'a [i64], [bool; 4], u128);
-
 // What a form raises the tally by, where a counted one adds as much to its counter.
-fn cost<'t>(form: Form, op: Operation, alloc: Global, pair: Pair<'t>) -> Option<u128> {
-    let left: RangeSet2<Tallied<'t>> = own(alloc, pair.left.boundaries())?;
-    let right = own(alloc, pair.right.boundaries())?;
+fn form_cost<'t>(form: Form, op: Operation, alloc: Global, sides: Sides<'_, 't>) -> Option<u128> {
+    let left: RangeSet2<Tallied<'t>> = own(alloc, sides.set.boundaries())?;
+    let right = own(alloc, sides.that.boundaries())?;
     let mut count = Comparisons::new();
-    pair.tally.set(0);
+    sides.tally.set(0);
     let outcome = form.call(op, alloc, left, right, &mut count);
-    if outcome.made.is_none() {
+    let raised = cost(sides.tally, &outcome);
+    if outcome.made.is_none() || form == form.counted() && raised != count.made() {
         return None;
     }
-    if form == form.counted() {
-        counted_alike(pair.tally, &count)
-    } else {
-        Some(pair.tally.get())
-    }
+    Some(raised)
 }
 
-// The first form that costs otherwise than its counted form, or more than it may.
-fn first_wrong(op: Operation, alloc: Global, pair: Pair, most: u128) -> Option<Form> {
-    for form in FORMS {
-        let counted = cost(form.counted(), op, alloc, pair);
-        let is_within = matches!(counted, Some(raised) if raised <= most);
-        if !is_within || cost(form, op, alloc, pair) != counted {
-            return Some(form);
+// The first operation and form that costs otherwise than its counted form, or more than it may.
+fn wrong_form(alloc: Global, sides: Sides, most: u128) -> Option<(Operation, Form)> {
+    for op in OPERATIONS {
+        for form in FORMS {
+            match (
+                form_cost(form, op, alloc, sides),
+                form_cost(form.counted(), op, alloc, sides),
+            ) {
+                (Some(raised), Some(counted)) if raised == counted && raised <= most => {}
+                _ => return Some((op, form)),
+            }
         }
     }
     None
 }
 
-// What the counted test of an operation answers, and what it raises the tally by, where it adds as much to its counter, of a set and a view as of views.
-fn tested<'t, O: MergeOperation>(alloc: Global, pair: Pair<'t>, op: &O) -> Option<(bool, u128)>
+// What the counted tests of an operation raise the tally by, and add to their counters.
+fn tests<O: MergeOperation>(sides: Sides, op: &O) -> [u128; 4]
     requires { O.connective op.now false false ≡ false }
 {
-    let set = set_of(alloc, pair.left)?;
-    let mut count = Comparisons::new();
-    pair.tally.set(0);
-    let answer = pair.left.merge_test(pair.right, op, &mut count);
-    let raised = counted_alike(pair.tally, &count)?;
-    let mut again = Comparisons::new();
-    pair.tally.set(0);
-    let same = set.merge_test(pair.right, op, &mut again) == answer;
-    if same && counted_alike(pair.tally, &again) == Some(raised) {
-        Some((answer, raised))
-    } else {
-        None
-    }
-}
-
-// The tests of each operation in turn.
-fn all_tested<'t>(alloc: Global, pair: Pair<'t>) -> [Option<(bool, u128)>; 4] {
+    let (mut count, mut again) = (Comparisons::new(), Comparisons::new());
+    let (set, that, tally) = (sides.set, sides.that, sides.tally);
     [
-        tested(alloc, pair, &UnionOp),
-        tested(alloc, pair, &IntersectionOp),
-        tested(alloc, pair, &DiffOp),
-        tested(alloc, pair, &XorOp),
+        cost(tally, &set.merge_test(that, op, &mut count)),
+        count.made(),
+        cost(tally, &set.as_ref().merge_test(that, op, &mut again)),
+        again.made(),
     ]
 }
 
-// Whether each answers as wanted, within so many comparisons.
-fn are_within(tests: &[Option<(bool, u128)>; 4], want: [bool; 4], most: u128) -> bool {
-    tests.iter().zip(&want).all(|(test, want)| match test {
-        Some((answer, raised)) => answer == want && *raised <= most,
-        None => false,
-    })
-}
-
-// What the plain tests of two views raise the tally by: whether they meet, whether they are disjoint, whether the left is a subset, and whether it is a superset.
-fn plain_costs_of_views(pair: Pair) -> [u128; 4] {
-    let (left, right, tally) = (pair.left, pair.right, pair.tally);
-    tally.set(0);
-    let _meeting = left.intersects(right);
-    let intersects = tally.get();
-    tally.set(0);
-    let _apart = left.is_disjoint(right);
-    let is_disjoint = tally.get();
-    tally.set(0);
-    let _within = left.is_subset(right);
-    let is_subset = tally.get();
-    tally.set(0);
-    let _over = left.is_superset(right);
-    [intersects, is_disjoint, is_subset, tally.get()]
-}
-
-// The same of a set and a view.
-fn plain_costs_of_sets(
-    left: &RangeSet2<Tallied>,
-    right: RangeSetRef<Tallied>,
-    tally: &Cell<u128>,
-) -> [u128; 4] {
-    tally.set(0);
-    let _meeting = left.intersects(right);
-    let intersects = tally.get();
-    tally.set(0);
-    let _apart = left.is_disjoint(right);
-    let is_disjoint = tally.get();
-    tally.set(0);
-    let _within = left.is_subset(right);
-    let is_subset = tally.get();
-    tally.set(0);
-    let _over = left.is_superset(right);
-    [intersects, is_disjoint, is_subset, tally.get()]
-}
-
-// Whether the tests answer as wanted, and the plain ones cost what their counted forms do.
-fn tests_hold<'t>(alloc: Global, pair: Pair<'t>, want: [bool; 4], most: u128) -> bool {
-    let exchanged = Pair {
-        left: pair.right,
-        right: pair.left,
-        tally: pair.tally,
-    };
-    let (Some(set), Some((_, over))) = (set_of(alloc, pair.left), tested(alloc, exchanged, &DiffOp))
-    else {
-        return false;
-    };
-    let tests = all_tested(alloc, pair);
-    match (tests[1], tests[2]) {
-        (Some((_, meeting)), Some((_, within))) => {
-            let costs = [meeting, meeting, within, over];
-            are_within(&tests, want, most)
-                && plain_costs_of_views(pair) == costs
-                && plain_costs_of_sets(&set, pair.right, pair.tally) == costs
-        }
-        _ => false,
-    }
-}
-
-// What the length of an operation's result raises the tally by, where it adds as much to its counter, of a set and a view as of views.
-fn length_cost<'t, O: MergeOperation>(alloc: Global, pair: Pair<'t>, op: &O) -> Option<u128>
+// The same of the calls that count its boundaries, and of those that make them.
+fn lengths<O: MergeOperation>(sides: Sides, op: &O) -> Option<[u128; 4]>
     requires { O.connective op.now false false ≡ false }
 {
-    let (left, right) = (pair.left, pair.right);
-    let set = set_of(alloc, left)?;
-    let _both = left
-        .boundaries()
-        .len()
-        .checked_add(right.boundaries().len())?;
-    let _set_both = set
-        .boundaries()
-        .len()
-        .checked_add(right.boundaries().len())?;
-    let mut count = Comparisons::new();
-    pair.tally.set(0);
-    let length = left.merge_len(right, op, &mut count);
-    let raised = counted_alike(pair.tally, &count)?;
-    let mut again = Comparisons::new();
-    pair.tally.set(0);
-    let same = set.merge_len(right, op, &mut again) == length;
-    if same && counted_alike(pair.tally, &again) == Some(raised) {
-        Some(raised)
-    } else {
-        None
+    let (mut count, mut again) = (Comparisons::new(), Comparisons::new());
+    let (set, that, tally) = (sides.set, sides.that, sides.tally);
+    let _both = set.boundaries().len().checked_add(that.boundaries().len())?;
+    Some([
+        cost(tally, &set.merge_len(that, op, &mut count)),
+        count.made(),
+        cost(tally, &set.as_ref().merge_len(that, op, &mut again)),
+        again.made(),
+    ])
+}
+
+fn combined<'t>(alloc: Global, sides: Sides<'_, 't>, op: &Connective) -> Option<[u128; 4]> {
+    let (mut count, mut again) = (Comparisons::new(), Comparisons::new());
+    let (set, that, tally) = (sides.set, sides.that, sides.tally);
+    tally.set(0);
+    let made: RangeSet2<Tallied<'t>> = set.combine(that, op, &mut count).ok()?;
+    let raised = cost(tally, &made);
+    let of_views: RangeSet2<Tallied<'t>> = set.as_ref().combine(alloc, that, op, &mut again).ok()?;
+    Some([raised, count.made(), cost(tally, &of_views), again.made()])
+}
+
+// What the plain questions of a set, and of its view, raise the tally by.
+fn questions(sides: Sides) -> [u128; 8] {
+    let (set, view, that, tally) = (sides.set, sides.set.as_ref(), sides.that, sides.tally);
+    [
+        cost(tally, &set.intersects(that)),
+        cost(tally, &view.intersects(that)),
+        cost(tally, &set.is_disjoint(that)),
+        cost(tally, &view.is_disjoint(that)),
+        cost(tally, &set.is_subset(that)),
+        cost(tally, &view.is_subset(that)),
+        cost(tally, &set.is_superset(that)),
+        cost(tally, &view.is_superset(that)),
+    ]
+}
+
+// Whether the tests by an operation cost what they count, and no more than they may.
+fn test_holds<O: MergeOperation>(sides: Sides, op: &O, most: u128) -> bool
+    requires { O.connective op.now false false ≡ false }
+{
+    alike(&tests(sides, op), most)
+        && matches!(lengths(sides, op), Some(costs) if alike(&costs, most))
+}
+
+// The call of two sides that costs otherwise, if there is one; `exchanged` has the sides the other way round.
+fn wrong_call(alloc: Global, sides: Sides, exchanged: Sides, most: u128) -> Option<&'static str> {
+    if !test_holds(sides, &UnionOp, most)
+        || !test_holds(sides, &IntersectionOp, most)
+        || !test_holds(sides, &DiffOp, most)
+        || !test_holds(sides, &XorOp, most)
+    {
+        return Some("a counted test, or a length");
     }
-}
-
-// Whether the lengths of the four operations cost what they count.
-fn lengths_hold<'t>(alloc: Global, pair: Pair<'t>) -> bool {
-    length_cost(alloc, pair, &UnionOp).is_some()
-        && length_cost(alloc, pair, &IntersectionOp).is_some()
-        && length_cost(alloc, pair, &DiffOp).is_some()
-        && length_cost(alloc, pair, &XorOp).is_some()
-}
-
-// What the connective of two views raises the tally by, where it adds as much to its counter, and a set and a view as much as views.
-fn connective_cost<'t>(alloc: Global, pair: Pair<'t>, table: [u8; 4]) -> Option<u128> {
-    let set = set_of(alloc, pair.left)?;
-    let op = connective(table);
-    let mut count = Comparisons::new();
-    pair.tally.set(0);
-    let made: RangeSet2<Tallied<'t>> = pair.left.combine(alloc, pair.right, &op, &mut count).ok()?;
-    let raised = counted_alike(pair.tally, &count)?;
-    let mut again = Comparisons::new();
-    pair.tally.set(0);
-    let other: RangeSet2<Tallied<'t>> = set.combine(pair.right, &op, &mut again).ok()?;
-    let same = other.boundaries().len() == made.boundaries().len();
-    if same && counted_alike(pair.tally, &again) == Some(raised) {
-        Some(raised)
-    } else {
-        None
+    let (shared, rest) = (tests(sides, &IntersectionOp)[0], tests(sides, &DiffOp)[0]);
+    let over = tests(exchanged, &DiffOp)[0];
+    if questions(sides) != [shared, shared, shared, shared, rest, rest, over, over] {
+        return Some("a question");
     }
-}
-
-// The first table whose connective costs otherwise than it counts.
-fn first_wrong_table<'t>(alloc: Global, pair: Pair<'t>) -> Option<[u8; 4]> {
     for table in TABLES {
-        if connective_cost(alloc, pair, table).is_none() {
-            return Some(table);
+        if !matches!(combined(alloc, sides, &connective(table)), Some(costs) if alike(&costs, most))
+        {
+            return Some("a connective");
         }
     }
     None
 }
 
-// What the negation of a lent set raises the tally by: as much as the connective "not left" with nothing on the right.
-fn negation_holds<'t>(alloc: Global, pair: Pair<'t>) -> bool {
-    let alone = Pair {
-        left: pair.left,
-        right: RangeSetRef::empty(),
-        tally: pair.tally,
-    };
-    let not_left = connective_cost(alloc, alone, [1, 0, 1, 0]);
-    let Some(set) = set_of(alloc, pair.left) else {
-        return false;
-    };
-    pair.tally.set(0);
-    (!&set).is_ok() && not_left == Some(pair.tally.get())
-}
-
-// The operation and its form that doesn't hold of a pair, if there is one.
-fn wrong_form(alloc: Global, pair: Pair, most: u128) -> Option<(Operation, Form)> {
-    for op in OPERATIONS {
-        if let Some(form) = first_wrong(op, alloc, pair, most) {
-            return Some((op, form));
-        }
-    }
-    None
-}
-
-// What doesn't hold of a row, if anything doesn't: a form of an operation, or another call.
+// What doesn't hold of a row: a form of an operation, and another call.
 type Wrong = (Option<(Operation, Form)>, Option<&'static str>);
 
 fn wrong_of_row(alloc: Global, row: &Row) -> Result<Wrong, AllocError> {
-    let (a, b, want, most) = *row;
     let tally = Cell::new(0);
-    let left_items = tallied(alloc, a, &tally)?;
-    let right_items = tallied(alloc, b, &tally)?;
-    let (Some(left), Some(right)) = (
-        RangeSetRef::new(left_items.as_slice()),
-        RangeSetRef::new(right_items.as_slice()),
-    ) else {
-        return Ok((None, Some("the views")));
+    let (a, b) = (
+        tallied(alloc, row.0, &tally)?,
+        tallied(alloc, row.1, &tally)?,
+    );
+    let (Some(left), Some(right)) = (own(alloc, a.as_slice()), own(alloc, b.as_slice())) else {
+        return Ok((None, Some("the sides")));
     };
-    let pair = Pair {
-        left,
-        right,
+    let sides = Sides {
+        set: &left,
+        that: right.as_ref(),
         tally: &tally,
     };
+    let exchanged = Sides {
+        set: &right,
+        that: left.as_ref(),
+        tally: &tally,
+    };
+    tally.set(0);
     Ok((
-        wrong_form(alloc, pair, most),
-        wrong_call(alloc, pair, want, most),
+        wrong_form(alloc, sides, row.3),
+        wrong_call(alloc, sides, exchanged, row.3),
     ))
-}
-
-// The call beside the operations that doesn't.
-fn wrong_call<'t>(
-    alloc: Global,
-    pair: Pair<'t>,
-    want: [bool; 4],
-    most: u128,
-) -> Option<&'static str> {
-    if !tests_hold(alloc, pair, want, most) {
-        return Some("a test");
-    }
-    if !lengths_hold(alloc, pair) {
-        return Some("a length");
-    }
-    if first_wrong_table(alloc, pair).is_some() {
-        return Some("a connective");
-    }
-    if !negation_holds(alloc, pair) {
-        return Some("the negation");
-    }
-    None
 }
 
 #[test]
 fn calls_compare_through_their_counter(rt: HostRuntime) -> Result<(), Fail> {
     let alloc = rt.alloc();
-    let low = numbers(alloc, 0, 64)?;
-    let high = numbers(alloc, 64, 128)?;
+    let (low, high) = (numbers(alloc, 0, 64)?, numbers(alloc, 64, 128)?);
     let (low, high) = (low.as_slice(), high.as_slice());
-    let rows: [Row; 14] = [
-        (&[], &[], [false, false, false, false], 0),
-        (&[], &[0, 10], [true, false, false, true], 4),
-        (&[0, 10], &[], [true, false, true, true], 4),
-        (&[0, 5], &[5, 10], [true, false, true, true], 6),
-        (&[5, 10], &[0, 5], [true, false, true, true], 6),
-        (&[0, 2, 4], &[1, 3, 5], [true, true, true, true], 12),
-        (&[1, 3, 5], &[0, 2, 4], [true, true, true, true], 12),
-        (&[0, 10], &[5, 15], [true, true, true, true], 8),
-        (&[5, 15], &[0, 10], [true, true, true, true], 8),
-        (&[0, 10], &[0, 10], [true, true, false, false], 4),
-        (&[i64::MIN, 10], &[20], [true, false, true, true], 6),
-        (&[20], &[i64::MIN, 10], [true, false, true, true], 6),
-        (low, high, [true, false, true, true], 28),
-        (high, low, [true, false, true, true], 28),
+    let blocks: [Row; 2] = [
+        (low, high, [&[], &[], &[], &[]], 28),
+        (high, low, [&[], &[], &[], &[]], 28),
     ];
-    for row in &rows {
-        let (form, call) = wrong_of_row(alloc, row)?;
-        assert!(rt; form.is_none(), "{form:?} of {:?} and {:?}", row.0, row.1);
-        assert!(rt; call.is_none(), "{call:?} of {:?} and {:?}", row.0, row.1);
+    for row in ROWS.iter().chain(&blocks) {
+        let found = wrong_of_row(alloc, row)?;
+        assert_eq!(rt; found, (None, None), "of {:?} and {:?}", row.0, row.1);
     }
+    Ok(())
+}
+
+// A set, the tally of its elements, and a range.
+#[derive(Clone, Copy)]
+struct Sought<'a, 't> {
+    set: &'a RangeSet2<Tallied<'t>>,
+    tally: &'a Cell<u128>,
+    low: &'a Tallied<'t>,
+    high: &'a Tallied<'t>,
+}
+
+// What each call at the start of the range raises the tally by, and adds to its counter.
+fn of_search(sought: Sought) -> [u128; 2] {
+    let mut count = Comparisons::new();
+    let place = search(sought.set.boundaries(), sought.low, &mut count);
+    [cost(sought.tally, &place), count.made()]
+}
+
+fn of_contains(sought: Sought) -> [u128; 6] {
+    let (set, tally, x) = (sought.set, sought.tally, sought.low);
+    let (mut count, mut again) = (Comparisons::new(), Comparisons::new());
+    [
+        cost(tally, &set.contains(x)),
+        cost(tally, &set.as_ref().contains(x)),
+        cost(tally, &set.contains_counted(x, &mut count)),
+        count.made(),
+        cost(tally, &set.as_ref().contains_counted(x, &mut again)),
+        again.made(),
+    ]
+}
+
+fn of_split(sought: Sought) -> [u128; 6] {
+    let (set, tally, at) = (sought.set, sought.tally, *sought.low);
+    let (mut count, mut again) = (Comparisons::new(), Comparisons::new());
+    [
+        cost(tally, &set.split(at)),
+        cost(tally, &set.as_ref().split(at)),
+        cost(tally, &set.split_counted(at, &mut count)),
+        count.made(),
+        cost(tally, &set.as_ref().split_counted(at, &mut again)),
+        again.made(),
+    ]
+}
+
+fn of_range_at(sought: Sought) -> [u128; 6] {
+    let (set, tally, x) = (sought.set, sought.tally, sought.low);
+    let (mut count, mut again) = (Comparisons::new(), Comparisons::new());
+    [
+        cost(tally, &set.range_at(x)),
+        cost(tally, &set.as_ref().range_at(x)),
+        cost(tally, &set.range_at_counted(x, &mut count)),
+        count.made(),
+        cost(tally, &set.as_ref().range_at_counted(x, &mut again)),
+        again.made(),
+    ]
+}
+
+// The same of the calls with the whole range.
+fn of_contains_range(sought: Sought) -> [u128; 6] {
+    let (set, tally, low, high) = (sought.set, sought.tally, *sought.low, *sought.high);
+    let (mut count, mut again) = (Comparisons::new(), Comparisons::new());
+    [
+        cost(tally, &set.contains_range(low..high)),
+        cost(tally, &set.as_ref().contains_range(low..high)),
+        cost(tally, &set.contains_range_counted(low..high, &mut count)),
+        count.made(),
+        cost(
+            tally,
+            &set.as_ref().contains_range_counted(low..high, &mut again),
+        ),
+        again.made(),
+    ]
+}
+
+fn of_gaps(sought: Sought) -> [u128; 6] {
+    let (set, tally, low, high) = (sought.set, sought.tally, sought.low, sought.high);
+    let (mut count, mut again) = (Comparisons::new(), Comparisons::new());
+    [
+        cost(tally, &set.gaps(low..high)),
+        cost(tally, &set.as_ref().gaps(low..high)),
+        cost(tally, &set.gaps_counted(low..high, &mut count)),
+        count.made(),
+        cost(tally, &set.as_ref().gaps_counted(low..high, &mut again)),
+        again.made(),
+    ]
+}
+
+fn of_ranges_within(sought: Sought) -> [u128; 6] {
+    let (set, tally, low, high) = (sought.set, sought.tally, sought.low, sought.high);
+    let (mut count, mut again) = (Comparisons::new(), Comparisons::new());
+    [
+        cost(tally, &set.ranges_within(low..high)),
+        cost(tally, &set.as_ref().ranges_within(low..high)),
+        cost(tally, &set.ranges_within_counted(low..high, &mut count)),
+        count.made(),
+        cost(
+            tally,
+            &set.as_ref().ranges_within_counted(low..high, &mut again),
+        ),
+        again.made(),
+    ]
+}
+
+// The call that compares otherwise than it counts, or more often than its searches of so many boundaries may.
+fn wrong_search(sought: Sought, digits: u128) -> Option<&'static str> {
+    let ends = digits.saturating_mul(2).saturating_add(1);
+    if !alike(&of_search(sought), digits) {
+        return Some("search");
+    }
+    for (name, costs, most) in [
+        ("contains", of_contains(sought), digits),
+        ("split", of_split(sought), digits),
+        ("range_at", of_range_at(sought), digits),
+        ("contains_range", of_contains_range(sought), ends),
+        ("gaps", of_gaps(sought), ends),
+        ("ranges_within", of_ranges_within(sought), ends),
+    ] {
+        if !alike(&costs, most) {
+            return Some(name);
+        }
+    }
+    None
+}
+
+// The even numbers from 0 on, below `end`.
+fn evens(alloc: Global, end: i64) -> Result<Vec<i64>, AllocError> {
+    let mut items = Vec::new(alloc);
+    for x in 0..end {
+        if x % 2 == 0 {
+            items.push(x)?;
+        }
+    }
+    Ok(items)
+}
+
+// The first number from -1 on, up to `end`, at which a call in those numbers does, and that call.
+fn wrong_number(
+    alloc: Global,
+    end: i64,
+    digits: u128,
+) -> Result<Option<(i64, &'static str)>, AllocError> {
+    let tally = Cell::new(0);
+    let items = tallied(alloc, evens(alloc, end)?.as_slice(), &tally)?;
+    let Some(set) = own(alloc, items.as_slice()) else {
+        return Ok(Some((end, "the set")));
+    };
+    tally.set(0);
+    for number in -1..=end {
+        for other in [number, -1, end / 2, end] {
+            let sought = Sought {
+                set: &set,
+                tally: &tally,
+                low: &with_tally(number, &tally),
+                high: &with_tally(other, &tally),
+            };
+            if let Some(name) = wrong_search(sought, digits) {
+                return Ok(Some((number, name)));
+            }
+        }
+    }
+    Ok(None)
+}
+
+// What three times a view united raise the tally by, and add to the counter.
+fn of_three<'t>(
+    alloc: Global,
+    view: RangeSetRef<Tallied<'t>>,
+    tally: &Cell<u128>,
+) -> Result<[u128; 3], AllocError> {
+    let sets = [view, view, view];
+    let mut count = Comparisons::new();
+    let counted: RangeSet2<Tallied<'t>> = RangeSet::union_all_counted(alloc, &sets, &mut count)?;
+    let raised = cost(tally, &counted);
+    let plain: RangeSet2<Tallied<'t>> = RangeSet::union_all(alloc, &sets)?;
+    Ok([raised, count.made(), cost(tally, &plain)])
+}
+
+// What a negation does, and the connective "not left" of the set and nothing.
+fn of_negation<'t>(
+    alloc: Global,
+    set: RangeSet2<Tallied<'t>>,
+    tally: &Cell<u128>,
+) -> Result<[u128; 4], AllocError> {
+    let mut count = Comparisons::new();
+    let op = connective(NOT_LEFT);
+    let made: RangeSet2<Tallied<'t>> = set.combine(RangeSetRef::empty(), &op, &mut count)?;
+    let raised = cost(tally, &made);
+    let lent = cost(tally, &(!&set)?);
+    Ok([raised, count.made(), lent, cost(tally, &(!set)?)])
+}
+
+#[test]
+fn searches_compare_through_their_counter(rt: HostRuntime) -> Result<(), Fail> {
+    // Where the boundaries end, and the binary digits of how many there are.
+    for (end, digits) in [
+        (0, 0),
+        (1, 1),
+        (3, 2),
+        (5, 2),
+        (7, 3),
+        (13, 3),
+        (15, 4),
+        (39, 5),
+        (125, 6),
+        (127, 7),
+    ] {
+        assert_eq!(rt;
+            wrong_number(rt.alloc(), end, digits)?,
+            None,
+            "the even numbers below {end}"
+        );
+    }
+    Ok(())
+}
+
+#[test]
+fn unions_of_many_and_negations_compare_through_their_counter(rt: HostRuntime) -> Result<(), Fail> {
+    let alloc = rt.alloc();
+    let tally = Cell::new(0);
+    let items = tallied(alloc, evens(alloc, 13)?.as_slice(), &tally)?;
+    let set: RangeSet2<Tallied> = own(alloc, items.as_slice()).ok_or("sorted")?;
+    tally.set(0);
+    let union = of_three(alloc, set.as_ref(), &tally)?;
+    assert!(rt; alike(&union, 84), "{union:?}");
+    let negation = of_negation(alloc, set, &tally)?;
+    assert!(rt; alike(&negation, 0), "{negation:?}");
     Ok(())
 }
