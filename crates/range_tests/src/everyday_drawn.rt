@@ -127,32 +127,32 @@ fn are_ranges<T: Ord + Copy>(ranges: RangesWithin<T>, want: &[(T, T)]) -> bool {
 }
 
 // The first call with a range that answers otherwise.
-fn wrong_within<T: Ord + Copy + Drop>(
+fn wrong_within<'a, T: Ord + Copy + Drop>(
     alloc: Global,
     values: &[Asked<T>],
-    set: RangeSetRef<T>,
-    low: T,
-    high: T,
+    set: RangeSetRef<'a, T>,
+    low: &'a T,
+    high: &'a T,
 ) -> Result<Option<&'static str>, AllocError> {
-    let off = stretches(alloc, values, low, high, false)?;
-    let on = stretches(alloc, values, low, high, true)?;
-    if !are_ranges(set.gaps(&low..&high), off.as_slice()) {
+    let off = stretches(alloc, values, *low, *high, false)?;
+    let on = stretches(alloc, values, *low, *high, true)?;
+    if !are_ranges(set.gaps(low..high), off.as_slice()) {
         return Ok(Some("gaps"));
     }
-    if !are_ranges(set.ranges_within(&low..&high), on.as_slice()) {
+    if !are_ranges(set.ranges_within(low..high), on.as_slice()) {
         return Ok(Some("ranges_within"));
     }
-    if set.contains_range(low..high) != off.is_empty() {
+    if set.contains_range(*low..*high) != off.is_empty() {
         return Ok(Some("contains_range"));
     }
     Ok(None)
 }
 
 // The first call of the view of these boundaries that does.
-fn wrong_call<T: Countable + Copy + Drop>(
+fn wrong_call<'a, T: Countable + Copy + Drop>(
     alloc: Global,
-    values: &[T],
-    items: &[T],
+    values: &'a [T],
+    items: &'a [T],
     draws: &mut Generator,
 ) -> Result<Option<&'static str>, AllocError> {
     let Some(set) = RangeSetRef::new(items) else {
@@ -168,7 +168,7 @@ fn wrong_call<T: Countable + Copy + Drop>(
     }
     for _ in 0..20 {
         if let (Some(low), Some(high)) = (draws.one_of(values), draws.one_of(values)) {
-            if let Some(name) = wrong_within(alloc, asked, set, *low, *high)? {
+            if let Some(name) = wrong_within(alloc, asked, set, low, high)? {
                 return Ok(Some(name));
             }
         }

@@ -33,7 +33,7 @@ fn built(list: List) -> Answer {
         Ok(builder) => Answer::right_if(
             matches!(changed(builder), Some(list) if list.as_slice() == [1, 9, 3].as_slice()),
         ),
-        Err((_, list)) => refused_if(list.as_slice() == [1, 2, 3].as_slice()),
+        Err((_error, list)) => refused_if(list.as_slice() == [1, 2, 3].as_slice()),
     }
 }
 

@@ -55,8 +55,8 @@ fn merges_end_at_a_refused_advance(rt: HostRuntime) -> Result<(), Fail> {
         (&[], &[1, 2, 3], 1, 4),
         (low.as_slice(), high.as_slice(), 2, 28),
     ];
-    for row in &rows {
-        assert_eq!(rt; first_wrong(row), None, "{:?} and {:?}", row.0, row.1);
+    for (number, row) in rows.iter().enumerate() {
+        assert_eq!(rt; first_wrong(row), None, "row {number}");
     }
     Ok(())
 }

@@ -1,9 +1,11 @@
-//! How much room a new set keeps: for at most twice its boundaries, or for those that it holds in itself.
+//! How much room a new set keeps: for at most twice its boundaries, or for those that it holds in itself. What takes no memory answers in a process without any.
 use crate::drawn::{TABLES, connective};
 use crate::everyday_drawn::all_u8;
 use crate::forms::{FORMS, OPERATIONS, own};
+use crate::given::numbers;
 use crate::made_up::Generator;
-use range_collections::{Comparisons, RangeSet2};
+use crate::starved::{Answer, Starved};
+use range_collections::{Comparisons, RangeSet2, RangeSetRef, UnionOp};
 use std::alloc::{AllocError, Global};
 use std::test::Fail;
 
@@ -67,6 +69,30 @@ fn new_sets_keep_little_room(rt: HostRuntime) -> Result<(), Fail> {
             let wasteful = wasteful_connectives(alloc, &left, &right)?;
             assert_eq!(rt; wasteful, 0, "one in {one_in} and in {other}");
         }
+    }
+    Ok(())
+}
+
+// How many boundaries the union has, and whether it has a member.
+fn union_of(left: &[i64], right: &[i64]) -> Option<(usize, bool)> {
+    let (a, b) = (RangeSetRef::new(left)?, RangeSetRef::new(right)?);
+    let _both = a.boundaries().len().checked_add(b.boundaries().len())?;
+    let length = a.merge_len(b, &UnionOp, &mut Comparisons::new());
+    Some((length, a.merge_test(b, &UnionOp, &mut Comparisons::new())))
+}
+
+#[test]
+fn lengths_and_tests_take_no_memory(rt: HostRuntime) -> Result<(), Fail> {
+    let long = numbers(rt.alloc(), 0, 10_000)?;
+    let long = long.as_slice();
+    let mut starved = Starved::new(rt.alloc())?;
+    for (one, length) in [([-1], 1), ([5_000], 5_001), ([10_000], 10_001)] {
+        assert!(rt;
+            starved.is_right_without_memory(|()| {
+                Answer::right_if(union_of(long, &one) == Some((length, true)))
+            }),
+            "{one:?}"
+        );
     }
     Ok(())
 }
