@@ -30,9 +30,10 @@ fn changed(mut builder: InPlaceBuilder<i64, 2>) -> Option<List> {
 
 fn built(list: List) -> Answer {
     match InPlaceBuilder::new(list, 1) {
-        Ok(builder) => Answer::right_if(
-            matches!(changed(builder), Some(list) if list.as_slice() == [1, 9, 3].as_slice()),
-        ),
+        Ok(builder) => match changed(builder) {
+            Some(list) => Answer::right_if(list.as_slice() == [1, 9, 3].as_slice()),
+            None => Answer::Wrong,
+        },
         Err((_error, list)) => refused_if(list.as_slice() == [1, 2, 3].as_slice()),
     }
 }
