@@ -1,3 +1,4 @@
 pub mod Offsets
 pub mod Tracked
 pub mod Commands
+pub mod TrackErrors

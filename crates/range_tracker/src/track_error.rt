@@ -27,10 +27,15 @@ impl From<AllocError> for TrackError {
 }
 
 impl fmt::Display for TrackError {
+    ghost use Rattle.std.specs.Prelude.{Some};
+    ghost use Rattle.range_tracker.specs.TrackErrors.{track_error_text};
+
+    ghost output = { λ error. Some (track_error_text error) };
+
     fn fmt<W: fmt::Write>(&self, f: &mut fmt::Formatter<W>) -> fmt::Result {
         match self {
             TrackError::TooMany { boundaries } => write!(f, "too many boundaries: {boundaries}"),
-            TrackError::OutOfMemory => write!(f, "out of memory"),
+            TrackError::OutOfMemory => f.write_str("out of memory"),
         }
     }
 }
