@@ -1,5 +1,6 @@
 """Tests of the module: python3 -m unittest, in this folder."""
 
+import ctypes
 import random
 import unittest
 from array import array
@@ -37,8 +38,25 @@ class Rows(unittest.TestCase):
         self.assertTrue(sets.contains_range(a, 3, 10) and not sets.contains_range(a, 3, 11))
         self.assertEqual([sets.covered(x) for x in (a, q(0, 10), q(-2**63, 2**63 - 1))], [None, 10, 2**64 - 1])
         self.assertEqual(sets.gaps(a, -5, 15), q(-5, 0, 10, 15))
+        self.assertEqual([list(sets.ranges(x)) for x in (a, q(), q(3, 5))], [[(0, 10), (20, None)], [], [(3, 5)]])
         with self.assertRaises(sets.NotSorted):
             sets.covered(q(3, 3))
+        with self.assertRaises(sets.NotSorted):
+            sets.ranges(q(3, 3))
+
+    def test_numbers_without_a_sign(self):
+        a, most = array("Q", [5, 10]), 2**64 - 1
+        self.assertEqual(sets.insert(a, 2**63, most), array("Q", [5, 10, 2**63, most]))
+        self.assertEqual(sets.remove(a, 0, 7), array("Q", [7, 10]))
+        self.assertEqual(sets.gaps(a, 0, most), array("Q", [0, 5, 10, most]))
+        self.assertEqual([sets.contains(a, x) for x in (4, 5, 10, most)], [False, True, False, False])
+        self.assertTrue(sets.contains_range(a, 5, 10) and not sets.contains_range(a, 5, most))
+        self.assertEqual([sets.range_at(a, x) for x in (9, most)], [(5, 10), None])
+        self.assertEqual([sets.split(a, x) for x in (0, 7, most)], [(0, 0), (1, 0), (2, 2)])
+        for call in (sets.contains, sets.range_at, sets.split):
+            for value in (-1, 2**64):
+                with self.assertRaises(OverflowError):
+                    call(a, value)
 
     def test_numbers_in_any_order(self):
         given = q(7, -2, 7, 5)
@@ -62,11 +80,32 @@ class Rows(unittest.TestCase):
         with self.assertRaises(ValueError):
             a = q(0, 10)
             sets.union(a, q(5, 20), a)
+        with self.assertRaises(TypeError):
+            sets.union(q(0), q(5), array("Q", [0, 0]))
+        with self.assertRaises(TypeError):
+            sets.union(q(0), q(5), bytes(16))
+
+    def test_lists_can_grow_while_an_error_is_handled(self):
+        a, out = q(0, 10), q(7)
+        try:
+            sets.symmetric_difference(a, q(5, 20), out)
+            self.fail("there is room for four")
+        except sets.NoRoom as refused:
+            out.extend([0] * (refused.needed - len(out)))
+        self.assertEqual(sets.symmetric_difference(a, q(5, 20), out), 4)
+        for bad, call in ((q(3, 2), sets.is_disjoint), (q(3, 2), sets.covered), (array("i", [1]), sets.is_empty)):
+            try:
+                call(bad, a) if call == sets.is_disjoint else call(bad)
+                self.fail("the list isn't one of a set")
+            except (sets.NotSorted, TypeError):
+                a.append(12)
+                bad.append(4)
 
     def test_questions(self):
         a, b = q(0, 10), q(5, 20)
         self.assertTrue(sets.intersects(a, b) and not sets.is_disjoint(a, b))
         self.assertTrue(sets.is_subset(q(5, 10), b) and not sets.is_subset(a, b))
+        self.assertTrue(sets.is_superset(b, q(5, 10)) and not sets.is_superset(b, a))
         self.assertTrue(sets.equal(a, q(0, 10)) and not sets.equal(a, b))
         self.assertTrue(sets.contains(a, 9) and not sets.contains(a, 10))
         self.assertTrue(sets.is_empty(q()) and not sets.is_empty(a))
@@ -83,16 +122,29 @@ class Rows(unittest.TestCase):
             sets.union(q(1), array("Q", [1]))
         with self.assertRaises(TypeError):
             sets.union(array("i", [1]), array("i", [1]))
-        with self.assertRaises(OverflowError):
-            sets.contains(q(1), 2**63)
+        for value in (2**63, -2**63 - 1):
+            with self.assertRaises(OverflowError):
+                sets.contains(q(1), value)
+        for value in (1.0, "1", None):
+            with self.assertRaises(TypeError):
+                sets.contains(q(1), value)
 
     def test_other_buffers(self):
-        frozen = memoryview(q(0, 10)).toreadonly()
-        self.assertEqual(sets.union(frozen, q(5, 20)), q(0, 20))
+        memory = bytearray(b"-" + q(0, 10).tobytes())
+        crooked = memoryview(memory)[1:].cast("q")
+        lent = memoryview(q(0, 10))
+        for a in (lent.toreadonly(), crooked, (ctypes.c_int64 * 2)(0, 10), lent.cast("B").cast("@q")):
+            self.assertEqual(sets.union(a, q(5, 20)), q(0, 20))
+            self.assertEqual(sets.from_unsorted(a), q(0, 10))
+            self.assertEqual(list(sets.ranges(a)), [(0, 10)])
+        with self.assertRaises(ValueError):
+            sets.union(q(0), q(1), crooked)
+
+    def test_numpy_arrays(self):
         try:
             import numpy
         except ImportError:
-            return
+            self.skipTest("numpy is missing")
         a = numpy.array([0, 10], dtype=numpy.int64)
         self.assertEqual(sets.union(a, q(5, 20)), q(0, 20))
 
