@@ -316,6 +316,78 @@ static void TEST(refuses)(const NUMBER *a, size_t a_len, const NUMBER *b, size_t
     check(CALL(equal)(a, a_len, b, b_len, &answer) == wanted && answer, "equal of a bad list");
 }
 
+/* One question of two sets, by number. */
+static range_set_status TEST(ask)(const struct TEST(operation) *o, bool *answer)
+{
+    switch (o->which) {
+    case 0: return CALL(is_disjoint)(o->a, o->a_len, o->b, o->b_len, answer);
+    case 1: return CALL(intersects)(o->a, o->a_len, o->b, o->b_len, answer);
+    case 2: return CALL(is_subset)(o->a, o->a_len, o->b, o->b_len, answer);
+    default: return CALL(equal)(o->a, o->a_len, o->b, o->b_len, answer);
+    }
+}
+
+/* A call of two lists whose result lies nowhere, or in a list or in the buffer. */
+static void TEST(bad_places_of_two)(const struct TEST(operation) *o, NUMBER *left, NUMBER *right, NUMBER *out)
+{
+    size_t n = 77;
+    check(TEST(run)(o, right, 2, &n) == RANGE_SET_BAD_POINTER && n == 77, "the buffer over the right list");
+    check(TEST(run)(o, out, 8, (size_t *)(right + 1)) == RANGE_SET_BAD_POINTER, "the length in the right list");
+    check(TEST(run_len)(o, NULL) == RANGE_SET_BAD_POINTER, "a length into null");
+    check(TEST(run_len)(o, (size_t *)left) == RANGE_SET_BAD_POINTER, "a length into the left list");
+    check(TEST(run_len)(o, (size_t *)(right + 1)) == RANGE_SET_BAD_POINTER, "a length into the right list");
+    check(TEST(ask)(o, NULL) == RANGE_SET_BAD_POINTER, "a question into null");
+    check(TEST(ask)(o, (bool *)(left + 1)) == RANGE_SET_BAD_POINTER, "a question into the left list");
+    check(TEST(ask)(o, (bool *)right) == RANGE_SET_BAD_POINTER, "a question into the right list");
+}
+
+/* A call of one list whose result lies nowhere or in the list. */
+static void TEST(bad_places_of_one)(NUMBER *a)
+{
+    NUMBER start = 77, end = 77;
+    bool *in_list = (bool *)(a + 1), answer = true, has_end = true;
+    size_t n = 77;
+    check(CALL(is_sorted)(a, 2, in_list) == RANGE_SET_BAD_POINTER, "is_sorted into the list");
+    check(CALL(is_empty)(a, 2, NULL) == RANGE_SET_BAD_POINTER, "is_empty into null");
+    check(CALL(is_empty)(a, 2, in_list) == RANGE_SET_BAD_POINTER, "is_empty into the list");
+    check(CALL(contains)(a, 2, 1, NULL) == RANGE_SET_BAD_POINTER, "contains into null");
+    check(CALL(contains)(a, 2, 1, in_list) == RANGE_SET_BAD_POINTER, "contains into the list");
+    check(CALL(contains_range)(a, 2, 1, 2, in_list) == RANGE_SET_BAD_POINTER, "contains_range into the list");
+    check(CALL(covered)(a, 2, (uint64_t *)a) == RANGE_SET_BAD_POINTER, "covered into the list");
+    check(CALL(split)(a, 2, 1, NULL, &n) == RANGE_SET_BAD_POINTER && n == 77, "split into null on the left");
+    check(CALL(split)(a, 2, 1, &n, NULL) == RANGE_SET_BAD_POINTER && n == 77, "split into null on the right");
+    check(CALL(split)(a, 2, 1, (size_t *)a, &n) == RANGE_SET_BAD_POINTER && n == 77, "split into the list on the left");
+    check(CALL(split)(a, 2, 1, &n, (size_t *)a) == RANGE_SET_BAD_POINTER && n == 77, "split into the list on the right");
+    check(CALL(range_at)(a, 2, 1, NULL, &start, &end, &has_end) == RANGE_SET_BAD_POINTER, "range_at: null for the answer");
+    check(CALL(range_at)(a, 2, 1, &answer, &start, NULL, &has_end) == RANGE_SET_BAD_POINTER, "range_at: null for the end");
+    check(CALL(range_at)(a, 2, 1, &answer, &start, &end, NULL) == RANGE_SET_BAD_POINTER, "range_at: null for whether it has one");
+    check(CALL(range_at)(a, 2, 1, in_list, &start, &end, &has_end) == RANGE_SET_BAD_POINTER, "range_at: the answer in the list");
+    check(CALL(range_at)(a, 2, 1, &answer, &start, a, &has_end) == RANGE_SET_BAD_POINTER, "range_at: the end in the list");
+    check(CALL(range_at)(a, 2, 1, &answer, &start, &end, in_list) == RANGE_SET_BAD_POINTER, "range_at: whether it has one in the list");
+    check(start == 77 && end == 77 && answer && has_end, "range_at writes what it refuses");
+}
+
+/* With a result that lies nowhere, or in what a call reads or writes beside it, each call leaves all as it was. */
+static void TEST(bad_places)(void)
+{
+    NUMBER left[] = {1, 2}, right[] = {1, 2}, out[8] = {1, 2, 3, 4, 5, 6, 7, 8};
+    static const NUMBER as_was[8] = {1, 2, 3, 4, 5, 6, 7, 8};
+    size_t n = 77;
+    struct TEST(operation) o;
+    o.a = left, o.a_len = 2, o.b = right, o.b_len = 2, o.start = 1, o.end = 2;
+    for (o.which = 0; o.which < 8; o.which++) {
+        check(TEST(run)(&o, NULL, 1, &n) == RANGE_SET_BAD_POINTER && n == 77, "null for the buffer");
+        check(TEST(run)(&o, out, 8, NULL) == RANGE_SET_BAD_POINTER, "null for the length");
+        check(TEST(run)(&o, left, 2, &n) == RANGE_SET_BAD_POINTER && n == 77, "the buffer over the left list");
+        check(TEST(run)(&o, out, 8, (size_t *)(left + 1)) == RANGE_SET_BAD_POINTER, "the length in the left list");
+        check(TEST(run)(&o, out, 8, (size_t *)(out + 7)) == RANGE_SET_BAD_POINTER, "the length in the buffer");
+        if (o.which < 4) TEST(bad_places_of_two)(&o, left, right, out);
+    }
+    TEST(bad_places_of_one)(left);
+    check(memcmp(out, as_was, sizeof out) == 0 && memcmp(left, as_was, sizeof left) == 0 && memcmp(right, as_was, sizeof right) == 0,
+          "what is refused is written");
+}
+
 static void TEST(bad_input)(void)
 {
     const NUMBER good[] = {1, 2}, turned[] = {3, 2}, repeated[] = {3, 3};
@@ -329,6 +401,8 @@ static void TEST(bad_input)(void)
     TEST(refuses)(repeated, 2, good, 2, true, RANGE_SET_NOT_SORTED);
     TEST(refuses)(good, 2, repeated, 2, false, RANGE_SET_NOT_SORTED);
     TEST(refuses)(NULL, 1, NULL, 0, true, RANGE_SET_BAD_POINTER);
+    TEST(refuses)(good, 2, NULL, 1, false, RANGE_SET_BAD_POINTER);
+    TEST(refuses)(good, 2, good, SIZE_MAX, false, RANGE_SET_BAD_POINTER);
     TEST(refuses)(NULL, (size_t)1 << 60, NULL, 0, true, RANGE_SET_BAD_POINTER);
     TEST(refuses)(NULL, SIZE_MAX, NULL, SIZE_MAX, true, RANGE_SET_BAD_POINTER);
     TEST(refuses)(good, SIZE_MAX, good, 2, true, RANGE_SET_BAD_POINTER);
@@ -412,6 +486,7 @@ static void TEST(all)(long cases)
     TEST(rows)();
     TEST(many)();
     TEST(bad_input)();
+    TEST(bad_places)();
     for (i = 0; i < cases; i++) TEST(made_up)();
     for (i = 0; i < cases / 10; i++) TEST(unsorted_searches)();
 }

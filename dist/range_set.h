@@ -72,8 +72,8 @@ range_set_status range_set_i64_range_at(const int64_t *a, size_t a_len, int64_t 
  * Goes over the list twice. */
 range_set_status range_set_i64_covered(const int64_t *a, size_t a_len, uint64_t *count);
 
-/* Makes a set of numbers in any order, in place: `items` begins with the `written` distinct ones of its numbers in order,
- * and nothing is said of what stands behind them. Sorts without memory, in some len * log(len) steps. */
+/* Makes the set whose boundaries are these numbers, in any order, in place: `items` begins with the `written` distinct ones
+ * in order, and nothing is said of what stands behind them. Sorts without memory, in some len * log(len) steps. */
 range_set_status range_set_i64_from_unsorted(int64_t *items, size_t len, size_t *written);
 
 /* Makes a set of ranges in any order, in place: `ranges` has `count` pairs of numbers, a start and an end each, and the
@@ -115,13 +115,15 @@ range_set_status range_set_i64_symmetric_difference(const int64_t *a, size_t a_l
 /* Writes how many boundaries the set of the numbers in one of the two sets and not in the other has. */
 range_set_status range_set_i64_symmetric_difference_len(const int64_t *a, size_t a_len, const int64_t *b, size_t b_len, size_t *len);
 
-/* Writes the set of the numbers that are no members: without a first boundary INT64_MIN, or with INT64_MIN in front. */
+/* Writes the set of the numbers that are no members: without a first boundary INT64_MIN, or with INT64_MIN in front.
+ * a_len + 1 numbers are always room enough. */
 range_set_status range_set_i64_negation(const int64_t *a, size_t a_len, int64_t *out, size_t out_len, size_t *written);
 
-/* Writes the set with the numbers from `start` to below `end` put in, which are none where end <= start. */
+/* Writes the set with the numbers from `start` to below `end` put in, which are none where end <= start. a_len + 2 numbers are
+ * always room enough. */
 range_set_status range_set_i64_insert(const int64_t *a, size_t a_len, int64_t start, int64_t end, int64_t *out, size_t out_len, size_t *written);
 
-/* Writes the set with the numbers from `start` to below `end` taken out. */
+/* Writes the set with the numbers from `start` to below `end` taken out. a_len + 2 numbers are always room enough. */
 range_set_status range_set_i64_remove(const int64_t *a, size_t a_len, int64_t start, int64_t end, int64_t *out, size_t out_len, size_t *written);
 
 /* Writes the set of the numbers from `start` to below `end` that are no members: the gaps of the set between the two. It has
@@ -164,8 +166,8 @@ range_set_status range_set_u64_range_at(const uint64_t *a, size_t a_len, uint64_
  * Goes over the list twice. */
 range_set_status range_set_u64_covered(const uint64_t *a, size_t a_len, uint64_t *count);
 
-/* Makes a set of numbers in any order, in place: `items` begins with the `written` distinct ones of its numbers in order,
- * and nothing is said of what stands behind them. Sorts without memory, in some len * log(len) steps. */
+/* Makes the set whose boundaries are these numbers, in any order, in place: `items` begins with the `written` distinct ones
+ * in order, and nothing is said of what stands behind them. Sorts without memory, in some len * log(len) steps. */
 range_set_status range_set_u64_from_unsorted(uint64_t *items, size_t len, size_t *written);
 
 /* Makes a set of ranges in any order, in place: `ranges` has `count` pairs of numbers, a start and an end each, and the
@@ -207,13 +209,15 @@ range_set_status range_set_u64_symmetric_difference(const uint64_t *a, size_t a_
 /* Writes how many boundaries the set of the numbers in one of the two sets and not in the other has. */
 range_set_status range_set_u64_symmetric_difference_len(const uint64_t *a, size_t a_len, const uint64_t *b, size_t b_len, size_t *len);
 
-/* Writes the set of the numbers that are no members: without a first boundary 0, or with 0 in front. */
+/* Writes the set of the numbers that are no members: without a first boundary 0, or with 0 in front. a_len + 1 numbers
+ * are always room enough. */
 range_set_status range_set_u64_negation(const uint64_t *a, size_t a_len, uint64_t *out, size_t out_len, size_t *written);
 
-/* Writes the set with the numbers from `start` to below `end` put in, which are none where end <= start. */
+/* Writes the set with the numbers from `start` to below `end` put in, which are none where end <= start. a_len + 2 numbers are
+ * always room enough. */
 range_set_status range_set_u64_insert(const uint64_t *a, size_t a_len, uint64_t start, uint64_t end, uint64_t *out, size_t out_len, size_t *written);
 
-/* Writes the set with the numbers from `start` to below `end` taken out. */
+/* Writes the set with the numbers from `start` to below `end` taken out. a_len + 2 numbers are always room enough. */
 range_set_status range_set_u64_remove(const uint64_t *a, size_t a_len, uint64_t start, uint64_t end, uint64_t *out, size_t out_len, size_t *written);
 
 /* Writes the set of the numbers from `start` to below `end` that are no members: the gaps of the set between the two. It has

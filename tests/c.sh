@@ -51,7 +51,8 @@ done
 for built in test test.dist; do
     "$work/$built" || fail "$built"
 done
-for built in example example.dist; do
+g++ -std=c++11 -O2 $strict -x c++ c/example.c -x none dist/librange_set.a -o "$work/example.cpp" || fail "example.c as C++11"
+for built in example example.dist example.cpp; do
     "$work/$built" >"$work/seen" || fail "$built"
     printf 'busy: 9..11 12..15\nfree: 11..12 15..17\nneeds: 4\n' | cmp -s - "$work/seen" || fail "$built prints $(cat "$work/seen")"
 done
@@ -64,8 +65,6 @@ for page in README.md c/README.md; do
     valgrind -q --error-exitcode=9 "$work/page" || fail "the lines in C of $page end with an error"
 done
 valgrind -q --error-exitcode=9 --leak-check=full "$work/test" 1000 || fail "valgrind reports an error"
-if command -v clang >/dev/null; then
-    clang -std=c99 -O1 -g -fsanitize=address,undefined $strict c/test.c c/range_set.c "$proved" -o "$work/sane" 2>/dev/null &&
-        { "$work/sane" 2000 || fail "the address sanitizer reports an error"; }
-fi
-echo "c: the header, the tests, the example, the pages and valgrind pass"
+gcc -std=c99 -O1 -g -fsanitize=address,undefined $strict c/test.c c/range_set.c "$proved" -o "$work/sane" || fail "test.c for the sanitizers"
+"$work/sane" 1000 || fail "a sanitizer reports an error"
+echo "c: the header, the tests, the example, also as C++, the pages, valgrind and the sanitizers pass"

@@ -87,6 +87,11 @@ impl<'a, T: Number> RangeSetRef<'a, T> {
         T::range_at(self.boundaries, value)
     }
 
+    /// The ranges of the set from the lowest on, each as its start and the end that it has.
+    pub fn ranges(&self) -> impl Iterator<Item = (T, Option<T>)> + 'a {
+        self.boundaries.chunks(2).map(|ends| (ends[0], ends.get(1).copied()))
+    }
+
     /// How many numbers are members, or nothing where the set has no end.
     pub fn covered(&self) -> Option<u64> {
         T::covered(self.boundaries)
