@@ -1,5 +1,6 @@
 #!/usr/bin/env bash
-# Runs range_track with limits good and bad, with an output and an input that fail, and over a pipe that stays open.
+# Runs range_track with limits good and bad, under small memory, with an output and an input that fail, and over a pipe that
+# stays open.
 #
 #   tests/range_track.sh PROGRAM..   runs these programs
 #
@@ -13,7 +14,9 @@ fail() {
 }
 
 [ $# -gt 0 ] || fail "no program was named"
-command -v timeout >/dev/null || fail "the tool timeout is missing"
+for tool in timeout prlimit seq sed sort uniq; do
+    command -v "$tool" >/dev/null || fail "the tool $tool is missing"
+done
 
 # Runs the program with these arguments on the input, which is to give this number and these lines.
 row() {
@@ -45,11 +48,30 @@ for program in "$@"; do
     row 2 '+ 0 10\n' 'bad limit\n' x
     row 2 '+ 0 10\n' 'bad limit\n' ''
     row 2 '+ 0 10\n' 'bad limit\n' -1
+    row 2 '+ 0 10\n' 'bad limit\n' $'\xff'
     row 2 '+ 0 10\n' 'bad limit\n' 4 4
 
     # Without an argument the limit is 1,000,000: 500,000 ranges are taken, and not one more.
     seen=$(seq 1 500001 | sed 's/.*/+ &0 &5/' | timeout 100 "$program" | sort | uniq -c | tr -s ' ')
     [ "$seen" = " 500000 ok"$'\n'" 1 too many 1000002" ] || fail "$program without an argument: $seen"
+
+    # In an address space of so many KiB: 20,000 ranges and what isn't there. What finds no memory is answered so, and the next
+    # line is read. From where the system can't load the program on, up to where there is enough.
+    refused_ranges=0 refused_list=0 answered=0
+    for kib in $(seq 1024 32 4096); do
+        seen=$({ seq 1 20000 | sed 's/.*/+ &0 &5/'; echo 'missing 200010'; } 2>/dev/null \
+            | { timeout 20 prlimit --as=$((kib * 1024)) "$program" 2>/dev/null; echo "ended with $?"; } \
+            | sed 's/^0,10,15,.*,200005,200010$/whole list/' | sort | uniq -c | tr -s ' \n' ' ')
+        if [[ $seen =~ ^" 1 ended with 0 20000 ok 1 whole list "$ ]]; then
+            answered=$((answered + 1))
+        elif [[ $seen =~ ^" 1 ended with 0 "([0-9]+)" ok "([0-9]+)" out of memory "$ ]] && ((BASH_REMATCH[1] + BASH_REMATCH[2] == 20001)); then
+            if ((BASH_REMATCH[1] == 20000)); then refused_list=$((refused_list + 1)); else refused_ranges=$((refused_ranges + 1)); fi
+        elif [ "$seen" != " 1 ended with 1 1 out of memory " ] && [ "$seen" != " 1 ended with 127 " ]; then
+            fail "$program in $kib KiB: $seen"
+        fi
+    done
+    ((refused_ranges > 0 && refused_list > 0 && answered > 0)) ||
+        fail "$program in little memory: ranges refused $refused_ranges times, the list $refused_list times, all answered $answered times"
 
     printf '+ 0 10\n' | timeout 20 "$program" 4 >/dev/full 2>/dev/null
     status=$?
@@ -71,5 +93,5 @@ for program in "$@"; do
     wait "$pid"
     status=$?
     [ $status = 0 ] || fail "$program ended with $status when its pipe was closed"
-    echo "range_track: $program: $rows inputs, the usual limit, 5 where a stream fails, and each line answered at once"
+    echo "range_track: $program: $rows inputs, the usual limit, small memory, 5 where a stream fails, and each line answered at once"
 done

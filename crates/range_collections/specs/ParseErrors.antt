@@ -35,7 +35,7 @@ IsExpected front Number = MayFollow front (byte "0") × ¬ (MayFollow front (byt
 IsExpected front Dot = MayFollow front (byte ".")
 IsExpected front Comma = MayFollow front (byte ",") × (is_ranges any_number front ≡ true) × ¬ (MayFollow front (byte "+"))
 
--- the text is none of ranges, with numbers of any size, and the error names the end of the longest front that begins one, and what was expected there; or it is one, and a number is past its type's
+-- the text is none of ranges, with numbers of any size, and the error names the end of the longest front that begins one, and what was expected there; or the text is one of ranges, with numbers of any size
 abbrev pub IsFaultIn : List ℕ → ParseError → Type 0
 IsFaultIn text (Malformed at expected) = (is_ranges any_number text ≡ false) × IsLongestFront text at × IsExpected (take at text) expected
 IsFaultIn text OutOfRange = is_ranges any_number text ≡ true

@@ -40,14 +40,16 @@ abbrev pub range_end : {K : Type 0} → RangeSetRange K → Bound K
 range_end (Range r) = Excluded r.end
 range_end (RangeFrom r) = Unbounded
 
+-- both ranges have an end or neither has, and R holds of their starts and of their ends
+abbrev pub AllEndsZip : {K : Type 0} → (K → K → Type 0) → RangeSetRange K → RangeSetRange K → Type 0
+AllEndsZip R (Range r) (Range s) = R r.start s.start × R r.end s.end
+AllEndsZip R (RangeFrom r) (RangeFrom s) = R r.start s.start
+AllEndsZip R _ _ = ⊥
+
 -- both ranges have an end or neither has, and each end of one is equal to that of the other
 abbrev pub IsEqualRange : {K : Type 0} → (K → K → Ordering) → RangeSetRange K → RangeSetRange K →
     Type 0
-IsEqualRange order (Range r) (Range s) =
-    (order r.start s.start ≡ Equal) × (order r.end s.end ≡ Equal)
-IsEqualRange order (Range r) (RangeFrom s) = ⊥
-IsEqualRange order (RangeFrom r) (Range s) = ⊥
-IsEqualRange order (RangeFrom r) (RangeFrom s) = order r.start s.start ≡ Equal
+IsEqualRange order = AllEndsZip (λ x y. order x y ≡ Equal)
 
 -- P holds of each end of the range
 abbrev pub AllEnds : {K : Type 0} → (K → Type 0) → RangeSetRange K → Type 0

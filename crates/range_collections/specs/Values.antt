@@ -3,7 +3,7 @@
 --     AreSameAmongValues order is_value a b       both have the same members among values
 --     IsEverything order is_value items           every value is a member
 --     BeginsAt order least a                      the first item of a equals the least value
---     IsFlipped order least xs items              the items are xs with the least value removed from the front, or put there
+--     IsFlipped order least xs items              the items equal xs with the least value removed from the front, or put there
 --     MeansAmong order is_value f items a b       the members of items are f of the members of a and b, among values where f is on while both sides are off
 --     HasLeastInFront order least rest items      the items are `rest` with an item in front that equals the least value
 --     EqualsAreValues order is_value              whatever equals a value is a value
@@ -23,7 +23,7 @@ module _ {K : Type 0} (order : K → K → Ordering) where
   BeginsAt least [] = ⊥
   BeginsAt least (x ∷ xs) = order x least ≡ Equal
 
-  -- the items are xs with a first item that is the least value removed, or else with the least value in front
+  -- the items equal, one by one, xs with a first item that is the least value removed, or else with the least value in front
   pub record IsFlipped (least : K) (xs items : List K) : Type 0 where
     pub removed : BeginsAt least xs → AreEqual order items (drop 1 xs)
     pub put : ¬ (BeginsAt least xs) → AreEqual order items (least ∷ xs)

@@ -1,6 +1,6 @@
 //! One range of a set: with an end, or without one.
 ghost use Rattle.std.specs.Prelude.{◌≡◌, IsOk, IfOk};
-ghost use Rattle.range_collections.specs.Ranges.{range_now, bound_now, range_start, range_end, IsEqualRange, AllEnds};
+ghost use Rattle.range_collections.specs.Ranges.{range_now, bound_now, range_start, range_end, IsEqualRange, AllEnds, AllEndsZip};
 
 mod copies;
 mod equality;
@@ -21,9 +21,10 @@ pub enum RangeSetRange<T> {
 }
 
 impl<'a, T: EntryClone + Drop> RangeSetRange<&'a T> {
-    /// The range of copies of what the references point to.
+    /// The range of copies of what the references point to, each end of its own.
     pub fn cloned(&self) -> Result<RangeSetRange<T>, AllocError>
         ensures same { IfOk result (λ copied. IsEqualRange T.cmp (range_now self.now) copied) }
+        ensures copies { IfOk result (λ copied. AllEndsZip T.is_copy (range_now self.now) copied) }
         ensures succeeds { AllEnds T.is_infallible (range_now self.now) → IsOk result }
     {
         match self {
@@ -44,6 +45,7 @@ impl<T: EntryClone + Drop> RangeSetRange<T> {
     /// A copy of the range, or an error where there is no memory for it.
     pub fn clone(&self) -> Result<RangeSetRange<T>, AllocError>
         ensures same { IfOk result (λ copied. IsEqualRange T.cmp self.now copied) }
+        ensures copies { IfOk result (λ copied. AllEndsZip T.is_copy self.now copied) }
         ensures succeeds { AllEnds T.is_infallible self.now → IsOk result }
     {
         match self {

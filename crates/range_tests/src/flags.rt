@@ -124,22 +124,22 @@ fn an_operation_is_refused_where_it_copies_the_flagged_item(rt: HostRuntime) -> 
 
 const LEAST: i64 = i64::MIN;
 
-// What each table makes of the ranges from 0 to 2 and from 4 to 6 with those from 1 to 3 and from 5 to 7.
+// What each table makes of the ranges from 0 to 2 and from 4 to 6 with those from 1 to 2 and from 5 to 7. Both have a boundary at 2.
 const CONNECTED: [&[i64]; 16] = [
     &[],
     &[1, 2, 5, 6],
-    &[2, 3, 6, 7],
-    &[1, 3, 5, 7],
+    &[6, 7],
+    &[1, 2, 5, 7],
     &[0, 1, 4, 5],
     &[0, 2, 4, 6],
-    &[0, 1, 2, 3, 4, 5, 6, 7],
-    &[0, 3, 4, 7],
-    &[LEAST, 0, 3, 4, 7],
-    &[LEAST, 0, 1, 2, 3, 4, 5, 6, 7],
+    &[0, 1, 4, 5, 6, 7],
+    &[0, 2, 4, 7],
+    &[LEAST, 0, 2, 4, 7],
+    &[LEAST, 0, 1, 4, 5, 6, 7],
     &[LEAST, 0, 2, 4, 6],
     &[LEAST, 0, 1, 4, 5],
-    &[LEAST, 1, 3, 5, 7],
-    &[LEAST, 2, 3, 6, 7],
+    &[LEAST, 1, 2, 5, 7],
+    &[LEAST, 6, 7],
     &[LEAST, 1, 2, 5, 6],
     &[LEAST],
 ];
@@ -151,10 +151,10 @@ fn a_connective_is_refused_where_it_copies_the_flagged_item(rt: HostRuntime) -> 
             table: *table,
             op: None,
             left: &[0, 2, 4, 6],
-            right: &[1, 3, 5, 7],
+            right: &[1, 2, 5, 7],
             first: &[-1],
             want,
-            most: 16,
+            most: 14,
         };
         assert_eq!(rt; first_wrong(rt.alloc(), &row)?, None, "{table:?}");
     }

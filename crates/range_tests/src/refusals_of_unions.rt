@@ -11,8 +11,8 @@ use range_collections::{ParseError, RangeSet, RangeSet2, RangeSetRange, RangeSet
 use std::alloc::{AllocError, Global};
 use std::test::Fail;
 
-// The set of a text, or the error unless it is want of memory.
-fn parsed(alloc: Global, text: &str) -> Result<Result<RangeSet2<i64>, ParseError>, AllocError> {
+// The set of a text, with one boundary inline, or the error unless it is want of memory.
+fn parsed(alloc: Global, text: &str) -> Result<Result<RangeSet<i64, 1>, ParseError>, AllocError> {
     match RangeSet::parse(alloc, text) {
         Err(ParseError::OutOfMemory) => Err(AllocError),
         made => Ok(made),
@@ -54,6 +54,8 @@ fn sets_of_many_are_refused_in_turn(rt: HostRuntime) -> Result<(), Fail> {
     assert!(rt; of_ranges, "ranges");
     let of_text = starved.refuses_in_turn(|| Some(()), |()| text_is(alloc, text, Some(want)));
     assert!(rt; of_text, "a text");
+    let of_range = starved.refuses_in_turn(|| Some(()), |()| text_is(alloc, "2..6", Some(&[2, 6])));
+    assert!(rt; of_range, "a text of one range");
     Ok(())
 }
 

@@ -93,6 +93,10 @@ fn ranges_and_runs_are_printed(rt: HostRuntime) {
     assert!(rt; prints(alloc, &Run::Both, "Both"));
 }
 
+fn malformed(at: usize, expected: Expected) -> ParseError {
+    ParseError::Malformed { at, expected }
+}
+
 #[test]
 fn errors_say_why(rt: HostRuntime) {
     let alloc = rt.alloc();
@@ -100,16 +104,19 @@ fn errors_say_why(rt: HostRuntime) {
     assert!(rt; says(alloc, &JsonError::NotArray, "the value is no array"));
     assert!(rt; says(alloc, &item, "item 12 is no whole number of 64 bits"));
     assert!(rt; says(alloc, &JsonError::OutOfMemory, "memory ran out"));
-    let dot = ParseError::Malformed {
-        at: 3,
-        expected: Expected::Dot,
-    };
-    assert!(rt; says(alloc, &dot, "a dot was expected at byte 3"));
-    assert!(rt;
-        says(
-            alloc,
-            &ParseError::OutOfRange,
-            "a number is past those of its type"
-        )
-    );
+    for (error, want) in [
+        (
+            malformed(0, Expected::Number),
+            "a number was expected at byte 0",
+        ),
+        (malformed(3, Expected::Dot), "a dot was expected at byte 3"),
+        (
+            malformed(12, Expected::Comma),
+            "a comma or the end was expected at byte 12",
+        ),
+        (ParseError::OutOfRange, "a number is past those of its type"),
+        (ParseError::OutOfMemory, "memory ran out"),
+    ] {
+        assert!(rt; says(alloc, &error, want), "{want}");
+    }
 }

@@ -8,7 +8,7 @@ ghost use Rattle.range_merge.specs.Connective.{Means, intersection_table, differ
 ghost use Rattle.range_collections.specs.Extent.{HasAllWithin};
 ghost use Rattle.range_collections.specs.Ranges.{ranges_of, range_items, IsInRange, IsEqualRange, EndsBelow};
 
-/// The gaps of a set within two ends are, in order and item by item, the ranges of the difference of that range and the set, and its ranges within them are those of the intersection.
+/// The gaps of a set within two ends equal, in order and one by one, the ranges of the difference of that range and the set, and its ranges within them those of the intersection.
 pub fn gaps_are_the_ranges_of_the_difference<T: Ord>()
     ensures gaps { (start end : T) (items gaps list : List T) →
         Means T.cmp difference_table gaps (range_items T.cmp start end) items →
@@ -20,7 +20,7 @@ pub fn gaps_are_the_ranges_of_the_difference<T: Ord>()
         AllZip (IsEqualRange T.cmp) (ranges_of parts) (ranges_of list) }
 {}
 
-/// The gaps of a set within two ends have together just the elements between them that are no members, and its ranges within them just those that are. Each of these ranges has an element, and each ends below the start of the next. Where the start is not below the end there are none.
+/// The gaps of a set within two ends have together just the elements between them that are no members, and its ranges within them just those that are. Each gap has an element, and ends below the start of the next. Where the start is not below the end there is no gap.
 pub fn gaps_have_what_is_not_in_the_set<T: Ord>()
     ensures gaps { (start end x : T) (items gaps : List T) →
         Means T.cmp difference_table gaps (range_items T.cmp start end) items →

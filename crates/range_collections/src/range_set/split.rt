@@ -9,7 +9,7 @@ use crate::range_set::RangeSet;
 use crate::view::RangeSetRef;
 
 impl<T: Ord, const N: usize> RangeSet<T, N> {
-    /// The least set with the same members below `at`, and the least one with the same members from `at` on. Both are slices of this set's list.
+    /// The shortest list with the same members below `at`, and the shortest one with the same members from `at` on. Both are slices of this set's list.
     #[inline]
     pub fn split(&self, at: T) -> (RangeSetRef<'_, T>, RangeSetRef<'_, T>)
     where

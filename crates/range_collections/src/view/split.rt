@@ -10,7 +10,7 @@ use crate::view::RangeSetRef;
 use range_merge::search;
 
 impl<'a, T: Ord> RangeSetRef<'a, T> {
-    /// The least set with the same members below `at`, and the least one with the same members from `at` on.
+    /// The shortest list with the same members below `at`, and the shortest one with the same members from `at` on.
     #[inline]
     pub fn split(&self, at: T) -> (RangeSetRef<'a, T>, RangeSetRef<'a, T>)
     where
