@@ -50,8 +50,8 @@ def _code(view):
     code = view.format.lstrip(_NATIVE)
     # On most systems 'l' and 'L' are 64 bits wide, too: numpy says these.
     code = {"l": "q", "L": "Q"}.get(code, code)
-    if code not in _NUMBERS or view.itemsize != 8 or view.ndim != 1 or not view.c_contiguous:
-        raise TypeError("a list of 64-bit whole numbers is wanted")
+    if code not in _NUMBERS or view.itemsize != 8:
+        raise TypeError("64-bit whole numbers are wanted")
     return code
 
 
@@ -69,6 +69,8 @@ class _List:
 
     def _borrow(self, writable):
         self.code = _code(self.view)
+        if self.view.ndim != 1 or not self.view.c_contiguous:
+            raise TypeError("a list is wanted whose numbers lie side by side")
         self.length = len(self.view)
         if writable and self.view.readonly:
             raise TypeError("the buffer can't be written to")
@@ -157,6 +159,8 @@ def _in_place(name, items, each):
     """The set that a call makes of a copy, in the copy's place, of things that are so many numbers each."""
     with memoryview(items) as view:
         code = _code(view)
+        if view.ndim != 1 and (each == 1 or view.shape[1:] != (each,)):
+            raise TypeError("a list is wanted, or of ranges a table with two columns")
         out = array(code, view.tobytes())
     if len(out) % each != 0:
         raise ValueError("a start and an end each are wanted")
@@ -217,7 +221,10 @@ def gaps(a, start, end, out=None):
 
 
 def from_ranges(numbers):
-    """The numbers that some range holds, of ranges in any order: a start and an end in turn. A new array."""
+    """The numbers that some range holds, of ranges in any order: a start and an end in turn, or a table with a row for each.
+
+    A new array.
+    """
     return _in_place("from_ranges", numbers, 2)
 
 

@@ -70,6 +70,15 @@ class Rows(unittest.TestCase):
         with self.assertRaises(ValueError):
             sets.from_ranges(q(1, 2, 3))
 
+    def test_tables_of_ranges(self):
+        def table(columns):
+            return memoryview(q(20, 30, 9, 12, 11, 15)).cast("B").cast("q", shape=[6 // columns, columns])
+
+        self.assertEqual(sets.from_ranges(table(2)), q(9, 15, 20, 30))
+        for call, columns in ((sets.from_ranges, 1), (sets.from_ranges, 3), (sets.from_unsorted, 1), (sets.from_unsorted, 2), (sets.ranges, 2)):
+            with self.subTest(call=call.__name__, columns=columns), self.assertRaises(TypeError):
+                call(table(columns))
+
     def test_into_a_buffer(self):
         out = q(7, 7, 7, 7, 7)
         self.assertEqual(sets.symmetric_difference(q(0, 10), q(5, 20), out), 4)

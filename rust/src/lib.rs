@@ -10,7 +10,7 @@ mod number;
 use number::{Calls, Operation, Question};
 use std::fmt;
 
-/// The types of numbers: `i64` and `u64`.
+/// The types of numbers: `i64` and `u64`. Other crates can't add one.
 pub trait Number: Calls {}
 
 impl Number for i64 {}

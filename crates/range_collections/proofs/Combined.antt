@@ -1,20 +1,23 @@
 -- Any connective of two sets: what the changes of one mean, and what becomes of them where the connective is on while both sides are off.
-use Rattle.std.proofs.Common.{◌≡◌, ◌↔◌, refl, sym, ap, ap₂, ◌∙◌, ℕ, Bool, true, false, not, List, [], ◌∷◌, length, drop, All, Result, Ok, Err, IsOk, IfOk, true≢false}
+use Rattle.std.proofs.Common.{◌≡◌, ◌↔◌, refl, sym, ap, ap₂, ◌∙◌, ℕ, Bool, true, false, not, List, [], ◌∷◌, length, All, Contains, subst, arith, Result, IsOk, IfOk, true≢false}
 use Rattle.std.specs.List.{AllZip}
 use Rattle.std.specs.Cmp.{IsTotalOrder}
 use Rattle.std.proofs.lemmas.List.{length-map}
-use Rattle.std.proofs.lemmas.List.Elements.{length_all_zip}
+use Rattle.std.proofs.lemmas.List.Elements.{All-head, All-tail, All-map, All-weaker, All-contains_itself, length_all_zip}
 use Rattle.std.proofs.lemmas.Result.{IfOk-weaker}
 use Rattle.std.specs.declared.alloc.AllocError.{AllocError}
 use Rattle.std.specs.declared.cmp.Ordering.{Ordering}
 use Rattle.std.specs.declared.cmp.Ordering.TheVariants.{Equal}
 use Rattle.range_merge.specs.Boundaries.{IsAscending, IsSameSet, member}
-use Rattle.range_merge.specs.Changes.{Taken, taken_item, taken_items}
+use Rattle.range_merge.specs.Changes.{Taken, from_left, from_right, taken_item, taken_items, IsMarkedTruly}
+use Rattle.range_merge.specs.Copies.{AreCopies}
 use Rattle.range_merge.specs.Connective.{Table, Means, opposite, table_of, union_table}
+use Rattle.range_merge.proofs.Orders.{Equal-sym}
 use Rattle.range_merge.proofs.SameSet.{same_items, IsSameSet-from_items}
 use Rattle.range_collections.specs.Sets.{AreEqual}
-use Rattle.range_collections.specs.Values.{BeginsAt, HasLeastInFront, IsFlipped, Negates, MeansAmong, GivesNegation, IsEverything}
-use Rattle.range_collections.proofs.Values.{not-not, IsAscending-equal, AreEqual-both, AreEqual-rest, AreEqual-self, BeginsAt-equal, IfOk-values, IfOk-removed, IfOk-put, same_values}
+use Rattle.range_collections.specs.Values.{AreFlipped, Negates, MeansAmong, GivesNegation, IsEverything}
+use Rattle.range_collections.proofs.Distinct.{same-contained}
+use Rattle.range_collections.proofs.Values.{not-not, IsAscending-equal, All-equal, All-flipped, same_values}
 
 -- truths
 
@@ -35,12 +38,16 @@ either false = refl
 
 -- lists
 
+-- what holds of each that was taken and of its copy holds of its item
+AllZip-taken : {K : Type 0} (R : K → K → Type 0) (ts : List (Taken K)) (xs : List K) → AllZip (λ t x. R (taken_item t) x) ts xs → AllZip R (taken_items ts) xs
+AllZip-taken R [] [] h = tt
+AllZip-taken R [] (x ∷ xs) h = absurd h
+AllZip-taken R (t ∷ ts) [] h = absurd h
+AllZip-taken R (t ∷ ts) (x ∷ xs) h = (h.0, AllZip-taken R ts xs h.1)
+
 module _ {K : Type 0} (order : K → K → Ordering) where
   pub AreEqual-copies : (ts : List (Taken K)) (xs : List K) → AllZip (λ t x. order (taken_item t) x ≡ Equal) ts xs → AreEqual order (taken_items ts) xs
-  AreEqual-copies [] [] h = tt
-  AreEqual-copies [] (x ∷ xs) h = absurd h
-  AreEqual-copies (t ∷ ts) [] h = absurd h
-  AreEqual-copies (t ∷ ts) (x ∷ xs) h = (h.0, AreEqual-copies ts xs h.1)
+  AreEqual-copies ts xs h = AllZip-taken (λ x y. order x y ≡ Equal) ts xs h
 
   pub length-merged : (ts : List (Taken K)) (m : List K) → AreEqual order (taken_items ts) m → length m ≡ length ts
   length-merged ts m h = sym (length_all_zip (λ x y. order x y ≡ Equal) (taken_items ts) m h) ∙ length-map ts taken_item
@@ -90,20 +97,6 @@ module _ {K : Type 0} {order : K → K → Ordering} (o : IsTotalOrder order) wh
     IfOk-negated f xs m a b r on h means =
         IfOk-weaker r (λ i. Negates order is_value i m) (λ i. MeansAmong order is_value f i a b) (λ i. MeansAmong-negated f xs m i a b on h means)
 
-  -- a list is flipped as one that is equal to it
-  IsFlipped-equal : (least : K) (xs m r : List K) → AreEqual order xs m → IsFlipped order least m r → IsFlipped order least xs r
-  IsFlipped-equal least xs m r h w = record {
-    removed = λ s. AreEqual-both o r (drop 1 xs) (drop 1 m) (w.removed ((BeginsAt-equal o least xs m h).0 s)) (AreEqual-rest o xs m h);
-    put = λ n. AreEqual-both o r (least ∷ xs) (least ∷ m) (w.put (λ s. n ((BeginsAt-equal o least xs m h).1 s))) ((AreEqual-self o (least ∷ [])).0, h);
-  }
-
-  pub IfOk-flipped : (least : K) (xs m : List K) (r : Result (List K) AllocError) → AreEqual order xs m →
-      (BeginsAt order least m → IfOk r (λ i. i ≡ drop 1 m)) → (¬ (BeginsAt order least m) → IfOk r (λ i. HasLeastInFront order least m i)) →
-      IfOk r (λ i. IsFlipped order least xs i)
-  IfOk-flipped least xs m (Ok i) h removed put =
-      IsFlipped-equal least xs m i h (record { removed = λ s. IfOk-removed o m (Ok i) (removed s); put = λ n. IfOk-put o least m (Ok i) (put n) })
-  IfOk-flipped least xs m (Err e) h removed put = tt
-
   -- negation as the connective "not left"
 
   pub Negates-not_left : (is_value : K → Type 0) (r a b : List K) →
@@ -119,28 +112,58 @@ module _ {K : Type 0} {order : K → K → Ordering} (o : IsTotalOrder order) wh
       same_items o a xs up m.sorted
       (λ x. sym (m.members x ∙ ap not (not_left (member order a x) (member order b x)) ∙ not-not (member order a x)))
 
-  pub GivesNegation-combined : (is_value : K → Type 0) (least : K) (infallible : Type 0) (xs a b : List K) (r : Result (List K) AllocError) →
-      is_value least → AreEqual order a xs → IfOk r (λ i. MeansAmong order is_value (table_of true false true false) i a b) → IfOk r (λ i. IsFlipped order least xs i) →
-      (infallible → IsOk r) → GivesNegation order is_value least infallible a r
-  GivesNegation-combined is_value least infallible xs a b r value h means flipped succeeds = record {
-    negates =
-        IfOk-weaker r (λ i. MeansAmong order is_value (table_of true false true false) i a b) (λ i. Negates order is_value i a)
-        (λ i m. (Negates-not_left is_value i a b).1 m) means;
-    removed = removed;
-    put = put;
-    values = λ equals v. IfOk-values o is_value equals least value a r v removed put;
-    succeeds = succeeds;
-  }
+  -- what is taken of a list alone is its own items
+  taken-of_left : (a b : List K) → b ≡ [] → (t : Taken K) → IsMarkedTruly order a b t → Contains a (taken_item t)
+  taken-of_left a b none (from_left x) h = h
+  taken-of_left a b none (from_right y) h = absurd (not_in_nothing (subst (λ l. Contains l y) none h.0))
     where
-      removed : BeginsAt order least a → IfOk r (λ i. AreEqual order i (drop 1 a))
-      removed s =
-          IfOk-weaker r (λ i. IsFlipped order least xs i) (λ i. AreEqual order i (drop 1 a))
-          (λ i w. (IsFlipped-equal least a xs i h w).removed s) flipped
+      not_in_nothing : Contains [] y → ⊥
+      not_in_nothing (k, within, is) = absurd (omega arith)
 
-      put : ¬ (BeginsAt order least a) → IfOk r (λ i. AreEqual order i (least ∷ a))
-      put n =
-          IfOk-weaker r (λ i. IsFlipped order least xs i) (λ i. AreEqual order i (least ∷ a))
-          (λ i w. (IsFlipped-equal least a xs i h w).put n) flipped
+  same_items-contained : (a ys xs : List K) → IsAscending order a → All (Contains a) ys → All (Contains a) xs → AreEqual order ys xs → xs ≡ ys
+  same_items-contained a [] [] up p q h = refl
+  same_items-contained a [] (x ∷ xs) up p q h = absurd h
+  same_items-contained a (y ∷ ys) [] up p q h = absurd h
+  same_items-contained a (y ∷ ys) (x ∷ xs) up p q h =
+      ap₂ (λ z zs. z ∷ zs)
+      (sym (same-contained o a y x up (All-head (Contains a) y ys p) (All-head (Contains a) x xs q) h.0))
+      (same_items-contained a ys xs up (All-tail (Contains a) y ys p) (All-tail (Contains a) x xs q) h.1)
+
+  pub taken-not_left : (a b : List K) (ts : List (Taken K)) → b ≡ [] → IsAscending order a → All (IsMarkedTruly order a b) ts → AreEqual order a (taken_items ts) →
+      taken_items ts ≡ a
+  taken-not_left a b ts none up marks h =
+      same_items-contained a a (taken_items ts) up (All-contains_itself a)
+      (All-map (Contains a) taken_item ts (All-weaker (IsMarkedTruly order a b) (λ t. Contains a (taken_item t)) (taken-of_left a b none) ts marks)) h
+
+  module _ (is_value : K → Type 0) {is_copy : K → K → Type 0} (equal : (x y : K) → is_copy x y → order x y ≡ Equal) (least : K) (value : is_value least)
+      (a b : List K) (ts : List (Taken K)) (same : taken_items ts ≡ a) where
+    copies_of : (copies : List K) → AreCopies is_copy ts copies → AllZip is_copy a copies
+    copies_of copies h = subst (λ xs. AllZip is_copy xs copies) same (AllZip-taken is_copy ts copies h)
+
+    equal_to : (xs copies : List K) → AllZip is_copy xs copies → AreEqual order copies xs
+    equal_to [] [] h = tt
+    equal_to [] (y ∷ ys) h = absurd h
+    equal_to (x ∷ xs) [] h = absurd h
+    equal_to (x ∷ xs) (y ∷ ys) h = (Equal-sym o x y (equal x y h.0), equal_to xs ys h.1)
+
+    pub GivesNegation-combined : (infallible : Type 0) (r : Result (List K) AllocError) →
+        IfOk r (λ i. MeansAmong order is_value (table_of true false true false) i a b) → IfOk r (λ i. AreFlipped order least (AreCopies is_copy ts) i) →
+        (infallible → IsOk r) → GivesNegation order is_value is_copy least infallible a r
+    GivesNegation-combined infallible r means flipped succeeds = record {
+      negates =
+          IfOk-weaker r (λ i. MeansAmong order is_value (table_of true false true false) i a b) (λ i. Negates order is_value i a)
+          (λ i m. (Negates-not_left is_value i a b).1 m) means;
+      flipped = of_own;
+      values = λ equals v.
+          IfOk-weaker r (λ i. AreFlipped order least (AllZip is_copy a) i) (λ i. All is_value i)
+          (λ i (copies, h, w). All-flipped o is_value equals least value copies i (All-equal o is_value equals copies a (equal_to a copies h) v) w) of_own;
+      succeeds = succeeds;
+    }
+      where
+        of_own : IfOk r (λ i. AreFlipped order least (AllZip is_copy a) i)
+        of_own =
+            IfOk-weaker r (λ i. AreFlipped order least (AreCopies is_copy ts) i) (λ i. AreFlipped order least (AllZip is_copy a) i)
+            (λ i (copies, h, w). (copies, copies_of copies h, w)) flipped
 
   -- laws
 

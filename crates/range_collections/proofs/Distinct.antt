@@ -54,6 +54,20 @@ module _ {K : Type 0} {order : K → K → Ordering} (o : IsTotalOrder order) wh
   not_tied x y l m =
       let e : Less ≡ Equal = sym l ∙ tied_back o y x m in cc
 
+  -- of two equal items of an ascending list each is the other
+  pub same-contained : (a : List K) (y x : K) → IsAscending order a → Contains a y → Contains a x → order y x ≡ Equal → y ≡ x
+  same-contained [] y x up (k, within, is) q e = absurd (omega arith)
+  same-contained (z ∷ a) y x up p q e =
+      Contains-cons_cases order z a y p
+      (λ z-y.
+      Contains-cons_cases order z a x q
+      (λ z-x. sym z-y ∙ z-x)
+      (λ later. absurd (not_tied y x (subst (λ w. order w x ≡ Less) z-y (Less-contained order z a x up later)) (tied_back o y x e))))
+      (λ in_rest.
+      Contains-cons_cases order z a x q
+      (λ z-x. absurd (not_tied x y (subst (λ w. order w y ≡ Less) z-x (Less-contained order z a y up in_rest)) e))
+      (λ later. same-contained a y x (IsAscending-tail order z a up) in_rest later e))
+
   -- the distinct items of an ascending list are its items
   pub AllZip-distinct : (xs ys : List K) → IsAscending order xs → AreDistinctOf order xs ys → AllZip (λ x y. order x y ≡ Equal) xs ys
   AllZip-distinct [] [] up h = tt

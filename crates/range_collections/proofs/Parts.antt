@@ -1,5 +1,5 @@
 -- The parts of a range that are in a set, or those that are not: the boundaries between its start and its end, with the ends that are put.
-use Rattle.std.proofs.Common.{◌≡◌, refl, sym, ap, ap₂, ◌∙◌, subst, ℕ, suc, ◌<◌, ◌≤◌, ◌+◌, ◌-◌, ◌%◌, ◌==◌, Option, Some, None, Bool, true, false, not, cond, ◌&&◌, List, [], ◌∷◌, ◌++◌, length, take, drop, get_or, arith, All, get_or-take, get_or-drop, length-drop, length-append}
+use Rattle.std.proofs.Common.{◌≡◌, refl, sym, ap, ap₂, ◌∙◌, subst, ℕ, suc, ◌<◌, ◌≤◌, ◌+◌, ◌-◌, ◌%◌, ◌==◌, Option, Some, None, Bool, true, false, not, cond, ◌&&◌, List, [], ◌∷◌, ◌++◌, length, take, drop, get_or, arith, All, get_or-take, get_or-drop, length-drop, length-append, ◌≢◌, Contains, inl, inr}
 use Rattle.std.specs.List.{AllWithin}
 use Rattle.std.specs.Borrow.{Bor}
 use Rattle.std.specs.Bool.{then_some}
@@ -8,8 +8,9 @@ use Rattle.std.proofs.Math.Bool.{beq}
 use Rattle.std.specs.Ordering.{is_le, is_lt}
 use Rattle.std.specs.Cmp.{IsTotalOrder}
 use Rattle.std.proofs.lemmas.List.{length-take-le}
-use Rattle.std.proofs.lemmas.List.Elements.{All-nil, All-cons, All-append, All-weaker}
+use Rattle.std.proofs.lemmas.List.Elements.{All-nil, All-cons, All-append, All-take, All-drop, All-weaker, All-contains_itself}
 use Rattle.std.specs.declared.cmp.Ordering.{Ordering}
+use Rattle.std.specs.declared.ops.Range.{Range as Ends}
 use Rattle.std.specs.declared.cmp.Ordering.TheVariants.{Less, Equal, Greater}
 use Rattle.range_merge.specs.Boundaries.{IsAscending, member, count_up_to, is_odd}
 use Rattle.range_merge.specs.Connective.{Means, differ}
@@ -17,8 +18,9 @@ use Rattle.range_merge.proofs.Members.{by_Ordering, member-nil}
 use Rattle.range_merge.proofs.Orders.{Greater-from_less, Less-from_greater, Equal-sym}
 use Rattle.range_merge.proofs.Pairs.{AllPairs-drop}
 use Rattle.range_merge.proofs.Parity.{is_odd-add, is_odd-suc, differ-self}
+use Rattle.range_collections.specs.InPlace.{IsOwnElse, AreOwnElseOf}
 use Rattle.range_collections.specs.Ranges.{range_items}
-use Rattle.range_collections.specs.Within.{within_table, lent_items}
+use Rattle.range_collections.specs.Within.{within_table, lent_items, GivesParts}
 use Rattle.range_collections.proofs.Ascending.{IsAscending-nil}
 use Rattle.range_collections.proofs.Cut.{IsAscending-take, count_up_to-front}
 use Rattle.range_collections.proofs.Insertion.{IsAscending-append, same_from_beq, other_from_beq}
@@ -43,6 +45,12 @@ solved true true r e = rw (sym e) refl
 solved true false r e = rw (sym e) refl
 solved false true r e = rw (sym e) refl
 solved false false r e = rw (sym e) refl
+
+not_equal-less : (r : Ordering) → r ≡ Less → r ≢ Equal
+not_equal-less r less e = cc
+
+not_equal-greater : (r : Ordering) → r ≡ Greater → r ≢ Equal
+not_equal-greater r greater e = cc
 
 is_odd-same : (m n : ℕ) → m % 2 ≡ n % 2 → is_odd m ≡ is_odd n
 is_odd-same m n e = ap (λ k. k == 1) e
@@ -183,8 +191,26 @@ module _ {K : Type 0} {order : K → K → Ordering} (o : IsTotalOrder order) wh
         Equal-le : (x : K) → order x end ≡ Equal → is_le (order end x) ≡ true
         Equal-le x u = ap is_le (Equal-sym o x end u)
 
-    pub Means-parts : Means order (within_table inside) parts (range_items order start end) xs
+    Means-parts : Means order (within_table inside) parts (range_items order start end) xs
     Means-parts = record { sorted = sorted; members = members }
+
+    apart : (y : K) → order start y ≡ Less → order y end ≡ Less → All (λ x. order x y ≢ Equal) (range_items order start end)
+    apart y above below =
+        let Apart : K → Type 0 = λ x. order x y ≢ Equal in
+        rw range_is
+        (All-cons Apart start (end ∷ []) (not_equal-less (order start y) above)
+        (All-cons Apart end [] (not_equal-greater (order end y) (Greater-from_less o y end below)) (All-nil Apart)))
+
+    -- the ends that are put are the range's own, and those between them equal neither
+    AreOwnElseOf-parts : AreOwnElseOf order (range_items order start end) xs parts
+    AreOwnElseOf-parts =
+        let Own = IsOwnElse order (Contains xs) (range_items order start end) in
+        let of_set : All (Contains xs) between = All-take (Contains xs) (m - n) (drop n xs) (All-drop (Contains xs) n xs (All-contains_itself xs)) in
+        All-append Own (option_to_list s) (between ++ option_to_list e)
+        (all_start Own (inl (rw range_is (0, omega arith, refl))))
+        (All-append Own between (option_to_list e)
+        (λ k d low. inr (of_set k d low, apart (get_or between k d) (above_start k d low) (below_end k d low)))
+        (all_end Own (inl (rw range_is (1, omega arith, refl)))))
 
     pub is_even-parts : is_odd (length parts) ≡ false
     is_even-parts =
@@ -195,13 +221,20 @@ module _ {K : Type 0} {order : K → K → Ordering} (o : IsTotalOrder order) wh
         ∙ is_odd-add (n + length (option_to_list s)) (m + length (option_to_list e))
         ∙ ap₂ differ put_s put_e ∙ differ-self (not inside)
 
-  -- a range whose start isn't below its end has no parts
-  pub Means-nothing : (inside : Bool) (start end : K) (xs : List K) → is_lt (order start end) ≡ false → Means order (within_table inside) [] (range_items order start end) xs
+  Means-nothing : (inside : Bool) (start end : K) (xs : List K) → is_lt (order start end) ≡ false → Means order (within_table inside) [] (range_items order start end) xs
   Means-nothing inside start end xs off = record {
     sorted = IsAscending-nil order;
     members = λ x.
         member-nil order x
         ∙ sym (ap (λ b. within_table inside b (member order xs x)) (ap (λ b. member order (cond b (start ∷ end ∷ []) []) x) off ∙ member-nil order x) ∙ table_out inside (member order xs x));
+  }
+
+  -- a range whose start isn't below its end has no parts
+  pub GivesParts-nothing : (inside : Bool) (within : Ends (Bor K)) (xs : List K) → is_lt (order within.start.now within.end.now) ≡ false →
+      GivesParts order (within_table inside) within xs []
+  GivesParts-nothing inside within xs off = record {
+    means = Means-nothing inside within.start.now within.end.now xs off;
+    own_ends = All-nil (IsOwnElse order (Contains xs) (range_items order within.start.now within.end.now));
   }
 
 -- ---- an end that is put where the count at it is as odd as it should be
@@ -231,10 +264,13 @@ module _ {K : Type 0} {order : K → K → Ordering} (o : IsTotalOrder order) wh
       (within_n : n ≤ length xs) (before_n : AllWithin (λ y. is_le (order y start.now) ≡ true) xs 0 n) (from_n : AllWithin (λ y. order y start.now ≡ Greater) xs n (length xs))
       (within_m : m ≤ length xs) (before_m : AllWithin (λ y. order y end.now ≡ Less) xs 0 m) (from_m : AllWithin (λ y. is_le (order end.now y) ≡ true) xs m (length xs))
       (inside s e : Bool) (put_s : s ≡ beq (is_odd n) inside) (put_e : e ≡ beq (is_odd m) inside) where
-    pub Means-lent : Means order (within_table inside) (lent_items (then_some s start) (take (m - n) (drop n xs)) (then_some e end)) (range_items order start.now end.now) xs
-    Means-lent =
-        Means-parts o start.now end.now xs n m up less within_n before_n from_n within_m before_m from_m inside _ _
-        (All-put start s) (All-put end e) (is_odd-put start n inside s put_s) (is_odd-put end m inside e put_e)
+    pub GivesParts-lent : GivesParts order (within_table inside) (record { start = start; end = end }) xs (lent_items (then_some s start) (take (m - n) (drop n xs)) (then_some e end))
+    GivesParts-lent = record {
+      means = Means-parts o start.now end.now xs n m up less within_n before_n from_n within_m before_m from_m inside _ _
+          (All-put start s) (All-put end e) (is_odd-put start n inside s put_s) (is_odd-put end m inside e put_e);
+      own_ends = AreOwnElseOf-parts o start.now end.now xs n m up less within_n before_n from_n within_m before_m from_m inside _ _
+          (All-put start s) (All-put end e) (is_odd-put start n inside s put_s) (is_odd-put end m inside e put_e);
+    }
 
     pub is_even-lent : is_odd (length (lent_items (then_some s start) (take (m - n) (drop n xs)) (then_some e end))) ≡ false
     is_even-lent =

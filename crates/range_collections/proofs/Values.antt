@@ -1,10 +1,9 @@
 -- Sets among values: the least value in front, negation, and lists of values with the same members among them.
-use Rattle.std.proofs.Common.{◌≡◌, ◌≢◌, ◌↔◌, IsTrue, refl, sym, ap, ap₂, ◌∙◌, Result, Ok, Err, IfOk, rules, Bool, true, false, not, ◌&&◌, List, [], ◌∷◌, ◌<◌, length, get_or, drop, arith, All, subst, ◌≤◌, true≢false}
+use Rattle.std.proofs.Common.{◌≡◌, ◌≢◌, ◌↔◌, IsTrue, refl, sym, ap, ap₂, ◌∙◌, Ok, rules, Bool, true, false, not, ◌&&◌, List, [], ◌∷◌, ◌<◌, length, get_or, drop, arith, All, subst, ◌≤◌, true≢false}
 use Rattle.std.specs.List.{AllZip, HoldsAt, insert, remove}
 use Rattle.std.specs.Cmp.{IsTotalOrder}
 use Rattle.std.specs.Ordering.{is_le, is_lt}
 use Rattle.std.proofs.lemmas.List.Elements.{All-nil, All-cons, All-head, All-tail, AllZip-get_or, length_all_zip}
-use Rattle.std.specs.declared.alloc.AllocError.{AllocError}
 use Rattle.std.specs.declared.cmp.Ordering.{Ordering}
 use Rattle.std.specs.declared.cmp.Ordering.TheVariants.{Less, Equal, Greater}
 use Rattle.range_merge.specs.Boundaries.{IsAscending, member}
@@ -13,7 +12,7 @@ use Rattle.range_merge.proofs.Members.{member-nil, member-cons, member-above, by
 use Rattle.range_merge.proofs.Orders.{Greater-from_less, Less-from_greater, Equal-sym, Equal-self, same_left, same_right, Less-then_equal, Less-from_equal}
 use Rattle.range_merge.proofs.SameSet.{same_items, IsSameSet-from_items, member-head, differ-cancel, member-before}
 use Rattle.range_collections.specs.Sets.{AreEqual}
-use Rattle.range_collections.specs.Values.{BeginsAt, BeginsWithValue, HasLeastInFront, EqualsAreValues, Negates, GivesOwnNegation, AreSameAmongValues, IsEverything}
+use Rattle.range_collections.specs.Values.{BeginsAt, BeginsWithValue, HasLeastInFront, IsFlipped, EqualsAreValues, Negates, GivesOwnNegation, AreSameAmongValues, IsEverything}
 use Rattle.range_collections.proofs.Ascending.{IsAscending-nil, IsAscending-head, IsAscending-tail, IsAscending-cons}
 use Rattle.range_merge.proofs.Parity.{differ-false}
 use Rattle.range_merge.proofs.ChangesLemmas.{and-false}
@@ -52,32 +51,6 @@ module _ {K : Type 0} {order : K → K → Ordering} (o : IsTotalOrder order) wh
       ∙ sym (same_right o (get_or a j d) (get_or b j d) (get_or a i d) there)
       ∙ up i j d below (omega arith)
 
-  -- what equals b equals what b is equal to
-  pub AreEqual-both : (r a b : List K) → AreEqual order r b → AreEqual order a b → AreEqual order r a
-  AreEqual-both [] [] b h k = tt
-  AreEqual-both [] (x ∷ xs) [] h k = absurd k
-  AreEqual-both [] (x ∷ xs) (y ∷ ys) h k = absurd h
-  AreEqual-both (z ∷ zs) [] [] h k = absurd h
-  AreEqual-both (z ∷ zs) [] (y ∷ ys) h k = absurd k
-  AreEqual-both (z ∷ zs) (x ∷ xs) [] h k = absurd h
-  AreEqual-both (z ∷ zs) (x ∷ xs) (y ∷ ys) h k = (same_right o x y z k.0 ∙ h.0, AreEqual-both zs xs ys h.1 k.1)
-
-  pub AreEqual-self : (a : List K) → AreEqual order a a
-  AreEqual-self [] = tt
-  AreEqual-self (x ∷ xs) = (Equal-self o x, AreEqual-self xs)
-
-  pub AreEqual-rest : (a b : List K) → AreEqual order a b → AreEqual order (drop 1 a) (drop 1 b)
-  AreEqual-rest [] [] h = tt
-  AreEqual-rest [] (y ∷ ys) h = absurd h
-  AreEqual-rest (x ∷ xs) [] h = absurd h
-  AreEqual-rest (x ∷ xs) (y ∷ ys) h = h.1
-
-  pub BeginsAt-equal : (least : K) (a b : List K) → AreEqual order a b → BeginsAt order least a ↔ BeginsAt order least b
-  BeginsAt-equal least [] [] h = (λ n. n, λ n. n)
-  BeginsAt-equal least [] (y ∷ ys) h = absurd h
-  BeginsAt-equal least (x ∷ xs) [] h = absurd h
-  BeginsAt-equal least (x ∷ xs) (y ∷ ys) h = (λ e. sym (same_left o x y least h.0) ∙ e, λ e. same_left o x y least h.0 ∙ e)
-
   -- the first item removed, and an item put in front
   remove-first : (a : List K) → remove a 0 ≡ drop 1 a
   remove-first [] = refl
@@ -98,7 +71,7 @@ module _ {K : Type 0} {order : K → K → Ordering} (o : IsTotalOrder order) wh
 
   module _ (is_value : K → Type 0) (equals : EqualsAreValues order is_value) where
     -- a list equal to one of values is one of values
-    All-equal : (r a : List K) → AreEqual order r a → All is_value a → All is_value r
+    pub All-equal : (r a : List K) → AreEqual order r a → All is_value a → All is_value r
     All-equal [] [] h v = All-nil is_value
     All-equal [] (y ∷ ys) h v = absurd h
     All-equal (x ∷ xs) [] h v = absurd h
@@ -110,24 +83,14 @@ module _ {K : Type 0} {order : K → K → Ordering} (o : IsTotalOrder order) wh
     All-rest (x ∷ xs) v = All-tail is_value x xs v
 
     -- with the least value in front or removed it is one of values still
-    pub IfOk-values : (least : K) → is_value least → (a : List K) (r : Result (List K) AllocError) → All is_value a →
-        (BeginsAt order least a → IfOk r (λ i. AreEqual order i (drop 1 a))) → (¬ (BeginsAt order least a) → IfOk r (λ i. AreEqual order i (least ∷ a))) →
-        IfOk r (λ i. All is_value i)
-    IfOk-values least value a (Err e) v removed put = tt
-    IfOk-values least value a (Ok i) v removed put =
+    pub All-flipped : (least : K) → is_value least → (a i : List K) → All is_value a → IsFlipped order least a i → All is_value i
+    All-flipped least value a i v w =
         by_BeginsAt least a
-        (λ h. All-equal i (drop 1 a) (removed h) (All-rest a v))
-        (λ n. All-equal i (least ∷ a) (put n) (All-cons is_value least a value v))
-
-  -- the set's own items are equal to themselves
-  pub IfOk-removed : (a : List K) (r : Result (List K) AllocError) → IfOk r (λ i. i ≡ drop 1 a) → IfOk r (λ i. AreEqual order i (drop 1 a))
-  IfOk-removed a (Ok i) is = rw is (AreEqual-self (drop 1 a))
-  IfOk-removed a (Err e) is = tt
-
-  pub IfOk-put : (least : K) (a : List K) (r : Result (List K) AllocError) → IfOk r (λ i. HasLeastInFront order least a i) →
-      IfOk r (λ i. AreEqual order i (least ∷ a))
-  IfOk-put least a (Ok i) (x, e, is) = rw is (e, AreEqual-self a)
-  IfOk-put least a (Err e) h = tt
+        (λ h. rw (w.removed h) (All-rest a v))
+        (λ n. in_front (w.put n))
+      where
+        in_front : HasLeastInFront order least a i → All is_value i
+        in_front (x, e, is) = rw is (All-cons is_value x a (equals least x (Equal-sym o x least e) value) v)
 
   pub IsAscending-one : (x : K) → IsAscending order (x ∷ [])
   IsAscending-one x = IsAscending-cons order x [] (All-nil (λ y. order x y ≡ Less)) (IsAscending-nil order)
@@ -288,8 +251,7 @@ module _ {K : Type 0} {order : K → K → Ordering} (o : IsTotalOrder order) (i
       let own : r ≡ drop 1 a = is ∙ remove-first o l ∙ ap (drop 1) la in
       record {
         negates = rw (← la, is) (Negates-removed l here up);
-        removed = λ _. own;
-        put = λ n. absurd (n (subst P la here));
+        flipped = record { removed = λ _. own; put = λ n. absurd (n (subst P la here)) };
         values = λ equals v. rw own (All-rest o is_value equals a v);
         succeeds = λ _. search rules;
       }
@@ -304,8 +266,7 @@ module _ {K : Type 0} {order : K → K → Ordering} (o : IsTotalOrder order) (i
       let own : r ≡ y ∷ a = is ∙ insert-front o y l ∙ ap (λ m. y ∷ m) la in
       record {
         negates = rw (← la, is) (Negates-inserted y l e up (subst P bl v) elsewhere);
-        removed = λ h. absurd (elsewhere (subst Q (sym la) h));
-        put = λ _. (y, e, own);
+        flipped = record { removed = λ h. absurd (elsewhere (subst Q (sym la) h)); put = λ _. (y, e, own) };
         values = λ equals v. rw own (All-cons is_value y a (equals least y (Equal-sym o y least e) value) v);
         succeeds = λ _. search rules;
       }

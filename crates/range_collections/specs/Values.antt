@@ -3,19 +3,20 @@
 --     AreSameAmongValues order is_value a b       both have the same members among values
 --     IsEverything order is_value items           every value is a member
 --     BeginsAt order least a                      the first item of a equals the least value
---     IsFlipped order least xs items              the items equal xs with the least value removed from the front, or put there
+--     IsFlipped order least xs items              the items are xs with the least value removed from the front, or put there
+--     AreFlipped order least IsList items         the same of a list of which IsList holds
 --     MeansAmong order is_value f items a b       the members of items are f of the members of a and b, among values where f is on while both sides are off
 --     HasLeastInFront order least rest items      the items are `rest` with an item in front that equals the least value
 --     EqualsAreValues order is_value              whatever equals a value is a value
---     GivesNegation order is_value least infallible a r what `!` answers of a set by reference: the negation and its list, or want of memory unless it is infallible
+--     GivesNegation order is_value is_copy least infallible a r what `!` answers of a set by reference: the negation and its list, or want of memory unless it is infallible
 --     GivesOwnNegation ..                         what `!` answers of a set that is handed over: the same, with the set's own items
 use Rattle.std.specs.Prelude.{◌≡◌, true, false, not, List, [], ◌∷◌, drop, All, Result, IsOk, IfOk}
+use Rattle.std.specs.List.{AllZip}
 use Rattle.std.specs.declared.alloc.AllocError.{AllocError}
 use Rattle.std.specs.declared.cmp.Ordering.{Ordering}
 use Rattle.std.specs.declared.cmp.Ordering.TheVariants.{Equal}
 use Rattle.range_merge.specs.Boundaries.{IsAscending, member}
 use Rattle.range_merge.specs.Connective.{Table}
-use Rattle.range_collections.specs.Sets.{AreEqual}
 
 module _ {K : Type 0} (order : K → K → Ordering) where
   -- the first item equals the least value
@@ -23,14 +24,18 @@ module _ {K : Type 0} (order : K → K → Ordering) where
   BeginsAt least [] = ⊥
   BeginsAt least (x ∷ xs) = order x least ≡ Equal
 
-  -- the items equal, one by one, xs with a first item that is the least value removed, or else with the least value in front
-  pub record IsFlipped (least : K) (xs items : List K) : Type 0 where
-    pub removed : BeginsAt least xs → AreEqual order items (drop 1 xs)
-    pub put : ¬ (BeginsAt least xs) → AreEqual order items (least ∷ xs)
-
   -- the items are `rest` itself, and in front of it an item that equals the least value
   abbrev pub HasLeastInFront : K → List K → List K → Type 0
   HasLeastInFront least rest items = (x : K) × (order x least ≡ Equal) × (items ≡ x ∷ rest)
+
+  -- the items are xs itself with a first item that equals the least value removed, or else with such an item in front
+  pub record IsFlipped (least : K) (xs items : List K) : Type 0 where
+    pub removed : BeginsAt least xs → items ≡ drop 1 xs
+    pub put : ¬ (BeginsAt least xs) → HasLeastInFront least xs items
+
+  -- the items are a list of which IsList holds, flipped so
+  abbrev pub AreFlipped : K → (List K → Type 0) → List K → Type 0
+  AreFlipped least IsList items = (xs : List K) × IsList xs × IsFlipped least xs items
 
   module _ (is_value : K → Type 0) where
     -- whatever equals a value is a value
@@ -61,12 +66,11 @@ module _ {K : Type 0} (order : K → K → Ordering) where
     abbrev pub IsEverything : List K → Type 0
     IsEverything items = (x : K) → is_value x → member order items x ≡ true
 
-    -- an answer to `!` of a: an Ok is the negation, a first item that is the least value removed and else the least value put in front; of values it holds values alone, if what equals a value is one; and where it is infallible it is an Ok
-    pub record GivesNegation (least : K) (infallible : Type 0) (a : List K)
+    -- an answer to `!` of a: an Ok is the negation, copies of the items of a with a first one that is the least value removed, or else with the least value in front; of values it holds values alone, if what equals a value is one; and where it is infallible it is an Ok
+    pub record GivesNegation (is_copy : K → K → Type 0) (least : K) (infallible : Type 0) (a : List K)
         (r : Result (List K) AllocError) : Type 0 where
       pub negates : IfOk r (λ items. Negates items a)
-      pub removed : BeginsAt least a → IfOk r (λ items. AreEqual order items (drop 1 a))
-      pub put : ¬ (BeginsAt least a) → IfOk r (λ items. AreEqual order items (least ∷ a))
+      pub flipped : IfOk r (λ items. AreFlipped least (AllZip is_copy a) items)
       pub values : EqualsAreValues → All is_value a → IfOk r (λ items. All is_value items)
       pub succeeds : infallible → IsOk r
 
@@ -74,7 +78,6 @@ module _ {K : Type 0} (order : K → K → Ordering) where
     pub record GivesOwnNegation (least : K) (infallible : Type 0) (a : List K)
         (r : Result (List K) AllocError) : Type 0 where
       pub negates : IfOk r (λ items. Negates items a)
-      pub removed : BeginsAt least a → IfOk r (λ items. items ≡ drop 1 a)
-      pub put : ¬ (BeginsAt least a) → IfOk r (λ items. HasLeastInFront least a items)
+      pub flipped : IfOk r (λ items. IsFlipped least a items)
       pub values : EqualsAreValues → All is_value a → IfOk r (λ items. All is_value items)
       pub succeeds : infallible → IsOk r

@@ -2,11 +2,15 @@
 --     with_end range              a range of references that has an end, as the range of what they point to
 --     lent_items start between end    the items that lie between the two ends, with an end that is there
 --     within_table inside         in the range, and in the set exactly if `inside`
+--     GivesParts order f within items parts     the parts of a range that a connective keeps
 use Rattle.std.specs.Prelude.{Bool, cond, List, ◌++◌, Option}
 use Rattle.std.specs.Borrow.{Bor}
 use Rattle.std.specs.Option.{option_to_list, option_copied}
+use Rattle.std.specs.declared.cmp.Ordering.{Ordering}
 use Rattle.std.specs.declared.ops.Range.{Range as Ends}
-use Rattle.range_merge.specs.Connective.{Table, intersection_table, difference_table}
+use Rattle.range_merge.specs.Connective.{Table, Means, intersection_table, difference_table}
+use Rattle.range_collections.specs.InPlace.{AreOwnElseOf}
+use Rattle.range_collections.specs.Ranges.{range_items}
 use Rattle.range_collections.specs.declared.range_set_range.RangeSetRange.{RangeSetRange}
 use Rattle.range_collections.specs.declared.range_set_range.RangeSetRange.TheVariants.{Range}
 
@@ -22,3 +26,9 @@ lent_items first between last =
 -- in the range, and in the set if `inside`, or else not in the set
 abbrev pub within_table : Bool → Table
 within_table inside = cond inside intersection_table difference_table
+
+-- the parts of a range that a connective of the range and a set keeps, as the list of their boundaries, with the range's own ends where the set has equal ones
+pub record GivesParts {K : Type 0} (order : K → K → Ordering) (f : Table) (within : Ends (Bor K))
+    (items parts : List K) : Type 0 where
+  pub means : Means order f parts (range_items order within.start.now within.end.now) items
+  pub own_ends : AreOwnElseOf order (range_items order within.start.now within.end.now) items parts

@@ -1,12 +1,11 @@
 //! Membership, sets that are cut in two, sets against one range, and what can be asked of two sets, at numbers and at element types of the tests' own; views and sets that are made of lists, and lists that come back.
-use crate::elements::{Lettered, Only, from_end, with_letter};
+use crate::elements::{Only, from_end};
 use crate::forms::own;
 use crate::given::numbers;
 use crate::operations::lettered;
 use range_collections::{BoolOpMergeState, Comparisons, IntersectionOp, RangeSet2, RangeSetRef};
 use std::alloc::Global;
 use std::cmp::Ordering;
-use std::ops::Range;
 use std::test::Fail;
 
 // Boundaries, an element, and whether it is a member.
@@ -308,50 +307,6 @@ fn an_iterator_tells_how_many_ranges_are_left(rt: HostRuntime) -> Result<(), Fai
     for left in [2usize, 1, 0] {
         assert!(rt; ranges.size_hint() == (left, Some(left)), "{left}");
         let _range = ranges.next();
-    }
-    Ok(())
-}
-
-// The letters of both ends.
-fn letters(range: Option<Range<&Lettered>>) -> Option<(u8, u8)> {
-    let range = range?;
-    Some((range.start.letter, range.end.letter))
-}
-
-// Of equal ends those of the range that was asked for are lent.
-#[test]
-fn parts_of_a_range_have_its_own_ends(rt: HostRuntime) -> Result<(), Fail> {
-    let alloc = rt.alloc();
-    let items = lettered(alloc, &[5, 9], b'a')?;
-    let set = RangeSetRef::new(items.as_slice()).ok_or("sorted")?;
-    let ends = [0, 5, 7, 9, 12].map(|number| with_letter(number, b'b'));
-    let [zero, five, seven, nine, twelve] = &ends;
-    for (start, end, want) in [
-        (zero, five, (b'b', b'b')),
-        (zero, seven, (b'b', b'a')),
-        (nine, twelve, (b'b', b'b')),
-        (seven, twelve, (b'a', b'b')),
-    ] {
-        let found = letters(set.gaps(start..end).next());
-        assert!(rt;
-            found == Some(want),
-            "gaps, {} to {}",
-            start.number,
-            end.number
-        );
-    }
-    for (start, end, want) in [
-        (five, nine, (b'b', b'b')),
-        (zero, seven, (b'a', b'b')),
-        (seven, twelve, (b'b', b'a')),
-    ] {
-        let found = letters(set.ranges_within(start..end).next());
-        assert!(rt;
-            found == Some(want),
-            "ranges, {} to {}",
-            start.number,
-            end.number
-        );
     }
     Ok(())
 }

@@ -95,7 +95,7 @@ fn tests<O: MergeOperation>(sides: Sides, op: &O) -> [u128; 4]
     ]
 }
 
-// The same of the calls that count its boundaries, and of those that make them.
+// The same of the calls that count its boundaries.
 fn lengths<O: MergeOperation>(sides: Sides, op: &O) -> Option<[u128; 4]>
     requires { O.connective op.now false false ≡ false }
 {
@@ -110,6 +110,26 @@ fn lengths<O: MergeOperation>(sides: Sides, op: &O) -> Option<[u128; 4]>
     ])
 }
 
+// The same of the calls that write its boundaries to a slice.
+fn written<O: MergeOperation>(sides: Sides, op: &O) -> Option<[u128; 4]>
+    requires { O.connective op.now false false ≡ false }
+{
+    let (mut count, mut again) = (Comparisons::new(), Comparisons::new());
+    let (set, that, tally) = (sides.set, sides.that, sides.tally);
+    let mut out = [with_tally(0, tally); 16];
+    let _both = set.boundaries().len().checked_add(that.boundaries().len())?;
+    Some([
+        cost(tally, &set.merge_into(that, op, &mut out, &mut count)),
+        count.made(),
+        cost(
+            tally,
+            &set.as_ref().merge_into(that, op, &mut out, &mut again),
+        ),
+        again.made(),
+    ])
+}
+
+// The same of the calls that make a set by any connective.
 fn combined<'t>(alloc: Global, sides: Sides<'_, 't>, op: &Connective) -> Option<[u128; 4]> {
     let (mut count, mut again) = (Comparisons::new(), Comparisons::new());
     let (set, that, tally) = (sides.set, sides.that, sides.tally);
@@ -141,6 +161,7 @@ fn test_holds<O: MergeOperation>(sides: Sides, op: &O, most: u128) -> bool
 {
     alike(&tests(sides, op), most)
         && matches!(lengths(sides, op), Some(costs) if alike(&costs, most))
+        && matches!(written(sides, op), Some(costs) if alike(&costs, most))
 }
 
 // The call of two sides that costs otherwise, if there is one; `exchanged` has the sides the other way round.
@@ -150,7 +171,7 @@ fn wrong_call(alloc: Global, sides: Sides, exchanged: Sides, most: u128) -> Opti
         || !test_holds(sides, &DiffOp, most)
         || !test_holds(sides, &XorOp, most)
     {
-        return Some("a counted test, or a length");
+        return Some("a counted test, a length, or a slice");
     }
     let (shared, rest) = (tests(sides, &IntersectionOp)[0], tests(sides, &DiffOp)[0]);
     let over = tests(exchanged, &DiffOp)[0];

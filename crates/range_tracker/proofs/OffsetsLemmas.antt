@@ -10,13 +10,14 @@ use Rattle.std.proofs.lemmas.Bool.{cases_lt}
 use Rattle.std.proofs.lemmas.List.{nil_from_length}
 use Rattle.std.proofs.lemmas.Bool.Decides.{nat_tests}
 use Rattle.std.proofs.lemmas.List.Elements.{length_all_zip}
-use Rattle.range_merge.specs.Boundaries.{IsAscending, member}
+use Rattle.range_merge.specs.Boundaries.{IsAscending, is_odd, member}
 use Rattle.range_merge.specs.Connective.{Table, Means}
 use Rattle.range_merge.proofs.Members.{member-nil}
 use Rattle.range_merge.proofs.SameSet.{same_items}
 use Rattle.range_collections.specs.Ranges.{range_items}
 use Rattle.range_collections.proofs.Values.{IsAscending-two, member-two, nothing_between}
 use Rattle.range_collections.proofs.Ascending.{IsAscending-nil}
+use Rattle.range_collections.proofs.Covered.{even-result}
 use Rattle.range_tracker.specs.Offsets.{Offsets, is_within, IsListOf, HasBoundaries}
 
 -- the order of numbers
@@ -45,6 +46,13 @@ length-range_items start end = chosen (is_lt (nat_cmp start end))
     chosen : (b : Bool) → length (cond b (start ∷ end ∷ []) []) ≤ 2
     chosen true = search rules
     chosen false = search rules
+
+is_even-range_items : (start end : ℕ) → is_odd (length (range_items nat_cmp start end)) ≡ false
+is_even-range_items start end = chosen (is_lt (nat_cmp start end))
+  where
+    chosen : (b : Bool) → is_odd (length (cond b (start ∷ end ∷ []) [])) ≡ false
+    chosen true = refl
+    chosen false = refl
 
 Less-from_is_lt : (r : Ordering) → is_lt r ≡ true → r ≡ Less
 Less-from_is_lt Less h = refl
@@ -86,6 +94,12 @@ Means-from_list f items a range l = record {
   sorted = l.sorted;
   members = λ n. l.offsets n ∙ ap (f (member nat_cmp a n)) (sym (offsets_of-range_items range n));
 }
+
+-- where the last range has its end, it has one in what a connective makes
+pub is_even-from_means : (f : Table) → f false false ≡ false → (items a : List ℕ) (range : Range ℕ) →
+    Means nat_cmp f items a (range_items nat_cmp range.start range.end) → is_odd (length a) ≡ false → is_odd (length items) ≡ false
+is_even-from_means f off items a range m even =
+    even-result nat_cmp_total f off a (range_items nat_cmp range.start range.end) items m even (is_even-range_items range.start range.end)
 
 -- the lists of the same offsets have one length
 

@@ -1,9 +1,9 @@
 //! A tracker of offsets: the strictly sorted list of their boundaries, which never has more of them than a limit.
 //!
 //! A command is first measured, without memory, and refused where it would leave too many boundaries. Then it changes the list where it lies.
-ghost use Rattle.std.specs.Prelude.{◌≡◌, ◌≢◌, ◌↔◌, ◌-◌, ◌^◌, ◌<◌, ◌≤◌, ◌&&◌, ℕ, true, false, not, nat_lt, [], ◌∷◌, length, IsTrue, IsOk, IfOk, OnOk, OnErr, Err};
+ghost use Rattle.std.specs.Prelude.{◌≡◌, ◌≢◌, ◌↔◌, ◌-◌, ◌^◌, ◌<◌, ◌≤◌, ◌&&◌, ℕ, true, false, not, nat_lt, [], ◌∷◌, length, IsTrue, IsSome, IsOk, IfOk, OnOk, OnErr, Err};
 ghost use Rattle.std.specs.Ordering.{nat_cmp};
-ghost use Rattle.range_merge.specs.Boundaries.{IsAscending};
+ghost use Rattle.range_merge.specs.Boundaries.{IsAscending, is_odd};
 ghost use Rattle.range_collections.specs.Covered.{covered_of};
 ghost use Rattle.range_merge.specs.Connective.{Means, difference_table};
 ghost use Rattle.range_collections.specs.Ranges.{range_items};
@@ -118,17 +118,19 @@ impl Tracker {
         offsets_between(&ends).difference(self.alloc, self.set.as_ref())
     }
 
-    /// The ranges of the offsets that are there, from the lowest on.
+    /// The ranges of the offsets that are there, from the lowest on, each with its end.
     pub fn ranges(&self) -> Iter<'_, u64>
         ensures boundaries { result ≡ self.now.boundaries }
         ensures sorted { IsAscending nat_cmp self.now.boundaries }
+        ensures ended { is_odd (length self.now.boundaries) ≡ false }
     {
         self.set.iter()
     }
 
-    /// How many offsets are there. `None` stands for a set without an end, which no command makes.
+    /// How many offsets are there. `None` would stand for a set without an end, which no command makes.
     pub fn covered(&self) -> Option<u128>
-        ensures { result ≡ covered_of nat_cmp (λ n. n) (2 ^ 64) self.now.boundaries }
+        ensures value { result ≡ covered_of nat_cmp (λ n. n) (2 ^ 64) self.now.boundaries }
+        ensures ended { IsSome result }
     {
         self.set.covered()
     }

@@ -1,10 +1,10 @@
 //! Any of the sixteen connectives of a set and a view, as a new set.
 ghost use Rattle.std.specs.Prelude.{◌≡◌, ◌+◌, ◌*◌, ◌^◌, ◌<◌, ◌≤◌, true, false, length, All, IsOk, IfOk};
-ghost use Rattle.range_merge.specs.Changes.{changes, taken_items};
+ghost use Rattle.range_merge.specs.Changes.{changes};
 ghost use Rattle.range_merge.specs.Copies.{AreCopies};
 ghost use Rattle.range_merge.specs.Counting.{AddsAtMost};
 ghost use Rattle.range_merge.specs.Runs.{weight};
-ghost use Rattle.range_collections.specs.Values.{MeansAmong, IsFlipped};
+ghost use Rattle.range_collections.specs.Values.{MeansAmong, AreFlipped};
 
 use crate::comparisons::Comparisons;
 use crate::range_set::RangeSet;
@@ -17,7 +17,7 @@ use std::default::MadeWith;
 impl<T: RangeSetEntry + EntryClone + MadeWith<Global> + Drop, const N: usize> RangeSet<T, N> {
     /// The set whose members the connective tells from the members of both, with its comparisons counted. It may be on where both sides are off: then the members are told among values.
     ///
-    /// It takes copies of the boundaries at which the connective changes, this set's of two that are equal. Where the connective is on while both sides are off (then the clauses say the items up to the order's equality), it then removes a first boundary that is the least value, else puts the least value in front. It makes at most twice the weight of the two lists in comparisons, also where it is refused.
+    /// It takes copies of the boundaries at which the connective changes, this set's of two that are equal. Where the connective is on while both sides are off, it then removes a first boundary that is the least value, else puts the least value in front. It makes at most twice the weight of the two lists in comparisons, also where it is refused.
     pub fn combine<O: MergeOperation, const M: usize>(
         &self,
         that: RangeSetRef<T>,
@@ -31,9 +31,9 @@ impl<T: RangeSetEntry + EntryClone + MadeWith<Global> + Drop, const N: usize> Ra
             AreCopies T.is_copy (changes T.cmp (O.connective op.now)
             self.now that.entry.boundaries.now) set) }
 
-        // On while both sides are off: the changes, with the least value removed from the front or put there.
+        // On while both sides are off: the copies, with the least value removed from the front or put there.
         ensures flipped { O.connective op.now false false ≡ true → IfOk result (λ set.
-            IsFlipped T.cmp T.least (taken_items (changes T.cmp (O.connective op.now)
+            AreFlipped T.cmp T.least (AreCopies T.is_copy (changes T.cmp (O.connective op.now)
             self.now that.entry.boundaries.now)) set) }
         ensures succeeds { O.connective op.now false false ≡ false →
             length self.now + length that.entry.boundaries.now ≤ M →

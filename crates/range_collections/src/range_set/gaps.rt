@@ -1,9 +1,9 @@
 //! The parts of a range of elements that are in a set, and those that are not.
 ghost use Rattle.std.specs.Prelude.{◌≡◌, ◌+◌, ◌*◌, ◌<◌, ◌^◌, length};
-ghost use Rattle.range_merge.specs.Connective.{Means, intersection_table, difference_table};
+ghost use Rattle.range_merge.specs.Connective.{intersection_table, difference_table};
 ghost use Rattle.range_merge.specs.Counting.{AddsAtMost};
 ghost use Rattle.range_merge.specs.Runs.{digits};
-ghost use Rattle.range_collections.specs.Ranges.{range_items};
+ghost use Rattle.range_collections.specs.Within.{GivesParts};
 
 use crate::comparisons::Comparisons;
 use crate::gaps::{Gaps, RangesWithin};
@@ -14,8 +14,7 @@ impl<T: Ord, const N: usize> RangeSet<T, N> {
     /// The parts of `within` that are not in the set, from the lowest on: none is empty, and each ends below the start of the next. A range whose start is not below its end has none.
     #[inline]
     pub fn gaps<'a>(&'a self, within: Range<&'a T>) -> Gaps<'a, T>
-        ensures { Means T.cmp difference_table result
-            (range_items T.cmp within.entry.start.now within.entry.end.now) self.now }
+        ensures gives { GivesParts T.cmp difference_table within.entry self.now result }
     {
         self.as_ref().gaps(within)
     }
@@ -24,8 +23,7 @@ impl<T: Ord, const N: usize> RangeSet<T, N> {
     #[inline]
     pub fn gaps_counted<'a>(&'a self, within: Range<&'a T>, count: &mut Comparisons) -> Gaps<'a, T>
         requires { count.old < 2 ^ 64 }
-        ensures means { Means T.cmp difference_table result
-            (range_items T.cmp within.entry.start.now within.entry.end.now) self.now }
+        ensures gives { GivesParts T.cmp difference_table within.entry self.now result }
         ensures comparisons { AddsAtMost count.old count.new (2 * digits (length self.now) + 1) }
     {
         self.as_ref().gaps_counted(within, count)
@@ -34,8 +32,7 @@ impl<T: Ord, const N: usize> RangeSet<T, N> {
     /// The parts of `within` that are in the set, from the lowest on: none is empty, and each ends below the start of the next. A range whose start is not below its end has none.
     #[inline]
     pub fn ranges_within<'a>(&'a self, within: Range<&'a T>) -> RangesWithin<'a, T>
-        ensures { Means T.cmp intersection_table result
-            (range_items T.cmp within.entry.start.now within.entry.end.now) self.now }
+        ensures gives { GivesParts T.cmp intersection_table within.entry self.now result }
     {
         self.as_ref().ranges_within(within)
     }
@@ -48,8 +45,7 @@ impl<T: Ord, const N: usize> RangeSet<T, N> {
         count: &mut Comparisons,
     ) -> RangesWithin<'a, T>
         requires { count.old < 2 ^ 64 }
-        ensures means { Means T.cmp intersection_table result
-            (range_items T.cmp within.entry.start.now within.entry.end.now) self.now }
+        ensures gives { GivesParts T.cmp intersection_table within.entry self.now result }
         ensures comparisons { AddsAtMost count.old count.new (2 * digits (length self.now) + 1) }
     {
         self.as_ref().ranges_within_counted(within, count)

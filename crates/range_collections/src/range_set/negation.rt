@@ -9,7 +9,7 @@ use crate::range_set::room::give_back_room;
 use crate::view::RangeSetRef;
 use range_entry::{EntryClone, RangeSetEntry};
 use range_merge::Connective;
-use range_merge::laws::changes_mean_the_opposite;
+use range_merge::laws::{changes_are_marked_truly, changes_mean_the_opposite};
 use std::alloc::{AllocError, Global};
 use std::default::MadeWith;
 use std::ops::Not;
@@ -43,11 +43,12 @@ impl<T: RangeSetEntry + EntryClone + MadeWith<Global> + Drop, const N: usize> No
     type Output = Result<RangeSet<T, N>, AllocError>;
 
     ghost not_gives = { λ a r.
-        GivesNegation T.cmp T.is_value T.least
+        GivesNegation T.cmp T.is_value T.is_copy T.least
         ((length a.now < N) × All T.is_infallible a.now × T.is_min_infallible) a.now r };
 
     /// What the connective "not left" makes of this set and the empty one: it copies the boundaries, and removes a first one that is the least value, else puts the least value in front. It makes at most twice the weight of the two lists in comparisons.
     fn not(self) -> Result<RangeSet<T, N>, AllocError> {
+        changes_are_marked_truly::<T, Comparisons>();
         changes_mean_the_opposite::<T, Comparisons>();
         let not_left = Connective {
             neither: true,

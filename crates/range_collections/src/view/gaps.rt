@@ -1,10 +1,9 @@
 //! The parts of a range of elements that are in a view, and those that are not.
 ghost use Rattle.std.specs.Prelude.{◌≡◌, ◌+◌, ◌*◌, ◌<◌, ◌^◌, length};
-ghost use Rattle.range_merge.specs.Connective.{Means, intersection_table, difference_table};
+ghost use Rattle.range_merge.specs.Connective.{intersection_table, difference_table};
 ghost use Rattle.range_merge.specs.Counting.{AddsAtMost};
 ghost use Rattle.range_merge.specs.Runs.{digits};
-ghost use Rattle.range_collections.specs.Ranges.{range_items};
-ghost use Rattle.range_collections.specs.Within.{within_table};
+ghost use Rattle.range_collections.specs.Within.{GivesParts, within_table};
 
 use crate::comparisons::Comparisons;
 use crate::gaps::{Gaps, RangesWithin};
@@ -16,9 +15,8 @@ impl<'a, T: Ord> RangeSetRef<'a, T> {
     /// The parts of `within` that are not in the set, from the lowest on: none is empty, and each ends below the start of the next. A range whose start is not below its end has none.
     #[inline]
     pub fn gaps(&self, within: Range<&'a T>) -> Gaps<'a, T>
-        ensures { Means T.cmp difference_table result
-            (range_items T.cmp within.entry.start.now within.entry.end.now)
-            self.now.boundaries.now }
+        ensures gives { GivesParts T.cmp difference_table
+            within.entry self.now.boundaries.now result }
     {
         self.gaps_counted(within, &mut Comparisons::new())
     }
@@ -27,9 +25,8 @@ impl<'a, T: Ord> RangeSetRef<'a, T> {
     #[inline]
     pub fn gaps_counted(&self, within: Range<&'a T>, count: &mut Comparisons) -> Gaps<'a, T>
         requires { count.old < 2 ^ 64 }
-        ensures means { Means T.cmp difference_table result
-            (range_items T.cmp within.entry.start.now within.entry.end.now)
-            self.now.boundaries.now }
+        ensures gives { GivesParts T.cmp difference_table
+            within.entry self.now.boundaries.now result }
         ensures comparisons { AddsAtMost count.old count.new
             (2 * digits (length self.now.boundaries.now) + 1) }
     {
@@ -39,9 +36,8 @@ impl<'a, T: Ord> RangeSetRef<'a, T> {
     /// The parts of `within` that are in the set, from the lowest on: none is empty, and each ends below the start of the next. A range whose start is not below its end has none.
     #[inline]
     pub fn ranges_within(&self, within: Range<&'a T>) -> RangesWithin<'a, T>
-        ensures { Means T.cmp intersection_table result
-            (range_items T.cmp within.entry.start.now within.entry.end.now)
-            self.now.boundaries.now }
+        ensures gives { GivesParts T.cmp intersection_table
+            within.entry self.now.boundaries.now result }
     {
         self.ranges_within_counted(within, &mut Comparisons::new())
     }
@@ -54,9 +50,8 @@ impl<'a, T: Ord> RangeSetRef<'a, T> {
         count: &mut Comparisons,
     ) -> RangesWithin<'a, T>
         requires { count.old < 2 ^ 64 }
-        ensures means { Means T.cmp intersection_table result
-            (range_items T.cmp within.entry.start.now within.entry.end.now)
-            self.now.boundaries.now }
+        ensures gives { GivesParts T.cmp intersection_table
+            within.entry self.now.boundaries.now result }
         ensures comparisons { AddsAtMost count.old count.new
             (2 * digits (length self.now.boundaries.now) + 1) }
     {
@@ -71,9 +66,8 @@ impl<'a, T: Ord> RangeSetRef<'a, T> {
         count: &mut Comparisons,
     ) -> RangesWithin<'a, T>
         requires { count.old < 2 ^ 64 }
-        ensures means { Means T.cmp (within_table inside) result
-            (range_items T.cmp within.entry.start.now within.entry.end.now)
-            self.now.boundaries.now }
+        ensures gives { GivesParts T.cmp (within_table inside)
+            within.entry self.now.boundaries.now result }
         ensures comparisons { AddsAtMost count.old count.new
             (2 * digits (length self.now.boundaries.now) + 1) }
     {

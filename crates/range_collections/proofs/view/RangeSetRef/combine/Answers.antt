@@ -1,8 +1,9 @@
 use Rattle.std.proofs.Common.{inr, refl, sym, ◌∙◌, arith, true≢false}
 use Rattle.std.proofs.lemmas.Bool.{false≢true}
-use Rattle.std.proofs.lemmas.Result.{IfOk-from_err}
+use Rattle.std.proofs.lemmas.Result.{IfOk-from_err, IfOk-weaker}
 use Rattle.range_merge.specs.Changes.{changes, taken_items}
-use Rattle.range_collections.proofs.Combined.{MeansAmong-merged, IfOk-negated, IfOk-flipped, length-merged}
+use Rattle.range_collections.specs.Values.{IsFlipped}
+use Rattle.range_collections.proofs.Combined.{MeansAmong-merged, IfOk-negated, length-merged}
 use Rattle.range_collections.proofs.view.RangeSetRef.combine.Goals as goal
 
 pub returns-then-flips-clause-means : goal.returns-then-flips-clause-means
@@ -16,11 +17,8 @@ returns-then-flips-clause-means g c =
 
 pub returns-then-flips-clause-flipped : goal.returns-then-flips-clause-flipped
 returns-then-flips-clause-flipped g c = λ _.
-    let f = g.O.MergeOperation.connective c.args.op.now in
-    let a = c.args.self.now.boundaries.now in
-    let b = c.args.that.boundaries.now in
-    IfOk-flipped g.met.T.Ord.total g.T.RangeSetEntry.least (taken_items (changes g.T.Ord.cmp f a b)) c.in_ok-merged.merged c.not.result
-    c.in_ok-merged.ensures.equal c.not.ensures.removed c.not.ensures.put
+    let Flipped = IsFlipped g.T.Ord.cmp g.T.RangeSetEntry.least c.in_ok-merged.merged in
+    IfOk-weaker c.not.result Flipped _ (λ items w. (c.in_ok-merged.merged, c.in_ok-merged.ensures.copies, w)) c.not.ensures.flipped
 
 pub returns-then-flips-clause-succeeds_flipped : goal.returns-then-flips-clause-succeeds_flipped
 returns-then-flips-clause-succeeds_flipped g c = λ _ room _ _ infallible.

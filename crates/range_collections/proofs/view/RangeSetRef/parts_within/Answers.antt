@@ -1,15 +1,15 @@
 use Rattle.std.proofs.Common.{arith, length, refl}
 use Rattle.range_merge.proofs.Digits.{digits-le}
 use Rattle.range_merge.proofs.Gallops.{Less-from_test}
-use Rattle.range_collections.proofs.Parts.{Means-nothing, Means-lent, is_even-lent}
+use Rattle.range_collections.proofs.Parts.{GivesParts-nothing, GivesParts-lent, is_even-lent}
 use Rattle.range_collections.proofs.Points.{counts_ordered}
 use Rattle.range_collections.proofs.Values.{not_less-from_is_lt}
 use Rattle.range_collections.proofs.view.RangeSetRef.parts_within.Goals as goal
 
-pub returns-then-not-is_lt-clause-means : goal.returns-then-not-is_lt-clause-means
-returns-then-not-is_lt-clause-means g c =
+pub returns-then-not-is_lt-clause-gives : goal.returns-then-not-is_lt-clause-gives
+returns-then-not-is_lt-clause-gives g c =
     rw c.nothing.ensures
-    (Means-nothing g.met.T.Ord.total c.args.inside c.args.within.start.now c.args.within.end.now c.args.self.now.boundaries.now
+    (GivesParts-nothing g.met.T.Ord.total c.args.inside c.args.within c.args.self.now.boundaries.now
     (not_less-from_is_lt c.compare.result c.is_lt.result _ c.compare.ensures.answer c.is_lt.ensures c.if-not-is_lt.true))
 
 pub count_below-to-requires : goal.count_below-to-requires
@@ -35,10 +35,10 @@ new-requires g c =
     c.count_below-to.ensures.within c.count_below-to.ensures.before c.count_below-to.ensures.from
     c.args.inside _ _ refl refl)
 
-pub returns-clause-means : goal.returns-clause-means
-returns-clause-means g c =
+pub returns-clause-gives : goal.returns-clause-gives
+returns-clause-gives g c =
     rw (c.new.ensures, c.then_some-first.ensures, c.then_some-last.ensures)
-    (Means-lent g.met.T.Ord.total c.args.within.start c.args.within.end c.args.self.now.boundaries.now c.count_up_to-from.result c.count_below-to.result
+    (GivesParts-lent g.met.T.Ord.total c.args.within.start c.args.within.end c.args.self.now.boundaries.now c.count_up_to-from.result c.count_below-to.result
     c.args.self.now.sorted (Less-from_test c.is_lt.result c.compare.result _ c.compare.ensures.answer c.is_lt.ensures c.if-not-is_lt.false)
     c.count_up_to-from.ensures.within c.count_up_to-from.ensures.before c.count_up_to-from.ensures.from
     c.count_below-to.ensures.within c.count_below-to.ensures.before c.count_below-to.ensures.from

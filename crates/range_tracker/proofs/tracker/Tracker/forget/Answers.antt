@@ -1,9 +1,9 @@
-use Rattle.std.proofs.Common.{sym, ℕ, ◌≤◌, ◌⊎◌, List, [], length, rules, true≢false}
+use Rattle.std.proofs.Common.{refl, sym, ℕ, ◌≤◌, ◌⊎◌, List, [], length, rules, true≢false}
 use Rattle.std.proofs.lemmas.Result.{err_from_is_err_and}
 use Rattle.std.specs.Ordering.{nat_cmp}
 use Rattle.range_merge.specs.Connective.{Means, difference_table}
 use Rattle.range_collections.specs.Ranges.{range_items}
-use Rattle.range_tracker.proofs.OffsetsLemmas.{IsListOf-from_means, IsListOf-first_forgotten, refused-grows, refused-not_first, length-within}
+use Rattle.range_tracker.proofs.OffsetsLemmas.{IsListOf-from_means, IsListOf-first_forgotten, refused-grows, refused-not_first, is_even-from_means, length-within}
 use Rattle.range_merge.specs.Boundaries.{member}
 use Rattle.range_tracker.proofs.tracker.Tracker.forget.Goals as goal
 
@@ -36,6 +36,7 @@ invariant_of-self-2 c =
     let means = c.in_ok-remove.ensures.changed.means in
     record {
       sorted = means.sorted;
+      ended = is_even-from_means difference_table refl c.remove.new.self c.self.inside.set c.args.range means c.self.invariant.ended;
       within = length-within _ c.remove.new.self c.self.inside.limit
           (IsListOf-from_means difference_table c.remove.new.self c.self.inside.set c.args.range means)
           (λ n many. let done = (rw (← c.self.view_is) at c.in_ok-admit.ensures.too_many n).1 many in cc);

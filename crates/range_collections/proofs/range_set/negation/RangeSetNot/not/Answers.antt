@@ -33,8 +33,7 @@ returns-in_err-least g c =
     λ h. true≢false (sym (c.begins_at_least.ensures.begins.1 (rw (c.as_slice.ensures, c.into_inner-list.ensures.items) h)) ∙ c.if-begins_at_least.false) in
     record {
       negates = IfOk-from_err r _ refused;
-      removed = λ _. IfOk-from_err r _ refused;
-      put = λ _. IfOk-from_err r _ refused;
+      flipped = IfOk-from_err r _ refused;
       values = λ _ _. IfOk-from_err r _ refused;
       succeeds = λ infallible.
           absurd
@@ -52,8 +51,7 @@ returns-in_err-insert g c =
     λ h. true≢false (sym (c.begins_at_least.ensures.begins.1 (rw (c.as_slice.ensures, c.into_inner-list.ensures.items) h)) ∙ c.if-begins_at_least.false) in
     record {
       negates = IfOk-from_err r _ refused;
-      removed = λ _. IfOk-from_err r _ refused;
-      put = λ _. IfOk-from_err r _ refused;
+      flipped = IfOk-from_err r _ refused;
       values = λ _ _. IfOk-from_err r _ refused;
       succeeds = λ infallible.
           absurd
