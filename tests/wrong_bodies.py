@@ -7,7 +7,7 @@ functions stand side by side in a copy of the crate, and one check says what is 
 that isn't proved, or only that it calls one that isn't. A function with a wrong body must have such a goal, and one with
 its own body must have none. Of several wrong bodies of one function each copy has one.
 
-A file is an edit as 'rt must-fail' reads it, with a line 'function: PATH' more.
+A file is an edit as 'rt must-fail' reads it, with a line 'function: PATH' more, or several.
 
     tests/wrong_bodies.py [CRATE..]
 
@@ -39,14 +39,14 @@ class BadEdit(Exception):
 
 @dataclass
 class Edit:
-    """A wrong body: the function that must be refused, and what replaces which stretch of each file."""
+    """A wrong body: the functions that must be refused, and what replaces which stretch of each file."""
 
     name: str
-    function: str = ""
+    functions: set = field(default_factory=set)
     changes: dict = field(default_factory=dict)
 
     def collides(self, other):
-        return self.function == other.function or any(
+        return not self.functions.isdisjoint(other.functions) or any(
             start < other_end and other_start < end
             for path, changes in self.changes.items()
             for start, end, _ in changes
@@ -61,7 +61,7 @@ def read_edit(file, crate):
         key, _, value = line.partition(":")
         value = value.removeprefix(" ")
         if key == "function":
-            edit.function = value
+            edit.functions.add(value)
         elif key == "file":
             path = value
         elif key == "old":
@@ -72,7 +72,7 @@ def read_edit(file, crate):
                 raise BadEdit(f"{edit.name}: an old text stands in {path} {text.count(old)} times, and not once")
             start = text.index(old)
             edit.changes.setdefault(path, []).append((start, start + len(old), value))
-    if not edit.function or not edit.changes:
+    if not edit.functions or not edit.changes:
         raise BadEdit(f"{edit.name}: it names no function, or changes nothing")
     return edit
 
@@ -123,10 +123,11 @@ def failures(crate, copy, edits):
         return [f"no function of {crate.name} was tried with {names}:", *said.splitlines()[:8]]
     found = []
     for edit in edits:
-        verdict = said_of.get(edit.function, "no such function")
-        if not REFUSED.match(verdict):
-            found.append(f"{crate.name}/{edit.name}: {edit.function}: {verdict}")
-    wrong = {edit.function for edit in edits}
+        for function in sorted(edit.functions):
+            verdict = said_of.get(function, "no such function")
+            if not REFUSED.match(verdict):
+                found.append(f"{crate.name}/{edit.name}: {function}: {verdict}")
+    wrong = {function for edit in edits for function in edit.functions}
     for function, verdict in said_of.items():
         if function not in wrong and not WELL.match(verdict):
             found.append(f"{crate.name}: {function}, with its own body: {verdict}")
