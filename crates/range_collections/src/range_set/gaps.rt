@@ -11,7 +11,7 @@ use crate::range_set::RangeSet;
 use std::ops::Range;
 
 impl<T: Ord, const N: usize> RangeSet<T, N> {
-    /// The parts of `within` that are not in the set, from the lowest on: none is empty, and each ends below the start of the next. A range whose start is not below its end has none.
+    /// The parts of `within` that are not in the set, from the lowest on: none is empty, and each ends below the start of the next. A range whose start is not below its end has none. Where a boundary of the set equals an end of `within`, that end itself is given.
     #[inline]
     pub fn gaps<'a>(&'a self, within: Range<&'a T>) -> Gaps<'a, T>
         ensures gives { GivesParts T.cmp difference_table within.entry self.now result }
@@ -29,7 +29,7 @@ impl<T: Ord, const N: usize> RangeSet<T, N> {
         self.as_ref().gaps_counted(within, count)
     }
 
-    /// The parts of `within` that are in the set, from the lowest on: none is empty, and each ends below the start of the next. A range whose start is not below its end has none.
+    /// The parts of `within` that are in the set, from the lowest on: none is empty, and each ends below the start of the next. A range whose start is not below its end has none. Where a boundary of the set equals an end of `within`, that end itself is given.
     #[inline]
     pub fn ranges_within<'a>(&'a self, within: Range<&'a T>) -> RangesWithin<'a, T>
         ensures gives { GivesParts T.cmp intersection_table within.entry self.now result }

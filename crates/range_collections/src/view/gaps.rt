@@ -12,7 +12,7 @@ use range_merge::Compare;
 use std::ops::Range;
 
 impl<'a, T: Ord> RangeSetRef<'a, T> {
-    /// The parts of `within` that are not in the set, from the lowest on: none is empty, and each ends below the start of the next. A range whose start is not below its end has none.
+    /// The parts of `within` that are not in the set, from the lowest on: none is empty, and each ends below the start of the next. A range whose start is not below its end has none. Where a boundary of the set equals an end of `within`, that end itself is given.
     #[inline]
     pub fn gaps(&self, within: Range<&'a T>) -> Gaps<'a, T>
         ensures gives { GivesParts T.cmp difference_table
@@ -33,7 +33,7 @@ impl<'a, T: Ord> RangeSetRef<'a, T> {
         self.parts_within(within, false, count)
     }
 
-    /// The parts of `within` that are in the set, from the lowest on: none is empty, and each ends below the start of the next. A range whose start is not below its end has none.
+    /// The parts of `within` that are in the set, from the lowest on: none is empty, and each ends below the start of the next. A range whose start is not below its end has none. Where a boundary of the set equals an end of `within`, that end itself is given.
     #[inline]
     pub fn ranges_within(&self, within: Range<&'a T>) -> RangesWithin<'a, T>
         ensures gives { GivesParts T.cmp intersection_table
