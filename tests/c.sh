@@ -1,70 +1,66 @@
 #!/usr/bin/env bash
-# Builds the static library for C anew and compares it with the one in dist/, compiles the header as C99 and as C++11
-# without a warning, and runs the tests, the example and the lines of the pages in C, under valgrind too.
+# Compiles the header in dist/ as C99 and as C++11 without a warning, and runs the tests, the example and the lines of the
+# pages in C over the archive there, under valgrind too.
 #
 #   tests/c.sh
 #
-# It ends with 0 if all is well; else the last line says what failed, and of a tool that is missing its Debian package.
+# Its last line is 'N passed, M failed, K skipped'. It ends with 77 where gcc is missing.
 set -u
 export LC_ALL=C
 cd "$(dirname "$0")/.." || exit 1
-
-fail() {
-    echo "c: FAILED: $*"
-    exit 1
-}
-
-# Ends the run where a command is missing.
-needs() {
-    command -v "$1" >/dev/null || fail "$1 is missing; on Debian the package $2 brings it"
-}
+. tests/steps.sh
 
 needs gcc gcc
-needs g++ g++
-needs ar binutils
-needs valgrind valgrind
-needs sha256sum coreutils
-proved=crates/range_c/out/librange_c.a
-[ -f "$proved" ] || fail "there is no $proved: 'rt lib' in crates/range_c builds it"
-
-work=$(mktemp -d) || fail "no folder for the build"
+work=$(mktemp -d) || exit 1
 trap 'rm -rf "$work"' EXIT
-
-# The archive in dist/ has the proved library's own files, byte for byte.
-(cd dist && sha256sum --quiet -c SHA256SUMS) || fail "dist/ isn't what its checksums say"
-cmp -s c/include/range_set.h dist/range_set.h || fail "dist/range_set.h isn't c/include/range_set.h"
-mkdir "$work/kept" "$work/built" || fail "no folder"
-(cd "$work/kept" && ar x "$OLDPWD/dist/librange_set.a") || fail "dist/librange_set.a can't be read"
-(cd "$work/built" && ar x "$OLDPWD/$proved") || fail "$proved can't be read"
-for file in "$work"/built/*; do
-    cmp -s "$file" "$work/kept/$(basename "$file")" || fail "$(basename "$file") in dist/librange_set.a isn't what rt lib built"
-done
-
 strict="-Wall -Wextra -Wpedantic -Werror -Ic/include"
-echo '#include "range_set.h"' >"$work/header.cpp"
-g++ -std=c++11 $strict -c "$work/header.cpp" -o "$work/header.o" || fail "the header as C++11"
-gcc -std=c99 -O2 -fPIC $strict -c c/range_set.c -o "$work/range_set.o" || fail "range_set.c"
-for source in test example; do
-    gcc -std=c99 -O2 -g $strict "c/$source.c" "$work/range_set.o" "$proved" -o "$work/$source" || fail "$source.c"
-    gcc -std=c99 -O2 -g $strict "c/$source.c" dist/librange_set.a -o "$work/$source.dist" || fail "$source.c with dist/"
-done
-for built in test test.dist; do
-    "$work/$built" || fail "$built"
-done
-g++ -std=c++11 -O2 $strict -x c++ c/example.c -x none dist/librange_set.a -o "$work/example.cpp" || fail "example.c as C++11"
-for built in example example.dist example.cpp; do
-    "$work/$built" >"$work/seen" || fail "$built"
-    printf 'busy: 9..11 12..15\nfree: 11..12 15..17\nneeds: 4\n' | cmp -s - "$work/seen" || fail "$built prints $(cat "$work/seen")"
-done
+archive=dist/librange_set.a
 
-# The lines in C of a page, word for word, as a program of their own.
+# The checksums, and the header, which is that of c/.
+is_whole() {
+    (cd dist && sha256sum --quiet -c SHA256SUMS) && cmp c/include/range_set.h dist/range_set.h
+}
+
+# Compiles a source in C with the archive, and the layer from its source where there are more words.
+compiles() {
+    local source=$1 program=$2
+    shift 2
+    gcc -std=c99 -O2 -g $strict "$source" "$@" "$archive" -o "$work/$program"
+}
+
+# What the example prints.
+prints_its_lines() {
+    "$work/$1" | cmp - <(printf 'busy: 9..11 12..15\nfree: 11..12 15..17\nneeds: 4\n')
+}
+
+# Runs the lines in C of a page, word for word, as a program of their own.
+runs_page() {
+    awk '/^```/ { on = $0 == "```c"; next } on' "$1" >"$work/page.c"
+    [ -s "$work/page.c" ] && compiles "$work/page.c" page && "$work/page"
+}
+
+# The header in C++, and the example in it.
+compiles_as_cpp() {
+    echo '#include "range_set.h"' >"$work/header.cpp"
+    g++ -std=c++11 $strict -c "$work/header.cpp" -o "$work/header.o" &&
+        g++ -std=c++11 -O2 $strict -x c++ c/example.c -x none "$archive" -o "$work/example.cpp" && prints_its_lines example.cpp
+}
+
+# The tests under the sanitizers, with the layer in C from its source.
+is_sane() {
+    gcc -std=c99 -O1 -g -fsanitize=address,undefined $strict c/test.c c/range_set.c "$archive" -o "$work/sane" && "$work/sane" 1000
+}
+
+step "dist/ is what its checksums say" is_whole
+step "the layer compiles" gcc -std=c99 -O2 -fPIC $strict -c c/range_set.c -o "$work/range_set.o"
+step "the tests compile" compiles c/test.c test
+step "the tests" "$work/test"
+step "the example compiles" compiles c/example.c example
+step "the example" prints_its_lines example
 for page in README.md c/README.md; do
-    awk '/^```/ { on = $0 == "```c"; next } on' "$page" >"$work/page.c"
-    [ -s "$work/page.c" ] || fail "$page has no lines in C"
-    gcc -std=c99 -O2 $strict "$work/page.c" dist/librange_set.a -o "$work/page" || fail "the lines in C of $page"
-    valgrind -q --error-exitcode=9 "$work/page" || fail "the lines in C of $page end with an error"
+    step "the lines in C of $page" runs_page "$page"
 done
-valgrind -q --error-exitcode=9 --leak-check=full "$work/test" 1000 || fail "valgrind reports an error"
-gcc -std=c99 -O1 -g -fsanitize=address,undefined $strict c/test.c c/range_set.c "$proved" -o "$work/sane" || fail "test.c for the sanitizers"
-"$work/sane" 1000 || fail "a sanitizer reports an error"
-echo "c: the header, the tests, the example, also as C++, the pages, valgrind and the sanitizers pass"
+step "the sanitizers" is_sane
+step_by g++ g++ "C++11" compiles_as_cpp
+step_by valgrind valgrind "the tests under valgrind" valgrind -q --error-exitcode=9 --leak-check=full "$work/test" 1000
+ended

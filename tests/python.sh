@@ -3,23 +3,24 @@
 #
 #   tests/python.sh
 #
-# It ends with 0 if all is well; else the last line says what failed, and of a tool that is missing its Debian package.
+# Its last line is 'N passed, M failed, K skipped'. It ends with 77 where a tool is missing.
 set -u
 cd "$(dirname "$0")/../python" || exit 1
+. ../tests/steps.sh
 
-fail() {
-    echo "python: FAILED: $*"
-    exit 1
+needs python3 python3
+needs cc gcc
+work=$(mktemp -d) || exit 1
+trap 'rm -rf "$work"' EXIT
+export RANGE_SET_LIBRARY=$work/librange_set.so PYTHONDONTWRITEBYTECODE=1
+
+# Runs the lines in Python of the page, word for word.
+runs_page() {
+    awk '/^```/ { on = $0 == "```python"; next } on' README.md >"$work/page.py"
+    [ -s "$work/page.py" ] && PYTHONPATH=$PWD python3 "$work/page.py"
 }
 
-command -v python3 >/dev/null || fail "python3 is missing; on Debian the package python3 brings it"
-command -v cc >/dev/null || fail "cc is missing; on Debian the package gcc brings it"
-work=$(mktemp -d) || fail "no folder for the build"
-trap 'rm -rf "$work"' EXIT
-cc -shared -o "$work/librange_set.so" -Wl,--whole-archive ../dist/librange_set.a -Wl,--no-whole-archive || fail "the shared object"
-export RANGE_SET_LIBRARY=$work/librange_set.so PYTHONDONTWRITEBYTECODE=1
-python3 -m unittest -q || fail "python3 -m unittest"
-awk '/^```/ { on = $0 == "```python"; next } on' README.md >"$work/page.py"
-[ -s "$work/page.py" ] || fail "README.md has no lines in Python"
-PYTHONPATH=$PWD python3 "$work/page.py" || fail "the lines in Python of README.md"
-echo "python: the tests and the page pass"
+step "the shared object" cc -shared -o "$work/librange_set.so" -Wl,--whole-archive ../dist/librange_set.a -Wl,--no-whole-archive
+step "the tests" python3 -m unittest -q
+step "the lines of the page" runs_page
+ended

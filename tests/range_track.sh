@@ -1,10 +1,11 @@
 #!/usr/bin/env bash
-# Runs range_track with limits good and bad, under small memory, with an output and an input that fail, and over a pipe that
-# stays open.
+# Runs range_track with its usual limit, in little memory, with an input that fails, and over a pipe that stays
+# open.
 #
-#   tests/range_track.sh PROGRAM..   runs these programs
+#   tests/range_track.sh              runs the programs that 'rt ci' built
+#   tests/range_track.sh PROGRAM..    runs these
 #
-# It ends with 0 if all is well; else the last line says what was seen.
+# It ends with 0 if all is well, and with 77 where a tool is missing; else the last line says what was seen.
 set -u
 export LC_ALL=C
 
@@ -13,19 +14,17 @@ fail() {
     exit 1
 }
 
-[ $# -gt 0 ] || fail "no program was named"
 for tool in timeout prlimit seq sed sort uniq; do
-    command -v "$tool" >/dev/null || fail "the tool $tool is missing"
+    command -v "$tool" >/dev/null || {
+        echo "range_track: SKIPPED: the tool $tool is missing"
+        exit 77
+    }
 done
-
-# Runs the program with these arguments on the input, which is to give this number and these lines.
-row() {
-    local status=$1 input=$2 lines=$3 seen
-    shift 3
-    seen=$(printf "$input" | timeout 20 "$program" "$@" 2>/dev/null; echo "ended with ${PIPESTATUS[1]}")
-    [ "$seen" = "$(printf "$lines"; echo "ended with $status")" ] || fail "$program $*: $seen"
-    rows=$((rows + 1))
-}
+if [ $# = 0 ]; then
+    cd "$(dirname "$0")/../crates/range_track/out" || fail "'rt ci' has built no range_track"
+    set -- ./range_track
+    [ ! -f range_track.by-rattle ] || set -- "$@" ./range_track.by-rattle
+fi
 
 # Writes a line into the open pipe, which is to be answered so before another is written.
 line() {
@@ -37,20 +36,6 @@ line() {
 
 for program in "$@"; do
     [ -x "$program" ] || fail "there is no program $program"
-    rows=0
-    row 0 '' '' 4
-    row 0 '+ 0 10\nranges\n' 'ok\n0..10\n' 4
-    row 0 '+ 0 10\nranges' 'ok\n0..10\n' 4
-    row 0 '+ 0 10\n' 'too many 2\n' 0
-    row 0 '+ 0 18446744073709551615\nmissing 18446744073709551615\n' 'ok\n-\n' 18446744073709551613
-    row 2 '+ 0 10\n' 'bad limit\n' 18446744073709551614
-    row 2 '+ 0 10\n' 'bad limit\n' 18446744073709551616
-    row 2 '+ 0 10\n' 'bad limit\n' x
-    row 2 '+ 0 10\n' 'bad limit\n' ''
-    row 2 '+ 0 10\n' 'bad limit\n' -1
-    row 2 '+ 0 10\n' 'bad limit\n' $'\xff'
-    row 2 '+ 0 10\n' 'bad limit\n' 4 4
-
     # Without an argument the limit is 1,000,000: 500,000 ranges are taken, and not one more.
     seen=$(seq 1 500001 | sed 's/.*/+ &0 &5/' | timeout 100 "$program" | sort | uniq -c | tr -s ' ')
     [ "$seen" = " 500000 ok"$'\n'" 1 too many 1000002" ] || fail "$program without an argument: $seen"
@@ -73,12 +58,6 @@ for program in "$@"; do
     ((refused_ranges > 0 && refused_list > 0 && answered > 0)) ||
         fail "$program in little memory: ranges refused $refused_ranges times, the list $refused_list times, all answered $answered times"
 
-    printf '+ 0 10\n' | timeout 20 "$program" 4 >/dev/full 2>/dev/null
-    status=$?
-    [ $status = 5 ] || fail "$program into a full output ended with $status"
-    timeout 20 "$program" x </dev/null >/dev/full 2>/dev/null
-    status=$?
-    [ $status = 5 ] || fail "$program with a bad limit and a full output ended with $status"
     timeout 20 "$program" 4 </ >/dev/null 2>&1
     status=$?
     [ $status = 5 ] || fail "$program on an input that fails ended with $status"
@@ -93,5 +72,5 @@ for program in "$@"; do
     wait "$pid"
     status=$?
     [ $status = 0 ] || fail "$program ended with $status when its pipe was closed"
-    echo "range_track: $program: $rows inputs, the usual limit, small memory, 5 where a stream fails, and each line answered at once"
+    echo "range_track: $program: the usual limit, little memory, 5 where its input fails, and each line answered at once"
 done

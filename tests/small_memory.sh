@@ -3,11 +3,12 @@
 # in steps of 16 KiB, from where the system starts the program at all up to where it has enough, and then some.
 # Each run writes the line and ends with 0, or writes 'out of memory' and ends with 1; both are seen.
 #
-#   tests/small_memory.sh             proves and builds the program, and runs it
-#   tests/small_memory.sh PROGRAM..   runs these in its place, as they were built before
+#   tests/small_memory.sh             runs the programs that 'rt ci' built
+#   tests/small_memory.sh PROGRAM..   runs these
 #
 # The limit is that of 'ulimit -v'. prlimit sets it, since a shell under such a limit has no memory for the words.
-# It ends with 0 if all is well; else the last line names the limit, and what was seen there.
+# It ends with 0 if all is well, and with 77 where a tool is missing; else the last line names the limit, and what was seen
+# there.
 set -u
 export LC_ALL=C
 top=$(cd "$(dirname "$0")/.." && pwd) || exit 1
@@ -25,7 +26,10 @@ fail() {
 }
 
 for tool in prlimit seq sort uniq paste cmp mktemp tr wc head tail; do
-    command -v "$tool" >/dev/null || fail "the tool $tool is missing"
+    command -v "$tool" >/dev/null || {
+        echo "small_memory: SKIPPED: the tool $tool is missing"
+        exit 77
+    }
 done
 
 room=$(mktemp -d) || fail "there is no folder for temporary files"
@@ -107,10 +111,9 @@ check() {
 
 programs=("$@")
 if [ $# = 0 ]; then
-    command -v rt >/dev/null || fail "rt, the command of the Rattle kit, is missing"
-    echo "small_memory: proving and building range_calc"
-    (cd "$top/crates/range_calc" && rt run -- union 0,10 20) >"$room/built" 2>&1 </dev/null || fail "range_calc was not built: $(tail -n 5 "$room/built")"
-    programs=("$top/crates/range_calc/out/range_calc")
+    built=$top/crates/range_calc/out/range_calc
+    programs=("$built")
+    [ ! -f "$built.by-rattle" ] || programs+=("$built.by-rattle")
 fi
 for program in "${programs[@]}"; do
     [ -f "$program" ] && [ -x "$program" ] || fail "the program $program is missing"

@@ -5,6 +5,7 @@
 
 mod calls;
 mod ends;
+pub mod laws;
 mod points;
 mod ranges;
 mod signed;

@@ -3,24 +3,11 @@
 //! It answers its arguments with one line, and ends with a status that says how that went.
 #![tactic(auto)]
 
-mod answer;
-mod commands;
-mod fault;
-mod laws;
-mod line;
-mod replies;
-mod status;
-#[cfg(test)]
-mod tests;
-mod words;
-
-use answer::{answer, out_of_memory};
-use status::exit_code;
+use range_answer::{answer, exit_code, out_of_memory, stored_words};
 use std::env;
 use std::io::{self, ErrorKind};
 use std::process::ExitCode;
 use std::rt::Env;
-use words::stored_words;
 
 fn main(rt: HostRuntime) -> ExitCode {
     let mut out = io::writer(&rt);

@@ -1,5 +1,7 @@
 //! Laws: functions that do nothing, and whose contracts are theorems on the words of the other contracts.
 mod counting;
+mod extent;
+mod fitting;
 mod gaps;
 mod operations;
 mod parts;
@@ -9,6 +11,8 @@ mod unions;
 mod values;
 
 pub use counting::values_are_counted;
+pub use extent::spans_go_from_the_first_boundary_to_the_last;
+pub use fitting::as_many_fit_as_lie_in_a_range_of_no_members;
 pub use gaps::{
     a_range_is_contained_where_nothing_is_left, gaps_are_the_ranges_of_the_difference,
     gaps_have_what_is_not_in_the_set,

@@ -84,12 +84,20 @@ fn stops_at_first<S: MergeStateMut, O: MergeOperation>(state: &S, op: &O, how: O
         takes (O.connective op.now) (S.left_on state.now) (S.right_on state.now) (one_of_run how)
         ≡ true }
 {
-    state.stops()
-        && match how {
-            Ordering::Less => op.takes_a(state.bc()),
-            Ordering::Equal => op.takes_both(state.ac(), state.bc()),
-            Ordering::Greater => op.takes_b(state.ac()),
-        }
+    state.stops() && takes_first(state, op, how)
+}
+
+// Whether the first run is taken, by how the first items stand.
+#[inline(always)]
+fn takes_first<S: MergeStateMut, O: MergeOperation>(state: &S, op: &O, how: Ordering) -> bool
+    ensures { result ≡
+        takes (O.connective op.now) (S.left_on state.now) (S.right_on state.now) (one_of_run how) }
+{
+    match how {
+        Ordering::Less => op.takes_a(state.bc()),
+        Ordering::Equal => op.takes_both(state.ac(), state.bc()),
+        Ordering::Greater => op.takes_b(state.ac()),
+    }
 }
 
 // One item of the first run, by how the first items stand.

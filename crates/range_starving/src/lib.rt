@@ -10,7 +10,7 @@ use std::alloc::{AllocError, Global};
 /// What a call answers where memory may be refused.
 #[derive(Clone, Copy, PartialEq, Eq)]
 pub enum Answer {
-    /// Want of memory, with everything left as it was.
+    /// Out of memory, with everything left as it was.
     Refused,
     /// The answer with ample memory.
     Right,
@@ -104,87 +104,48 @@ impl Starved {
     }
 
     /// What the call answers with this room, and with nothing else left.
-    fn answer_in<C: Call>(&mut self, room: usize, call: &C, given: C::Given) -> Answer
+    pub fn answer_in<C: Call>(&mut self, room: usize, call: &C) -> Answer
         requires room { room ≤ 4096 }
     {
+        self.give_back();
+        let Some(given) = call.given() else {
+            return Answer::Wrong;
+        };
         let _alloc = self.leave(room);
         call.answer(given)
     }
 
-    /// Whether the call is refused in the first round, and then until it gives the answer with ample memory, which it gives in each round from then on.
-    pub fn refuses<C: Call>(&mut self, call: &C) -> bool {
-        let mut last = Answer::Wrong;
+    /// The least room, in steps of 16 bytes, with which the call gives the answer that it has with ample memory, if it is refused with less and gives that answer with more.
+    pub fn room_for<C: Call>(&mut self, call: &C) -> Option<usize> {
+        let mut least = None;
         for round in 0..100usize {
-            self.give_back();
-            let Some(given) = call.given() else {
-                return false;
-            };
-            let answer = self.answer_in(16 * round, call, given);
-            let goes_on = match last {
-                Answer::Wrong => round == 0 && answer == Answer::Refused,
-                Answer::Refused => answer != Answer::Wrong,
-                Answer::Right => answer == Answer::Right,
-            };
-            if !goes_on {
-                return false;
+            let room = 16 * round;
+            match (self.answer_in(room, call), least) {
+                (Answer::Refused, None) | (Answer::Right, Some(_)) => {}
+                (Answer::Right, None) => least = Some(room),
+                _ => return None,
             }
-            last = answer;
         }
-        last == Answer::Right
+        least
+    }
+
+    /// Whether the call is refused where no room is left, and then until it gives the answer with ample memory, which it gives with more room, too.
+    pub fn refuses<C: Call>(&mut self, call: &C) -> bool {
+        matches!(self.room_for(call), Some(room) if room > 0)
     }
 
     /// Whether the call gives the answer with ample memory where each request is refused.
     pub fn needs_none<C: Call>(&mut self, call: &C) -> bool {
-        self.give_back();
-        match call.given() {
-            Some(given) => {
-                self.refuses_a_byte() && self.answer_in(0, call, given) == Answer::Right
-            }
-            None => false,
+        self.refuses_a_byte() && self.answer_in(0, call) == Answer::Right
+    }
+
+    /// Whether the call is refused, as above, where it needs memory, and else needs none.
+    pub fn agrees<C: Call>(&mut self, call: &C, needs_memory: bool) -> bool {
+        if needs_memory {
+            self.refuses(call)
+        } else {
+            self.needs_none(call)
         }
-    }
-
-    /// Gives one block back.
-    fn give_back(&mut self) {
-        drop(self.spares.pop());
-    }
-
-    /// What the call answers with this room, and with nothing else left.
-    fn answer<T: Drop, F: Fn(T) -> Answer>(&mut self, room: usize, value: T, call: &F) -> Answer
-        requires room { room ≤ 4096 }
-        requires callable { F.IsAlwaysCallable call.now }
-    {
-        let _alloc = self.leave(room);
-        call(value)
-    }
-
-    /// Whether the call, with what is made for it, is refused in the first round and then until it gives the answer with ample memory, which it gives in each round from then on.
-    pub fn refuses_in_turn<T: Drop, M: Fn() -> Option<T>, F: Fn(T) -> Answer>(
-        &mut self,
-        make: M,
-        call: F,
-    ) -> bool
-        requires makes { M.IsAlwaysCallable make }
-        requires calls { F.IsAlwaysCallable call }
-    {
-        let mut last = Answer::Wrong;
-        for round in 0..100usize {
-            self.give_back();
-            let Some(value) = make() else {
-                return false;
-            };
-            let answer = self.answer(16 * round, value, &call);
-            let goes_on = match last {
-                Answer::Wrong => round == 0 && answer == Answer::Refused,
-                Answer::Refused => answer != Answer::Wrong,
-                Answer::Right => answer == Answer::Right,
-            };
-            if !goes_on {
-                return false;
-            }
-            last = answer;
-        }
-        last == Answer::Right
     }
 
     /// Whether one byte is refused where no room is left.
@@ -193,26 +154,8 @@ impl Starved {
         Vec::<u8>::with_capacity(alloc, 1).is_err()
     }
 
-    /// Whether the call gives the answer with ample memory where each request is refused.
-    pub fn is_right_without_memory<F: Fn(()) -> Answer>(&mut self, call: F) -> bool
-        requires calls { F.IsAlwaysCallable call }
-    {
-        self.refuses_a_byte() && self.answer(0, (), &call) == Answer::Right
-    }
-
-    /// The same with what is made for the call while there is memory.
-    pub fn is_right_for<T: Drop, M: Fn() -> Option<T>, F: Fn(T) -> Answer>(
-        &mut self,
-        make: M,
-        call: F,
-    ) -> bool
-        requires makes { M.IsAlwaysCallable make }
-        requires calls { F.IsAlwaysCallable call }
-    {
-        self.give_back();
-        match make() {
-            Some(value) => self.refuses_a_byte() && self.answer(0, value, &call) == Answer::Right,
-            None => false,
-        }
+    /// Gives one block back.
+    fn give_back(&mut self) {
+        drop(self.spares.pop());
     }
 }

@@ -1,64 +1,55 @@
-//! Tests of the crates below: worked cases, element types of their own, and calls that find no memory.
+//! Tests of the sets, and of what stands below them.
 #![tactic(auto)]
 
 #[cfg(test)]
-mod drawn;
+mod advances;
+#[cfg(test)]
+mod comparisons;
+#[cfg(test)]
+mod connectives;
+#[cfg(test)]
+mod constructors;
+#[cfg(test)]
+mod copies;
+#[cfg(test)]
+mod counts;
 #[cfg(test)]
 mod elements;
 #[cfg(test)]
-mod entries;
+mod fitting;
 #[cfg(test)]
-mod everyday_drawn;
+mod gaps;
 #[cfg(test)]
-mod everyday_points;
+mod insertion;
 #[cfg(test)]
-mod flags;
+mod json;
 #[cfg(test)]
-mod forms;
+mod made_up_pairs;
 #[cfg(test)]
-mod given;
-#[cfg(test)]
-mod insertions;
-#[cfg(test)]
-mod made_up;
+mod made_up_sets;
 #[cfg(test)]
 mod merging;
 #[cfg(test)]
-mod numbers;
+mod negation;
 #[cfg(test)]
 mod operations;
 #[cfg(test)]
+mod orders;
+#[cfg(test)]
 mod parsing;
+#[cfg(test)]
+mod parts;
 #[cfg(test)]
 mod questions;
 #[cfg(test)]
-mod refusals;
-#[cfg(test)]
-mod refusals_of_advances;
-#[cfg(test)]
-mod refusals_of_copies;
-#[cfg(test)]
-mod refusals_of_lists;
-#[cfg(test)]
-mod refusals_of_unions;
+mod ranges;
 #[cfg(test)]
 mod refused_advances;
 #[cfg(test)]
-mod refusing;
-#[cfg(test)]
 mod rooms;
 #[cfg(test)]
-mod tally;
+mod structs;
 #[cfg(test)]
-mod texts;
+mod text;
 #[cfg(test)]
-mod tracker;
-#[cfg(test)]
-mod tracker_refusals;
-#[cfg(test)]
-mod values;
-#[cfg(test)]
-mod ways;
-
-#[cfg(test)]
-use range_starving as starved;
+mod unions;

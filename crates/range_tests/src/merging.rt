@@ -1,17 +1,223 @@
 //! Searches, first runs and merges of lists of numbers: by a comparer and a copier of the tests' own into a list, a count and a test, and by sets and views into a count and a test.
 ghost use Rattle.std.specs.Prelude.{◌≡◌, false};
 
-use crate::forms::Operation;
-use crate::given::set_of;
-use crate::numbers::{Copies, NoCopies, Numbers};
-use crate::operations::Row;
+use crate::operations::{Call, Case};
 use range_collections::{Comparisons, RangeSet2, RangeSetRef};
 use range_merge::{
     BoolOpMergeState, Compare, Copier, CountMergeState, DiffOp, IntersectionOp, MergeOperation,
     Run, SliceIterator, SmallVecMergeState, UnionOp, XorOp, merge, run_length, search,
 };
+use range_tests_kit::comparers::{Copies, NoCopies, Numbers};
+use range_tests_kit::forms::Operation;
+use range_tests_kit::lists::set_of;
 use smallvec::SmallVec;
 use std::alloc::{AllocError, Global};
+
+// The merge of two lists into a new one, and how many comparisons it took.
+fn merged<P: Copier<i64>, O: MergeOperation>(
+    alloc: Global,
+    left: RangeSetRef<i64>,
+    right: RangeSetRef<i64>,
+    copier: &P,
+    op: &O,
+) -> Result<(SmallVec<i64, 2>, u128), AllocError> {
+    let (a, b) = (left.boundaries(), right.boundaries());
+    let mut numbers = Numbers { made: 0 };
+    let list = SmallVecMergeState::merge(SmallVec::new(alloc), a, b, copier, op, &mut numbers)?;
+    Ok((list, numbers.made()))
+}
+
+// The merge on a state over two lists and a list that holds -1 already, and how many comparisons it took, if it used up both lists.
+fn appended<O: MergeOperation>(
+    alloc: Global,
+    left: RangeSetRef<i64>,
+    right: RangeSetRef<i64>,
+    op: &O,
+) -> Result<(SmallVec<i64, 4>, Option<u128>), AllocError> {
+    let list = SmallVec::from_slice(alloc, &[-1])?;
+    let mut numbers = Numbers { made: 0 };
+    let mut state = SmallVecMergeState::new(left.boundaries(), right.boundaries(), list, &Copies);
+    let ended = merge(&mut state, op, &mut numbers)?;
+    Ok((state.result(), ended.then_some(numbers.made())))
+}
+
+// Whether the merges into a list find this one, after what was there, in at most so many comparisons.
+fn gives_list<O: MergeOperation>(
+    alloc: Global,
+    left: RangeSetRef<i64>,
+    right: RangeSetRef<i64>,
+    op: &O,
+    want: &[i64],
+    most: u128,
+) -> bool {
+    let is_merged = matches!(merged(alloc, left, right, &Copies, op), Ok((list, made))
+        if list.as_slice() == want && made <= most);
+    let is_appended = matches!(appended(alloc, left, right, op), Ok((list, Some(made)))
+        if list.as_slice().split_first() == Some((&-1, want)) && made <= most);
+    is_merged && is_appended
+}
+
+// Whether the merges that count find so many changes, in at most so many comparisons.
+pub(crate) fn gives_count<O: MergeOperation>(
+    left: RangeSetRef<i64>,
+    right: RangeSetRef<i64>,
+    op: &O,
+    want: usize,
+    most: u128,
+) -> bool {
+    let (a, b) = (left.boundaries(), right.boundaries());
+    if a.len().checked_add(b.len()).is_none() {
+        return false;
+    }
+    let (mut numbers, mut others) = (Numbers { made: 0 }, Numbers { made: 0 });
+    let count = CountMergeState::merge(a, b, op, &mut numbers);
+    let mut state = CountMergeState::new(a, b);
+    let ended = merge(&mut state, op, &mut others) == Ok(true);
+    ended && (count, state.result()) == (want, want) && numbers.made().max(others.made()) <= most
+}
+
+// Whether a set and its view count so many boundaries, in at most so many comparisons each.
+pub(crate) fn gives_length<O: MergeOperation>(
+    set: &RangeSet2<i64>,
+    that: RangeSetRef<i64>,
+    op: &O,
+    want: usize,
+    most: u128,
+) -> bool
+    requires { O.connective op.now false false ≡ false }
+{
+    let (a, b) = (set.boundaries(), that.boundaries());
+    if a.len().checked_add(b.len()).is_none() {
+        return false;
+    }
+    let (mut count, mut again) = (Comparisons::new(), Comparisons::new());
+    let length = set.merge_len(that, op, &mut count);
+    let of_view = set.as_ref().merge_len(that, op, &mut again);
+    (length, of_view) == (want, want) && count.made().max(again.made()) <= most
+}
+
+// How many comparisons the tests of two lists, of a state over them, of a set and of its view make, where all find that something is taken, or all that nothing is.
+fn tests<O: MergeOperation>(
+    set: &RangeSet2<i64>,
+    that: RangeSetRef<i64>,
+    op: &O,
+    want: bool,
+) -> Option<[u128; 4]>
+    requires { O.connective op.now false false ≡ false }
+{
+    let (a, b) = (set.boundaries(), that.boundaries());
+    let (mut numbers, mut others) = (Numbers { made: 0 }, Numbers { made: 0 });
+    let (mut count, mut again) = (Comparisons::new(), Comparisons::new());
+    let mut state = BoolOpMergeState::new(a, b);
+    let ended = merge(&mut state, op, &mut others) == Ok(true);
+    let found = [
+        !ended,
+        state.result(),
+        BoolOpMergeState::merge(a, b, op, &mut numbers),
+        set.merge_test(that, op, &mut count),
+        set.as_ref().merge_test(that, op, &mut again),
+    ];
+    (found == [want; 5]).then_some([numbers.made(), others.made(), count.made(), again.made()])
+}
+
+// Whether they do, each in at most so many.
+pub(crate) fn gives_test<O: MergeOperation>(
+    set: &RangeSet2<i64>,
+    that: RangeSetRef<i64>,
+    op: &O,
+    want: bool,
+    most: u128,
+) -> bool
+    requires { O.connective op.now false false ≡ false }
+{
+    match tests(set, that, op, want) {
+        Some(made) => made.iter().all(|made| *made <= most),
+        None => false,
+    }
+}
+
+// The first merge of a case by the operation that answers otherwise, or compares more often than it may.
+fn wrong_by<O: MergeOperation>(alloc: Global, case: Case, op: &O) -> Option<Call>
+    requires { O.connective op.now false false ≡ false }
+{
+    let (Some(set), Some(right)) = (set_of(alloc, case.left), RangeSetRef::new(case.right)) else {
+        return Some(Call::Sides);
+    };
+    let (left, length, most) = (set.as_ref(), case.want.len(), case.most);
+    if !gives_list(alloc, left, right, op, case.want, most) {
+        return Some(Call::List);
+    }
+    if !gives_count(left, right, op, length, most) {
+        return Some(Call::Count);
+    }
+    if !gives_length(&set, right, op, length, most) {
+        return Some(Call::Length);
+    }
+    if !gives_test(&set, right, op, length > 0, most) {
+        return Some(Call::Test);
+    }
+    None
+}
+
+// The same of its own operation.
+pub(crate) fn wrong_merge(alloc: Global, case: Case) -> Option<Call> {
+    match case.op {
+        Operation::Union => wrong_by(alloc, case, &UnionOp),
+        Operation::Intersection => wrong_by(alloc, case, &IntersectionOp),
+        Operation::Difference => wrong_by(alloc, case, &DiffOp),
+        Operation::SymmetricDifference => wrong_by(alloc, case, &XorOp),
+    }
+}
+
+// Two lists of which something is taken, and how many comparisons find it: one where it is a first item, of however long a run.
+const FOUND: [(Operation, &[i64], &[i64], u128); 12] = [
+    (Operation::Union, &[0, 1, 2, 3], &[10, 20], 1),
+    (Operation::Union, &[10, 20], &[0, 1, 2, 3], 1),
+    (Operation::Union, &[0, 20], &[10], 1),
+    (Operation::Union, &[10], &[0, 20], 1),
+    (Operation::Union, &[0, 1], &[0, 1, 2], 1),
+    (Operation::Intersection, &[0, 1, 2], &[0, 5], 1),
+    (Operation::Difference, &[0, 1, 2, 3], &[10, 20], 1),
+    (Operation::SymmetricDifference, &[0, 20], &[10, 30, 40], 1),
+    (Operation::SymmetricDifference, &[10, 30, 40], &[0, 20], 1),
+    (Operation::SymmetricDifference, &[5, 6], &[0, 1, 2, 3, 4], 1),
+    // A run of one is dropped first, which takes two comparisons and tells how the next one begins.
+    (Operation::Intersection, &[0, 5, 6, 7], &[3, 4], 2),
+    (Operation::Intersection, &[3, 4], &[0, 5, 6, 7], 2),
+];
+
+fn found_after(alloc: Global, op: Operation, left: &[i64], right: &[i64]) -> Option<[u128; 4]> {
+    let (set, that) = (set_of(alloc, left)?, RangeSetRef::new(right)?);
+    match op {
+        Operation::Union => tests(&set, that, &UnionOp, true),
+        Operation::Intersection => tests(&set, that, &IntersectionOp, true),
+        Operation::Difference => tests(&set, that, &DiffOp, true),
+        Operation::SymmetricDifference => tests(&set, that, &XorOp, true),
+    }
+}
+
+#[test]
+fn a_test_stops_before_it_measures_a_run(rt: HostRuntime) {
+    for (op, left, right, made) in FOUND {
+        let found = found_after(rt.alloc(), op, left, right);
+        assert_eq!(rt; found, Some([made; 4]), "{op:?} of {left:?} and {right:?}");
+    }
+}
+
+// Whether a union of two lists is refused where each copy is.
+fn refuses_copies(a: &[i64], b: &[i64], alloc: Global) -> bool {
+    match (RangeSetRef::new(a), RangeSetRef::new(b)) {
+        (Some(left), Some(right)) => merged(alloc, left, right, &NoCopies, &UnionOp).is_err(),
+        _ => false,
+    }
+}
+
+#[test]
+fn a_refused_copy_refuses_the_merge(rt: HostRuntime) {
+    assert!(rt; refuses_copies(&[0, 10], &[20], rt.alloc()));
+    assert!(rt; refuses_copies(&[], &[20], rt.alloc()));
+    assert!(rt; !refuses_copies(&[], &[], rt.alloc()));
+}
 
 // What an operation answers where both sides are off, the left alone is on, the right alone is on, and both are.
 fn answers<O: MergeOperation>(op: &O) -> [bool; 4] {
@@ -35,179 +241,6 @@ fn takes<O: MergeOperation>(op: &O) -> [bool; 8] {
     ]
 }
 
-// The merge of two lists into a new one, and how many comparisons it took.
-fn merged<P: Copier<i64>, O: MergeOperation>(
-    alloc: Global,
-    left: RangeSetRef<i64>,
-    right: RangeSetRef<i64>,
-    copier: &P,
-    op: &O,
-) -> Result<(SmallVec<i64, 2>, u128), AllocError> {
-    let (a, b) = (left.boundaries(), right.boundaries());
-    let mut numbers = Numbers { made: 0 };
-    let list = SmallVecMergeState::merge(SmallVec::new(alloc), a, b, copier, op, &mut numbers)?;
-    Ok((list, numbers.made()))
-}
-
-// The merge on a state over two lists and a list that holds -1 already, and whether it ended.
-fn appended<O: MergeOperation>(
-    alloc: Global,
-    left: RangeSetRef<i64>,
-    right: RangeSetRef<i64>,
-    op: &O,
-) -> Result<(bool, SmallVec<i64, 4>), AllocError> {
-    let list = SmallVec::from_slice(alloc, &[-1])?;
-    let mut state = SmallVecMergeState::new(left.boundaries(), right.boundaries(), list, &Copies);
-    let ended = merge(&mut state, op, &mut Numbers { made: 0 })?;
-    Ok((ended, state.result()))
-}
-
-// Whether both are this list, the first made in at most so many comparisons, the second behind what was there.
-fn gives_list<O: MergeOperation>(
-    alloc: Global,
-    left: RangeSetRef<i64>,
-    right: RangeSetRef<i64>,
-    op: &O,
-    want: &[i64],
-    most: u128,
-) -> bool {
-    match (
-        merged(alloc, left, right, &Copies, op),
-        appended(alloc, left, right, op),
-    ) {
-        (Ok((list, made)), Ok((ended, longer))) => {
-            list.as_slice() == want
-                && made <= most
-                && ended
-                && longer.as_slice().first() == Some(&-1)
-                && longer.as_slice().get(1..) == Some(want)
-        }
-        _ => false,
-    }
-}
-
-// Whether the merges that count find so many changes, in at most so many comparisons.
-pub(crate) fn gives_count<O: MergeOperation>(
-    left: RangeSetRef<i64>,
-    right: RangeSetRef<i64>,
-    op: &O,
-    want: usize,
-    most: u128,
-) -> bool {
-    let (a, b) = (left.boundaries(), right.boundaries());
-    if a.len().checked_add(b.len()).is_none() {
-        return false;
-    }
-    let mut numbers = Numbers { made: 0 };
-    let count = CountMergeState::merge(a, b, op, &mut numbers);
-    let mut state = CountMergeState::new(a, b);
-    let ended = merge(&mut state, op, &mut Numbers { made: 0 });
-    count == want && numbers.made() <= most && ended == Ok(true) && state.result() == want
-}
-
-// Whether the merges that test find a change or none, in at most so many comparisons.
-fn gives_test<O: MergeOperation>(
-    left: RangeSetRef<i64>,
-    right: RangeSetRef<i64>,
-    op: &O,
-    want: bool,
-    most: u128,
-) -> bool {
-    let (a, b) = (left.boundaries(), right.boundaries());
-    let mut numbers = Numbers { made: 0 };
-    let test = BoolOpMergeState::merge(a, b, op, &mut numbers);
-    let mut state = BoolOpMergeState::new(a, b);
-    let ended = merge(&mut state, op, &mut Numbers { made: 0 });
-    test == want && numbers.made() <= most && ended == Ok(!want) && state.result() == want
-}
-
-// Whether a set and its view count so many boundaries, and find a member where there is one, in at most so many comparisons each.
-pub(crate) fn set_counts<O: MergeOperation>(
-    set: &RangeSet2<i64>,
-    that: RangeSetRef<i64>,
-    op: &O,
-    want: usize,
-    most: u128,
-) -> bool
-    requires { O.connective op.now false false ≡ false }
-{
-    if set
-        .boundaries()
-        .len()
-        .checked_add(that.boundaries().len())
-        .is_none()
-    {
-        return false;
-    }
-    let (mut count, mut again) = (Comparisons::new(), Comparisons::new());
-    let lengths = (
-        set.merge_len(that, op, &mut count),
-        set.as_ref().merge_len(that, op, &mut again),
-    );
-    let (mut tested, mut tested_again) = (Comparisons::new(), Comparisons::new());
-    let tests = (
-        set.merge_test(that, op, &mut tested),
-        set.as_ref().merge_test(that, op, &mut tested_again),
-    );
-    lengths == (want, want)
-        && tests == (want > 0, want > 0)
-        && [count, again, tested, tested_again]
-            .iter()
-            .all(|count| count.made() <= most)
-}
-
-// The first merge of a row by the operation that answers otherwise, or compares more often than the row says.
-fn wrong_by<O: MergeOperation>(
-    alloc: Global,
-    row: &Row,
-    op: &O,
-    want: &[i64],
-) -> Option<&'static str>
-    requires { O.connective op.now false false ≡ false }
-{
-    let (Some(set), Some(right)) = (set_of(alloc, row.0), RangeSetRef::new(row.1)) else {
-        return Some("the sides");
-    };
-    let (left, length) = (set.as_ref(), want.len());
-    if !gives_list(alloc, left, right, op, want, row.3) {
-        return Some("a list");
-    }
-    if !gives_count(left, right, op, length, row.3) {
-        return Some("a count");
-    }
-    if !gives_test(left, right, op, length > 0, row.3) {
-        return Some("a test");
-    }
-    if !set_counts(&set, right, op, length, row.3) {
-        return Some("a count or a test of sets");
-    }
-    None
-}
-
-// The first merge of a row that does, by its operation.
-pub(crate) fn wrong_merge(alloc: Global, row: &Row) -> Option<(Operation, &'static str)> {
-    let [union, meet, less, xor] = row.2;
-    if let Some(name) = wrong_by(alloc, row, &UnionOp, union) {
-        return Some((Operation::Union, name));
-    }
-    if let Some(name) = wrong_by(alloc, row, &IntersectionOp, meet) {
-        return Some((Operation::Intersection, name));
-    }
-    if let Some(name) = wrong_by(alloc, row, &DiffOp, less) {
-        return Some((Operation::Difference, name));
-    }
-    let name = wrong_by(alloc, row, &XorOp, xor)?;
-    Some((Operation::SymmetricDifference, name))
-}
-
-// Whether a union of two lists is refused where each copy is.
-fn refuses_copies(a: &[i64], b: &[i64], alloc: Global) -> bool {
-    match (RangeSetRef::new(a), RangeSetRef::new(b)) {
-        (Some(left), Some(right)) => merged(alloc, left, right, &NoCopies, &UnionOp).is_err(),
-        _ => false,
-    }
-}
-
 #[test]
 fn operations_answer_by_their_tables(rt: HostRuntime) {
     assert!(rt; answers(&UnionOp) == [false, true, true, true]);
@@ -221,13 +254,6 @@ fn operations_answer_by_their_tables(rt: HostRuntime) {
 }
 
 #[test]
-fn a_refused_copy_refuses_the_merge(rt: HostRuntime) {
-    assert!(rt; refuses_copies(&[0, 10], &[20], rt.alloc()));
-    assert!(rt; refuses_copies(&[], &[20], rt.alloc()));
-    assert!(rt; !refuses_copies(&[], &[], rt.alloc()));
-}
-
-#[test]
 fn slices_are_read_from_the_front(rt: HostRuntime) {
     let items = [1i64, 2, 3, 4, 5];
     let mut unread = SliceIterator::new(&items);
@@ -236,9 +262,8 @@ fn slices_are_read_from_the_front(rt: HostRuntime) {
     assert!(rt; unread.as_slice() == [2, 3, 4, 5].as_slice());
     assert!(rt; unread.take_front(2) == [2, 3].as_slice());
     assert!(rt; unread.next() == Some(&4));
-    for item in unread {
-        assert!(rt; *item == 5);
-    }
+    assert!(rt; unread.next() == Some(&5));
+    assert!(rt; unread.next().is_none());
 }
 
 // Whether a search of a list gives this answer, in at most so many comparisons.
@@ -249,6 +274,19 @@ fn finds(items: &[i64], key: i64, want: Result<usize, usize>, most: u128) -> boo
             search(list.boundaries(), &key, &mut numbers) == want && numbers.made() <= most
         }
         None => false,
+    }
+}
+
+#[test]
+fn searches_find_the_place(rt: HostRuntime) {
+    for (key, want) in [
+        (4, Ok(2)),
+        (5, Err(3)),
+        (0, Ok(0)),
+        (-1, Err(0)),
+        (9, Err(4)),
+    ] {
+        assert!(rt; finds(&[0, 2, 4, 8], key, want, 3), "for {key}");
     }
 }
 
@@ -264,19 +302,6 @@ fn first_run(a: &[i64], b: &[i64]) -> Option<(Run, u128)> {
     let mut numbers = Numbers { made: 0 };
     let run = run_length(&BoolOpMergeState::new(a, b), &mut numbers);
     Some((run, numbers.made()))
-}
-
-#[test]
-fn searches_find_the_place(rt: HostRuntime) {
-    for (key, want) in [
-        (4, Ok(2)),
-        (5, Err(3)),
-        (0, Ok(0)),
-        (-1, Err(0)),
-        (9, Err(4)),
-    ] {
-        assert!(rt; finds(&[0, 2, 4, 8], key, want, 3), "for {key}");
-    }
 }
 
 #[test]

@@ -1,15 +1,8 @@
-//! Sets read from texts: what is read, and at which byte a text that isn't one is refused. Sets of many ranges, from lists in any order, and from JSON.
-use crate::elements::{Lettered, letters_are, with_letter};
-use crate::given::gives;
-use range_collections::{
-    Expected, JsonError, ParseError, RangeSet, RangeSet2, RangeSetRange, RangeSetRef,
-};
-use serde_json::Value;
-use smallvec::SmallVec;
-use std::alloc::Global;
-use std::test::Fail;
+//! Sets read from texts: what is read, and at which byte a text that isn't one is refused.
+use range_collections::{Expected, ParseError, RangeSet, RangeSet2};
+use range_tests_kit::lists::gives;
 
-// Texts that write no ranges, with the byte behind the longest front that begins some text of ranges, and what was expected there.
+// Texts that write no ranges, with the byte after the longest front that begins some text of ranges, and what was expected there.
 const MALFORMED: [(&str, usize, Expected); 67] = [
     ("x", 0, Expected::Number),
     ("-", 1, Expected::Number),
@@ -81,7 +74,7 @@ const MALFORMED: [(&str, usize, Expected); 67] = [
 ];
 
 // Texts of ranges, and the boundaries of their set.
-const READ: [(&str, &[i64]); 16] = [
+const READ: [(&str, &[i64]); 19] = [
     ("", &[]),
     (" \t\n", &[]),
     ("0..10, 20..", &[0, 10, 20]),
@@ -101,6 +94,9 @@ const READ: [(&str, &[i64]); 16] = [
         &[-9223372036854775808, 9223372036854775807],
     ),
     ("\u{2003}3..4\u{a0}", &[3, 4]),
+    ("8..9,0..1,4..5", &[0, 1, 4, 5, 8, 9]),
+    ("1..2, 3..4, 5..6, 7..", &[1, 2, 3, 4, 5, 6, 7]),
+    ("9..12, 0..3, 2..5, 11..20, 30..", &[0, 5, 9, 20, 30]),
 ];
 
 // Texts of ranges with a number that u8 doesn't have.
@@ -137,110 +133,5 @@ fn numbers_past_the_type_are_refused(rt: HostRuntime) {
     for text in PAST {
         let found = RangeSet2::<u8>::parse(rt.alloc(), text).err();
         assert_eq!(rt; found, Some(ParseError::OutOfRange), "{text}");
-    }
-}
-
-#[test]
-fn ranges_in_any_order_are_united(rt: HostRuntime) {
-    let ranges = [
-        RangeSetRange::from(20..),
-        RangeSetRange::from(5i64..9),
-        RangeSetRange::from(7..3),
-        RangeSetRange::from(0..5),
-        RangeSetRange::from(4..4),
-    ];
-    assert!(rt; gives(RangeSet::from_ranges(rt.alloc(), &ranges), &[0, 9, 20]));
-    assert!(rt; gives::<i64, _>(RangeSet::from_ranges(rt.alloc(), &[]), &[]));
-}
-
-#[test]
-fn sets_are_united(rt: HostRuntime) {
-    let sets = [
-        RangeSetRef::new(&[0i64, 4]).unwrap_or_default(),
-        RangeSetRef::new(&[8]).unwrap_or_default(),
-        RangeSetRef::new(&[2, 6, 7, 9]).unwrap_or_default(),
-    ];
-    assert!(rt; gives(RangeSet::union_all(rt.alloc(), &sets), &[0, 6, 7]));
-    assert!(rt; gives::<i64, _>(RangeSet::union_all(rt.alloc(), &[]), &[]));
-}
-
-// Texts of JSON that are not read as sets, and why.
-const REFUSED: [(&str, JsonError); 10] = [
-    ("{}", JsonError::NotArray),
-    ("\"5\"", JsonError::NotArray),
-    ("null", JsonError::NotArray),
-    ("[1,2.5]", JsonError::NotInteger { index: 1 }),
-    ("[9223372036854775808]", JsonError::NotInteger { index: 0 }),
-    ("[1,null,2.5]", JsonError::NotInteger { index: 1 }),
-    ("[1,[2],\"x\"]", JsonError::NotInteger { index: 1 }),
-    ("[1,2,true]", JsonError::NotInteger { index: 2 }),
-    ("[-0]", JsonError::NotInteger { index: 0 }),
-    ("[1.0]", JsonError::NotInteger { index: 0 }),
-];
-
-// What a text of JSON is read as.
-fn read(alloc: Global, text: &str) -> Option<Result<RangeSet2<i64>, JsonError>> {
-    let value = Value::from_str(alloc, text).ok()?;
-    Some(RangeSet::from_json(alloc, &value))
-}
-
-// The text of a set's JSON.
-fn written(alloc: Global, set: &RangeSet2<i64>) -> Option<String> {
-    set.to_json().ok()?.to_string(alloc).ok()
-}
-
-// The set of a list of lettered numbers in any order.
-fn sorted(alloc: Global, items: &[Lettered]) -> Option<RangeSet2<Lettered>> {
-    RangeSet::from_unsorted(SmallVec::from_slice(alloc, items).ok()?).ok()
-}
-
-#[test]
-fn lists_in_any_order_are_sorted(rt: HostRuntime) -> Result<(), Fail> {
-    for (items, want) in [([5, 1, 5].as_slice(), [1i64, 5].as_slice()), (&[], &[])] {
-        let list = SmallVec::from_slice(rt.alloc(), items)?;
-        assert!(rt; gives(RangeSet::from_unsorted(list), want), "{items:?}");
-    }
-    Ok(())
-}
-
-#[test]
-fn the_first_of_equal_items_is_kept(rt: HostRuntime) {
-    let items = [
-        with_letter(5, b'a'),
-        with_letter(1, b'a'),
-        with_letter(5, b'b'),
-    ];
-    assert!(rt;
-        matches!(sorted(rt.alloc(), &items), Some(set) if letters_are(set.boundaries(), &[(1, b'a'), (5, b'a')]))
-    );
-}
-
-#[test]
-fn arrays_in_any_order_are_read_and_written_sorted(rt: HostRuntime) -> Result<(), Fail> {
-    let alloc = rt.alloc();
-    for (text, want, sorted) in [
-        ("[5,1,5]", [1i64, 5].as_slice(), "[1,5]"),
-        ("[]", &[], "[]"),
-        ("[2,1,2]", &[1, 2], "[1,2]"),
-    ] {
-        let Some(Ok(set)) = read(alloc, text) else {
-            return Err(text.into());
-        };
-        assert!(rt; set.boundaries() == want, "{text}");
-        assert!(rt;
-            matches!(written(alloc, &set), Some(json) if json.as_str() == sorted),
-            "{text}"
-        );
-    }
-    Ok(())
-}
-
-#[test]
-fn other_values_are_refused(rt: HostRuntime) {
-    for (text, want) in REFUSED {
-        assert!(rt;
-            matches!(read(rt.alloc(), text), Some(Err(error)) if error == want),
-            "{text}"
-        );
     }
 }

@@ -1,13 +1,13 @@
-//! How much room a new set keeps: for at most twice its boundaries, or for those that it holds in itself. What takes no memory answers in a process without any.
-use crate::drawn::{TABLES, connective};
-use crate::everyday_drawn::all_u8;
-use crate::forms::{FORMS, OPERATIONS, own};
-use crate::given::numbers;
-use crate::made_up::Generator;
-use crate::starved::{Answer, Starved};
-use range_collections::{Comparisons, RangeSet2, RangeSetRef, UnionOp};
+//! How much room a set keeps that a call makes.
+use range_collections::{Comparisons, DiffOp, RangeSet, RangeSet2, RangeSetRef};
+use range_merge::SmallVecMergeState;
+use range_tests_kit::comparers::Copies;
+use range_tests_kit::forms::{FORMS, Form, OPERATIONS, Operation};
+use range_tests_kit::generator::Generator;
+use range_tests_kit::lists::{numbers, own};
+use range_tests_kit::membership::{TABLES, all_u8, connective};
+use smallvec::SmallVec;
 use std::alloc::{AllocError, Global};
-use std::test::Fail;
 
 // Of how many values one is a boundary.
 const ONE_IN: [u64; 5] = [1, 2, 10, 40, 100];
@@ -18,42 +18,43 @@ fn keeps_little(set: RangeSet2<u8>) -> bool {
     set.into_inner().capacity() <= most
 }
 
-// How many new sets, by every operation in every form that makes one, keep more.
-fn wasteful_operations(alloc: Global, left: &[u8], right: &[u8]) -> Option<usize> {
-    let mut wasteful: usize = 0;
+// Whether the new set does that an operation makes in this form.
+fn form_keeps_little(alloc: Global, form: Form, op: Operation, a: &[u8], b: &[u8]) -> Option<bool> {
+    let (left, right) = (own(alloc, a)?, own(alloc, b)?);
+    let outcome = form.call(op, alloc, left, right, &mut Comparisons::new());
+    Some(keeps_little(outcome.made?))
+}
+
+// Whether the set does that the connective of this table makes.
+fn table_keeps_little(alloc: Global, table: [u8; 4], a: &[u8], b: &[u8]) -> bool {
+    let (Some(left), Some(right)) = (own::<_, 2>(alloc, a), RangeSetRef::new(b)) else {
+        return false;
+    };
+    match left.combine(right, &connective(table), &mut Comparisons::new()) {
+        Ok(set) => keeps_little(set),
+        Err(_) => false,
+    }
+}
+
+// The first operation and form, or else the first table, whose new set keeps more.
+fn wasteful(alloc: Global, a: &[u8], b: &[u8]) -> (Option<(Operation, Form)>, Option<[u8; 4]>) {
     for op in OPERATIONS {
         for form in FORMS {
-            if !form.is_in_place() {
-                let (a, b) = (own(alloc, left)?, own(alloc, right)?);
-                let outcome = form.call(op, alloc, a, b, &mut Comparisons::new());
-                if !keeps_little(outcome.made?) {
-                    wasteful = wasteful.saturating_add(1);
-                }
+            if !form.is_in_place() && form_keeps_little(alloc, form, op, a, b) != Some(true) {
+                return (Some((op, form)), None);
             }
         }
     }
-    Some(wasteful)
-}
-
-// How many new sets by the sixteen connectives keep more.
-fn wasteful_connectives(
-    alloc: Global,
-    left: &RangeSet2<u8>,
-    right: &RangeSet2<u8>,
-) -> Result<usize, AllocError> {
-    let mut wasteful: usize = 0;
     for table in TABLES {
-        let op = connective(table);
-        let made = left.combine(right.as_ref(), &op, &mut Comparisons::new())?;
-        if !keeps_little(made) {
-            wasteful = wasteful.saturating_add(1);
+        if !table_keeps_little(alloc, table, a, b) {
+            return (None, Some(table));
         }
     }
-    Ok(wasteful)
+    (None, None)
 }
 
 #[test]
-fn new_sets_keep_little_room(rt: HostRuntime) -> Result<(), Fail> {
+fn new_sets_keep_little_room(rt: HostRuntime) -> Result<(), AllocError> {
     let alloc = rt.alloc();
     let values = all_u8(alloc)?;
     let mut draws = Generator::new();
@@ -61,38 +62,78 @@ fn new_sets_keep_little_room(rt: HostRuntime) -> Result<(), Fail> {
         for other in ONE_IN {
             let a = draws.some_of(alloc, values.as_slice(), one_in.max(1))?;
             let b = draws.some_of(alloc, values.as_slice(), other.max(1))?;
-            let (a, b) = (a.as_slice(), b.as_slice());
-            let wasteful = wasteful_operations(alloc, a, b);
-            assert_eq!(rt; wasteful, Some(0), "one in {one_in} and in {other}");
-            let left = own(alloc, a).ok_or("sorted")?;
-            let right = own(alloc, b).ok_or("sorted")?;
-            let wasteful = wasteful_connectives(alloc, &left, &right)?;
-            assert_eq!(rt; wasteful, 0, "one in {one_in} and in {other}");
+            let wasteful = wasteful(alloc, a.as_slice(), b.as_slice());
+            assert_eq!(rt; wasteful, (None, None), "one in {one_in} and in {other}");
         }
     }
     Ok(())
 }
 
-// How many boundaries the union has, and whether it has a member.
-fn union_of(left: &[i64], right: &[i64]) -> Option<(usize, bool)> {
-    let (a, b) = (RangeSetRef::new(left)?, RangeSetRef::new(right)?);
-    let _both = a.boundaries().len().checked_add(b.boundaries().len())?;
-    let length = a.merge_len(b, &UnionOp, &mut Comparisons::new());
-    Some((length, a.merge_test(b, &UnionOp, &mut Comparisons::new())))
+// The room of the union of the numbers up to 60 with those from there up to 100, which are the boundaries of both.
+fn room_of_both(alloc: Global) -> Option<usize> {
+    let (low, high) = (numbers(alloc, 0, 60).ok()?, numbers(alloc, 60, 100).ok()?);
+    let (left, right) = (
+        RangeSetRef::new(low.as_slice())?,
+        RangeSetRef::new(high.as_slice())?,
+    );
+    let set: RangeSet2<i64> = left.union(alloc, right).ok()?;
+    Some(set.into_inner().capacity())
+}
+
+// The room is asked for at once: a list that grows would have more.
+#[test]
+fn a_long_set_has_room_for_both_sides(rt: HostRuntime) {
+    assert_eq!(rt; room_of_both(rt.alloc()), Some(100));
+}
+
+// Whether so many boundaries, without four others before them, lie in the set itself, which has room for eight.
+fn set_is_inline(alloc: Global, len: i64) -> Option<bool> {
+    let items = numbers(alloc, 0, len).ok()?;
+    let right = RangeSetRef::new(&[-4, -3, -2, -1])?;
+    let made = RangeSetRef::new(items.as_slice())?.difference(alloc, right);
+    let set: RangeSet<i64, 8> = made.ok()?;
+    Some(!set.into_inner().spilled())
+}
+
+// Whether they do without ten others in the list itself, which has room for two.
+fn list_is_inline(alloc: Global, len: i64) -> Option<bool> {
+    let (low, high) = (numbers(alloc, 0, len).ok()?, numbers(alloc, -10, 0).ok()?);
+    let left = RangeSetRef::new(low.as_slice())?.boundaries();
+    let right = RangeSetRef::new(high.as_slice())?.boundaries();
+    let (list, mut count) = (SmallVec::<i64, 2>::new(alloc), Comparisons::new());
+    let made = SmallVecMergeState::merge(list, left, right, &Copies, &DiffOp, &mut count);
+    Some(!made.ok()?.spilled())
 }
 
 #[test]
-fn lengths_and_tests_take_no_memory(rt: HostRuntime) -> Result<(), Fail> {
-    let long = numbers(rt.alloc(), 0, 10_000)?;
-    let long = long.as_slice();
-    let mut starved = Starved::new(rt.alloc())?;
-    for (one, length) in [([-1], 1), ([5_000], 5_001), ([10_000], 10_001)] {
-        assert!(rt;
-            starved.is_right_without_memory(|()| {
-                Answer::right_if(union_of(long, &one) == Some((length, true)))
-            }),
-            "{one:?}"
+fn results_lie_inline_as_far_as_they_fit(rt: HostRuntime) {
+    for len in 0..12i64 {
+        assert_eq!(rt;
+            set_is_inline(rt.alloc(), len),
+            Some(len <= 8),
+            "{len} of 8"
+        );
+        assert_eq!(rt;
+            list_is_inline(rt.alloc(), len),
+            Some(len <= 2),
+            "{len} of 2"
         );
     }
-    Ok(())
+}
+
+// Whether the negation keeps little of a set with room for 200 boundaries, whose first one is the least value.
+fn negation_keeps_little(alloc: Global, len: u8) -> Option<bool> {
+    let mut list = SmallVec::with_capacity(alloc, 200).ok()?;
+    for item in 0..=len {
+        list.push(item).ok()?;
+    }
+    let set: RangeSet2<u8> = (!RangeSet::new(list)?).ok()?;
+    Some(set.boundaries().len() == len as usize && keeps_little(set))
+}
+
+#[test]
+fn negations_keep_little_room(rt: HostRuntime) {
+    for len in [0, 1, 2, 3, 10, 99] {
+        assert_eq!(rt; negation_keeps_little(rt.alloc(), len), Some(true), "{len}");
+    }
 }

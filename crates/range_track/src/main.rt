@@ -3,22 +3,9 @@
 //! It reads commands from its input, one a line, and answers each with one line before it reads the next. Its one argument is the most boundaries that there may be.
 #![tactic(auto)]
 
-mod answering;
-mod limit;
-mod line;
-mod numbers;
-mod request;
-mod serving;
-mod status;
-#[cfg(test)]
-mod tests;
-mod writing;
-
-use limit::limit_asked;
-use serving::serve;
-use status::Status;
+use range_serve::{Status, limit_asked, serve};
 use std::env;
-use std::io::{self, BufReader, BufWriter, ErrorKind, Write};
+use std::io::{self, BufReader, BufWriter, ErrorKind};
 use std::process::ExitCode;
 use std::rt::Env;
 
@@ -41,8 +28,7 @@ fn run(rt: &(impl Env + Input + Print + AllocGlobal)) -> io::Result<Status> {
         Err(_) => None,
     };
     let Some(limit) = limit else {
-        out.write_all(b"bad limit\n")?;
-        return Ok(Status::BadLimit);
+        return Ok(Status::BadLimit.told(&mut out, b"bad limit\n"));
     };
     let reader = BufReader::new(rt.alloc(), rt.reader())?;
     let mut writer = BufWriter::new(rt.alloc(), out)?;
@@ -55,10 +41,7 @@ fn run(rt: &(impl Env + Input + Print + AllocGlobal)) -> io::Result<Status> {
 
 /// Says that there was no memory to begin with, which itself takes none.
 fn out_of_memory(rt: &impl Print) -> Status {
-    match io::writer(rt).write_all(b"out of memory\n") {
-        Ok(()) => Status::NoMemory,
-        Err(_) => Status::Failed,
-    }
+    Status::NoMemory.told(&mut io::writer(rt), b"out of memory\n")
 }
 
 /// The arguments without the program's name.

@@ -7,8 +7,6 @@ mod character_class;
 mod downloads;
 mod gaps;
 mod hours;
-#[cfg(test)]
-mod tests;
 
 pub use allocator::{Addresses, give_back, lowest_free, take_lowest, take_run};
 pub use calendar::{Minutes, add_busy, free_slots, is_free};

@@ -1,0 +1,97 @@
+//! Out of memory in the constructors.
+use range_collections::{RangeSet, RangeSetRange};
+use range_starving::{Answer, Call, Starved};
+use range_tests_kit::ways::set_is;
+use std::alloc::{AllocError, Global};
+
+#[derive(Clone, Copy, Debug)]
+enum Constructor {
+    Range,
+    RangeFrom,
+    RangeUntil,
+    Full,
+    True,
+    All,
+    RangeSetRange,
+    RangeSetRangeFrom,
+    RangeSetRangeOfNothing,
+}
+
+// Each of them, and the boundaries that it makes.
+const ROWS: [(Constructor, &[i64]); 9] = [
+    (Constructor::Range, &[1, 5]),
+    (Constructor::RangeFrom, &[5]),
+    (Constructor::RangeUntil, &[i64::MIN, 5]),
+    (Constructor::Full, &[i64::MIN]),
+    (Constructor::True, &[i64::MIN]),
+    (Constructor::All, &[i64::MIN]),
+    (Constructor::RangeSetRange, &[0, 2]),
+    (Constructor::RangeSetRangeFrom, &[4]),
+    (Constructor::RangeSetRangeOfNothing, &[]),
+];
+
+impl Constructor {
+    fn made<const N: usize>(self, alloc: Global) -> Result<RangeSet<i64, N>, AllocError> {
+        match self {
+            Constructor::Range => RangeSet::from_range(alloc, 1..5),
+            Constructor::RangeFrom => RangeSet::from_range_from(alloc, 5..),
+            Constructor::RangeUntil => RangeSet::from_range_until(alloc, ..5),
+            Constructor::Full => RangeSet::from_range_full(alloc, ..),
+            Constructor::True => RangeSet::from_bool(alloc, true),
+            Constructor::All => RangeSet::all(alloc),
+            Constructor::RangeSetRange => {
+                RangeSet::from_range_set_range(alloc, RangeSetRange::from(0..2))
+            }
+            Constructor::RangeSetRangeFrom => {
+                RangeSet::from_range_set_range(alloc, RangeSetRange::from(4..))
+            }
+            Constructor::RangeSetRangeOfNothing => {
+                RangeSet::from_range_set_range(alloc, RangeSetRange::from(5..1))
+            }
+        }
+    }
+}
+
+// A set with room in itself for so many boundaries, at most two.
+#[derive(Drop)]
+struct Attempt<'a> {
+    alloc: Global,
+    call: Constructor,
+    room: usize,
+    want: &'a [i64],
+}
+
+impl<'a> Call for Attempt<'a> {
+    type Given = ();
+
+    fn given(&self) -> Option<()> {
+        Some(())
+    }
+
+    fn answer(&self, _given: ()) -> Answer {
+        match self.room {
+            0 => set_is::<_, 0>(self.call.made(self.alloc), self.want),
+            1 => set_is::<_, 1>(self.call.made(self.alloc), self.want),
+            _ => set_is::<_, 2>(self.call.made(self.alloc), self.want),
+        }
+    }
+}
+
+#[test]
+fn constructors_are_refused_beyond_their_room(rt: HostRuntime) -> Result<(), AllocError> {
+    let alloc = rt.alloc();
+    let mut starved = Starved::new(alloc)?;
+    for (call, want) in ROWS {
+        for room in 0..3usize {
+            let attempt = Attempt {
+                alloc,
+                call,
+                room,
+                want,
+            };
+            let agrees = starved.agrees(&attempt, want.len() > room);
+            assert!(rt; agrees, "{call:?}, room for {room}");
+        }
+    }
+    Ok(())
+}

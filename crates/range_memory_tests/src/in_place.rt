@@ -1,0 +1,59 @@
+//! Operations where each request is refused, whose lists have room for both sides in themselves: in every form they need no memory.
+use range_collections::{Comparisons, RangeSet};
+use range_starving::{Answer, Call, Starved};
+use range_tests_kit::forms::{FORMS, Form, Operation};
+use range_tests_kit::lists::own;
+use std::alloc::{AllocError, Global};
+
+const LEFT: [i64; 4] = [0, 2, 4, 6];
+
+const RIGHT: [i64; 4] = [1, 3, 5, 7];
+
+// What each operation makes of these sides.
+const ROWS: [(Operation, &[i64]); 4] = [
+    (Operation::Union, &[0, 3, 4, 7]),
+    (Operation::Intersection, &[1, 2, 5, 6]),
+    (Operation::SymmetricDifference, &[0, 1, 2, 3, 4, 5, 6, 7]),
+    (Operation::Difference, &[0, 1, 4, 5]),
+];
+
+#[derive(Drop)]
+struct Attempt<'a> {
+    alloc: Global,
+    op: Operation,
+    form: Form,
+    want: &'a [i64],
+}
+
+impl<'a> Call for Attempt<'a> {
+    type Given = (RangeSet<i64, 8>, RangeSet<i64, 8>);
+
+    fn given(&self) -> Option<Self::Given> {
+        Some((own(self.alloc, &LEFT)?, own(self.alloc, &RIGHT)?))
+    }
+
+    fn answer(&self, given: Self::Given) -> Answer {
+        let (left, right) = given;
+        self.form
+            .call(self.op, self.alloc, left, right, &mut Comparisons::new())
+            .answer(self.want, &LEFT, &RIGHT)
+    }
+}
+
+#[test]
+fn sides_with_room_need_no_memory(rt: HostRuntime) -> Result<(), AllocError> {
+    let alloc = rt.alloc();
+    let mut starved = Starved::new(alloc)?;
+    for (op, want) in ROWS {
+        for form in FORMS {
+            let attempt = Attempt {
+                alloc,
+                op,
+                form,
+                want,
+            };
+            assert!(rt; starved.needs_none(&attempt), "{op:?} in {form:?}");
+        }
+    }
+    Ok(())
+}

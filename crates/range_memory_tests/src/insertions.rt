@@ -1,0 +1,176 @@
+//! Out of memory where one range is put into a set or taken out of it: refused where the list grows beyond its room, and else no memory is needed.
+use range_collections::{Comparisons, RangeSet, RangeSet2};
+use range_starving::{Answer, Call, Starved};
+use range_tests_kit::lists::own;
+use range_tests_kit::ways::refused_if;
+use smallvec::SmallVec;
+use std::alloc::{AllocError, Global};
+
+#[derive(Clone, Copy, Debug)]
+enum Change {
+    Insert,
+    InsertCounted,
+    Remove,
+    RemoveCounted,
+}
+
+const CHANGES: [Change; 4] = [
+    Change::Insert,
+    Change::InsertCounted,
+    Change::Remove,
+    Change::RemoveCounted,
+];
+
+// Boundaries, a range, and the boundaries with the range put in and with it taken out.
+type Row = (&'static [i64], (i64, i64), &'static [i64], &'static [i64]);
+
+// Ranges beside those of the set, within and across them.
+const ROWS: [Row; 15] = [
+    (&[0, 10], (20, 30), &[0, 10, 20, 30], &[0, 10]),
+    (&[20, 30], (0, 10), &[0, 10, 20, 30], &[20, 30]),
+    (
+        &[0, 9, 40, 50],
+        (20, 30),
+        &[0, 9, 20, 30, 40, 50],
+        &[0, 9, 40, 50],
+    ),
+    (&[0, 100], (20, 30), &[0, 100], &[0, 20, 30, 100]),
+    (&[0, 10, 20, 30], (20, 30), &[0, 10, 20, 30], &[0, 10]),
+    (&[0, 10], (0, 10), &[0, 10], &[]),
+    (&[0, 10], (0, 5), &[0, 10], &[5, 10]),
+    (&[0, 10], (5, 10), &[0, 10], &[0, 5]),
+    (&[10, 20], (5, 15), &[5, 20], &[15, 20]),
+    (&[10, 20], (15, 25), &[10, 25], &[10, 15]),
+    (&[0, 10, 20, 30], (5, 25), &[0, 30], &[0, 5, 25, 30]),
+    (&[0, 10, 20, 30], (5, 15), &[0, 15, 20, 30], &[0, 5, 20, 30]),
+    (&[0, 10, 20, 30], (-5, 40), &[-5, 40], &[]),
+    (&[10, 20, 30, 40], (10, 40), &[10, 40], &[]),
+    (
+        &[0, 10, 15, 16, 20, 30],
+        (10, 20),
+        &[0, 30],
+        &[0, 10, 20, 30],
+    ),
+];
+
+// Where the boundaries have room: for four in the set itself, or for so many in an allocation, if they are more than two.
+#[derive(Clone, Copy, Debug)]
+enum Room {
+    Four,
+    Allocated(usize),
+}
+
+#[derive(Drop)]
+struct Attempt {
+    alloc: Global,
+    change: Change,
+    row: Row,
+    room: Room,
+}
+
+impl Attempt {
+    fn want(&self) -> &'static [i64] {
+        match self.change {
+            Change::Insert | Change::InsertCounted => self.row.2,
+            Change::Remove | Change::RemoveCounted => self.row.3,
+        }
+    }
+
+    // Whether it is refused where the boundaries have no room, and else needs no memory.
+    fn agrees(&self, starved: &mut Starved) -> bool {
+        let room = match self.room {
+            Room::Four => 4,
+            Room::Allocated(room) => room.max(2),
+        };
+        starved.agrees(self, self.want().len() > room)
+    }
+
+    fn changed<const N: usize>(&self, mut set: RangeSet<i64, N>) -> Answer {
+        let (start, end) = self.row.1;
+        let mut count = Comparisons::new();
+        let made = match self.change {
+            Change::Insert => set.insert(start..end),
+            Change::InsertCounted => set.insert_counted(start..end, &mut count),
+            Change::Remove => set.remove(start..end),
+            Change::RemoveCounted => set.remove_counted(start..end, &mut count),
+        };
+        match made {
+            Ok(()) => Answer::right_if(set.boundaries() == self.want()),
+            Err(_) => refused_if(set.boundaries() == self.row.0),
+        }
+    }
+}
+
+impl Call for Attempt {
+    type Given = RangeSet2<i64>;
+
+    fn given(&self) -> Option<RangeSet2<i64>> {
+        let room = match self.room {
+            Room::Allocated(room) => room,
+            Room::Four => 0,
+        };
+        let mut list = SmallVec::with_capacity(self.alloc, room).ok()?;
+        for item in self.row.0 {
+            list.push(*item).ok()?;
+        }
+        RangeSet::new(list)
+    }
+
+    fn answer(&self, set: RangeSet2<i64>) -> Answer {
+        match self.room {
+            Room::Four => match own::<_, 4>(self.alloc, self.row.0) {
+                Some(set) => self.changed(set),
+                None => Answer::Wrong,
+            },
+            Room::Allocated(_) => self.changed(set),
+        }
+    }
+}
+
+#[test]
+fn changes_are_refused_beyond_their_room(rt: HostRuntime) -> Result<(), AllocError> {
+    let alloc = rt.alloc();
+    for row in ROWS {
+        let mut starved = Starved::new(alloc)?;
+        for change in CHANGES {
+            let room = Room::Allocated(row.0.len());
+            let attempt = Attempt {
+                alloc,
+                change,
+                row,
+                room,
+            };
+            assert!(rt; attempt.agrees(&mut starved), "{change:?}, {row:?}");
+        }
+    }
+    Ok(())
+}
+
+// Two ranges that make a list of two grow.
+const GROWING: [Row; 2] = [
+    (&[0, 10], (20, 30), &[0, 10, 20, 30], &[0, 10]),
+    (&[0, 10], (3, 5), &[0, 10], &[0, 3, 5, 10]),
+];
+
+#[test]
+fn lists_with_room_need_no_memory(rt: HostRuntime) -> Result<(), AllocError> {
+    let alloc = rt.alloc();
+    let mut starved = Starved::new(alloc)?;
+    for row in GROWING {
+        for change in CHANGES {
+            for room in [Room::Allocated(8), Room::Four] {
+                let attempt = Attempt {
+                    alloc,
+                    change,
+                    row,
+                    room,
+                };
+                assert!(rt;
+                    attempt.agrees(&mut starved),
+                    "{change:?}, {row:?}, {room:?}"
+                );
+            }
+        }
+    }
+    Ok(())
+}

@@ -1,0 +1,73 @@
+//! Out of memory in reading and writing JSON. All items are looked at before memory is asked for, so a value that is no array of numbers needs none.
+use range_collections::{JsonError, RangeSet2};
+use range_starving::{Answer, Call, Starved};
+use range_tests_kit::lists::own;
+use serde_json::Value;
+use std::alloc::{AllocError, Global};
+
+// A text of JSON, and what its value says.
+type Row = (&'static str, Result<&'static [i64], JsonError>);
+
+const ROWS: [Row; 3] = [
+    ("[40,20,30,20]", Ok(&[20, 30, 40])),
+    ("{}", Err(JsonError::NotArray)),
+    ("[1,2.5]", Err(JsonError::NotInteger { index: 1 })),
+];
+
+#[derive(Drop)]
+struct Reading {
+    alloc: Global,
+    row: Row,
+}
+
+impl Call for Reading {
+    type Given = Value;
+
+    fn given(&self) -> Option<Value> {
+        Value::from_str(self.alloc, self.row.0).ok()
+    }
+
+    fn answer(&self, value: Value) -> Answer {
+        match (RangeSet2::<i64>::from_json(self.alloc, &value), self.row.1) {
+            (Ok(set), Ok(want)) => Answer::right_if(set.boundaries() == want),
+            (Err(JsonError::OutOfMemory), _) => Answer::Refused,
+            (Err(error), Err(want)) => Answer::right_if(error == want),
+            _ => Answer::Wrong,
+        }
+    }
+}
+
+// The array of a set of three numbers.
+#[derive(Drop)]
+struct Writing {
+    alloc: Global,
+}
+
+impl Call for Writing {
+    type Given = RangeSet2<i64>;
+
+    fn given(&self) -> Option<RangeSet2<i64>> {
+        own(self.alloc, &[20, 30, 40])
+    }
+
+    fn answer(&self, set: RangeSet2<i64>) -> Answer {
+        match set.to_json() {
+            Ok(value) => {
+                Answer::right_if(matches!(value.as_array(), Some(list) if list.len() == 3))
+            }
+            Err(_) => Answer::Refused,
+        }
+    }
+}
+
+#[test]
+fn arrays_are_refused(rt: HostRuntime) -> Result<(), AllocError> {
+    let alloc = rt.alloc();
+    let mut starved = Starved::new(alloc)?;
+    for row in ROWS {
+        let agrees = starved.agrees(&Reading { alloc, row }, row.1.is_ok());
+        assert!(rt; agrees, "{}", row.0);
+    }
+    assert!(rt; starved.refuses(&Writing { alloc }), "written");
+    Ok(())
+}

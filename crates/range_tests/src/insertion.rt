@@ -1,0 +1,182 @@
+//! One range put into a set and taken out of it, where the set lies: nothing is copied, and what is compared is counted.
+ghost use Rattle.std.specs.Prelude.{◌<◌, ◌^◌};
+
+use range_collections::{Comparisons, EntryClone, RangeSet, RangeSet2};
+use range_tests_kit::elements::{Flagged, Tallied, with_flag, with_tally};
+use range_tests_kit::flags::flagged;
+use range_tests_kit::lists::{numbers, own};
+use smallvec::SmallVec;
+use std::alloc::{AllocError, Global};
+use std::cell::Cell;
+use std::default::MadeWith;
+use std::ops::Range;
+use std::test::Fail;
+
+#[derive(Clone, Copy)]
+enum Call {
+    Insert,
+    InsertCounted,
+    Remove,
+    RemoveCounted,
+}
+
+const INSERTS: [Call; 2] = [Call::Insert, Call::InsertCounted];
+
+const REMOVES: [Call; 2] = [Call::Remove, Call::RemoveCounted];
+
+impl Call {
+    // Only a counted call adds to the counter.
+    fn change<T: EntryClone + MadeWith<Global> + Drop, const N: usize>(
+        self,
+        set: &mut RangeSet<T, N>,
+        range: Range<T>,
+        count: &mut Comparisons,
+    ) -> Result<(), AllocError>
+        requires { count.old < 2 ^ 64 }
+    {
+        match self {
+            Call::Insert => set.insert(range),
+            Call::InsertCounted => set.insert_counted(range, count),
+            Call::Remove => set.remove(range),
+            Call::RemoveCounted => set.remove_counted(range, count),
+        }
+    }
+}
+
+// Boundaries, where a range begins and where it ends, and the boundaries with the range put in and with it taken out.
+type Row<'a> = (&'a [i64], i64, i64, &'a [i64], &'a [i64]);
+
+const LEAST: i64 = i64::MIN;
+
+const MOST: i64 = i64::MAX;
+
+// Ranges beside those of the set, within and across them, of sets without an end, at the ends of the type, and of nothing.
+const ROWS: [Row; 34] = [
+    (&[], 5, 10, &[5, 10], &[]),
+    (&[0, 10], 10, 20, &[0, 20], &[0, 10]),
+    (&[10, 20], 0, 10, &[0, 20], &[10, 20]),
+    (&[0, 10, 20, 30], 10, 20, &[0, 30], &[0, 10, 20, 30]),
+    (&[0, 10], 20, 30, &[0, 10, 20, 30], &[0, 10]),
+    (&[20, 30], 0, 10, &[0, 10, 20, 30], &[20, 30]),
+    (
+        &[0, 9, 40, 50],
+        20,
+        30,
+        &[0, 9, 20, 30, 40, 50],
+        &[0, 9, 40, 50],
+    ),
+    (&[0, 100], 20, 30, &[0, 100], &[0, 20, 30, 100]),
+    (&[0, 10, 20, 30], 20, 30, &[0, 10, 20, 30], &[0, 10]),
+    (&[0, 10], 0, 10, &[0, 10], &[]),
+    (&[0, 10], 0, 5, &[0, 10], &[5, 10]),
+    (&[0, 10], 5, 10, &[0, 10], &[0, 5]),
+    (&[10, 20], 5, 15, &[5, 20], &[15, 20]),
+    (&[10, 20], 15, 25, &[10, 25], &[10, 15]),
+    (&[0, 10, 20, 30], 5, 25, &[0, 30], &[0, 5, 25, 30]),
+    (&[0, 10, 20, 30], 5, 15, &[0, 15, 20, 30], &[0, 5, 20, 30]),
+    (&[0, 10, 20, 30], -5, 40, &[-5, 40], &[]),
+    (&[10, 20, 30, 40], 10, 40, &[10, 40], &[]),
+    (&[0, 10, 15, 16, 20, 30], 10, 20, &[0, 30], &[0, 10, 20, 30]),
+    (
+        &[0, 10, 20, 30, 40, 50],
+        5,
+        30,
+        &[0, 30, 40, 50],
+        &[0, 5, 40, 50],
+    ),
+    (&[0, 10, 20, 30, 40, 50], 10, 45, &[0, 50], &[0, 10, 45, 50]),
+    (&[0, 10, 20], 5, 30, &[0], &[0, 5, 30]),
+    (&[10], 20, 30, &[10], &[10, 20, 30]),
+    (&[10], 0, 10, &[0], &[10]),
+    (&[10], 0, 5, &[0, 5, 10], &[10]),
+    (&[10], 0, 20, &[0], &[20]),
+    (&[10], 10, 20, &[10], &[20]),
+    (&[], LEAST, MOST, &[LEAST, MOST], &[]),
+    (&[LEAST], LEAST, MOST, &[LEAST], &[MOST]),
+    (&[0, MOST], 5, MOST, &[0, MOST], &[0, 5]),
+    (&[MOST], LEAST, MOST, &[LEAST], &[MOST]),
+    (&[0, 10], 5, 5, &[0, 10], &[0, 10]),
+    (&[0, 10, 20], 20, -1, &[0, 10, 20], &[0, 10, 20]),
+    (&[0], MOST, LEAST, &[0], &[0]),
+];
+
+// The set of these boundaries, of which none can be copied.
+fn set_of(alloc: Global, items: &[i64]) -> Option<RangeSet2<Flagged>> {
+    own(alloc, flagged(alloc, items, 0..usize::MAX).ok()?.as_slice())
+}
+
+// Whether the call with the row's range leaves these boundaries, and copies none.
+fn leaves(alloc: Global, row: &Row, call: Call, want: &[i64]) -> Option<bool> {
+    let mut set = set_of(alloc, row.0)?;
+    let range = with_flag(row.1, true)..with_flag(row.2, true);
+    call.change(&mut set, range, &mut Comparisons::new()).ok()?;
+    let want = flagged(alloc, want, 0..0).ok()?;
+    Some(set.boundaries() == want.as_slice())
+}
+
+#[test]
+fn ranges_are_put_in_and_taken_out_without_a_copy(rt: HostRuntime) {
+    for row in &ROWS {
+        for call in INSERTS {
+            assert!(rt;
+                leaves(rt.alloc(), row, call, row.3) == Some(true),
+                "{row:?}"
+            );
+        }
+        for call in REMOVES {
+            assert!(rt;
+                leaves(rt.alloc(), row, call, row.4) == Some(true),
+                "{row:?}"
+            );
+        }
+    }
+}
+
+// The set of these boundaries, which add to the tally whenever they are compared.
+fn tallied<'t>(
+    alloc: Global,
+    items: &[i64],
+    tally: &'t Cell<u128>,
+) -> Option<RangeSet2<Tallied<'t>>> {
+    let mut list = SmallVec::new(alloc);
+    for item in items {
+        list.push(with_tally(*item, tally)).ok()?;
+    }
+    RangeSet::new(list)
+}
+
+// What a call raises the tally by, and its counter.
+fn costs(alloc: Global, items: &[i64], call: Call, ends: (i64, i64)) -> Option<(u128, u128)> {
+    let tally = Cell::new(0);
+    let mut set = tallied(alloc, items, &tally)?;
+    let mut count = Comparisons::new();
+    tally.set(0);
+    let range = with_tally(ends.0, &tally)..with_tally(ends.1, &tally);
+    call.change(&mut set, range, &mut count).ok()?;
+    Some((tally.get(), count.made()))
+}
+
+// Whether the counted call raises the tally by as much as its counter, and the plain one by as much as that.
+fn costs_agree(alloc: Global, items: &[i64], calls: [Call; 2], ends: (i64, i64)) -> bool {
+    let [plain, counted] = calls;
+    let plain = costs(alloc, items, plain, ends);
+    match costs(alloc, items, counted, ends) {
+        Some((raised, made)) => raised == made && plain == Some((made, 0)),
+        None => false,
+    }
+}
+
+// Ends of ranges within the lists, across them and beside them, and of ranges of nothing.
+const ENDS: [(i64, i64); 6] = [(0, 10), (5, 25), (-9, -5), (40, 90), (7, 7), (9, 2)];
+
+#[test]
+fn insertions_compare_through_their_counter(rt: HostRuntime) -> Result<(), Fail> {
+    let (alloc, long) = (rt.alloc(), numbers(rt.alloc(), 0, 64)?);
+    for items in [[].as_slice(), &[0], &[0, 10, 20, 30], long.as_slice()] {
+        for ends in ENDS {
+            assert!(rt; costs_agree(alloc, items, INSERTS, ends), "{ends:?}");
+            assert!(rt; costs_agree(alloc, items, REMOVES, ends), "{ends:?}");
+        }
+    }
+    Ok(())
+}

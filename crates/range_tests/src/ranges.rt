@@ -1,0 +1,168 @@
+//! The ranges of a set: one after the other, from both ends, at a value, the first and the last, and how many there are; whether one has a member; their ends.
+use range_collections::{Comparisons, Iter, RangeSet2, RangeSetRange};
+use range_tests_kit::lists::{is_range, own};
+use std::ops::Bound;
+
+// Boundaries, and those of each of their ranges.
+const IN_ORDER: [(&[i64], &[&[i64]]); 5] = [
+    (&[], &[]),
+    (&[3, 5], &[&[3, 5]]),
+    (&[7], &[&[7]]),
+    (&[0, 2, 4], &[&[0, 2], &[4]]),
+    (&[0, 10, 20], &[&[0, 10], &[20]]),
+];
+
+// Whether the iterator gives these ranges, tells before each how many are left, and gives none after the last.
+fn are_in_order(mut ranges: Iter<i64>, want: &[&[i64]]) -> bool {
+    for (i, range) in want.iter().enumerate() {
+        let left = want.len() - i;
+        if ranges.size_hint() != (left, Some(left)) || !is_range(ranges.next(), range) {
+            return false;
+        }
+    }
+    ranges.size_hint() == (0, Some(0)) && ranges.next().is_none() && ranges.next().is_none()
+}
+
+// The same from the last range on.
+fn are_in_order_from_the_end(mut ranges: Iter<i64>, want: &[&[i64]]) -> bool {
+    for range in want.iter().rev() {
+        if !is_range(ranges.next_back(), range) {
+            return false;
+        }
+    }
+    ranges.len() == 0 && ranges.next_back().is_none()
+}
+
+// Whether the set's ranges, and those of its view, come in order.
+fn gives(set: Option<RangeSet2<i64>>, want: &[&[i64]]) -> Option<bool> {
+    let set = set?;
+    let view = set.as_ref();
+    let made_iterators = are_in_order((&set).into_iter(), want)
+        && are_in_order(view.into_iter(), want);
+    let in_order = are_in_order(set.iter(), want) && are_in_order(view.iter(), want);
+    Some(made_iterators && in_order && are_in_order_from_the_end(set.iter(), want))
+}
+
+#[test]
+fn ranges_come_in_order_and_then_none(rt: HostRuntime) {
+    for (items, want) in IN_ORDER {
+        assert!(rt;
+            gives(own(rt.alloc(), items), want) == Some(true),
+            "{items:?}"
+        );
+    }
+}
+
+// Boundaries, a value, and the range that holds it, by its boundaries.
+const HELD: [(&[i8], i8, &[i8]); 16] = [
+    (&[], 0, &[]),
+    (&[-128], -128, &[-128]),
+    (&[-128], 127, &[-128]),
+    (&[127], 126, &[]),
+    (&[127], 127, &[127]),
+    (&[-128, 127], -128, &[-128, 127]),
+    (&[-128, 127], 126, &[-128, 127]),
+    (&[-128, 127], 127, &[]),
+    (&[0, 1], -1, &[]),
+    (&[0, 1], 0, &[0, 1]),
+    (&[0, 1], 1, &[]),
+    (&[3, 5, 9], 2, &[]),
+    (&[3, 5, 9], 4, &[3, 5]),
+    (&[3, 5, 9], 5, &[]),
+    (&[3, 5, 9], 9, &[9]),
+    (&[3, 5, 9], 100, &[9]),
+];
+
+// Whether the set, and its view, hold the value in this range, plain and counted.
+fn hold(set: Option<RangeSet2<i8>>, value: &i8, want: &[i8]) -> Option<bool> {
+    let (set, mut count, mut again) = (set?, Comparisons::new(), Comparisons::new());
+    let view = set.as_ref();
+    let counted = is_range(set.range_at_counted(value, &mut count), want)
+        && is_range(view.range_at_counted(value, &mut again), want);
+    Some(counted && is_range(set.range_at(value), want) && is_range(view.range_at(value), want))
+}
+
+#[test]
+fn a_value_is_held_by_the_range_around_it(rt: HostRuntime) {
+    for row in &HELD {
+        let found = hold(own(rt.alloc(), row.0), &row.1, row.2);
+        assert!(rt; found == Some(true), "{row:?}");
+    }
+}
+
+// Boundaries, the first range, the last one, the range from one to the other, and how many there are.
+type Extent<'a> = (&'a [i8], &'a [i8], &'a [i8], &'a [i8], usize);
+
+const EXTENTS: [Extent; 8] = [
+    (&[], &[], &[], &[], 0),
+    (&[-128], &[-128], &[-128], &[-128], 1),
+    (&[127], &[127], &[127], &[127], 1),
+    (&[0, 1], &[0, 1], &[0, 1], &[0, 1], 1),
+    (&[-128, 127], &[-128, 127], &[-128, 127], &[-128, 127], 1),
+    (&[3, 5, 9], &[3, 5], &[9], &[3], 2),
+    (&[3, 5, 9, 11], &[3, 5], &[9, 11], &[3, 11], 2),
+    (&[1, 2, 3, 4, 5], &[1, 2], &[5], &[1], 3),
+];
+
+// Whether the set and its view begin and end so, and have so many ranges.
+fn extend(set: Option<RangeSet2<i8>>, row: &Extent) -> Option<bool> {
+    let set = set?;
+    let view = set.as_ref();
+    let first = is_range(set.first(), row.1) && is_range(view.first(), row.1);
+    let last = is_range(set.last(), row.2) && is_range(view.last(), row.2);
+    let span = is_range(set.span(), row.3) && is_range(view.span(), row.3);
+    Some(first && last && span && [set.ranges_len(), view.ranges_len()] == [row.4; 2])
+}
+
+#[test]
+fn sets_begin_and_end_with_their_ranges(rt: HostRuntime) {
+    for row in &EXTENTS {
+        assert!(rt;
+            extend(own(rt.alloc(), row.0), row) == Some(true),
+            "{row:?}"
+        );
+    }
+}
+
+// Boundaries, a range, and whether it has a member.
+const MEETINGS: [(&[u64], u64, u64, bool); 13] = [
+    (&[0, 2], 0, 2, true),
+    (&[0, 2], 2, 4, false),
+    (&[0, 2, 4, 8], 0, 2, true),
+    (&[0, 2, 4, 8], 2, 4, false),
+    (&[0, 2, 4, 8], 4, 8, true),
+    (&[0, 2, 4, 8], 8, 12, false),
+    (&[0, 10], 5, 3, false),
+    (&[0, 10], 5, 6, true),
+    (&[0, 10], 10, 12, false),
+    (&[0, 10], 5, 5, false),
+    (&[4, 10], 2, 5, true),
+    (&[3, 5], 4, 9, true),
+    (&[3, 5], 5, 9, false),
+];
+
+// Whether the range has a member of the set, and of its view.
+fn meets(set: Option<RangeSet2<u64>>, start: u64, end: u64) -> Option<[bool; 2]> {
+    let set = set?;
+    Some([
+        set.intersects_range(start..end),
+        set.as_ref().intersects_range(start..end),
+    ])
+}
+
+#[test]
+fn ranges_meet_sets_with_a_member_in_them(rt: HostRuntime) {
+    for row in &MEETINGS {
+        let found = meets(own(rt.alloc(), row.0), row.1, row.2);
+        assert!(rt; found == Some([row.3; 2]), "{row:?}");
+    }
+}
+
+#[test]
+fn ranges_have_bounds(rt: HostRuntime) {
+    let (range, open) = (RangeSetRange::from(2i64..5), RangeSetRange::from(7i64..));
+    assert!(rt; matches!(range.start_bound(), Bound::Included(start) if *start == 2));
+    assert!(rt; matches!(range.end_bound(), Bound::Excluded(end) if *end == 5));
+    assert!(rt; matches!(open.start_bound(), Bound::Included(start) if *start == 7));
+    assert!(rt; matches!(open.end_bound(), Bound::Unbounded));
+}
