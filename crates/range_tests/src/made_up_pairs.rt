@@ -2,7 +2,7 @@
 ghost use Rattle.std.specs.Prelude.{◌<◌, ◌≤◌};
 
 use crate::connectives::combines;
-use crate::merging::{gives_count, gives_length, gives_test};
+use crate::merging::{gives_count, gives_length, gives_test, gives_written};
 use crate::operations::{Call, wrong_of};
 use range_collections::{RangeSet, RangeSet2, RangeSetRef};
 use range_tests_kit::generator::Generator;
@@ -117,6 +117,9 @@ fn wrong_call(
     }
     if !gives_length(set, that, &op, length, most) {
         return Ok(Some(Call::Length));
+    }
+    if !gives_written(set, that, &op, want.as_slice()) {
+        return Ok(Some(Call::Written));
     }
     if !gives_test(set, that, &op, length > 0, most) {
         return Ok(Some(Call::Test));

@@ -1,8 +1,8 @@
-//! Searches, first runs and merges of lists of numbers: by a comparer and a copier of the tests' own into a list, a count and a test, and by sets and views into a count and a test.
+//! Searches, first runs and merges of lists of numbers: by a comparer and a copier of the tests' own into a list, a count and a test, and by sets and views into a count, a test and a slice.
 ghost use Rattle.std.specs.Prelude.{◌≡◌, false};
 
 use crate::operations::{Call, Case};
-use range_collections::{Comparisons, RangeSet2, RangeSetRef};
+use range_collections::{Comparisons, NoRoom, RangeSet2, RangeSetRef};
 use range_merge::{
     BoolOpMergeState, Compare, Copier, CountMergeState, DiffOp, IntersectionOp, MergeOperation,
     Run, SliceIterator, SmallVecMergeState, UnionOp, XorOp, merge, run_length, search,
@@ -94,6 +94,38 @@ pub(crate) fn gives_length<O: MergeOperation>(
     let length = set.merge_len(that, op, &mut count);
     let of_view = set.as_ref().merge_len(that, op, &mut again);
     (length, of_view) == (want, want) && count.made().max(again.made()) <= most
+}
+
+// What a slice holds before a list is written to it.
+const BEFORE: i64 = 99;
+
+// Whether the list was written to the front of the slice, and nothing after it.
+fn is_front(written: Result<usize, NoRoom>, out: &[i64], want: &[i64]) -> bool {
+    let (front, rest) = out.split_at(want.len().min(out.len()));
+    matches!(written, Ok(len) if len == want.len())
+        && front == want
+        && rest.iter().all(|item| *item == BEFORE)
+}
+
+// Whether a set, and its view, write this list to a slice.
+pub(crate) fn gives_written<O: MergeOperation>(
+    set: &RangeSet2<i64>,
+    that: RangeSetRef<i64>,
+    op: &O,
+    want: &[i64],
+) -> bool
+    requires { O.connective op.now false false ≡ false }
+{
+    let (a, b) = (set.boundaries(), that.boundaries());
+    if a.len().checked_add(b.len()).is_none() {
+        return false;
+    }
+    let (mut out, mut again) = ([BEFORE; 24], [BEFORE; 24]);
+    let of_set = set.merge_into(that, op, &mut out, &mut Comparisons::new());
+    let of_view = set
+        .as_ref()
+        .merge_into(that, op, &mut again, &mut Comparisons::new());
+    is_front(of_set, &out, want) && is_front(of_view, &again, want)
 }
 
 // How many comparisons the tests of two lists, of a state over them, of a set and of its view make, where all find that something is taken, or all that nothing is.

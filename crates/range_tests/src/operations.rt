@@ -60,6 +60,7 @@ pub(crate) enum Call {
     List,
     Count,
     Length,
+    Written,
     Test,
 }
 
