@@ -42,7 +42,7 @@ AT_ONCE = 2
 
 # What a check says of a function, and of a goal: in the function's code, or where a proof file answers it.
 VERDICT = re.compile(r"fn (\S+): (.*)")
-SEARCHED = re.compile(r"note: src/\S+: it is not proved .*?\(`([^`]+)`\)(.*)")
+SEARCHED = re.compile(r"note: src/\S+: (?:it is not proved .*?|`search` found no proof )\(`([^`]+)`\)(.*)")
 ANSWERED = re.compile(r"(?:note: )?(?:\./)?proofs/(\S+)/\w+\.antt:\d+:\d+: (?:error: )?(?:`([^`]+)`: )?(.*)")
 # What is said of a function that has no goal of its own left: that it is proved, or would be if what it uses were.
 WELL = re.compile(r"proved|no proof: it (calls|passes) ")
@@ -192,7 +192,7 @@ def read_said(crate, lines):
             if FALSE in at[2]:
                 false.add(at[1])
         elif (at := ANSWERED.match(words)) and (": error: " in first or GONE.search(first)):
-            function = f"{crate.name}::{at[1].replace('/', '::')}"
+            function = f"{crate.name}::{at[1].replace('/+', '/').replace('/', '::')}"
             answered.setdefault(function, {}).setdefault(at[2] or "", []).append(words)
     return said
 
@@ -221,8 +221,10 @@ def without(text, goals):
 
 
 def answers_of(copy, function):
-    """The file with the answers to a function's goals."""
-    return copy.joinpath("proofs", *function.split("::")[1:], "Answers.antt")
+    """The file with the answers to a function's goals. A function that calls itself has a folder with a plus in front."""
+    *parts, name = function.split("::")[1:]
+    folder = copy.joinpath("proofs", *parts)
+    return next((file for it in (name, f"+{name}") if (file := folder / it / "Answers.antt").is_file()), folder / name)
 
 
 def lone_clause(crate, function):
