@@ -1,26 +1,120 @@
 #!/usr/bin/env bash
-# Makes a shared object of the archive in dist/, and runs the tests of the Python module over it, and the lines of its page.
+# Installs the Python package into a fresh venv, without the network, and runs its tests and the lines of its page from there.
 #
-#   tests/python.sh
+#   tests/python.sh           all tests, with some seconds of made-up cases
+#   tests/python.sh --more    long runs of made-up cases, the example on a cluster of two processes, the benchmark's answers
 #
+# The interpreter is PYTHON, or else the first of python3 and /usr/bin/python3 that has numpy and hypothesis, or else python3.
 # Its last line is 'N passed, M failed, K skipped'. It ends with 77 where a tool is missing.
 set -u
 cd "$(dirname "$0")/../python" || exit 1
 . ../tests/steps.sh
 
 needs python3 python3
-needs cc gcc
+compiler=${CC:-cc}
+needs "${compiler%% *}" gcc
 work=$(mktemp -d) || exit 1
 trap 'rm -rf "$work"' EXIT
-export RANGE_SET_LIBRARY=$work/librange_set.so PYTHONDONTWRITEBYTECODE=1
+export PYTHONDONTWRITEBYTECODE=1 PIP_DISABLE_PIP_VERSION_CHECK=1
 
-# Runs the lines in Python of the page, word for word.
-runs_page() {
-    awk '/^```/ { on = $0 == "```python"; next } on' README.md >"$work/page.py"
-    [ -s "$work/page.py" ] && PYTHONPATH=$PWD python3 "$work/page.py"
+# Whether an interpreter has a module.
+has() {
+    "$1" -c "import $2" 2>/dev/null
 }
 
-step "the shared object" cc -shared -o "$work/librange_set.so" -Wl,--whole-archive ../dist/librange_set.a -Wl,--no-whole-archive
-step "the tests" python3 -m unittest -q
-step "the lines of the page" runs_page
+# The interpreter that the tests are run by.
+interpreter() {
+    local python
+    for python in python3 /usr/bin/python3; do
+        if has "$python" "numpy, hypothesis"; then
+            echo "$python"
+            return
+        fi
+    done
+    echo python3
+}
+
+python=${PYTHON:-$(interpreter)}
+here=$PWD
+venv=$work/venv/bin/python
+
+installs() {
+    "$python" -m venv --system-site-packages "$work/venv" && "$venv" -m pip install --no-index --quiet "$here"
+}
+
+# Runs the tests of some modules outside of the tree, so that what is imported is what was installed.
+tests() {
+    (cd "$work" && "$venv" -m unittest discover -s "$here/tests" -t "$here/tests" "$@")
+}
+
+# Runs the lines of a page, word for word, that are marked as Python, or as Python with one more word.
+runs_page() {
+    local page=$1
+    shift
+    awk -v fence="\`\`\`$*" '/^```/ { on = $0 == fence; next } on' "$page" >"$work/page.py"
+    [ -s "$work/page.py" ] && (cd "$work" && "$venv" page.py)
+}
+
+prints_the_difference() {
+    local line='from range_sets import RangeSet; print(RangeSet([(0, 10), (20, None)]) - RangeSet([(3, 5)]))'
+    [ "$(cd "$work" && "$venv" -c "$line")" = "0..3, 5..10, 20.." ]
+}
+
+# The types of the package, and of a program that uses it.
+types_hold() {
+    "$venv" -m mypy --cache-dir="$work/mypy" src/range_sets &&
+        (cd "$work" && "$venv" -m mypy --cache-dir=mypy --config-file="$here/pyproject.toml" "$here/tests/typed.py")
+}
+
+# Builds a wheel of the source distribution alone.
+builds_from_source() {
+    mkdir "$work/source" "$work/wheels" &&
+        "$venv" -c "import backend; backend.build_sdist('$work/source')" &&
+        (cd "$work" && "$venv" -m pip wheel --no-index --quiet --wheel-dir=wheels source/*.tar.gz && ls wheels/*.whl)
+}
+
+# Runs a step that wants modules, by what they are, their Debian packages, and the step.
+step_with() {
+    local modules=$1 packages=$2
+    shift 2
+    if has "$venv" "$modules"; then
+        step "$@"
+    else
+        skipped=$((skipped + 1))
+        echo "$name: SKIPPED: $1: $python has no $modules; on Debian: $packages"
+    fi
+}
+
+echo "$name: by $("$python" -c 'import sys; print(sys.executable, sys.version.split()[0])')"
+has "$python" ensurepip || {
+    echo "$name: SKIPPED: $python can't make a venv; on Debian the package python3-venv brings that"
+    exit 77
+}
+has "$python" "sysconfig, os; os.stat(sysconfig.get_path('include') + '/Python.h')" || {
+    echo "$name: SKIPPED: $python has no Python.h; on Debian the package python3-dev brings it"
+    exit 77
+}
+step "it is installed" installs
+if [ "${1:-}" = --more ]; then
+    export RANGE_SETS_EXAMPLES=1000 RANGE_SETS_SECONDS=20
+    step "threads and processes" tests -p test_processes.py
+    step_with hypothesis python3-hypothesis "long runs of made-up cases" tests -p with_hypothesis.py
+    step_with "dask.bag, distributed, numpy" "python3-dask python3-distributed python3-numpy" \
+        "the example on two processes" "$venv" examples/received.py --ranges 100000
+    step "a wheel of the source distribution" builds_from_source
+    step_with "intervaltree, sortedcontainers, netaddr" "python3-intervaltree python3-sortedcontainers python3-netaddr" \
+        "the benchmark's answers" "$venv" bench.py --pairs 2000
+    ended
+fi
+step "the first line of the page" prints_the_difference
+step "the tests" tests
+step_with numpy python3-numpy "the tests with numpy" tests -p with_numpy.py
+step_with hypothesis python3-hypothesis "the tests with hypothesis" tests -p with_hypothesis.py
+step_with dask.bag python3-dask "the tests with dask" tests -p with_dask.py
+step_with mypy python3-mypy "the types" types_hold
+for page in ../README.md README.md; do
+    step "the lines in Python of $page" runs_page "$page" python
+done
+step_with numpy python3-numpy "the lines of the page with numpy" runs_page README.md python numpy
+step_with dask.bag python3-dask "the lines of the page with dask" runs_page README.md python dask
 ended

@@ -1,30 +1,90 @@
 #!/usr/bin/env bash
-# Runs the tests of the Rust crate over the static library in dist/, and the lines of the pages in Rust.
+# Tests the Rust crate from a copy in a folder of its own: its tests, the program that was written for range-collections,
+# its documentation, its package, the lines in Rust of the pages, and its memory under valgrind.
 #
-#   tests/rust.sh
+#   tests/rust.sh                   all that
+#   tests/rust.sh --sanitizer       the tests under AddressSanitizer alone
 #
-# Its last line is 'N passed, M failed, K skipped'. It ends with 77 where a tool is missing.
+# No network is asked: the crates that it stands on are those that Debian packages. The last line is 'N passed, M failed,
+# K skipped'. It ends with 77 where something is missing without which nothing can run.
 set -u
+export LC_ALL=C.UTF-8
 cd "$(dirname "$0")/../rust" || exit 1
 . ../tests/steps.sh
 
+packages=/usr/share/cargo/registry
+offline=(--offline --config 'source.crates-io.replace-with="debian"' --config "source.debian.directory=\"$packages\"")
+features=(--features serde,new_unchecked)
+
 needs cargo cargo
 needs cc gcc
-target=$(mktemp -d) || exit 1
-trap 'rm -rf "$target"' EXIT
-export CARGO_TARGET_DIR=$target/built
-mkdir -p "$target/page/src"
-printf '[package]\nname = "page"\nedition = "2021"\n\n[dependencies]\nrange-sets = { path = "%s" }\n' "$PWD" >"$target/page/Cargo.toml"
+for crate in smallvec serde serde_json; do
+    ls -d "$packages/$crate"-[0-9]* >/dev/null 2>&1 || {
+        echo "$name: SKIPPED: the crate $crate is missing; on Debian the package librust-${crate/_/-}-dev brings it"
+        exit 77
+    }
+done
+work=$(mktemp -d) || exit 1
+trap 'rm -rf "$work"' EXIT
+export CARGO_TARGET_DIR=$work/built
+mkdir "$work/rust" && tar c --exclude=./target --exclude=./Cargo.lock . | tar x -C "$work/rust" || exit 1
+host=$(rustc -vV | sed -n 's/^host: //p')
+
+# Calls cargo in the copy.
+cargo_there() {
+    (cd "$work/rust" && cargo "$1" "${offline[@]}" "${@:2}")
+}
+
+# Runs the tests with orders that lie, and with panics, by valgrind.
+under_valgrind() {
+    local runner
+    runner=CARGO_TARGET_$(echo "$host" | tr a-z- A-Z_)_RUNNER
+    export "$runner=valgrind -q --error-exitcode=9"
+    cargo_there test --quiet --test hostile -- --test-threads 2
+}
+
+# Runs the tests with the compiler's checks of every access.
+under_the_sanitizer() {
+    export RUSTC_BOOTSTRAP=1 RUSTFLAGS=-Zsanitizer=address
+    cargo_there test --quiet "${features[@]}" --target "$host" --lib --tests
+}
+
+# Runs the program that was written for range-collections, and looks at its line.
+runs_the_program() {
+    [ "$(cargo_there run --quiet --features serde --example bookings)" = "RangeSet{7..9, 20..} is written as [7,9,20]" ]
+}
+
+documents() {
+    RUSTDOCFLAGS='-D warnings' cargo_there doc --quiet --no-deps "${features[@]}"
+}
 
 # Runs the block of a page that begins with a use of the crate, word for word, as a program of its own.
 runs_page() {
+    local page=$work/page
+    mkdir -p "$page/src"
+    printf '[package]\nname = "page"\nversion = "0.0.0"\nedition = "2021"\n\n[dependencies]\nrange-sets = { path = "../rust" }\n' \
+        >"$page/Cargo.toml"
     awk '/^```/ { on = 0; next_is_first = $0 == "```rust"; next } next_is_first { on = $0 ~ /^use range_sets/; next_is_first = 0 } on' "$1" \
-        >"$target/page/src/main.rs"
-    [ -s "$target/page/src/main.rs" ] && (cd "$target/page" && cargo run --offline --quiet)
+        >"$page/src/main.rs"
+    [ -s "$page/src/main.rs" ] && (cd "$page" && cargo run --quiet "${offline[@]}")
 }
 
-step "cargo test" cargo test --offline --quiet
+if [ "${1-}" = --sanitizer ]; then
+    ls "$(rustc --print sysroot)/lib/rustlib/$host/lib"/librustc-*_rt.asan.a >/dev/null 2>&1 || {
+        echo "$name: SKIPPED: $(rustc --version) has no AddressSanitizer"
+        exit 77
+    }
+    step "the tests under AddressSanitizer" under_the_sanitizer
+    ended
+fi
+
+step "the tests" cargo_there test --quiet "${features[@]}"
+step "a build without std" cargo_there build --quiet --no-default-features --features serde
+step "the program written for range-collections" runs_the_program
+step "the documentation, without a warning" documents
+step "the package" cargo_there package --quiet
 for page in ../README.md README.md; do
     step "the lines in Rust of $page" runs_page "$page"
 done
+step_by valgrind valgrind "orders that lie, and panics, under valgrind" under_valgrind
 ended

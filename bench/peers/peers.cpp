@@ -3,6 +3,9 @@
 Peers all_peers() {
     Peers peers;
     peers.push_back(library_peer());
+#ifdef WITH_PLAIN_RUST
+    peers.push_back(plain_rust_peer());
+#endif
     peers.push_back(vector_peer());
     peers.push_back(linear_peer());
 #ifdef WITH_ICU

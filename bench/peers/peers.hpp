@@ -4,6 +4,7 @@
 #include "peer.hpp"
 
 std::unique_ptr<Peer> library_peer();
+std::unique_ptr<Peer> plain_rust_peer();
 std::unique_ptr<Peer> vector_peer();
 std::unique_ptr<Peer> linear_peer();
 std::unique_ptr<Peer> icu_peer();

@@ -1,0 +1,132 @@
+"""Builds the wheel of range_sets. It needs a C compiler and Python's headers, and nothing from the network.
+
+The compiler is CC, or else cc. The library and its header are those of dist/, beside this folder in the repository, or inside it
+in a source distribution.
+"""
+
+import base64
+import hashlib
+import io
+import os
+import shlex
+import shutil
+import subprocess
+import sys
+import sysconfig
+import tarfile
+import tempfile
+import tomllib
+import zipfile
+from pathlib import Path
+
+HERE = Path(__file__).resolve().parent
+PROJECT = tomllib.loads((HERE / "pyproject.toml").read_text(encoding="utf-8"))["project"]
+NAME = PROJECT["name"].replace("-", "_")
+STEM = f"{NAME}-{PROJECT['version']}"
+SOURCES = [it for it in sorted((HERE / "src" / NAME).iterdir()) if it.is_file()]
+DIST = next((it for it in (HERE / "dist", HERE.parent / "dist") if it.is_dir()), HERE.parent / "dist")
+LICENSES = ["LICENSE-MIT", "LICENSE-APACHE"]
+
+
+def prepare_metadata_for_build_wheel(metadata_directory, config_settings=None):
+    """Writes what a wheel says of itself, without a compiler, and answers its folder."""
+    for name, data in metadata().items():
+        path = Path(metadata_directory, name)
+        path.parent.mkdir(parents=True, exist_ok=True)
+        path.write_bytes(data)
+    return f"{STEM}.dist-info"
+
+
+def build_wheel(wheel_directory, config_settings=None, metadata_directory=None):
+    """Writes the wheel, with the compiled module, and answers its name."""
+    suffix = sysconfig.get_config_var("EXT_SUFFIX")
+    files = {f"{NAME}/{it.name}": it.read_bytes() for it in SOURCES if it.suffix != ".c"}
+    files[f"{NAME}/_core{suffix}"] = compiled(library(), suffix)
+    files |= metadata()
+    record = f"{STEM}.dist-info/RECORD"
+    rows = [f"{name},sha256={digest(data)},{len(data)}\n" for name, data in files.items()]
+    files[record] = "".join([*rows, f"{record},,\n"]).encode()
+    wheel = f"{STEM}-{tag()}.whl"
+    with zipfile.ZipFile(Path(wheel_directory, wheel), "w") as archive:
+        for name, data in files.items():
+            info = zipfile.ZipInfo(name, (1980, 1, 1, 0, 0, 0))
+            info.external_attr = 0o644 << 16
+            archive.writestr(info, data, zipfile.ZIP_DEFLATED)
+    return wheel
+
+
+def build_sdist(sdist_directory, config_settings=None):
+    """Writes the source distribution, with the library in it, and answers its name."""
+    files = {it: HERE / it for it in ("pyproject.toml", "backend.py", "README.md")}
+    files |= {f"src/{NAME}/{it.name}": it for it in SOURCES}
+    files |= {f"dist/{it}": DIST / it for it in ("librange_set.a", "range_set.h")}
+    files |= {it: found for it in LICENSES if (found := beside(it))}
+    archive = f"{STEM}.tar.gz"
+    with tarfile.open(Path(sdist_directory, archive), "w:gz", format=tarfile.PAX_FORMAT) as tar:
+        for name, path in sorted(files.items()):
+            tar.add(path, f"{STEM}/{name}")
+        info = tarfile.TarInfo(f"{STEM}/PKG-INFO")
+        info.size = len(headers())
+        tar.addfile(info, io.BytesIO(headers()))
+    return archive
+
+
+def tag():
+    """The interpreter, its binary interface and the platform that the compiled module is for."""
+    version = f"cp{sys.version_info.major}{sys.version_info.minor}"
+    return f"{version}-{version}{sys.abiflags}-{sysconfig.get_platform().replace('-', '_').replace('.', '_')}"
+
+
+def digest(data):
+    return base64.urlsafe_b64encode(hashlib.sha256(data).digest()).rstrip(b"=").decode()
+
+
+def beside(name):
+    return next((it for it in (HERE / name, HERE.parent / name) if it.is_file()), None)
+
+
+def headers():
+    """The package's core metadata, with the page as its description."""
+    fields = {
+        "Metadata-Version": "2.1", "Name": PROJECT["name"], "Version": PROJECT["version"], "Summary": PROJECT["description"],
+        "License": PROJECT["license"]["text"], "Requires-Python": PROJECT["requires-python"],
+        "Description-Content-Type": "text/markdown",
+    }
+    lines = [f"{name}: {text}\n" for name, text in fields.items()]
+    for extra, needed in PROJECT["optional-dependencies"].items():
+        lines += [f"Provides-Extra: {extra}\n", *(f'Requires-Dist: {it}; extra == "{extra}"\n' for it in needed)]
+    return "".join([*lines, "\n", (HERE / PROJECT["readme"]).read_text(encoding="utf-8")]).encode()
+
+
+def metadata():
+    wheel = f"Wheel-Version: 1.0\nGenerator: {NAME}\nRoot-Is-Purelib: false\nTag: {tag()}\n"
+    files = {"METADATA": headers(), "WHEEL": wheel.encode()}
+    files |= {f"licenses/{it}": found.read_bytes() for it in LICENSES if (found := beside(it))}
+    return {f"{STEM}.dist-info/{name}": data for name, data in files.items()}
+
+
+def library():
+    """The static library for this platform. A build by cargo from rust/ belongs here, once that crate has the calls for C."""
+    platform = sysconfig.get_platform()
+    if platform != "linux-x86_64":
+        sys.exit(f"range_sets: there is no library for {platform} yet: dist/ has that of x86-64 Linux alone")
+    archive = DIST / "librange_set.a"
+    if not archive.is_file():
+        sys.exit(f"range_sets: the library {archive} is missing: build from a whole clone, or from the source distribution")
+    return archive
+
+
+def compiled(archive, suffix):
+    """The bytes of the extension module."""
+    compiler, include = shlex.split(os.environ.get("CC", "cc")), sysconfig.get_path("include")
+    if not shutil.which(compiler[0]):
+        sys.exit(f"range_sets: the C compiler {compiler[0]} is missing: install gcc, or name another in CC")
+    if not Path(include, "Python.h").is_file():
+        sys.exit(f"range_sets: Python's header {include}/Python.h is missing: on Debian the package python3-dev brings it")
+    with tempfile.TemporaryDirectory() as work:
+        module = Path(work, f"_core{suffix}")
+        flags = ["-std=c99", "-O2", "-DNDEBUG", "-fPIC", "-shared", "-fvisibility=hidden", "-Wl,--exclude-libs,ALL"]
+        words = [*compiler, *flags, f"-I{include}", f"-I{DIST}", HERE / "src" / NAME / "_core.c", archive, "-o", module]
+        if subprocess.run(words).returncode:
+            sys.exit("range_sets: the C compiler refused _core.c; what it said stands above")
+        return module.read_bytes()

@@ -1,0 +1,208 @@
+"""Times RangeSet beside other packages of ranges, and prints tables for the page.
+
+    python3 bench.py [--pairs N]
+
+Each package makes a set of N pairs (100,000), the union of two such sets, and says whether numbers are members. Their answers are
+compared. A package that is missing is named and left out. Times are the least of some rounds.
+"""
+
+import argparse
+import importlib
+import random
+import sys
+import time
+from array import array
+
+from range_sets import RangeSet, _core, union
+
+SPACE = 100_000_000
+LONGEST = 1000
+ROUNDS = 50
+
+
+def made_up(count, seed):
+    made = random.Random(seed)
+    starts = (made.randrange(SPACE) for _ in range(count))
+    return [(start, start + made.randrange(1, LONGEST)) for start in starts]
+
+
+class OfRangeSet:
+    name = "RangeSet"
+
+    def build(self, pairs):
+        return RangeSet(pairs)
+
+    def union(self, a, b):
+        return a | b
+
+    def has(self, made, number):
+        return number in made
+
+    def covered(self, made):
+        return made.covered()
+
+
+class OfIntervalTree:
+    name = "intervaltree"
+
+    def __init__(self):
+        self.tree = importlib.import_module("intervaltree").IntervalTree
+
+    def build(self, pairs):
+        made = self.tree.from_tuples(pairs)
+        made.merge_overlaps(strict=False)
+        return made
+
+    def union(self, a, b):
+        made = a | b
+        made.merge_overlaps(strict=False)
+        return made
+
+    def has(self, made, number):
+        return made.overlaps_point(number)
+
+    def covered(self, made):
+        return sum(it.end - it.begin for it in made)
+
+
+class OfSortedDict:
+    """Starts and ends in a SortedDict, merged as one does by hand."""
+
+    name = "sortedcontainers"
+
+    def __init__(self):
+        self.dict = importlib.import_module("sortedcontainers").SortedDict
+
+    def build(self, pairs):
+        merged = []
+        for start, end in sorted(pairs):
+            if merged and start <= merged[-1][1]:
+                merged[-1][1] = max(merged[-1][1], end)
+            else:
+                merged.append([start, end])
+        return self.dict(merged)
+
+    def union(self, a, b):
+        return self.build([*a.items(), *b.items()])
+
+    def has(self, made, number):
+        at = made.bisect_right(number) - 1
+        return at >= 0 and number < made.peekitem(at)[1]
+
+    def covered(self, made):
+        return sum(end - start for start, end in made.items())
+
+
+class OfIPSet:
+    name = "netaddr.IPSet"
+
+    def __init__(self):
+        netaddr = importlib.import_module("netaddr")
+        self.set, self.range, self.address = netaddr.IPSet, netaddr.IPRange, netaddr.IPAddress
+
+    def build(self, pairs):
+        return self.set([cidr for start, end in pairs for cidr in self.range(start, end - 1).cidrs()])
+
+    def union(self, a, b):
+        return a | b
+
+    def has(self, made, number):
+        return self.address(number) in made
+
+    def covered(self, made):
+        return made.size
+
+
+def peers():
+    for kind in (OfRangeSet, OfIntervalTree, OfSortedDict, OfIPSet):
+        try:
+            yield kind()
+        except ImportError as missing:
+            print(f"bench: {kind.name} is left out: {missing.name} is missing", file=sys.stderr)
+
+
+def seconds(call, times=1):
+    began = time.perf_counter()
+    for _ in range(times):
+        call()
+    return (time.perf_counter() - began) / times
+
+
+def least(call):
+    """The least seconds of a call in some rounds, and its answer. One that takes long has one round."""
+    began = time.perf_counter()
+    answer = call()
+    found = time.perf_counter() - began
+    return (found if found > 1 else min(found, *(seconds(call) for _ in range(ROUNDS if found < 0.1 else 3)))), answer
+
+
+def shown(time_taken):
+    for unit, size in (("s", 1), ("ms", 1e-3), ("µs", 1e-6)):
+        if time_taken >= size:
+            return f"{time_taken / size:.3g} {unit}"
+    return f"{time_taken / 1e-9:.0f} ns"
+
+
+def table(head, rows):
+    print("| " + " | ".join(head) + " |\n|---|" + "--:|" * (len(head) - 1))
+    for row in rows:
+        print("| " + " | ".join(it.replace("|", "\\|") for it in row) + " |")
+    print()
+
+
+def compare(count):
+    left, right, asked = made_up(count, 1), made_up(count, 2), [it for it, _ in made_up(1000, 3)]
+    results, answers = [], []
+    for peer in peers():
+        building, a = least(lambda: peer.build(left))
+        b = peer.build(right)
+        joining, both = least(lambda: peer.union(a, b))
+        asking, members = least(lambda: [peer.has(a, it) for it in asked])
+        answers.append((peer.covered(a), peer.covered(both), members))
+        results.append((peer.name, building, joining, asking / len(asked)))
+    if any(it != answers[0] for it in answers):
+        sys.exit("bench: the answers differ")
+    names, *columns = zip(*results)
+    rows = [[label, *map(shown, column)] for label, column in zip((f"{count:,} pairs", "union of two", "`in`"), columns)]
+    table(["", *names], rows)
+
+
+def alone(count):
+    """What an operation costs beside the call in C that it stands on."""
+    a, b = RangeSet([(0, 10)]), RangeSet([(5, 20)])
+    flat = array("q", (end for it in made_up(count, 1) for end in it))
+    long, other = (RangeSet.from_boundaries(range(first, 2 * count, 2)) for first in (0, 1))
+    blocks = [RangeSet.from_boundaries(it for it in range(2 * count) if it // 64 % 2 == side) for side in (0, 1)]
+    room = array("q", bytes(8 * 2 * count))
+
+    def in_c(left, right):
+        return lambda: union(left.boundaries, right.boundaries, out=room)
+
+    def row(label, call, core=None, times=1):
+        # In turn, so that both have the same share of a busy machine.
+        rounds = [(seconds(call, times), seconds(core, times) if core else None) for _ in range(ROUNDS)]
+        taken, beside = (min(it) if it[0] else None for it in zip(*rounds))
+        return [label, shown(taken), shown(beside) if beside else "", f"{taken / beside:.2f}" if beside else ""]
+
+    rows = [
+        row("`5 in a`, of 2 boundaries", lambda: 5 in a, times=2000),
+        row("`a | b`, of 2 boundaries each", lambda: a | b, times=2000),
+        row(f"`from_ranges`, of an array of {count:,} ranges", lambda: RangeSet.from_ranges(flat)),
+        row(f"`a | b`, {count:,} boundaries each, alternating", lambda: long | other, in_c(long, other)),
+        row("the same, in blocks of 64", lambda: blocks[0] | blocks[1], in_c(*blocks)),
+        row("`a <= b`, of these", lambda: long <= long, lambda: _core.is_subset(long.boundaries, long.boundaries)),
+        row("`a.covered()`", long.covered, lambda: _core.covered(long.boundaries)),
+    ]
+    table(["", "Time", "The call in C", "Ratio"], rows)
+
+
+def main():
+    parser = argparse.ArgumentParser(description=__doc__.splitlines()[0])
+    parser.add_argument("--pairs", type=int, default=100_000, help="how many pairs a set is made of")
+    count = parser.parse_args().pairs
+    alone(count)
+    compare(count)
+
+
+if __name__ == "__main__":
+    main()

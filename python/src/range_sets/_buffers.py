@@ -1,0 +1,280 @@
+"""The low level: functions over buffers of boundaries.
+
+A list of boundaries is any object with the buffer protocol whose items are 64-bit whole numbers, signed or unsigned, such as an
+`array.array('q')` or a numpy array of int64. A number is a member where an odd number of boundaries is at or below it. Buffers
+are borrowed, also those that can't be written to; only numbers that don't lie at multiples of 8 bytes are copied.
+
+An operation gives a new `array`, or with `out` it writes into that buffer and gives the length. A call that goes over whole
+lists checks first that they are strictly sorted. Those that search, `contains`, `contains_range`, `range_at` and `split`, and
+`is_empty` don't, and mean nothing where a list isn't sorted.
+"""
+
+from __future__ import annotations
+
+from array import array
+from itertools import zip_longest
+from typing import Any, Iterator, Literal, Protocol, SupportsIndex, overload
+
+from . import _core
+
+
+class Buffer(Protocol):
+    """What checkers of types know of arrays, memoryviews and numpy arrays: the buffer protocol has no type before Python 3.12."""
+
+    def tolist(self, /) -> Any: ...
+
+
+def _array(items: memoryview) -> array[int]:
+    code: Literal["q", "Q"] = "q" if items.format == "q" else "Q"
+    made = array(code)
+    made.frombytes(items.obj)
+    return made
+
+
+def _written(answer: memoryview | int) -> array[int] | int:
+    return answer if isinstance(answer, int) else _array(answer)
+
+
+@overload
+def union(a: Buffer, b: Buffer, *, out: None = None) -> array[int]: ...
+@overload
+def union(a: Buffer, b: Buffer, *, out: Buffer) -> int: ...
+def union(a: Buffer, b: Buffer, *, out: Buffer | None = None) -> array[int] | int:
+    """The numbers in either set.
+
+    >>> union(array("q", [0, 10]), array("q", [5, 20]))
+    array('q', [0, 20])
+    >>> room = array("q", [0, 0, 0, 0])
+    >>> union(array("q", [0, 10]), array("q", [5, 20]), out=room)
+    2
+    """
+    return _written(_core.union(a, b, out))
+
+
+@overload
+def intersection(a: Buffer, b: Buffer, *, out: None = None) -> array[int]: ...
+@overload
+def intersection(a: Buffer, b: Buffer, *, out: Buffer) -> int: ...
+def intersection(a: Buffer, b: Buffer, *, out: Buffer | None = None) -> array[int] | int:
+    """The numbers in both sets.
+
+    >>> intersection(array("q", [0, 10]), array("q", [5, 20]))
+    array('q', [5, 10])
+    """
+    return _written(_core.intersection(a, b, out))
+
+
+@overload
+def difference(a: Buffer, b: Buffer, *, out: None = None) -> array[int]: ...
+@overload
+def difference(a: Buffer, b: Buffer, *, out: Buffer) -> int: ...
+def difference(a: Buffer, b: Buffer, *, out: Buffer | None = None) -> array[int] | int:
+    """The numbers in the left set and not in the right.
+
+    >>> difference(array("q", [0, 10]), array("q", [5, 20]))
+    array('q', [0, 5])
+    """
+    return _written(_core.difference(a, b, out))
+
+
+@overload
+def symmetric_difference(a: Buffer, b: Buffer, *, out: None = None) -> array[int]: ...
+@overload
+def symmetric_difference(a: Buffer, b: Buffer, *, out: Buffer) -> int: ...
+def symmetric_difference(a: Buffer, b: Buffer, *, out: Buffer | None = None) -> array[int] | int:
+    """The numbers in exactly one of the two sets.
+
+    >>> symmetric_difference(array("q", [0, 10]), array("q", [5, 20]))
+    array('q', [0, 5, 10, 20])
+    """
+    return _written(_core.symmetric_difference(a, b, out))
+
+
+@overload
+def negation(a: Buffer, *, out: None = None) -> array[int]: ...
+@overload
+def negation(a: Buffer, *, out: Buffer) -> int: ...
+def negation(a: Buffer, *, out: Buffer | None = None) -> array[int] | int:
+    """The numbers that are no members.
+
+    >>> negation(array("Q", [0, 10]))
+    array('Q', [10])
+    """
+    return _written(_core.negation(a, out))
+
+
+@overload
+def insert(a: Buffer, start: SupportsIndex, end: SupportsIndex, *, out: None = None) -> array[int]: ...
+@overload
+def insert(a: Buffer, start: SupportsIndex, end: SupportsIndex, *, out: Buffer) -> int: ...
+def insert(a: Buffer, start: SupportsIndex, end: SupportsIndex, *, out: Buffer | None = None) -> array[int] | int:
+    """The set with the numbers from `start` up to, not including, `end`.
+
+    >>> insert(array("q", [0, 10]), 12, 14)
+    array('q', [0, 10, 12, 14])
+    """
+    return _written(_core.insert(a, start, end, out))
+
+
+@overload
+def remove(a: Buffer, start: SupportsIndex, end: SupportsIndex, *, out: None = None) -> array[int]: ...
+@overload
+def remove(a: Buffer, start: SupportsIndex, end: SupportsIndex, *, out: Buffer) -> int: ...
+def remove(a: Buffer, start: SupportsIndex, end: SupportsIndex, *, out: Buffer | None = None) -> array[int] | int:
+    """The set without the numbers from `start` up to, not including, `end`.
+
+    >>> remove(array("q", [0, 10]), 3, 7)
+    array('q', [0, 3, 7, 10])
+    """
+    return _written(_core.remove(a, start, end, out))
+
+
+@overload
+def gaps(a: Buffer, start: SupportsIndex, end: SupportsIndex, *, out: None = None) -> array[int]: ...
+@overload
+def gaps(a: Buffer, start: SupportsIndex, end: SupportsIndex, *, out: Buffer) -> int: ...
+def gaps(a: Buffer, start: SupportsIndex, end: SupportsIndex, *, out: Buffer | None = None) -> array[int] | int:
+    """The numbers from `start` up to, not including, `end` that are no members.
+
+    >>> gaps(array("q", [0, 10, 20, 30]), 5, 25)
+    array('q', [10, 20])
+    """
+    return _written(_core.gaps(a, start, end, out))
+
+
+def from_ranges(numbers: Buffer) -> array[int]:
+    """The numbers in some range, from ranges in any order: a start and an end in turn, or a table with a row for each range.
+
+    >>> from_ranges(array("q", [20, 30, 0, 5, 3, 8]))
+    array('q', [0, 8, 20, 30])
+    """
+    return _array(_core.from_ranges(numbers))
+
+
+def from_unsorted(items: Buffer) -> array[int]:
+    """The set whose boundaries are these numbers, in any order, each once.
+
+    >>> from_unsorted(array("q", [7, -2, 7, 5]))
+    array('q', [-2, 5, 7])
+    """
+    return _array(_core.from_unsorted(items))
+
+
+def ranges(a: Buffer) -> Iterator[tuple[int, int | None]]:
+    """The ranges of the set in order, each as its start and its end; the end is None where the range has none.
+
+    >>> list(ranges(array("q", [0, 10, 20])))
+    [(0, 10), (20, None)]
+    """
+    items = iter(_core.from_boundaries(a))
+    return zip_longest(items, items)
+
+
+def is_sorted(a: Buffer) -> bool:
+    """Whether the list is strictly sorted.
+
+    >>> is_sorted(array("q", [3, 3]))
+    False
+    """
+    return _core.is_sorted(a)
+
+
+def is_empty(a: Buffer) -> bool:
+    """Whether no number is a member.
+
+    >>> is_empty(array("q"))
+    True
+    """
+    return _core.is_empty(a)
+
+
+def contains(a: Buffer, value: SupportsIndex) -> bool:
+    """Whether the number is a member.
+
+    >>> contains(array("q", [0, 10]), 9), contains(array("q", [0, 10]), 10)
+    (True, False)
+    """
+    return _core.contains(a, value)
+
+
+def contains_range(a: Buffer, start: SupportsIndex, end: SupportsIndex) -> bool:
+    """Whether each number from `start` up to, not including, `end` is a member.
+
+    >>> contains_range(array("q", [0, 10]), 3, 10)
+    True
+    """
+    return _core.contains_range(a, start, end)
+
+
+def range_at(a: Buffer, value: SupportsIndex) -> tuple[int, int | None] | None:
+    """The range that holds the number, or None where it is no member.
+
+    >>> range_at(array("q", [0, 10, 20]), 25)
+    (20, None)
+    """
+    return _core.range_at(a, value)
+
+
+def covered(a: Buffer) -> int | None:
+    """How many numbers are members, or None where the set has no end.
+
+    >>> covered(array("q", [0, 10, 20, 25]))
+    15
+    """
+    return _core.covered(a)
+
+
+def is_disjoint(a: Buffer, b: Buffer) -> bool:
+    """Whether no number is a member of both.
+
+    >>> is_disjoint(array("q", [0, 10]), array("q", [10, 20]))
+    True
+    """
+    return _core.is_disjoint(a, b)
+
+
+def intersects(a: Buffer, b: Buffer) -> bool:
+    """Whether some number is a member of both.
+
+    >>> intersects(array("q", [0, 10]), array("q", [9, 20]))
+    True
+    """
+    return _core.intersects(a, b)
+
+
+def is_subset(a: Buffer, b: Buffer) -> bool:
+    """Whether each member of the left set is one of the right.
+
+    >>> is_subset(array("q", [3, 5]), array("q", [0, 10]))
+    True
+    """
+    return _core.is_subset(a, b)
+
+
+def is_superset(a: Buffer, b: Buffer) -> bool:
+    """Whether each member of the right set is one of the left.
+
+    >>> is_superset(array("q", [0, 10]), array("q", [3, 5]))
+    True
+    """
+    return _core.is_subset(b, a)
+
+
+def equal(a: Buffer, b: Buffer) -> bool:
+    """Whether both sets have the same members.
+
+    >>> equal(array("q", [0, 10]), array("q", [0, 10]))
+    True
+    """
+    return _core.equal(a, b)
+
+
+def split(a: Buffer, at: SupportsIndex) -> tuple[int, int]:
+    """Cuts the list at a number: how many boundaries tell the members below `at`, and from which index on they tell the others.
+
+    Below `at` the first list is the set, and from `at` on the second is. A range that goes over `at` has a boundary in both.
+
+    >>> split(array("q", [0, 10, 20, 30]), 25)
+    (3, 2)
+    """
+    return _core.split(a, at)

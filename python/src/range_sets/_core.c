@@ -1,0 +1,399 @@
+/* Functions over buffers of 64-bit whole numbers, by the proved calls for C.
+ *
+ * This is the one file of the package that knows those calls. It borrows each buffer for the length of a call and tells the
+ * type of its numbers by its format. A new list is a memoryview over bytes, which nothing changes. It is tested, not proved. */
+#define PY_SSIZE_T_CLEAN
+#include <Python.h>
+#include "range_set.h"
+
+/* From so many boundaries on, other threads run during a call that goes over them. */
+enum { MANY = 4096 };
+
+/* Numbers that are borrowed from a buffer, or a copy of them where they don't lie at multiples of 8 bytes. */
+typedef struct {
+    Py_buffer view;
+    void *items, *copy;
+    size_t len;
+    bool is_signed;
+} List;
+
+/* What a call is given: up to two lists, and up to two numbers of their type, as bits. */
+typedef struct {
+    List lists[2];
+    int held;
+    uint64_t numbers[2];
+} Arguments;
+
+/* A call of range_set.h for the type of the lists, and how it is given them. */
+#define CALL(list, call, ...) ((list).is_signed ? range_set_i64_##call(__VA_ARGS__) : range_set_u64_##call(__VA_ARGS__))
+#define A(given) (given)->lists[0].items, (given)->lists[0].len
+#define B(given) (given)->lists[1].items, (given)->lists[1].len
+#define FIRST(given) (given)->numbers[0]
+#define BOTH(given) (given)->numbers[0], (given)->numbers[1]
+
+/* ---- What a call is given ---- */
+
+static bool refuse(PyObject *error, const char *text)
+{
+    PyErr_SetString(error, text);
+    return false;
+}
+
+/* Tells the type of the numbers by the format: one letter, before which the order of the bytes may stand. */
+static bool read_format(List *list)
+{
+    const char *format = list->view.format ? list->view.format : "B";
+    const char *letter = format + (*format && strchr(PY_LITTLE_ENDIAN ? "@=<" : "@=>", *format) != NULL);
+    list->is_signed = *letter == 'q' || *letter == 'l';
+    if (list->view.itemsize == 8 && *letter && strchr("qlQL", *letter) && letter[1] == '\0') return true;
+    PyErr_Format(PyExc_TypeError, "64-bit whole numbers in this machine's order of bytes are wanted, as array('q') and numpy's "
+                 "int64 and uint64 have them, not those of the format '%s'", format);
+    return false;
+}
+
+static bool read_shape(List *list, bool pairs)
+{
+    const Py_buffer *view = &list->view;
+    if (view->ndim != 1 && !(pairs && view->ndim == 2 && view->shape[1] == 2))
+        return refuse(PyExc_TypeError, pairs ? "a list of starts and ends in turn is wanted, or a table with two columns"
+                                             : "a list is wanted, with one dimension");
+    list->len = view->len / 8;
+    if (pairs && list->len % 2 != 0) return refuse(PyExc_ValueError, "a start and an end each are wanted");
+    return PyBuffer_IsContiguous(view, 'C')
+           || refuse(PyExc_TypeError, "numbers that lie side by side are wanted: copy the buffer first, as numpy's a.copy() does");
+}
+
+static bool read_place(List *list, bool writable)
+{
+    list->items = list->view.buf;
+    if (writable && list->view.readonly) return refuse(PyExc_TypeError, "the buffer can't be written to");
+    if ((uintptr_t)list->items % 8 == 0 || list->len == 0) return true;
+    if (writable) return refuse(PyExc_ValueError, "the buffer's numbers don't lie at multiples of 8 bytes");
+    list->items = list->copy = PyMem_Malloc(8 * list->len);
+    if (list->copy == NULL) return PyErr_NoMemory() != NULL;
+    memcpy(list->copy, list->view.buf, 8 * list->len);
+    return true;
+}
+
+static void release(List *list)
+{
+    PyMem_Free(list->copy);
+    PyBuffer_Release(&list->view);
+}
+
+/* Borrows the numbers of a buffer. With `pairs` it may have a row for each two of them. */
+static bool borrow(PyObject *object, List *list, bool pairs, bool writable)
+{
+    if (!PyObject_CheckBuffer(object)) {
+        PyErr_Format(PyExc_TypeError, "a buffer of 64-bit whole numbers is wanted, as an array('q') or a numpy array, not %.100s",
+                     Py_TYPE(object)->tp_name);
+        return false;
+    }
+    list->copy = NULL;
+    if (PyObject_GetBuffer(object, &list->view, PyBUF_FULL_RO) < 0) return false;
+    if (read_format(list) && read_shape(list, pairs) && read_place(list, writable)) return true;
+    release(list);
+    return false;
+}
+
+static bool read_number(PyObject *object, bool is_signed, uint64_t *bits)
+{
+    PyObject *number = PyNumber_Index(object);
+    if (number == NULL) return false;
+    *bits = is_signed ? (uint64_t)PyLong_AsLongLong(number) : PyLong_AsUnsignedLongLong(number);
+    bool fits = *bits != UINT64_MAX || !PyErr_Occurred();
+    Py_DECREF(number);
+    return fits || refuse(PyExc_OverflowError, is_signed ? "a number from -2**63 to 2**63 - 1 is wanted"
+                                                         : "a number from 0 to 2**64 - 1 is wanted");
+}
+
+static void release_all(Arguments *given)
+{
+    while (given->held > 0) release(&given->lists[--given->held]);
+}
+
+/* Reads so many lists, then so many numbers, and leaves so many objects that may follow. */
+static bool read_arguments(Arguments *given, PyObject *const *args, Py_ssize_t n, int lists, int numbers, int more)
+{
+    if (n < lists + numbers || n > lists + numbers + more) {
+        PyErr_Format(PyExc_TypeError, "%d arguments are wanted, not %zd", lists + numbers, n);
+        return false;
+    }
+    bool fits = true;
+    given->lists[1].len = 0;
+    for (given->held = 0; fits && given->held < lists; given->held += fits)
+        fits = borrow(args[given->held], &given->lists[given->held], false, false);
+    if (fits && lists == 2 && given->lists[0].is_signed != given->lists[1].is_signed)
+        fits = refuse(PyExc_TypeError, "signed and unsigned numbers don't mix: both lists have to be of one type");
+    for (int i = 0; fits && i < numbers; i++) fits = read_number(args[lists + i], given->lists[0].is_signed, &given->numbers[i]);
+    if (!fits) release_all(given);
+    return fits;
+}
+
+static PyObject *raise_status(range_set_status status, size_t needed)
+{
+    PyObject *errors = PyImport_ImportModule("range_sets._errors"), *error;
+    if (errors == NULL) return NULL;
+    if (status == RANGE_SET_NOT_SORTED) error = PyObject_CallMethod(errors, "NotSorted", "s", "a list isn't strictly sorted");
+    else if (status == RANGE_SET_NO_ROOM) error = PyObject_CallMethod(errors, "NoRoom", "n", (Py_ssize_t)needed);
+    else error = PyObject_CallFunction(PyExc_ValueError, "s", "the buffer overlaps a list");
+    if (error != NULL) PyErr_SetObject((PyObject *)Py_TYPE(error), error);
+    Py_XDECREF(error);
+    Py_DECREF(errors);
+    return NULL;
+}
+
+/* Lets other threads run where there are many boundaries to go over. */
+static PyThreadState *let_others_run(size_t len)
+{
+    return len < MANY ? NULL : PyEval_SaveThread();
+}
+
+static void go_on(PyThreadState *thread)
+{
+    if (thread != NULL) PyEval_RestoreThread(thread);
+}
+
+/* ---- Operations ---- */
+
+/* The first numbers of some bytes, which it takes over, as a list. */
+static PyObject *list_over(PyObject *bytes, size_t len, bool is_signed)
+{
+    if (_PyBytes_Resize(&bytes, 8 * len) < 0) return NULL;
+    PyObject *view = PyMemoryView_FromObject(bytes);
+    Py_DECREF(bytes);
+    PyObject *list = view == NULL ? NULL : PyObject_CallMethod(view, "cast", "s", is_signed ? "q" : "Q");
+    Py_XDECREF(view);
+    return list;
+}
+
+typedef range_set_status Operation(const Arguments *given, void *out, size_t room, size_t *written);
+
+static range_set_status run(Operation *call, const Arguments *given, void *out, size_t room, size_t *written)
+{
+    PyThreadState *thread = let_others_run(given->lists[0].len + given->lists[1].len);
+    range_set_status status = call(given, out, room, written);
+    go_on(thread);
+    return status;
+}
+
+/* The set as a new list. No result is longer than both lists together and a range. */
+static PyObject *write_new(const Arguments *given, Operation *call)
+{
+    size_t room = given->lists[0].len + given->lists[1].len + 2, written = 0;
+    PyObject *bytes = PyBytes_FromStringAndSize(NULL, 8 * room);
+    if (bytes == NULL) return NULL;
+    range_set_status status = run(call, given, PyBytes_AS_STRING(bytes), room, &written);
+    if (status == RANGE_SET_DONE) return list_over(bytes, written, given->lists[0].is_signed);
+    Py_DECREF(bytes);
+    return raise_status(status, written);
+}
+
+/* The set in the caller's buffer, and its length as the answer. */
+static PyObject *write_into(const Arguments *given, Operation *call, PyObject *object)
+{
+    List out;
+    size_t written = 0;
+    PyObject *answer = NULL;
+    if (!borrow(object, &out, false, true)) return NULL;
+    if (out.is_signed == given->lists[0].is_signed) {
+        range_set_status status = run(call, given, out.items, out.len, &written);
+        answer = status == RANGE_SET_DONE ? PyLong_FromSize_t(written) : raise_status(status, written);
+    } else {
+        refuse(PyExc_TypeError, "signed and unsigned numbers don't mix: the buffer has to be of the type of the lists");
+    }
+    release(&out);
+    return answer;
+}
+
+static PyObject *operate(PyObject *const *args, Py_ssize_t n, int lists, int numbers, Operation *call)
+{
+    Arguments given;
+    if (!read_arguments(&given, args, n, lists, numbers, 1)) return NULL;
+    PyObject *out = n > lists + numbers ? args[n - 1] : Py_None;
+    PyObject *answer = out == Py_None ? write_new(&given, call) : write_into(&given, call, out);
+    release_all(&given);
+    return answer;
+}
+
+#define OPERATION(name, list_count, number_count, ...) \
+    static range_set_status write_##name(const Arguments *it, void *out, size_t room, size_t *written) \
+    { return CALL(it->lists[0], name, __VA_ARGS__, out, room, written); } \
+    static PyObject *core_##name(PyObject *module, PyObject *const *args, Py_ssize_t n) \
+    { return operate(args, n, list_count, number_count, write_##name); }
+
+OPERATION(union, 2, 0, A(it), B(it))
+OPERATION(intersection, 2, 0, A(it), B(it))
+OPERATION(difference, 2, 0, A(it), B(it))
+OPERATION(symmetric_difference, 2, 0, A(it), B(it))
+OPERATION(negation, 1, 0, A(it))
+OPERATION(insert, 1, 2, A(it), BOTH(it))
+OPERATION(remove, 1, 2, A(it), BOTH(it))
+OPERATION(gaps, 1, 2, A(it), BOTH(it))
+
+/* ---- Lists made of a copy, in its place ---- */
+
+typedef range_set_status Arrangement(const List *copy, size_t *written);
+
+static range_set_status arrange_sorted(const List *copy, size_t *written)
+{
+    bool sorted = false;
+    *written = copy->len;
+    range_set_status status = CALL(*copy, is_sorted, copy->items, copy->len, &sorted);
+    return status == RANGE_SET_DONE && !sorted ? RANGE_SET_NOT_SORTED : status;
+}
+
+static range_set_status arrange_unsorted(const List *copy, size_t *written)
+{
+    return CALL(*copy, from_unsorted, copy->items, copy->len, written);
+}
+
+static range_set_status arrange_ranges(const List *copy, size_t *written)
+{
+    return CALL(*copy, from_ranges, copy->items, copy->len / 2, written);
+}
+
+static PyObject *arrange(PyObject *object, bool pairs, Arrangement *call)
+{
+    List list;
+    size_t written = 0;
+    if (!borrow(object, &list, pairs, false)) return NULL;
+    PyObject *bytes = PyBytes_FromStringAndSize(list.items, 8 * list.len);
+    release(&list);
+    if (bytes == NULL) return NULL;
+    list.items = PyBytes_AS_STRING(bytes);
+    PyThreadState *thread = let_others_run(list.len);
+    range_set_status status = call(&list, &written);
+    go_on(thread);
+    if (status == RANGE_SET_DONE) return list_over(bytes, written, list.is_signed);
+    Py_DECREF(bytes);
+    return raise_status(status, 0);
+}
+
+#define ARRANGEMENT(name, pairs, how) \
+    static PyObject *core_##name(PyObject *module, PyObject *object) { return arrange(object, pairs, arrange_##how); }
+
+ARRANGEMENT(from_boundaries, false, sorted)
+ARRANGEMENT(from_unsorted, false, unsorted)
+ARRANGEMENT(from_ranges, true, ranges)
+
+/* ---- Questions ---- */
+
+typedef range_set_status Question(const Arguments *given, bool *answer);
+
+static PyObject *ask(PyObject *const *args, Py_ssize_t n, int lists, int numbers, Question *call)
+{
+    Arguments given;
+    bool answer = false;
+    if (!read_arguments(&given, args, n, lists, numbers, 0)) return NULL;
+    PyThreadState *thread = let_others_run(given.lists[1].len);
+    range_set_status status = call(&given, &answer);
+    go_on(thread);
+    release_all(&given);
+    return status == RANGE_SET_DONE ? PyBool_FromLong(answer) : raise_status(status, 0);
+}
+
+#define QUESTION(name, list_count, number_count, ...) \
+    static range_set_status ask_##name(const Arguments *it, bool *answer) { return CALL(it->lists[0], name, __VA_ARGS__, answer); } \
+    static PyObject *core_##name(PyObject *module, PyObject *const *args, Py_ssize_t n) \
+    { return ask(args, n, list_count, number_count, ask_##name); }
+
+QUESTION(is_sorted, 1, 0, A(it))
+QUESTION(is_empty, 1, 0, A(it))
+QUESTION(contains, 1, 1, A(it), FIRST(it))
+QUESTION(contains_range, 1, 2, A(it), BOTH(it))
+QUESTION(is_disjoint, 2, 0, A(it), B(it))
+QUESTION(intersects, 2, 0, A(it), B(it))
+QUESTION(is_subset, 2, 0, A(it), B(it))
+QUESTION(equal, 2, 0, A(it), B(it))
+
+static PyObject *number_of(uint64_t bits, bool is_signed)
+{
+    return is_signed ? PyLong_FromLongLong((int64_t)bits) : PyLong_FromUnsignedLongLong(bits);
+}
+
+static PyObject *core_range_at(PyObject *module, PyObject *const *args, Py_ssize_t n)
+{
+    Arguments given;
+    bool found = false, has_end = false;
+    uint64_t start = 0, end = 0;
+    if (!read_arguments(&given, args, n, 1, 1, 0)) return NULL;
+    bool is_signed = given.lists[0].is_signed;
+    CALL(given.lists[0], range_at, A(&given), FIRST(&given), &found, (void *)&start, (void *)&end, &has_end);
+    release_all(&given);
+    if (!found) Py_RETURN_NONE;
+    return Py_BuildValue("NN", number_of(start, is_signed), has_end ? number_of(end, is_signed) : Py_NewRef(Py_None));
+}
+
+static PyObject *core_covered(PyObject *module, PyObject *const *args, Py_ssize_t n)
+{
+    Arguments given;
+    uint64_t count = 0;
+    if (!read_arguments(&given, args, n, 1, 0, 0)) return NULL;
+    range_set_status status = CALL(given.lists[0], covered, A(&given), &count);
+    release_all(&given);
+    if (status == RANGE_SET_NO_END) Py_RETURN_NONE;
+    return status == RANGE_SET_DONE ? PyLong_FromUnsignedLongLong(count) : raise_status(status, 0);
+}
+
+static PyObject *core_split(PyObject *module, PyObject *const *args, Py_ssize_t n)
+{
+    Arguments given;
+    size_t left_len = 0, right_start = 0;
+    if (!read_arguments(&given, args, n, 1, 1, 0)) return NULL;
+    CALL(given.lists[0], split, A(&given), FIRST(&given), &left_len, &right_start);
+    release_all(&given);
+    return Py_BuildValue("nn", (Py_ssize_t)left_len, (Py_ssize_t)right_start);
+}
+
+/* The first place from `at` on where `more` + 1 places lie in no range and not past `last`, or nothing. The ranges from the
+ * i-th boundary on are looked at, and places are numbers from 0 on, which `flip` makes of bits. */
+static bool find_fit(const List *list, size_t i, uint64_t flip, uint64_t *at, uint64_t last, uint64_t more)
+{
+    const uint64_t *items = list->items;
+    while (*at <= last && last - *at >= more) {
+        if (i >= list->len || ((items[i] ^ flip) > *at && (items[i] ^ flip) - *at > more)) return true;
+        if (i + 1 >= list->len) return false;
+        if ((items[i + 1] ^ flip) > *at) *at = items[i + 1] ^ flip;
+        i += 2;
+    }
+    return false;
+}
+
+/* The first of `more` + 1 numbers in a row from a first to a last one that are no members. */
+static PyObject *core_first_fit(PyObject *module, PyObject *const *args, Py_ssize_t n)
+{
+    Arguments given;
+    size_t left_len = 0, i = 0;
+    uint64_t more = 0;
+    if (!read_arguments(&given, args, n, 1, 2, 1)) return NULL;
+    bool is_signed = given.lists[0].is_signed, is_length = read_number(args[n - 1], false, &more);
+    uint64_t flip = is_signed ? (uint64_t)1 << 63 : 0, at = FIRST(&given) ^ flip, last = given.numbers[1] ^ flip;
+    CALL(given.lists[0], split, A(&given), FIRST(&given), &left_len, &i);
+    bool fits = is_length && find_fit(&given.lists[0], i, flip, &at, last, more);
+    release_all(&given);
+    return !is_length ? NULL : fits ? number_of(at ^ flip, is_signed) : Py_NewRef(Py_None);
+}
+
+/* ---- The module ---- */
+
+#define METHOD(name) {#name, (PyCFunction)(void (*)(void))core_##name, METH_FASTCALL, NULL}
+#define METHOD_OF_ONE(name) {#name, core_##name, METH_O, NULL}
+
+static PyMethodDef methods[] = {
+    METHOD(union), METHOD(intersection), METHOD(difference), METHOD(symmetric_difference), METHOD(negation), METHOD(insert),
+    METHOD(remove), METHOD(gaps), METHOD_OF_ONE(from_boundaries), METHOD_OF_ONE(from_unsorted), METHOD_OF_ONE(from_ranges),
+    METHOD(is_sorted), METHOD(is_empty), METHOD(contains), METHOD(contains_range), METHOD(is_disjoint), METHOD(intersects),
+    METHOD(is_subset), METHOD(equal), METHOD(range_at), METHOD(covered), METHOD(split), METHOD(first_fit),
+    {NULL, NULL, 0, NULL},
+};
+
+static struct PyModuleDef definition = {
+    PyModuleDef_HEAD_INIT, "range_sets._core", "The calls of range_set.h over buffers.", 0, methods,
+    (PyModuleDef_Slot[]){{0, NULL}}, NULL, NULL, NULL,
+};
+
+PyMODINIT_FUNC PyInit__core(void)
+{
+    return PyModuleDef_Init(&definition);
+}

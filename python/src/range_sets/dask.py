@@ -1,0 +1,138 @@
+"""The union of sets that many machines make, by Dask.
+
+A set is the union of its parts, so parts are reduced in a tree: each union of `split_every` parts is a task of its own. With
+`cuts` each range of keys between two of them has its own tree. Nothing runs before `compute()`.
+
+>>> import dask.bag
+>>> from range_sets import RangeSet
+>>> from range_sets.dask import union_all
+>>> parts = dask.bag.from_sequence([RangeSet([(n, n + 2)]) for n in range(5)], npartitions=3)
+>>> union_all(parts).compute(scheduler="sync")
+RangeSet([(0, 6)])
+"""
+
+from __future__ import annotations
+
+from bisect import bisect_right
+from itertools import pairwise
+from typing import TYPE_CHECKING, Any, Callable, Hashable, Iterable, Mapping, Sequence
+
+from dask.delayed import Delayed, delayed
+
+from . import _core
+from ._ranges import AnyRangeSet
+from ._sets import RangeSet
+
+if TYPE_CHECKING:
+    from dask.bag.core import Bag
+
+__all__ = ["covered_by_key", "union_all"]
+
+
+def union_all(parts: Bag | Iterable[Delayed], split_every: int = 8, cuts: Sequence[int] = ()) -> Delayed:
+    """The union of the sets in a bag, or of delayed sets: a delayed `RangeSet`.
+
+    With `cuts`, numbers in ascending order, each part is cut there, which copies nothing.
+
+    >>> from dask import delayed
+    >>> made = [delayed(RangeSet)([(10 * n, 10 * n + 25)]) for n in range(0, 9, 4)]
+    >>> union_all(made, split_every=2, cuts=[50]).compute(scheduler="sync")
+    RangeSet([(0, 25), (40, 65), (80, 105)])
+    """
+    trees = _trees(parts, split_every, list(cuts), _cut_set, _union)
+    limits = [None, *cuts, None]
+    whole: Delayed = delayed(_union)([delayed(_clipped)(tree, *ends) for tree, ends in zip(trees, pairwise(limits))])
+    return whole
+
+
+def covered_by_key(pairs: Bag | Iterable[Delayed], split_every: int = 8, cuts: Sequence[Any] = ()) -> Delayed:
+    """How many numbers the sets of each key have together, of a bag of pairs of a key and a set: a delayed dict.
+
+    The count is None where a set has no end. A delayed part is a list of pairs or a dict. With `cuts`, keys in ascending order,
+    only counts are moved to the last task.
+
+    >>> import dask.bag
+    >>> pairs = [("a", RangeSet([(0, 10)])), ("b", RangeSet([(5, 9)])), ("a", RangeSet([(5, 15)]))]
+    >>> covered_by_key(dask.bag.from_sequence(pairs, npartitions=2)).compute(scheduler="sync")
+    {'a': 15, 'b': 4}
+    """
+    trees = _trees(pairs, split_every, list(cuts), _cut_keys, _union_by_key)
+    counts: Delayed = delayed(_joined)([delayed(_counted)(tree) for tree in trees])
+    return counts
+
+
+def _trees(
+    parts: Bag | Iterable[Delayed],
+    split_every: int,
+    cuts: list[Any],
+    cut: Callable[[Any, list[Any]], list[Any]],
+    combine: Callable[[list[Any]], Any],
+) -> list[Delayed]:
+    """Cuts each part by key ranges, and combines the pieces of each range, so many at a time, to one."""
+    if split_every < 2:
+        raise ValueError(f"split_every says how many parts are reduced at a time: 2 or more, not {split_every}")
+    if not all(a < b for a, b in pairwise(cuts)):
+        raise ValueError("cuts in ascending order are wanted")
+    made = [delayed(cut, nout=len(cuts) + 1)(part, cuts) for part in _tasks(parts)]
+    return [_tree([pieces[i] for pieces in made], split_every, combine) for i in range(len(cuts) + 1)]
+
+
+def _tasks(parts: Any) -> list[Delayed]:
+    # A delayed value has every attribute, so it is asked for first.
+    if isinstance(parts, Delayed):
+        return [parts]
+    return list(parts.to_delayed() if hasattr(parts, "to_delayed") else parts)
+
+
+def _tree(pieces: list[Delayed], split_every: int, combine: Callable[[list[Any]], Any]) -> Delayed:
+    while len(pieces) > split_every:
+        pieces = [delayed(combine)(pieces[i : i + split_every]) for i in range(0, len(pieces), split_every)]
+    root: Delayed = delayed(combine)(pieces)
+    return root
+
+
+def _union(sets: Iterable[AnyRangeSet]) -> RangeSet:
+    # A part of nothing doesn't know which numbers the others have.
+    known = list(sets)
+    return RangeSet.union_all([it for it in known if it], unsigned=any(it.unsigned for it in known))
+
+
+def _cut_set(part: Any, cuts: list[int]) -> list[RangeSet]:
+    """The pieces of a set, which lie in its memory. Each is the set from its cut to the next, and may go on beyond."""
+    whole = part if isinstance(part, AnyRangeSet) else _union(part)
+    if not whole:
+        return [RangeSet(whole)] * (len(cuts) + 1)
+    boundaries = whole.boundaries
+    places = [_core.split(boundaries, it) for it in cuts]
+    starts = [0, *(right_start for _, right_start in places)]
+    ends = [*(left_len for left_len, _ in places), len(boundaries)]
+    return [RangeSet._over(boundaries[start:end]) for start, end in zip(starts, ends)]
+
+
+def _clipped(piece: RangeSet, start: int | None, end: int | None) -> RangeSet:
+    return piece & RangeSet([(start, end)], unsigned=piece.unsigned) if piece else piece
+
+
+def _cut_keys(part: Any, cuts: list[Any]) -> list[dict[Hashable, RangeSet]]:
+    """The sets of a part by their keys, in a dict for each key range."""
+    pairs = part.items() if isinstance(part, Mapping) else part
+    pieces: list[dict[Hashable, list[AnyRangeSet]]] = [{} for _ in range(len(cuts) + 1)]
+    for key, it in pairs:
+        pieces[bisect_right(cuts, key)].setdefault(key, []).append(it)
+    return [{key: _union(sets) for key, sets in piece.items()} for piece in pieces]
+
+
+def _union_by_key(pieces: Iterable[dict[Hashable, RangeSet]]) -> dict[Hashable, RangeSet]:
+    by_key: dict[Hashable, list[RangeSet]] = {}
+    for piece in pieces:
+        for key, it in piece.items():
+            by_key.setdefault(key, []).append(it)
+    return {key: _union(sets) for key, sets in by_key.items()}
+
+
+def _counted(by_key: dict[Hashable, RangeSet]) -> dict[Hashable, int | None]:
+    return {key: it.covered() for key, it in by_key.items()}
+
+
+def _joined(counts: Iterable[dict[Hashable, int | None]]) -> dict[Hashable, int | None]:
+    return {key: count for it in counts for key, count in it.items()}

@@ -1,0 +1,74 @@
+"""The build backend: what it writes, and one clear sentence for each thing that is missing."""
+
+import importlib.util
+import os
+import pathlib
+import sysconfig
+import tarfile
+import tempfile
+import unittest
+import zipfile
+from unittest import mock
+
+TREE = pathlib.Path(__file__).resolve().parent.parent
+SPEC = importlib.util.spec_from_file_location("backend", TREE / "backend.py")
+backend = importlib.util.module_from_spec(SPEC)
+SPEC.loader.exec_module(backend)
+
+
+class Missing(unittest.TestCase):
+    def refused(self, call, text):
+        with self.assertRaises(SystemExit) as raised:
+            call()
+        self.assertEqual(str(raised.exception), text)
+
+    def test_a_compiler(self):
+        with mock.patch.dict(os.environ, CC="no-such-compiler -m64"):
+            self.refused(lambda: backend.compiled(backend.DIST / "librange_set.a", ".so"),
+                         "range_sets: the C compiler no-such-compiler is missing: install gcc, or name another in CC")
+
+    def test_the_headers_of_python(self):
+        with mock.patch.object(sysconfig, "get_path", lambda name: "/no/such/folder"):
+            self.refused(lambda: backend.compiled(backend.DIST / "librange_set.a", ".so"),
+                         "range_sets: Python's header /no/such/folder/Python.h is missing: on Debian the package python3-dev brings it")
+
+    def test_a_library_for_another_machine(self):
+        for platform in ("linux-aarch64", "macosx-14.0-arm64", "win-amd64"):
+            with mock.patch.object(sysconfig, "get_platform", lambda: platform):
+                self.refused(backend.library, f"range_sets: there is no library for {platform} yet: dist/ has that of x86-64 Linux alone")
+
+    def test_the_library(self):
+        elsewhere = mock.patch.object(backend, "DIST", pathlib.Path("/no/such/folder"))
+        with elsewhere, mock.patch.object(sysconfig, "get_platform", lambda: "linux-x86_64"):
+            self.refused(backend.library, "range_sets: the library /no/such/folder/librange_set.a is missing: build from a whole clone, "
+                                          "or from the source distribution")
+
+
+class Written(unittest.TestCase):
+    def setUp(self):
+        folder = tempfile.TemporaryDirectory()
+        self.addCleanup(folder.cleanup)
+        self.folder = pathlib.Path(folder.name)
+
+    def test_a_wheel(self):
+        with mock.patch.object(backend, "compiled", lambda archive, suffix: b"compiled"):
+            name = backend.build_wheel(self.folder)
+        self.assertEqual(name, f"range_sets-0.1.0-{backend.tag()}.whl")
+        with zipfile.ZipFile(self.folder / name) as wheel:
+            self.assertIsNone(wheel.testzip())
+            record = wheel.read("range_sets-0.1.0.dist-info/RECORD").decode().splitlines()
+            self.assertEqual([row.split(",")[0] for row in record], wheel.namelist())
+            self.assertEqual(wheel.read(f"range_sets/_core{sysconfig.get_config_var('EXT_SUFFIX')}"), b"compiled")
+            self.assertTrue({f"range_sets-0.1.0.dist-info/licenses/LICENSE-{it}" for it in ("MIT", "APACHE")} <= set(wheel.namelist()))
+
+    def test_a_source_distribution(self):
+        name = backend.build_sdist(self.folder)
+        with tarfile.open(self.folder / name) as archive:
+            names = set(archive.getnames())
+        sources = ("src/range_sets/_core.c", "src/range_sets/py.typed", "dist/librange_set.a", "dist/range_set.h")
+        for it in ("pyproject.toml", "backend.py", "README.md", "PKG-INFO", "LICENSE-MIT", *sources):
+            self.assertIn(f"range_sets-0.1.0/{it}", names)
+
+
+if __name__ == "__main__":
+    unittest.main()

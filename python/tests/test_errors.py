@@ -1,0 +1,156 @@
+"""Each error's type and text, word for word."""
+
+import pickle
+import unittest
+from array import array
+
+import range_sets as sets
+from range_sets import MutableRangeSet, NoRoom, NotSorted, ParseError, RangeSet
+
+FORMAT = (
+    "64-bit whole numbers in this machine's order of bytes are wanted, as array('q') and numpy's int64 and uint64 have them, "
+    "not those of the format"
+)
+BUFFER = "a buffer of 64-bit whole numbers is wanted, as an array('q') or a numpy array, not"
+SIDE = "numbers that lie side by side are wanted: copy the buffer first, as numpy's a.copy() does"
+SIGNED = "a number from -2**63 to 2**63 - 1 is wanted"
+UNSIGNED = "a number from 0 to 2**64 - 1 is wanted"
+MIXED = "signed and unsigned numbers don't mix"
+PAIR = "a pair (start, end), a range or a set is wanted, not"
+ENDS = "a start and an end, a pair or a range is wanted, not"
+FLOAT = "'float' object cannot be interpreted as an integer"
+TABLE = "a table with two columns is wanted; RangeSet.from_boundaries reads a list of boundaries"
+A = RangeSet([(0, 10)])
+
+
+def q(*items):
+    return array("q", items)
+
+
+def strided():
+    return memoryview(q(0, 1, 2, 3))[::2]
+
+
+def crooked():
+    return memoryview(bytearray(17))[1:].cast("q")
+
+
+class Texts(unittest.TestCase):
+    def tell(self, rows):
+        for call, error, text in rows:
+            with self.subTest(text=text):
+                with self.assertRaises(error) as raised:
+                    call()
+                self.assertIs(type(raised.exception), error)
+                self.assertEqual(str(raised.exception), text)
+
+    def test_what_a_set_is_made_of(self):
+        self.tell((
+            (lambda: RangeSet([1, 2]), TypeError, f"{PAIR} 1"),
+            (lambda: RangeSet([(1, 2, 3)]), TypeError, f"{PAIR} (1, 2, 3)"),
+            (lambda: RangeSet([(1,), (2, 3, 4)]), TypeError, f"{PAIR} (1,)"),
+            (lambda: RangeSet([{1, 2}]), TypeError, PAIR + " {1, 2}"),
+            (lambda: RangeSet(["ab"]), TypeError, f"{PAIR} 'ab'"),
+            (lambda: RangeSet(5), TypeError, "pairs, ranges or sets are wanted, not 5"),
+            (lambda: RangeSet(None), TypeError, "pairs, ranges or sets are wanted, not None"),
+            (lambda: RangeSet("0..3"), TypeError, "pairs, ranges or sets are wanted, not a text; RangeSet.parse reads one"),
+            (lambda: RangeSet(q(0, 10)), TypeError, TABLE),
+            (lambda: RangeSet(range(0, 10, 2)), ValueError, "a range with step 1 is wanted, not range(0, 10, 2)"),
+            (lambda: RangeSet([(0.5, 2)]), TypeError, FLOAT),
+            (lambda: RangeSet([(float("nan"), None)]), TypeError, FLOAT),
+            (lambda: RangeSet([("0", 2)]), TypeError, "'str' object cannot be interpreted as an integer"),
+            (lambda: RangeSet([(0, 2**63)]), OverflowError, SIGNED),
+            (lambda: RangeSet([(-(2**63) - 1, None)]), OverflowError, SIGNED),
+            (lambda: RangeSet([(-1, 5)], unsigned=True), OverflowError, UNSIGNED),
+            (lambda: RangeSet([(0, 2**64)], unsigned=True), OverflowError, UNSIGNED),
+        ))
+
+    def test_boundaries(self):
+        self.tell((
+            (lambda: RangeSet.from_boundaries([3, 3]), NotSorted, "a list isn't strictly sorted"),
+            (lambda: RangeSet.from_boundaries([0, 1.5]), TypeError, FLOAT),
+            (lambda: RangeSet.from_boundaries([0, 2**63]), OverflowError, SIGNED),
+            (lambda: RangeSet.from_boundaries(7), TypeError, "'int' object is not iterable"),
+            (lambda: RangeSet.from_boundaries(array("d", [0.0])), TypeError, f"{FORMAT} 'd'"),
+            (lambda: RangeSet.from_boundaries(q(1), unsigned=True), TypeError, f"{MIXED}: a set of unsigned ones is wanted"),
+            (lambda: RangeSet.from_ranges(q(1, 2, 3)), ValueError, "a start and an end each are wanted"),
+            (lambda: RangeSet.from_ranges([(1, 2)]), TypeError, f"{BUFFER} list"),
+        ))
+
+    def test_buffers(self):
+        table = memoryview(bytes(48)).cast("q", [2, 3])
+        self.tell((
+            (lambda: sets.union([0], q(1)), TypeError, f"{BUFFER} list"),
+            (lambda: sets.union(q(1), array("i", [1])), TypeError, f"{FORMAT} 'i'"),
+            (lambda: sets.union(q(1), b"12345678"), TypeError, f"{FORMAT} 'B'"),
+            (lambda: sets.union(q(1), table), TypeError, "a list is wanted, with one dimension"),
+            (lambda: sets.from_ranges(table), TypeError, "a list of starts and ends in turn is wanted, or a table with two columns"),
+            (lambda: sets.union(q(1), strided()), TypeError, SIDE),
+            (lambda: sets.union(q(1), array("Q", [1])), TypeError, f"{MIXED}: both lists have to be of one type"),
+            (lambda: sets.union(q(1), q(2), out=array("Q", [0, 0])), TypeError, f"{MIXED}: the buffer has to be of the type of the lists"),
+            (lambda: sets.union(q(1), q(2), out=memoryview(q(0, 0)).toreadonly()), TypeError, "the buffer can't be written to"),
+            (lambda: sets.union(q(1), q(2), out=crooked()), ValueError, "the buffer's numbers don't lie at multiples of 8 bytes"),
+            (lambda: (lambda a: sets.union(a, q(2), out=a))(q(1)), ValueError, "the buffer overlaps a list"),
+            (lambda: sets.union(q(0, 1), q(5, 6), out=q(0)), NoRoom, "the set has 4 boundaries, and the buffer is shorter"),
+            (lambda: sets.union(q(2, 1), q(5, 6)), NotSorted, "a list isn't strictly sorted"),
+            (lambda: sets.covered(q(2, 1)), NotSorted, "a list isn't strictly sorted"),
+            (lambda: sets.union(q(0), q(1), q(2)), TypeError, "union() takes 2 positional arguments but 3 were given"),
+            (lambda: sets.contains(q(0), 2**63), OverflowError, SIGNED),
+            (lambda: sets.contains(array("Q"), -1), OverflowError, UNSIGNED),
+            (lambda: sets.contains(q(0), 10**5000), OverflowError, SIGNED),
+            (lambda: RangeSet([(0, -(10**5000))]), OverflowError, SIGNED),
+            (lambda: sets.contains(q(0), 1.0), TypeError, FLOAT),
+        ))
+
+    def test_questions_and_changes(self):
+        self.tell((
+            (lambda: 1.5 in A, TypeError, FLOAT),
+            (lambda: "1" in A, TypeError, "'str' object cannot be interpreted as an integer"),
+            (lambda: (0, 1) in A, TypeError, "'tuple' object cannot be interpreted as an integer"),
+            (lambda: A.covers(5), TypeError, f"{ENDS} 5"),
+            (lambda: A.insert(5), TypeError, f"{ENDS} 5"),
+            (lambda: A.insert(0, "5"), TypeError, "'str' object cannot be interpreted as an integer"),
+            (lambda: A.insert(5, 2**63), OverflowError, SIGNED),
+            (lambda: A.split(2**63), OverflowError, SIGNED),
+            (lambda: A.first_fit(-1), ValueError, "a length from 0 on is wanted"),
+            (lambda: A.first_fit(1.0), TypeError, FLOAT),
+            (lambda: A[1], IndexError, "there is no such range: the set has 1"),
+            (lambda: A[-(10**5000)], IndexError, "there is no such range: the set has 1"),
+            (lambda: RangeSet.union_all([A, 5]), TypeError, "pairs, ranges or sets are wanted, not 5"),
+            (lambda: A | RangeSet(unsigned=True), TypeError, f"{MIXED}: both lists have to be of one type"),
+            (lambda: RangeSet.union_all([A], unsigned=True), TypeError, f"{MIXED}: a set of unsigned ones is wanted"),
+            (lambda: A | [(1, 2)], TypeError, "unsupported operand type(s) for |: 'RangeSet' and 'list'"),
+            (lambda: hash(MutableRangeSet()), TypeError, "unhashable type: 'MutableRangeSet'"),
+        ))
+
+    def test_texts(self):
+        at = "the number at position"
+        for text, expected, position in (
+            ("x", "a number", 0), ("  ,", "a number", 2), ("0", "a dot", 1), ("0.", "a dot", 2), ("0.5", "a dot", 2),
+            ("0 ..5", "a dot", 1), ("0..x", "a number", 3), ("0..5x", "a comma or the end", 4), ("0.. x", "a comma or the end", 4),
+            ("0..5 6..7", "a comma or the end", 5), ("0..5,", "a number", 5), ("0..5, ", "a number", 6), ("0..5,,", "a number", 5),
+            ("-", "a number", 1), ("+x", "a number", 1), ("0..-", "a number", 4), ("0..-,", "a number", 4), ("0..٣", "a number", 3),
+            ("..5", "a number", 0), ("0...5", "a number", 3),
+        ):
+            with self.subTest(text=text):
+                with self.assertRaises(ParseError) as raised:
+                    RangeSet.parse(text)
+                self.assertEqual((raised.exception.expected, raised.exception.position), (expected, position))
+                self.assertEqual(str(raised.exception), f"{expected} was expected at position {position}")
+        self.tell((
+            (lambda: RangeSet.parse(f"0..{2**63}"), OverflowError, f"{at} 3 is out of range: {SIGNED}"),
+            (lambda: RangeSet.parse("-1..0", unsigned=True), OverflowError, f"{at} 0 is out of range: {UNSIGNED}"),
+            (lambda: RangeSet.parse("0..1, 1" + 5000 * "0" + ".."), OverflowError, f"{at} 6 is out of range: it has 5001 digits"),
+        ))
+
+
+class Pickles(unittest.TestCase):
+    def test_errors(self):
+        for error in (NoRoom(4), NotSorted("a list isn't strictly sorted"), ParseError("a dot", 3)):
+            again = pickle.loads(pickle.dumps(error))
+            self.assertEqual((type(again), again.args, str(again)), (type(error), error.args, str(error)))
+            self.assertEqual(vars(again), vars(error))
+
+
+if __name__ == "__main__":
+    unittest.main()

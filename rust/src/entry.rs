@@ -1,0 +1,162 @@
+//! Element types with a least value.
+
+use crate::generated::range_entry;
+use crate::memory::AllocError;
+use crate::support::Global;
+use alloc::string::String;
+use alloc::vec::Vec;
+use core::num::{NonZeroU128, NonZeroU16, NonZeroU32, NonZeroU64, NonZeroU8, NonZeroUsize};
+
+/// An element type that has a least value.
+///
+/// "All values", `..end` and `!` ask for it: they need a boundary below which there is nothing. All other calls only
+/// ask for [`Ord`].
+///
+/// It is implemented for whole numbers, `NonZero` numbers without a sign, `char`, [`String`], `&str`, [`Vec`],
+/// slices and [`Option`].
+///
+/// # Examples
+///
+/// An element type of your own:
+///
+/// ```
+/// use range_sets::range_set::{RangeSet2, RangeSetEntry};
+///
+/// #[derive(Clone, PartialEq, Eq, PartialOrd, Ord)]
+/// struct Version(u8, u8);
+///
+/// impl RangeSetEntry for Version {
+///     fn min_value() -> Self {
+///         Version(0, 0)
+///     }
+///
+///     fn is_min_value(&self) -> bool {
+///         *self == Version(0, 0)
+///     }
+/// }
+///
+/// let old: RangeSet2<Version> = (..Version(2, 0)).into();
+/// assert!(old.contains(&Version(1, 9)));
+/// assert!(!(!old).contains(&Version(1, 9)));
+/// ```
+pub trait RangeSetEntry: Ord {
+    /// Returns the least value.
+    ///
+    /// # Examples
+    ///
+    /// ```
+    /// use range_sets::RangeSetEntry;
+    ///
+    /// assert_eq!(<i8 as RangeSetEntry>::min_value(), -128);
+    /// assert_eq!(<Option<u8> as RangeSetEntry>::min_value(), None);
+    /// ```
+    fn min_value() -> Self;
+
+    /// Returns `true` if this is the least value. It makes no value to compare with.
+    ///
+    /// # Examples
+    ///
+    /// ```
+    /// use range_sets::RangeSetEntry;
+    ///
+    /// assert!("".is_min_value());
+    /// assert!(!"a".is_min_value());
+    /// ```
+    fn is_min_value(&self) -> bool;
+}
+
+macro_rules! numbers {
+    ($($number:ty)*) => {$(
+        impl RangeSetEntry for $number {
+            #[inline]
+            fn min_value() -> Self {
+                <$number>::MIN
+            }
+
+            #[inline]
+            fn is_min_value(&self) -> bool {
+                *self == <$number>::MIN
+            }
+        }
+    )*};
+}
+
+numbers!(u8 u16 u32 u64 u128 usize i8 i16 i32 i64 i128 isize);
+
+macro_rules! non_zero_numbers {
+    ($($number:ty)*) => {$(
+        impl RangeSetEntry for $number {
+            #[inline]
+            fn min_value() -> Self {
+                <$number>::new(1).expect("one is not zero")
+            }
+
+            #[inline]
+            fn is_min_value(&self) -> bool {
+                self.get() == 1
+            }
+        }
+    )*};
+}
+
+non_zero_numbers!(NonZeroU8 NonZeroU16 NonZeroU32 NonZeroU64 NonZeroU128 NonZeroUsize);
+
+impl RangeSetEntry for char {
+    #[inline]
+    fn min_value() -> Self {
+        '\0'
+    }
+
+    #[inline]
+    fn is_min_value(&self) -> bool {
+        *self == '\0'
+    }
+}
+
+macro_rules! lists {
+    ($([$($generics:tt)*] $list:ty = $least:expr;)*) => {$(
+        impl<$($generics)*> RangeSetEntry for $list {
+            #[inline]
+            fn min_value() -> Self {
+                $least
+            }
+
+            #[inline]
+            fn is_min_value(&self) -> bool {
+                self.is_empty()
+            }
+        }
+    )*};
+}
+
+lists! {
+    [] String = String::new();
+    [] &str = "";
+    [T: Ord] Vec<T> = Vec::new();
+    [T: Ord] &[T] = &[];
+}
+
+impl<T: Ord> RangeSetEntry for Option<T> {
+    #[inline]
+    fn min_value() -> Self {
+        None
+    }
+
+    #[inline]
+    fn is_min_value(&self) -> bool {
+        self.is_none()
+    }
+}
+
+/// The generated code asks for a least value that may be refused memory.
+impl<T: RangeSetEntry> range_entry::RangeSetEntry for T {
+    #[inline(always)]
+    fn min_value(_: Global) -> Result<Self, AllocError> {
+        Ok(<T as RangeSetEntry>::min_value())
+    }
+
+    #[inline(always)]
+    fn is_min_value(&self) -> bool {
+        <T as RangeSetEntry>::is_min_value(self)
+    }
+}

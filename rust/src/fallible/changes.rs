@@ -1,0 +1,241 @@
+//! What changes a set. All memory is asked for before anything changes.
+
+use crate::array::{Array, List};
+use crate::fallible::{AllocError, EntryClone, RangeSet};
+use crate::generated::range_collections::EntryCopier;
+use crate::generated::range_merge::{DiffOp, IntersectionOp, UnionOp, XorOp};
+use crate::range::RangeSetRange;
+use crate::range_set;
+use crate::view::RangeSetRef;
+use core::ops::Range;
+
+impl<T: Ord, A: Array<Item = T>> RangeSet<A> {
+    /// Adds the values of a range. An empty or a reversed range changes nothing.
+    ///
+    /// # Errors
+    ///
+    /// If memory is refused, which is asked for only where the set grows by two boundaries and has no room for them.
+    ///
+    /// # Examples
+    ///
+    /// ```
+    /// use range_sets::fallible::{AllocError, RangeSet2};
+    ///
+    /// let mut busy = RangeSet2::try_from(11..12)?;
+    /// busy.insert(12..14)?;
+    /// assert_eq!(busy.boundaries(), [11, 14]);
+    /// # Ok::<(), AllocError>(())
+    /// ```
+    pub fn insert(&mut self, range: Range<T>) -> Result<(), AllocError> {
+        self.0.list_mut().set_range(range, true)
+    }
+
+    /// Takes the values of a range out. An empty or a reversed range changes nothing.
+    ///
+    /// # Errors
+    ///
+    /// If memory is refused, which is asked for only where the set grows by two boundaries and has no room for them.
+    ///
+    /// # Examples
+    ///
+    /// ```
+    /// use range_sets::fallible::{AllocError, RangeSet2};
+    ///
+    /// let mut open = RangeSet2::try_from(9..17)?;
+    /// open.remove(12..13)?;
+    /// assert_eq!(open.boundaries(), [9, 12, 13, 17]);
+    /// # Ok::<(), AllocError>(())
+    /// ```
+    pub fn remove(&mut self, range: Range<T>) -> Result<(), AllocError> {
+        self.0.list_mut().set_range(range, false)
+    }
+
+    /// Adds the values of the ranges, which stand in any order.
+    ///
+    /// # Errors
+    ///
+    /// If memory is refused. None of the ranges is then added.
+    ///
+    /// # Examples
+    ///
+    /// ```
+    /// use range_sets::fallible::{AllocError, RangeSet2};
+    ///
+    /// let mut busy = RangeSet2::try_from(11..12)?;
+    /// busy.extend([15..18, 12..13])?;
+    /// assert_eq!(busy.boundaries(), [11, 13, 15, 18]);
+    /// # Ok::<(), AllocError>(())
+    /// ```
+    pub fn extend<R>(&mut self, ranges: impl IntoIterator<Item = R>) -> Result<(), AllocError>
+    where
+        R: Into<RangeSetRange<T>>,
+    {
+        self.bitor_assign(Self::from_ranges(ranges)?)
+            .map_err(|(refused, _)| refused)
+    }
+}
+
+macro_rules! with_views {
+    ($($(#[$doc:meta])* $call:ident = $op:ident;)*) => {
+        impl<T: EntryClone, A: Array<Item = T>> RangeSet<A> {$(
+            $(#[$doc])*
+            pub fn $call(&mut self, that: &RangeSetRef<T>) -> Result<(), AllocError> {
+                self.0.list_mut().merge_ref(that.boundaries(), &EntryCopier, &$op)
+            }
+        )*}
+    };
+}
+
+with_views! {
+    /// Adds the members of `that`.
+    ///
+    /// # Errors
+    ///
+    /// If memory or a copy of a boundary is refused. The set is then as it was.
+    ///
+    /// # Examples
+    ///
+    /// ```
+    /// use range_sets::fallible::{AllocError, RangeSet2};
+    /// use range_sets::RangeSetRef;
+    ///
+    /// let mut set = RangeSet2::try_from(0..10)?;
+    /// set.union_with(RangeSetRef::single(&20))?;
+    /// assert_eq!(set.boundaries(), [0, 10, 20]);
+    /// # Ok::<(), AllocError>(())
+    /// ```
+    union_with = UnionOp;
+    /// Keeps the members that are members of `that` too.
+    ///
+    /// # Errors
+    ///
+    /// If memory or a copy of a boundary is refused. The set is then as it was.
+    ///
+    /// # Examples
+    ///
+    /// ```
+    /// use range_sets::fallible::{AllocError, RangeSet2};
+    /// use range_sets::RangeSetRef;
+    ///
+    /// let mut set = RangeSet2::try_from(0..10)?;
+    /// set.intersection_with(RangeSetRef::single(&5))?;
+    /// assert_eq!(set.boundaries(), [5, 10]);
+    /// # Ok::<(), AllocError>(())
+    /// ```
+    intersection_with = IntersectionOp;
+    /// Takes the members of `that` out.
+    ///
+    /// # Errors
+    ///
+    /// If memory or a copy of a boundary is refused. The set is then as it was.
+    ///
+    /// # Examples
+    ///
+    /// ```
+    /// use range_sets::fallible::{AllocError, RangeSet2};
+    /// use range_sets::RangeSetRef;
+    ///
+    /// let mut set = RangeSet2::try_from(0..10)?;
+    /// set.difference_with(RangeSetRef::single(&5))?;
+    /// assert_eq!(set.boundaries(), [0, 5]);
+    /// # Ok::<(), AllocError>(())
+    /// ```
+    difference_with = DiffOp;
+    /// Takes the members of `that` out and adds those that weren't in.
+    ///
+    /// # Errors
+    ///
+    /// If memory or a copy of a boundary is refused. The set is then as it was.
+    ///
+    /// # Examples
+    ///
+    /// ```
+    /// use range_sets::fallible::{AllocError, RangeSet2};
+    /// use range_sets::RangeSetRef;
+    ///
+    /// let mut set = RangeSet2::try_from(0..10)?;
+    /// set.symmetric_difference_with(RangeSetRef::single(&5))?;
+    /// assert_eq!(set.boundaries(), [0, 5, 10]);
+    /// # Ok::<(), AllocError>(())
+    /// ```
+    symmetric_difference_with = XorOp;
+}
+
+macro_rules! with_sets {
+    ($($(#[$doc:meta])* $call:ident = $op:ident;)*) => {
+        impl<T: Ord, A: Array<Item = T>> RangeSet<A> {$(
+            $(#[$doc])*
+            pub fn $call(&mut self, that: Self) -> Result<(), (AllocError, Self)> {
+                let merged = self.0.list_mut().merge_owned(that.0.into_list(), &$op);
+                merged.map_err(|(refused, list)| (refused, RangeSet(range_set::RangeSet::of_list(list))))
+            }
+        )*}
+    };
+}
+
+with_sets! {
+    /// Adds the members of an owned set, as `|=` does. It moves its boundaries and copies none.
+    ///
+    /// # Errors
+    ///
+    /// If memory is refused. The set is then as it was, and the other one comes back as it was.
+    ///
+    /// # Examples
+    ///
+    /// ```
+    /// use range_sets::fallible::RangeSet2;
+    ///
+    /// let mut set = RangeSet2::try_from(0..10).unwrap();
+    /// set.bitor_assign(RangeSet2::try_from(20..).unwrap()).unwrap();
+    /// assert_eq!(set.boundaries(), [0, 10, 20]);
+    /// ```
+    bitor_assign = UnionOp;
+    /// Keeps the members that are members of an owned set too, as `&=` does.
+    ///
+    /// # Errors
+    ///
+    /// If memory is refused. The set is then as it was, and the other one comes back as it was.
+    ///
+    /// # Examples
+    ///
+    /// ```
+    /// use range_sets::fallible::RangeSet2;
+    ///
+    /// let mut set = RangeSet2::try_from(0..10).unwrap();
+    /// set.bitand_assign(RangeSet2::try_from(5..).unwrap()).unwrap();
+    /// assert_eq!(set.boundaries(), [5, 10]);
+    /// ```
+    bitand_assign = IntersectionOp;
+    /// Takes the members of an owned set out and adds those that weren't in, as `^=` does.
+    ///
+    /// # Errors
+    ///
+    /// If memory is refused. The set is then as it was, and the other one comes back as it was.
+    ///
+    /// # Examples
+    ///
+    /// ```
+    /// use range_sets::fallible::RangeSet2;
+    ///
+    /// let mut set = RangeSet2::try_from(0..10).unwrap();
+    /// set.bitxor_assign(RangeSet2::try_from(5..).unwrap()).unwrap();
+    /// assert_eq!(set.boundaries(), [0, 5, 10]);
+    /// ```
+    bitxor_assign = XorOp;
+    /// Takes the members of an owned set out, as `-=` does.
+    ///
+    /// # Errors
+    ///
+    /// If memory is refused. The set is then as it was, and the other one comes back as it was.
+    ///
+    /// # Examples
+    ///
+    /// ```
+    /// use range_sets::fallible::RangeSet2;
+    ///
+    /// let mut set = RangeSet2::try_from(0..10).unwrap();
+    /// set.sub_assign(RangeSet2::try_from(5..).unwrap()).unwrap();
+    /// assert_eq!(set.boundaries(), [0, 5]);
+    /// ```
+    sub_assign = DiffOp;
+}

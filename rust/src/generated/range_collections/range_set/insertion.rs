@@ -1,0 +1,76 @@
+// Written by tools/plain-rust from crates/range_collections/src/range_set/insertion.rt. It isn't edited.
+//! One range put into a set or taken out of it, where the set lies.
+//!
+//! The start and the end are searched for, and what lies between gives way to those of the two at which the set changes. The list grows by two boundaries or not at all.
+
+use crate::generated::range_collections::comparisons::Comparisons;
+use crate::generated::range_collections::range_set::splicing::set_range;
+use crate::generated::range_collections::range_set::RangeSet;
+use crate::support::AllocError;
+use core::ops::Range;
+
+impl<T: Ord, const N: usize> RangeSet<T, N> {
+    /// Adds the elements from the range's start up to its end, which is out. A range whose start isn't below its end changes nothing. Of two boundaries that are equal, this set's own stays.
+    ///
+    /// It asks for memory only where the set grows by two boundaries and has no room for two more, and before it changes anything. Where it is refused, the set is as it was and the range is dropped.
+    ///
+    /// # Contract
+    ///
+    /// ```text
+    /// ensures changed: IsChangedByRange T.cmp union_table N self.old (range_items T.cmp
+    ///     range.start range.end) self.new result
+    /// ```
+    pub fn insert(&mut self, range: Range<T>) -> Result<(), AllocError> {
+        self.insert_counted(range, &mut Comparisons::new())
+    }
+
+    /// The same, with its comparisons counted: one of the start with the end, and for each of the two at most as many as the number of boundaries has binary digits.
+    ///
+    /// # Contract
+    ///
+    /// ```text
+    /// requires made: count.old < 2 ^ 64
+    /// ensures changed: IsChangedByRange T.cmp union_table N self.old (range_items T.cmp
+    ///     range.start range.end) self.new result
+    /// ensures comparisons: AddsAtMost count.old count.new (2 * digits (length self.old) + 1)
+    /// ```
+    pub(crate) fn insert_counted(
+        &mut self,
+        range: Range<T>,
+        count: &mut Comparisons,
+    ) -> Result<(), AllocError> {
+        set_range(&mut self.list, range, true, count)
+    }
+
+    /// Takes out the elements from the range's start up to its end, which is out. A range whose start isn't below its end changes nothing. Of two boundaries that are equal, this set's own stays.
+    ///
+    /// It asks for memory only where the set grows by two boundaries and has no room for two more, and before it changes anything. Where it is refused, the set is as it was and the range is dropped.
+    ///
+    /// # Contract
+    ///
+    /// ```text
+    /// ensures changed: IsChangedByRange T.cmp difference_table N self.old (range_items T.cmp
+    ///     range.start range.end) self.new result
+    /// ```
+    pub fn remove(&mut self, range: Range<T>) -> Result<(), AllocError> {
+        self.remove_counted(range, &mut Comparisons::new())
+    }
+
+    /// The same, with its comparisons counted: one of the start with the end, and for each of the two at most as many as the number of boundaries has binary digits.
+    ///
+    /// # Contract
+    ///
+    /// ```text
+    /// requires made: count.old < 2 ^ 64
+    /// ensures changed: IsChangedByRange T.cmp difference_table N self.old (range_items T.cmp
+    ///     range.start range.end) self.new result
+    /// ensures comparisons: AddsAtMost count.old count.new (2 * digits (length self.old) + 1)
+    /// ```
+    pub(crate) fn remove_counted(
+        &mut self,
+        range: Range<T>,
+        count: &mut Comparisons,
+    ) -> Result<(), AllocError> {
+        set_range(&mut self.list, range, false, count)
+    }
+}

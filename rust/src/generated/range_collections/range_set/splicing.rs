@@ -1,0 +1,108 @@
+// Written by tools/plain-rust from crates/range_collections/src/range_set/splicing.rt. It isn't edited.
+//! One range set in a list of boundaries: the list is cut around the start and around the end, and what lies between the cuts gives way to those of the two that are put.
+
+use crate::generated::range_collections::comparisons::Comparisons;
+use crate::generated::range_merge::{search, Compare};
+use crate::support::{AllocError, SmallVec};
+use core::ops::Range;
+
+// Leaves in the list the boundaries of the same members, but that the elements of the range are members where `inside` is true, and else no members. It asks for memory only where the list grows by two and has no room for two more, and before it changes anything.
+pub(crate) fn set_range<T: Ord, const N: usize>(
+    list: &mut SmallVec<T, N>,
+    range: Range<T>,
+    inside: bool,
+    count: &mut Comparisons,
+) -> Result<(), AllocError> {
+    let Range { start, end } = range;
+    if !count.compare(&start, &end).is_lt() {
+        return Ok(());
+    }
+    let (from, start) = cut_at(list.as_slice(), start, inside, count);
+    let (to, end) = cut_at(list.as_slice(), end, inside, count);
+    splice(list, from, to, start, end)
+}
+
+// Where the items are cut around an element, so that an odd number stands before exactly if `inside`, and the element where it has to be put there for that. An item that is equal to it stands before the cut or behind it, as the number asks.
+#[inline]
+fn cut_at<T: Ord>(items: &[T], at: T, inside: bool, count: &mut Comparisons) -> (usize, Option<T>) {
+    match search(items, &at, count) {
+        Ok(i) if is_odd(i) == inside => (i, None),
+        Ok(i) => (i + 1, None),
+        Err(i) if is_odd(i) == inside => (i, None),
+        Err(i) => (i, Some(at)),
+    }
+}
+
+#[inline(always)]
+fn is_odd(n: usize) -> bool {
+    n % 2 == 1
+}
+
+// Puts the start and the end, where they are given, in the place of the items between `from` and `to`. It asks for memory only where both are put and nothing gives way.
+fn splice<T, const N: usize>(
+    list: &mut SmallVec<T, N>,
+    from: usize,
+    to: usize,
+    start: Option<T>,
+    end: Option<T>,
+) -> Result<(), AllocError> {
+    if from < to {
+        replace_between(list, from, to, start, end);
+        return Ok(());
+    }
+    match (start, end) {
+        (Some(start), Some(end)) => insert_both(list, from, start, end),
+        _ => Ok(()),
+    }
+}
+
+// Replaces the items between `from` and `to` by at most as many.
+fn replace_between<T, const N: usize>(
+    list: &mut SmallVec<T, N>,
+    from: usize,
+    to: usize,
+    start: Option<T>,
+    end: Option<T>,
+) {
+    let behind = overwrite_both(list.as_mut_slice(), from, start, end);
+    list.drain(behind..to);
+}
+
+// Puts the start and the end, where they are given, in the place of as many items from index `from` on. Answers the index behind them.
+#[inline(always)]
+fn overwrite_both<T>(items: &mut [T], from: usize, start: Option<T>, end: Option<T>) -> usize {
+    let behind = overwrite(items, from, start);
+    overwrite(items, behind, end)
+}
+
+// Puts the item, if there is one, in the place of the one at index `at`. Answers the index behind it.
+#[inline(always)]
+fn overwrite<T>(items: &mut [T], at: usize, item: Option<T>) -> usize {
+    match item {
+        Some(item) => {
+            items[at] = item;
+            at + 1
+        }
+        None => at,
+    }
+}
+
+// Inserts two items, and moves the later ones up once.
+fn insert_both<T, const N: usize>(
+    list: &mut SmallVec<T, N>,
+    at: usize,
+    start: T,
+    end: T,
+) -> Result<(), AllocError> {
+    list.reserve(2)?;
+    list.push_reserved(start);
+    list.push_reserved(end);
+    move_last_two(list.as_mut_slice(), at);
+    Ok(())
+}
+
+// Moves the last two items before those from index `at` on.
+#[inline(always)]
+fn move_last_two<T>(items: &mut [T], at: usize) {
+    items[at..].rotate_right(2);
+}

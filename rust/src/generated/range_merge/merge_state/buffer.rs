@@ -1,0 +1,142 @@
+// Written by tools/plain-rust from crates/range_merge/src/merge_state/buffer.rt. It isn't edited.
+//! A merge that writes what is taken into a borrowed slice.
+//!
+//! The count goes on where the slice is full, so that it tells how long a slice has to be. While it is within the slice, the slice begins with what was taken, and behind that it is as it was.
+
+use crate::generated::range_merge::compare::Compare;
+use crate::generated::range_merge::merge_state::output::Output;
+use crate::generated::range_merge::merge_state::over_slices::SliceMergeState;
+use crate::generated::range_merge::merging;
+use crate::generated::range_merge::operations::MergeOperation;
+use crate::support::AllocError;
+
+/// A state that writes the items that are taken into a borrowed slice, and counts them. It never stops the merge, takes no memory and never refuses.
+pub type BufferMergeState<'a, 'o, K> = SliceMergeState<'a, K, Buffer<'o, K>>;
+
+/// There is no room for a list in the slice that was lent for it.
+#[derive(Clone, Copy, Debug, PartialEq, Eq)]
+pub struct NoRoom {
+    /// How long the list is.
+    pub needed: usize,
+}
+
+/// A slice that is filled from its front, and how many items it was given.
+pub struct Buffer<'o, K> {
+    /// It begins with the items that it was given, while it has room for them.
+    pub items: &'o mut [K],
+    /// How many items it was given, also where it had no room for them.
+    pub given: usize,
+}
+
+impl<'a, 'o, K: Copy> BufferMergeState<'a, 'o, K> {
+    /// All items of both slices unread, both sides off, and nothing written. Both lengths together fit a `usize`.
+    ///
+    /// # Contract
+    ///
+    /// ```text
+    /// requires fits: length a.now + length b.now < 2 ^ 64
+    /// ensures left: result.left ≡ a.now
+    /// ensures right: result.right ≡ b.now
+    /// ensures left_on: result.left_on ≡ false
+    /// ensures right_on: result.right_on ≡ false
+    /// ensures items: result.taken.items.now ≡ out.old
+    /// ensures given: result.taken.given ≡ 0
+    /// ensures began: result.began ≡ out.entry.ghost_name
+    /// ensures lent: result.taken.items.ghost_name ≡ out.entry.ghost_name
+    /// ```
+    pub(crate) fn new(a: &'a [K], b: &'a [K], out: &'o mut [K]) -> Self {
+        Self::over(
+            a,
+            b,
+            Buffer {
+                items: out,
+                given: 0,
+            },
+            (),
+        )
+    }
+
+    /// Writes the items at which the connective of `op` changes between two strictly sorted lists into `out`, whose lengths together fit a `usize`.
+    ///
+    /// It answers how many items it wrote; behind them `out` is as it was. An error comes exactly where `out` is shorter than the list, and tells the length that it needs; then nothing is said of what stands in `out`. It takes no memory, and makes at most twice the weight of the two lists in comparisons.
+    ///
+    /// # Contract
+    ///
+    /// ```text
+    /// requires left_ascending: IsAscending C.order a.now
+    /// requires right_ascending: IsAscending C.order b.now
+    /// requires fits: length a.now + length b.now < 2 ^ 64
+    /// requires made: C.count cmp.old < 2 ^ 64
+    /// ensures written: IfOk result (λ n. out.new ≡ taken_items (changes C.order (O.connective
+    ///     op.now) a.now b.now) ++ drop n out.old)
+    /// ensures length: IfOk result (λ n. n ≡ length (changes C.order (O.connective op.now) a.now
+    ///     b.now))
+    /// ensures no_room: IsErr result ↔ (length out.old < length (changes C.order (O.connective
+    ///     op.now) a.now b.now))
+    /// ensures needed: IfErr result (λ refused. refused.needed ≡ length (changes C.order
+    ///     (O.connective op.now) a.now b.now))
+    /// ensures comparisons: AddsAtMost (C.count cmp.old) (C.count cmp.new) (2 * weight C.order
+    ///     a.now b.now)
+    /// ```
+    pub(crate) fn merge<O: MergeOperation, C: Compare<K>>(
+        a: &'a [K],
+        b: &'a [K],
+        out: &mut [K],
+        op: &O,
+        cmp: &mut C,
+    ) -> Result<usize, NoRoom> {
+        let room = out.len();
+        let Buffer { items, given } = BufferMergeState::filled(a, b, out, op, cmp);
+        take_back(items);
+        if given > room {
+            return Err(NoRoom { needed: given });
+        }
+        Ok(given)
+    }
+
+    // The slice that was lent, given the items at which the connective changes.
+    fn filled<O: MergeOperation, C: Compare<K>>(
+        a: &'a [K],
+        b: &'a [K],
+        out: &'o mut [K],
+        op: &O,
+        cmp: &mut C,
+    ) -> Buffer<'o, K> {
+        let mut state = Self::new(a, b, out);
+        let _ = merging::merge(&mut state, op, cmp);
+        state.result()
+    }
+}
+
+// The items that the slice had at first count as taken before those that it is given. It stays the same slice.
+impl<'o, K: Copy> Output<K, ()> for Buffer<'o, K> {
+    #[inline(always)]
+    fn append(&mut self, items: &[K], take: bool, _by: &()) -> Result<bool, AllocError> {
+        if take {
+            put(self.items, self.given, items);
+            self.given += items.len();
+        }
+        Ok(true)
+    }
+}
+
+// Changes nothing. That the slice is used ties it to the one that was lent, whose last items it then tells.
+#[inline(always)]
+fn take_back<K>(items: &mut [K]) {
+    let _lent = items;
+}
+
+// Writes those of the items that have room into the slice, from the index `at` on.
+#[inline(always)]
+fn put<K: Copy>(out: &mut [K], at: usize, items: &[K]) {
+    if at < out.len() {
+        put_front(&mut out[at..], items);
+    }
+}
+
+// Writes those of the items that have room into the slice, from its front.
+#[inline(always)]
+fn put_front<K: Copy>(out: &mut [K], items: &[K]) {
+    let n = out.len().min(items.len());
+    out[..n].copy_from_slice(&items[..n]);
+}

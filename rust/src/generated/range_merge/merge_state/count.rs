@@ -1,0 +1,67 @@
+// Written by tools/plain-rust from crates/range_merge/src/merge_state/count.rt. It isn't edited.
+//! A merge that only counts what is taken.
+
+use crate::generated::range_merge::compare::Compare;
+use crate::generated::range_merge::merge_state::output::Output;
+use crate::generated::range_merge::merge_state::over_slices::SliceMergeState;
+use crate::generated::range_merge::merging;
+use crate::generated::range_merge::operations::MergeOperation;
+use crate::support::AllocError;
+
+/// A state that counts the items that are taken. It never stops the merge, takes no memory and never refuses.
+pub type CountMergeState<'a, K> = SliceMergeState<'a, K, usize>;
+
+impl<'a, K> CountMergeState<'a, K> {
+    /// All items of both slices unread, both sides off, and nothing counted. Both lengths together fit a `usize`.
+    ///
+    /// # Contract
+    ///
+    /// ```text
+    /// requires fits: length a.now + length b.now < 2 ^ 64
+    /// ensures left: result.left ≡ a.now
+    /// ensures right: result.right ≡ b.now
+    /// ensures left_on: result.left_on ≡ false
+    /// ensures right_on: result.right_on ≡ false
+    /// ensures taken: result.taken ≡ 0
+    /// ```
+    pub(crate) fn new(a: &'a [K], b: &'a [K]) -> Self {
+        Self::over(a, b, 0, ())
+    }
+
+    /// At how many items the connective of `op` changes between two strictly sorted lists, whose lengths together fit a `usize`.
+    ///
+    /// It is the length of the list that a merge into a list would give. It takes no memory, and makes at most twice the weight of the two lists in comparisons.
+    ///
+    /// # Contract
+    ///
+    /// ```text
+    /// requires left_ascending: IsAscending C.order a.now
+    /// requires right_ascending: IsAscending C.order b.now
+    /// requires fits: length a.now + length b.now < 2 ^ 64
+    /// requires made: C.count cmp.old < 2 ^ 64
+    /// ensures value: result ≡ length (changes C.order (O.connective op.now) a.now b.now)
+    /// ensures comparisons: AddsAtMost (C.count cmp.old) (C.count cmp.new) (2 * weight C.order
+    ///     a.now b.now)
+    /// ```
+    pub(crate) fn merge<O: MergeOperation, C: Compare<K>>(
+        a: &'a [K],
+        b: &'a [K],
+        op: &O,
+        cmp: &mut C,
+    ) -> usize {
+        let mut state = Self::new(a, b);
+        let _ = merging::merge(&mut state, op, cmp);
+        state.result()
+    }
+}
+
+// How many items were taken. It has to stay a `usize`.
+impl<K> Output<K, ()> for usize {
+    #[inline(always)]
+    fn append(&mut self, items: &[K], take: bool, _by: &()) -> Result<bool, AllocError> {
+        if take {
+            *self += items.len();
+        }
+        Ok(true)
+    }
+}

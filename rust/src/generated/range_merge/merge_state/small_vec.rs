@@ -1,0 +1,139 @@
+// Written by tools/plain-rust from crates/range_merge/src/merge_state/small_vec.rt. It isn't edited.
+//! A merge that copies what is taken into a list.
+
+use crate::generated::range_merge::compare::{Compare, Copier};
+use crate::generated::range_merge::merge_state::output::Output;
+use crate::generated::range_merge::merge_state::over_slices::SliceMergeState;
+use crate::generated::range_merge::merge_state::sink::append_copies;
+use crate::generated::range_merge::merging;
+use crate::generated::range_merge::operations::MergeOperation;
+use crate::support::{AllocError, SmallVec, Vec};
+use core::mem;
+
+/// A state that appends copies of the items that are taken to a list.
+pub type SmallVecMergeState<'a, K, P, const M: usize> =
+    SliceMergeState<'a, K, SmallVec<K, M>, Copying<'a, P>>;
+
+impl<'a, K, P: Copier<K>, const M: usize> SmallVecMergeState<'a, K, P, M> {
+    /// All items of both slices unread, both sides off, and the items of `r` as what was taken so far, from the left.
+    ///
+    /// Copies of what is taken are appended to them. No advance is refused where the items of `r` and those of both slices together are at most `M`, and no copy is refused. It takes no memory.
+    ///
+    /// # Contract
+    ///
+    /// ```text
+    /// ensures left: result.left ≡ a.now
+    /// ensures right: result.right ≡ b.now
+    /// ensures left_on: result.left_on ≡ false
+    /// ensures right_on: result.right_on ≡ false
+    /// ensures items: result.taken.items ≡ r.items
+    /// ensures began: result.began ≡ length r.items
+    /// ensures output: AreKeptThenCopies P.alike result.began (map from_left r.items)
+    ///     result.taken.items
+    /// ensures at_least_inline: M ≤ result.taken.capacity
+    /// ensures infallible: length r.items + length a.now + length b.now ≤ M → All P.is_infallible
+    ///     a.now → All P.is_infallible b.now → HasRoomForAll P.is_infallible result
+    /// ```
+    pub fn new(a: &'a [K], b: &'a [K], r: SmallVec<K, M>, copier: &'a P) -> Self {
+        let began = r.len();
+        Self::over(a, b, r, Copying { copier, began })
+    }
+
+    /// Fills the empty list `r` with copies of the items at which the connective of `op` changes between two strictly sorted lists.
+    ///
+    /// It asks for room for both lengths at once where they are more than a few; where that is refused, and for a few, for each run that is taken; and for what the copies ask (seen by reading). Where both lengths together are at most `M` and no copy is refused, it succeeds. A refusal drops `r`.
+    /// It makes at most twice the weight of the two lists in comparisons, also where it is refused.
+    ///
+    /// # Contract
+    ///
+    /// ```text
+    /// requires empty: r.items ≡ []
+    /// requires left_ascending: IsAscending C.order a.now
+    /// requires right_ascending: IsAscending C.order b.now
+    /// requires made: C.count cmp.old < 2 ^ 64
+    /// ensures copied: IfOk result (λ list. AreCopies P.alike (changes C.order (O.connective
+    ///     op.now) a.now b.now) list.items)
+    /// ensures succeeds: length a.now + length b.now ≤ M → All P.is_infallible a.now → All
+    ///     P.is_infallible b.now → IsOk result
+    /// ensures comparisons: AddsAtMost (C.count cmp.old) (C.count cmp.new) (2 * weight C.order
+    ///     a.now b.now)
+    /// ```
+    pub(crate) fn merge<O: MergeOperation, C: Compare<K>>(
+        r: SmallVec<K, M>,
+        a: &'a [K],
+        b: &'a [K],
+        copier: &'a P,
+        op: &O,
+        cmp: &mut C,
+    ) -> Result<SmallVec<K, M>, AllocError> {
+        if fit_together(a.len(), b.len(), FEW.max(M)) {
+            Self::merge_few(r, a, b, copier, op, cmp)
+        } else {
+            Self::merge_many(r, a, b, copier, op, cmp)
+        }
+    }
+
+    // Appends to the list where it lies, which is inline as far as there is room.
+    fn merge_few<O: MergeOperation, C: Compare<K>>(
+        mut r: SmallVec<K, M>,
+        a: &'a [K],
+        b: &'a [K],
+        copier: &'a P,
+        op: &O,
+        cmp: &mut C,
+    ) -> Result<SmallVec<K, M>, AllocError> {
+        let alloc = *r.allocator();
+        let mut state = SliceMergeState::over(a, b, &mut r, Copying { copier, began: 0 });
+        let _went_through = merging::merge(&mut state, op, cmp)?;
+        Ok(mem::replace(state.result(), SmallVec::new(alloc)))
+    }
+
+    // Appends to a `Vec`, whose end is found without a look at where it lies. What fits inline comes to lie there at the end.
+    fn merge_many<O: MergeOperation, C: Compare<K>>(
+        r: SmallVec<K, M>,
+        a: &'a [K],
+        b: &'a [K],
+        copier: &'a P,
+        op: &O,
+        cmp: &mut C,
+    ) -> Result<SmallVec<K, M>, AllocError> {
+        let alloc = *r.allocator();
+        let mut list = r.into_vec()?;
+        // Where there is no room for both at once, the list grows run by run.
+        let _asked = list.reserve(a.len().saturating_add(b.len()));
+        let mut state = SliceMergeState::over(a, b, &mut list, Copying { copier, began: 0 });
+        let _went_through = merging::merge(&mut state, op, cmp)?;
+        Ok(inline_if_few(mem::replace(state.result(), Vec::new(alloc))))
+    }
+}
+
+// Of so few items together, most merges take no more than fit inline or in a list that grows once.
+const FEW: usize = 8;
+
+// The items inline if they fit there, and else where they lie.
+fn inline_if_few<K, const M: usize>(items: Vec<K>) -> SmallVec<K, M> {
+    let mut list = SmallVec::from_vec(items);
+    if list.len() <= M {
+        list.shrink_to_fit();
+    }
+    list
+}
+
+// Whether so many items of two lists are together at most `room`.
+fn fit_together(a: usize, b: usize, room: usize) -> bool {
+    a <= room && b <= room - a
+}
+
+/// How a list is appended to: by copies that the copier makes, behind the items that it had at first.
+pub struct Copying<'a, P> {
+    pub copier: &'a P,
+    pub began: usize,
+}
+
+impl<'a, K, P: Copier<K>, const M: usize> Output<K, Copying<'a, P>> for SmallVec<K, M> {
+    #[inline(always)]
+    fn append(&mut self, items: &[K], take: bool, by: &Copying<'a, P>) -> Result<bool, AllocError> {
+        append_copies(self, items, take, by.copier)?;
+        Ok(true)
+    }
+}

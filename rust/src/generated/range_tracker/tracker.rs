@@ -1,0 +1,183 @@
+// Written by tools/plain-rust from crates/range_tracker/src/tracker.rt. It isn't edited.
+//! A tracker of offsets: the strictly sorted list of their boundaries, which never has more of them than a limit.
+//!
+//! A command is first measured, without memory, and refused where it would leave too many boundaries. Then it changes the list where it lies.
+
+use crate::generated::range_collections::{
+    Comparisons, DiffOp, Gaps, Iter, MergeOperation, RangeSet2, RangeSetRef, UnionOp,
+};
+use crate::generated::range_tracker::command::Command;
+use crate::generated::range_tracker::track_error::TrackError;
+use crate::support::{AllocError, Global};
+use core::ops::Range;
+
+/// Which offsets are there. A clause reads it as the strictly sorted list of their boundaries and the limit.
+///
+/// An offset is there where an odd number of boundaries is at or below it. The list never has more boundaries than the limit.
+pub struct Tracker {
+    alloc: Global,
+    set: RangeSet2<u64>,
+    limit: usize,
+}
+
+impl Tracker {
+    /// A tracker without offsets that will have at most `limit` boundaries, which are twice as many as ranges. It takes no memory.
+    ///
+    /// # Contract
+    ///
+    /// ```text
+    /// requires limit ≤ usize.MAX - 2
+    /// ensures boundaries: result.boundaries ≡ []
+    /// ensures limit: result.limit ≡ limit
+    /// ```
+    pub(crate) fn new(alloc: Global, limit: usize) -> Tracker {
+        Tracker {
+            alloc,
+            set: RangeSet2::empty(alloc),
+            limit,
+        }
+    }
+
+    /// The offsets of the range are there from now on. An empty or reversed range changes nothing.
+    ///
+    /// The answer is `TooMany` exactly where the list would have more boundaries than the limit; this is known before memory is asked for. Where the list doesn't grow, and where nothing was there, it isn't `OutOfMemory`. An error leaves the tracker as it was.
+    ///
+    /// # Contract
+    ///
+    /// ```text
+    /// ensures answer: MayAnswer self.old.limit (recorded self.old) (Command.Add range) result
+    /// ensures ok: OnOk result ((n : ℕ) → recorded self.new n ≡ after_command (Command.Add range)
+    ///     (recorded self.old) n)
+    /// ensures unchanged: OnErr result (self.new ≡ self.old)
+    /// ensures limit: self.new.limit ≡ self.old.limit
+    /// ```
+    pub fn record(&mut self, range: Range<u64>) -> Result<(), TrackError> {
+        self.admit(&range, &UnionOp)?;
+        self.set.insert(range)?;
+        Ok(())
+    }
+
+    /// The offsets of the range aren't there from now on. An empty or reversed range changes nothing.
+    ///
+    /// The answer is `TooMany` exactly where the list would have more boundaries than the limit; this is known before memory is asked for. Where the list doesn't grow, and where nothing was there, it isn't `OutOfMemory`. An error leaves the tracker as it was.
+    ///
+    /// # Contract
+    ///
+    /// ```text
+    /// ensures answer: MayAnswer self.old.limit (recorded self.old) (Command.Forget range) result
+    /// ensures ok: OnOk result ((n : ℕ) → recorded self.new n ≡ after_command (Command.Forget
+    ///     range) (recorded self.old) n)
+    /// ensures unchanged: OnErr result (self.new ≡ self.old)
+    /// ensures limit: self.new.limit ≡ self.old.limit
+    /// ```
+    pub fn forget(&mut self, range: Range<u64>) -> Result<(), TrackError> {
+        self.admit(&range, &DiffOp)?;
+        self.set.remove(range)?;
+        Ok(())
+    }
+
+    /// Takes each command in turn, goes on after a refusal, and puts each answer at its command's place.
+    ///
+    /// # Contract
+    ///
+    /// ```text
+    /// requires length commands.now ≡ length replies.old
+    /// ensures replies: AreReplies self.old.limit (recorded self.old) commands.now replies.new
+    /// ensures offsets: (n : ℕ) → recorded self.new n ≡ after_replies commands.now replies.new
+    ///     (recorded self.old) n
+    /// ensures limit: self.new.limit ≡ self.old.limit
+    /// ```
+    pub(crate) fn run(&mut self, commands: &[Command], replies: &mut [Result<(), TrackError>]) {
+        for (i, command) in commands.iter().enumerate() {
+            replies[i] = self.apply(command);
+        }
+    }
+
+    /// Whether every offset of the range is there. It is so for an empty or reversed range.
+    ///
+    /// # Contract
+    ///
+    /// ```text
+    /// ensures IsTrue result ↔ ((n : ℕ) → is_within range n ≡ true → recorded self.now n ≡ true)
+    /// ```
+    pub fn has(&self, range: Range<u64>) -> bool {
+        let ends = [range.start, range.end];
+        offsets_between(&ends).is_subset(self.set.as_ref())
+    }
+
+    /// The offsets below `len` that aren't there. The one error is want of memory, and it doesn't come where nothing is there.
+    ///
+    /// # Contract
+    ///
+    /// ```text
+    /// ensures missing: IfOk result (λ set. IsListOf set (λ n. nat_lt n len && not (recorded
+    ///     self.now n)))
+    /// ensures succeeds: HasBoundaries (recorded self.now) 0 → IsOk result
+    /// ```
+    pub fn missing(&self, len: u64) -> Result<RangeSet2<u64>, AllocError> {
+        let ends = [0, len];
+        offsets_between(&ends).difference(self.alloc, self.set.as_ref())
+    }
+
+    /// The ranges of the offsets that are there, from the lowest on, each with its end.
+    ///
+    /// # Contract
+    ///
+    /// ```text
+    /// ensures boundaries: result ≡ self.now.boundaries
+    /// ensures sorted: IsAscending nat_cmp self.now.boundaries
+    /// ensures ended: is_odd (length self.now.boundaries) ≡ false
+    /// ```
+    pub fn ranges(&self) -> Iter<'_, u64> {
+        self.set.iter()
+    }
+
+    /// How many offsets are there. `None` would stand for a set without an end, which no command makes.
+    ///
+    /// # Contract
+    ///
+    /// ```text
+    /// ensures value: result ≡ covered_of nat_cmp (λ n. n) (2 ^ 64) self.now.boundaries
+    /// ensures ended: IsSome result
+    /// ```
+    pub fn covered(&self) -> Option<u128> {
+        self.set.covered()
+    }
+
+    /// The parts of a range that aren't there, from the lowest on: none is empty, and each ends below the start of the next. It takes no memory.
+    ///
+    /// # Contract
+    ///
+    /// ```text
+    /// ensures Means nat_cmp difference_table result (range_items nat_cmp within.entry.start.now
+    ///     within.entry.end.now) self.now.boundaries
+    /// ```
+    pub fn gaps<'a>(&'a self, within: Range<&'a u64>) -> Gaps<'a, u64> {
+        self.set.gaps(within)
+    }
+
+    // Takes one command.
+    fn apply(&mut self, command: &Command) -> Result<(), TrackError> {
+        match command {
+            Command::Add(range) => self.record(range.start..range.end),
+            Command::Forget(range) => self.forget(range.start..range.end),
+        }
+    }
+
+    // Refuses where the operation with the range would leave more boundaries than the limit. It takes no memory.
+    fn admit<O: MergeOperation>(&self, range: &Range<u64>, op: &O) -> Result<(), TrackError> {
+        let ends = [range.start, range.end];
+        let count = &mut Comparisons::new();
+        let boundaries = self.set.merge_len(offsets_between(&ends), op, count);
+        if boundaries > self.limit {
+            Err(TrackError::TooMany { boundaries })
+        } else {
+            Ok(())
+        }
+    }
+}
+
+// The offsets from the first number up to the second, which is out: none where the first isn't below the second.
+fn offsets_between(ends: &[u64; 2]) -> RangeSetRef<'_, u64> {
+    RangeSetRef::new(ends).unwrap_or(RangeSetRef::empty())
+}

@@ -1,0 +1,93 @@
+//! Sets as sequences of boundaries, by serde.
+
+use crate::array::{Array, List};
+use crate::fallible;
+use crate::memory::{expect_memory, AllocError};
+use crate::range_set::RangeSet;
+use crate::view::RangeSetRef;
+use core::fmt;
+use core::marker::PhantomData;
+use core::mem::size_of;
+use serde::de::{Deserialize, Deserializer, Error, SeqAccess, Visitor};
+use serde::ser::{Serialize, Serializer};
+
+/// So many bytes are reserved for what a format says that there is. What there really is makes the list grow.
+const TRUSTED: usize = 4096;
+
+/// A sequence of the boundaries.
+impl<T: Serialize> Serialize for RangeSetRef<T> {
+    fn serialize<S: Serializer>(&self, serializer: S) -> Result<S::Ok, S::Error> {
+        serializer.collect_seq(self.boundaries())
+    }
+}
+
+/// A sequence of the boundaries.
+impl<T: Serialize, A: Array<Item = T>> Serialize for RangeSet<A> {
+    fn serialize<S: Serializer>(&self, serializer: S) -> Result<S::Ok, S::Error> {
+        self.view().serialize(serializer)
+    }
+}
+
+/// A sequence of the boundaries.
+impl<T: Serialize, A: Array<Item = T>> Serialize for fallible::RangeSet<A> {
+    fn serialize<S: Serializer>(&self, serializer: S) -> Result<S::Ok, S::Error> {
+        (**self).serialize(serializer)
+    }
+}
+
+/// Reads a sequence of boundaries in any order and with repeats.
+///
+/// # Examples
+///
+/// ```
+/// use range_sets::RangeSet2;
+///
+/// let set: RangeSet2<i64> = serde_json::from_str("[20, 0, 10, 0]")?;
+/// assert_eq!(set.to_string(), "0..10, 20..");
+/// assert_eq!(serde_json::to_string(&set)?, "[0,10,20]");
+///
+/// let error = serde_json::from_str::<RangeSet2<i64>>("[0, x]").unwrap_err();
+/// assert_eq!((error.line(), error.column()), (1, 5));
+/// # Ok::<(), serde_json::Error>(())
+/// ```
+impl<'de, T: Deserialize<'de> + Ord, A: Array<Item = T>> Deserialize<'de> for RangeSet<A> {
+    fn deserialize<D: Deserializer<'de>>(deserializer: D) -> Result<Self, D::Error> {
+        let list = deserializer.deserialize_seq(Boundaries::<A>(PhantomData))?;
+        Ok(Self::of_list(expect_memory::<T, _, _>(list)))
+    }
+}
+
+/// Reads a sequence of boundaries in any order and with repeats. An allocation failure of the set is an error.
+impl<'de, T: Deserialize<'de> + Ord, A: Array<Item = T>> Deserialize<'de>
+    for fallible::RangeSet<A>
+{
+    fn deserialize<D: Deserializer<'de>>(deserializer: D) -> Result<Self, D::Error> {
+        let list = deserializer.deserialize_seq(Boundaries::<A>(PhantomData))?;
+        Ok(RangeSet::of_list(list.map_err(D::Error::custom)?).into())
+    }
+}
+
+/// Reads the list of a set. A refusal of memory is told apart from the format's errors.
+struct Boundaries<A>(PhantomData<A>);
+
+impl<'de, T: Deserialize<'de> + Ord, A: Array<Item = T>> Visitor<'de> for Boundaries<A> {
+    type Value = Result<A::List, AllocError>;
+
+    fn expecting(&self, f: &mut fmt::Formatter<'_>) -> fmt::Result {
+        f.write_str("a sequence")
+    }
+
+    fn visit_seq<S: SeqAccess<'de>>(self, mut items: S) -> Result<Self::Value, S::Error> {
+        let trusted = TRUSTED / size_of::<T>().max(1);
+        let mut list = match A::List::with_capacity(items.size_hint().unwrap_or(0).min(trusted)) {
+            Ok(list) => list,
+            Err(refused) => return Ok(Err(refused)),
+        };
+        while let Some(item) = items.next_element()? {
+            if let Err(refused) = list.push(item) {
+                return Ok(Err(refused));
+            }
+        }
+        Ok(list.sorted())
+    }
+}

@@ -1,0 +1,38 @@
+//! What a call does when it is refused memory: here it ends the process, as std does. The calls of `fallible` don't.
+
+use crate::generated::range_merge::Copier;
+pub(crate) use crate::support::AllocError;
+use crate::support::Vec;
+use alloc::alloc::{handle_alloc_error, Layout};
+
+/// The value of a call on a list of `T`. It ends the process if the call was refused memory.
+#[inline(always)]
+pub(crate) fn expect_memory<T, R, E>(result: Result<R, E>) -> R {
+    match result {
+        Ok(value) => value,
+        Err(_) => out_of_memory::<T>(),
+    }
+}
+
+#[cold]
+#[inline(never)]
+fn out_of_memory<T>() -> ! {
+    handle_alloc_error(Layout::new::<T>())
+}
+
+/// Copies elements by their own `Clone`, which answers no error.
+pub(crate) struct ByClone;
+
+impl<T: Clone> Copier<T> for ByClone {
+    #[inline(always)]
+    fn copy(&self, item: &T) -> Result<T, AllocError> {
+        Ok(item.clone())
+    }
+
+    #[inline(always)]
+    fn append(&self, list: &mut Vec<T>, items: &[T]) -> Result<(), AllocError> {
+        list.reserve(items.len())?;
+        list.as_inner_mut().extend_from_slice(items);
+        Ok(())
+    }
+}

@@ -1,0 +1,102 @@
+//! Many sets joined into one.
+
+use crate::array::{Array, List};
+use crate::generated::range_merge::{Copier, UnionOp};
+use crate::memory::AllocError;
+use crate::range::RangeSetRange;
+use crate::range_set::RangeSet;
+use crate::view::RangeSetRef;
+use alloc::vec::Vec;
+
+/// Sets that wait to be joined: each has more than twice as many boundaries as the next.
+///
+/// So a boundary is moved once for each doubling of the list that it is in. A set that begins where the last one ends
+/// is appended to it, which moves the new boundaries alone: sorted ranges make one list at once.
+pub(crate) struct Joining<A: Array> {
+    waiting: Vec<RangeSet<A>>,
+}
+
+impl<T: Ord, A: Array<Item = T>> Joining<A> {
+    /// The union of ranges.
+    pub(crate) fn of_ranges<R>(
+        ranges: impl IntoIterator<Item = R>,
+    ) -> Result<RangeSet<A>, AllocError>
+    where
+        R: Into<RangeSetRange<T>>,
+    {
+        let mut joining = Joining {
+            waiting: Vec::new(),
+        };
+        for range in ranges {
+            joining.add(RangeSet::of_list(A::List::of_range(range.into())?))?;
+        }
+        joining.finish()
+    }
+
+    /// The union of copies of sets.
+    pub(crate) fn of_sets<S, P>(
+        sets: impl IntoIterator<Item = S>,
+        copier: &P,
+    ) -> Result<RangeSet<A>, AllocError>
+    where
+        S: AsRef<RangeSetRef<T>>,
+        P: Copier<T>,
+    {
+        let mut joining = Joining {
+            waiting: Vec::new(),
+        };
+        for set in sets {
+            joining.add(RangeSet::copied(set.as_ref(), copier)?)?;
+        }
+        joining.finish()
+    }
+
+    fn add(&mut self, set: RangeSet<A>) -> Result<(), AllocError> {
+        match self.waiting.last_mut() {
+            Some(last) if ends_before(last, &set) => join(last, set)?,
+            _ => {
+                self.waiting.try_reserve(1).map_err(|_| AllocError)?;
+                self.waiting.push(set);
+            }
+        }
+        while let [.., longer, last] = self.waiting.as_slice() {
+            if longer.boundaries().len() > 2 * last.boundaries().len() {
+                break;
+            }
+            self.join_last()?;
+        }
+        Ok(())
+    }
+
+    /// Joins the last two.
+    fn join_last(&mut self) -> Result<(), AllocError> {
+        match (self.waiting.pop(), self.waiting.last_mut()) {
+            (Some(last), Some(set)) => join(set, last),
+            _ => Ok(()),
+        }
+    }
+
+    fn finish(mut self) -> Result<RangeSet<A>, AllocError> {
+        while self.waiting.len() > 1 {
+            self.join_last()?;
+        }
+        Ok(self.waiting.pop().unwrap_or_default())
+    }
+}
+
+/// Whether the first set has an end, and nothing of the second lies before it.
+fn ends_before<T: Ord, A: Array<Item = T>>(first: &RangeSet<A>, second: &RangeSet<A>) -> bool {
+    match (first.boundaries(), second.boundaries().first()) {
+        ([.., end], Some(start)) => first.boundaries().len() % 2 == 0 && end <= start,
+        _ => true,
+    }
+}
+
+fn join<T: Ord, A: Array<Item = T>>(
+    set: &mut RangeSet<A>,
+    that: RangeSet<A>,
+) -> Result<(), AllocError> {
+    set.list_mut()
+        .merge_owned(that.into_list(), &UnionOp)
+        .map_err(|(refused, _)| refused)
+}

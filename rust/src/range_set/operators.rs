@@ -1,0 +1,102 @@
+//! `|`, `&`, `^`, `-` and `!` on sets and on references to sets, and `|=`, `&=`, `^=`, `-=` with a set.
+
+use crate::array::{Array, List};
+use crate::entry::RangeSetEntry;
+use crate::generated::range_merge::{DiffOp, IntersectionOp, UnionOp, XorOp};
+use crate::memory::{expect_memory, ByClone};
+use crate::operation::Connective;
+use crate::range_set::RangeSet;
+use crate::view::RangeSetRef;
+use core::ops::{
+    BitAnd, BitAndAssign, BitOr, BitOrAssign, BitXor, BitXorAssign, Not, Sub, SubAssign,
+};
+
+macro_rules! operators {
+    ($($(#[$doc:meta])* $operator:ident $call:ident = $named:ident;)*) => {$(
+        $(#[$doc])*
+        impl<T: Ord + Clone, A: Array<Item = T>> $operator<RangeSet<A>> for RangeSet<A> {
+            type Output = RangeSet<A>;
+
+            fn $call(self, that: RangeSet<A>) -> RangeSet<A> {
+                self.$named(&that)
+            }
+        }
+
+        impl<T: Ord + Clone, A: Array<Item = T>> $operator<&RangeSet<A>> for RangeSet<A> {
+            type Output = RangeSet<A>;
+
+            fn $call(self, that: &RangeSet<A>) -> RangeSet<A> {
+                self.$named(that)
+            }
+        }
+
+        impl<T: Ord + Clone, A: Array<Item = T>> $operator<RangeSet<A>> for &RangeSet<A> {
+            type Output = RangeSet<A>;
+
+            fn $call(self, that: RangeSet<A>) -> RangeSet<A> {
+                self.$named(&that)
+            }
+        }
+
+        impl<T: Ord + Clone, A: Array<Item = T>> $operator<&RangeSet<A>> for &RangeSet<A> {
+            type Output = RangeSet<A>;
+
+            fn $call(self, that: &RangeSet<A>) -> RangeSet<A> {
+                self.$named(that)
+            }
+        }
+    )*};
+}
+
+operators! {
+    /// The members of one of the two sets, or of both.
+    BitOr bitor = union;
+    /// The members of both.
+    BitAnd bitand = intersection;
+    /// The members of one of the two sets that aren't members of the other.
+    BitXor bitxor = symmetric_difference;
+    /// The members of the left set that aren't members of the right.
+    Sub sub = difference;
+}
+
+macro_rules! assigning_operators {
+    ($($(#[$doc:meta])* $operator:ident $call:ident = $op:ident;)*) => {$(
+        $(#[$doc])*
+        impl<T: Ord, A: Array<Item = T>> $operator for RangeSet<A> {
+            fn $call(&mut self, that: Self) {
+                expect_memory::<T, _, _>(self.list_mut().merge_owned(that.into_list(), &$op));
+            }
+        }
+    )*};
+}
+
+assigning_operators! {
+    /// Adds the members of the right set. It moves its boundaries and clones none.
+    BitOrAssign bitor_assign = UnionOp;
+    /// Keeps the members that are members of the right set too.
+    BitAndAssign bitand_assign = IntersectionOp;
+    /// Takes the members of the right set out and adds those that weren't in.
+    BitXorAssign bitxor_assign = XorOp;
+    /// Takes the members of the right set out.
+    SubAssign sub_assign = DiffOp;
+}
+
+/// The values that are no members.
+impl<T: RangeSetEntry, A: Array<Item = T>> Not for RangeSet<A> {
+    type Output = RangeSet<A>;
+
+    fn not(self) -> RangeSet<A> {
+        RangeSet::of_list(expect_memory::<T, _, _>(self.into_list().negated()))
+    }
+}
+
+/// The values that are no members.
+impl<T: RangeSetEntry + Clone, A: Array<Item = T>> Not for &RangeSet<A> {
+    type Output = RangeSet<A>;
+
+    fn not(self) -> RangeSet<A> {
+        let negated =
+            RangeSet::combined(self, RangeSetRef::over(&[]), &ByClone, Connective::NOT_LEFT);
+        expect_memory::<T, _, _>(negated)
+    }
+}

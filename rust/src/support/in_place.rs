@@ -1,0 +1,76 @@
+//! Merges in place, where the list lies.
+//!
+//! In Rattle a gap in a list is filled with blank items, which ask for a default value. Here nothing lies in a gap, so that any element will do; so the merge runs over lists that are [`Opened`].
+
+use super::opened::Opened;
+use super::{AllocError, SmallVec};
+use crate::generated::range_merge::in_place_memory::{prepared, prepared_copies};
+use crate::generated::range_merge::merge_state::in_place::OwnedRight;
+use crate::generated::range_merge::merge_state::in_place_ref::CopiedRight;
+use crate::generated::range_merge::merge_state::placing::PlacingMergeState;
+use crate::generated::range_merge::merge_state::right_side::RightSide;
+use crate::generated::range_merge::place::turn_round;
+use crate::generated::range_merge::{merge, Compare, Copier, MergeOperation};
+use core::marker::PhantomData;
+
+/// A merge into its own left list, which takes the items of a right list that it owns.
+pub struct InPlaceMergeState<K, const N: usize>(PhantomData<K>);
+
+/// A merge into its own left list, which takes copies of the items of a right list that it borrows.
+pub struct InPlaceMergeStateRef<K, P, const N: usize>(PhantomData<(K, P)>);
+
+impl<K, const N: usize> InPlaceMergeState<K, N> {
+    /// Leaves in `a` the items at which the connective of `op` changes between two strictly sorted lists. Of two equal items it is the one of `a` that stays.
+    ///
+    /// It asks for room in `a` for the items of `b` before it changes anything. Where that is refused, `a` is as it was and `b` comes back.
+    pub fn merge<O: MergeOperation, C: Compare<K>>(
+        a: &mut SmallVec<K, N>,
+        mut b: SmallVec<K, N>,
+        op: &O,
+        cmp: &mut C,
+    ) -> Result<(), (AllocError, SmallVec<K, N>)> {
+        let extra = b.len();
+        if let Err(error) = prepared(a, extra) {
+            return Err((error, b));
+        }
+        turn_round(&mut b);
+        let right = OwnedRight {
+            reversed: Opened::over(&mut b),
+        };
+        merge_opened(a, right, extra, op, cmp);
+        Ok(())
+    }
+}
+
+impl<K, P: Copier<K>, const N: usize> InPlaceMergeStateRef<K, P, N> {
+    /// Leaves in `a` the items at which the connective of `op` changes between two strictly sorted lists: its own, and copies of those of `b`. Of two equal items it is the one of `a` that stays.
+    ///
+    /// It asks for room in `a` for the items of `b`, and for a copy of each item of `b`, before it changes anything. Where one is refused, `a` is as it was.
+    pub fn merge<O: MergeOperation, C: Compare<K>>(
+        a: &mut SmallVec<K, N>,
+        b: &[K],
+        copier: &P,
+        op: &O,
+        cmp: &mut C,
+    ) -> Result<(), AllocError> {
+        let mut copies = prepared_copies(a, b, copier)?;
+        let right = CopiedRight::<K, P, _>::over(b, Opened::over(&mut copies));
+        merge_opened(a, right, b.len(), op, cmp);
+        Ok(())
+    }
+}
+
+/// Merges into a list that has room for `extra` more items, at most so many of which the right side puts.
+#[inline(always)]
+fn merge_opened<K, R: RightSide<K>, O: MergeOperation, C: Compare<K>, const N: usize>(
+    a: &mut SmallVec<K, N>,
+    right: R,
+    extra: usize,
+    op: &O,
+    cmp: &mut C,
+) {
+    let mut state = PlacingMergeState::<K, N, R, _>::over(Opened::over(a), right, extra);
+    // Such a state neither stops nor refuses.
+    let _went_through = merge(&mut state, op, cmp);
+    state.result().close();
+}

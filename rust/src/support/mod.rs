@@ -1,0 +1,25 @@
+//! What the generated code takes from Rattle's library and Rust's hasn't: lists whose growth may be refused, and the words of the allocator.
+//!
+//! Written by hand and not proved.
+
+mod alloc_error;
+mod clones;
+mod error;
+mod in_place;
+mod opened;
+mod since;
+mod small_vec;
+mod sorting;
+#[cfg(test)]
+mod tests;
+mod vec;
+
+pub use alloc_error::{AllocError, AllocFailed, Global};
+pub use error::Error;
+pub use in_place::{InPlaceMergeState, InPlaceMergeStateRef};
+// The sources need now these, now those.
+#[allow(unused_imports)]
+pub use since::{DivUp, IsSortedWith, Log2Down};
+pub use small_vec::SmallVec;
+pub use sorting::SortIn;
+pub use vec::{CollectIn, Vec};

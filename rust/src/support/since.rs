@@ -1,0 +1,45 @@
+//! What Rust's library has since a later version than 1.63.
+
+/// `div_ceil`, since 1.73.
+pub trait DivUp {
+    /// The quotient, rounded up.
+    fn div_up(self, by: Self) -> Self;
+}
+
+impl DivUp for usize {
+    #[inline(always)]
+    fn div_up(self, by: usize) -> usize {
+        self / by + usize::from(self % by != 0)
+    }
+}
+
+/// `ilog2`, since 1.67.
+pub trait Log2Down {
+    /// The logarithm to the base 2, rounded down.
+    ///
+    /// # Panics
+    ///
+    /// At 0.
+    fn log2_down(self) -> u32;
+}
+
+impl Log2Down for usize {
+    #[inline(always)]
+    fn log2_down(self) -> u32 {
+        assert!(self != 0, "0 has no logarithm");
+        usize::BITS - 1 - self.leading_zeros()
+    }
+}
+
+/// `is_sorted_by`, since 1.82.
+pub trait IsSortedWith<T> {
+    /// Whether each item stands to the next as `is_below` says.
+    fn is_sorted_with(&self, is_below: impl FnMut(&T, &T) -> bool) -> bool;
+}
+
+impl<T> IsSortedWith<T> for [T] {
+    #[inline(always)]
+    fn is_sorted_with(&self, mut is_below: impl FnMut(&T, &T) -> bool) -> bool {
+        self.windows(2).all(|pair| is_below(&pair[0], &pair[1]))
+    }
+}

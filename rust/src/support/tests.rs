@@ -1,0 +1,303 @@
+//! Tests of what the generated code stands on: lists that are open for changes, and the stable sort.
+
+extern crate std;
+
+use super::opened::Opened;
+use super::*;
+use crate::generated::range_merge::place::Place;
+use crate::generated::range_merge::{
+    Compare, Connective, Copier, DiffOp, IntersectionOp, MergeOperation, UnionOp, XorOp,
+};
+use alloc::rc::Rc;
+use core::cell::Cell;
+use core::cmp::Ordering;
+
+/// An item that tells how many of its kind are there, and is ordered by its key.
+#[derive(Debug)]
+struct Item {
+    key: u32,
+    side: u8,
+    there: Rc<Cell<isize>>,
+}
+
+impl Item {
+    fn new(key: u32, side: u8, there: &Rc<Cell<isize>>) -> Self {
+        there.set(there.get() + 1);
+        Item {
+            key,
+            side,
+            there: there.clone(),
+        }
+    }
+}
+
+impl Drop for Item {
+    fn drop(&mut self) {
+        self.there.set(self.there.get() - 1);
+    }
+}
+
+/// Compares by the keys, and panics at the comparison with this number.
+struct ByKey {
+    made: u128,
+    panics_at: u128,
+}
+
+impl ByKey {
+    const NEVER: u128 = u128::MAX;
+}
+
+impl Compare<Item> for ByKey {
+    fn compare(&mut self, a: &Item, b: &Item) -> Ordering {
+        self.made += 1;
+        assert!(self.made != self.panics_at, "a comparison panics");
+        a.key.cmp(&b.key)
+    }
+
+    fn made(&self) -> u128 {
+        self.made
+    }
+}
+
+/// Copies an item of the right side.
+struct Copying;
+
+impl Copier<Item> for Copying {
+    fn copy(&self, item: &Item) -> Result<Item, AllocError> {
+        Ok(Item::new(item.key, item.side, &item.there))
+    }
+}
+
+fn list<const N: usize>(bits: u32, side: u8, there: &Rc<Cell<isize>>) -> SmallVec<Item, N> {
+    let mut items = SmallVec::new(Global);
+    for key in (0..32).filter(|key| bits >> key & 1 == 1) {
+        items.reserve(1).unwrap();
+        items.push_reserved(Item::new(key, side, there));
+    }
+    items
+}
+
+/// The keys at which a connective changes, and the side from which each is taken.
+fn changes<O: MergeOperation>(a: u32, b: u32, op: &O) -> alloc::vec::Vec<(u32, u8)> {
+    let (mut left, mut right, mut found) = (false, false, alloc::vec::Vec::new());
+    for key in 0..32 {
+        let (in_left, in_right) = (a >> key & 1 == 1, b >> key & 1 == 1);
+        let takes = match (in_left, in_right) {
+            (true, true) => op.takes_both(left, right),
+            (true, false) => op.takes_a(right),
+            (false, true) => op.takes_b(left),
+            (false, false) => false,
+        };
+        if takes {
+            found.push((key, if in_left { 0 } else { 1 }));
+        }
+        left ^= in_left;
+        right ^= in_right;
+    }
+    found
+}
+
+/// Bits that are made up, from sparse to dense.
+fn made_up(seed: &mut u64) -> u32 {
+    let mut next = || {
+        *seed = seed
+            .wrapping_mul(6364136223846793005)
+            .wrapping_add(1442695040888963407);
+        (*seed >> 32) as u32
+    };
+    match next() % 4 {
+        0 => next() & next() & next(),
+        1 => next() & next(),
+        2 => next(),
+        _ => next() | next(),
+    }
+}
+
+fn seen<const N: usize>(items: &SmallVec<Item, N>) -> alloc::vec::Vec<(u32, u8)> {
+    items.iter().map(|item| (item.key, item.side)).collect()
+}
+
+/// A merge of two lists in place, with the right one owned and with it borrowed. Every item is dropped once.
+fn merges_in_place<O: MergeOperation, const N: usize>(a: u32, b: u32, op: &O) {
+    let there = Rc::new(Cell::new(0));
+    let mut cmp = ByKey {
+        made: 0,
+        panics_at: ByKey::NEVER,
+    };
+    let expected = changes(a, b, op);
+
+    let mut owned = list::<N>(a, 0, &there);
+    let right = list::<N>(b, 1, &there);
+    assert!(InPlaceMergeState::merge(&mut owned, right, op, &mut cmp).is_ok());
+    assert_eq!(seen(&owned), expected, "{a:b} {b:b}");
+    assert_eq!(there.get(), expected.len() as isize);
+
+    let mut borrowed = list::<N>(a, 0, &there);
+    let right = list::<N>(b, 1, &there);
+    InPlaceMergeStateRef::merge(&mut borrowed, &right, &Copying, op, &mut cmp).unwrap();
+    assert_eq!(seen(&borrowed), expected, "{a:b} {b:b}");
+    drop((owned, borrowed, right));
+    assert_eq!(there.get(), 0);
+}
+
+#[test]
+fn merges_in_place_give_the_changes_and_drop_every_item_once() {
+    let mut seed = 1;
+    let nand = Connective {
+        neither: true,
+        left: true,
+        right: true,
+        both: false,
+    };
+    for _ in 0..2000 {
+        let (a, b) = (made_up(&mut seed), made_up(&mut seed));
+        merges_in_place::<_, 0>(a, b, &UnionOp);
+        merges_in_place::<_, 2>(a, b, &XorOp);
+        merges_in_place::<_, 4>(a, b, &IntersectionOp);
+        merges_in_place::<_, 16>(a, b, &DiffOp);
+        merges_in_place::<_, 64>(a, b, &nand);
+    }
+}
+
+#[cfg(panic = "unwind")]
+#[test]
+fn a_comparison_that_panics_drops_every_item_once() {
+    use std::panic::{catch_unwind, AssertUnwindSafe};
+
+    let mut seed = 2;
+    for _ in 0..300 {
+        let (a, b) = (made_up(&mut seed), made_up(&mut seed));
+        let mut panics_at = 1;
+        loop {
+            let there = Rc::new(Cell::new(0));
+            let mut left = list::<4>(a, 0, &there);
+            let right = list::<4>(b, 1, &there);
+            let mut cmp = ByKey { made: 0, panics_at };
+            let merged = catch_unwind(AssertUnwindSafe(|| {
+                InPlaceMergeState::merge(&mut left, right, &XorOp, &mut cmp).is_ok()
+            }));
+            assert_eq!(there.get(), left.len() as isize);
+            assert!(merged.is_ok() || left.is_empty());
+            drop(left);
+            assert_eq!(there.get(), 0);
+            if merged.is_ok() {
+                break;
+            }
+            panics_at += 1;
+        }
+    }
+}
+
+#[test]
+fn a_list_that_is_not_closed_is_left_empty() {
+    let there = Rc::new(Cell::new(0));
+    let mut items = list::<4>(0b1111_1111, 0, &there);
+    items.reserve(8).unwrap();
+    let mut opened = Opened::over(&mut items);
+    opened.move_down(0, 2, 3);
+    assert_eq!(there.get(), 6);
+    opened.set(3, Item::new(9, 1, &there));
+    opened.set(4, Item::new(9, 1, &there));
+    opened.open_gap(5, 3);
+    opened.set(5, Item::new(9, 1, &there));
+    assert_eq!((opened.at(8).key, there.get()), (5, 9));
+    drop(opened);
+    assert_eq!((items.len(), there.get()), (0, 0));
+}
+
+#[test]
+fn a_list_that_is_forgotten_is_left_empty() {
+    let mut items = SmallVec::<u8, 4>::new(Global);
+    items.push_reserved(1);
+    core::mem::forget(Opened::over(&mut items));
+    assert!(items.is_empty());
+}
+
+#[cfg(panic = "unwind")]
+#[test]
+fn a_gap_is_neither_read_nor_closed() {
+    fn panics(change: impl Fn(Opened<'_, u8, 8>)) -> bool {
+        let mut items = SmallVec::<u8, 8>::new(Global);
+        (0..6).for_each(|n| items.push_reserved(n));
+        let mut opened = Opened::over(&mut items);
+        opened.move_down(0, 2, 2);
+        std::panic::catch_unwind(core::panic::AssertUnwindSafe(|| change(opened))).is_err()
+    }
+
+    assert!(!panics(|opened| assert_eq!(*opened.at(4), 4)));
+    assert!(panics(|opened| assert_eq!(*opened.at(3), 3)));
+    assert!(panics(|opened| assert_eq!(*opened.at(6), 6)));
+    assert!(panics(|opened| opened.close()));
+    assert!(panics(|mut opened| opened.open_gap(4, 1)));
+    assert!(panics(|mut opened| opened.set(3, 1)));
+    assert!(panics(|mut opened| opened.move_down(1, 4, 1)));
+    assert!(panics(|mut opened| opened.move_down(2, 4, 3)));
+    assert!(panics(|mut opened| opened.truncate(1)));
+    assert!(panics(|mut opened| {
+        opened.truncate(2);
+        opened.open_gap(2, 7);
+    }));
+    assert!(!panics(|mut opened| {
+        assert_eq!((opened.pop(), opened.pop()), (5, 4));
+    }));
+    assert!(panics(|mut opened| {
+        opened.pop();
+        opened.pop();
+        opened.pop();
+    }));
+}
+
+#[test]
+fn sorting_is_stable() {
+    let mut seed = 3;
+    for len in (0..60).chain([200, 1000]) {
+        let mut items: alloc::vec::Vec<(u8, usize)> = (0..len)
+            .map(|place| ((made_up(&mut seed) % 16) as u8, place))
+            .collect();
+        let mut expected = items.clone();
+        expected.sort_by_key(|item| item.0);
+        let mut by_first: alloc::vec::Vec<ByFirst> = items.drain(..).map(ByFirst).collect();
+        by_first.sort_in(Global).unwrap();
+        let sorted: alloc::vec::Vec<_> = by_first.iter().map(|item| item.0).collect();
+        assert_eq!(sorted, expected);
+    }
+}
+
+/// A pair that is ordered by its first half.
+#[derive(Clone, Copy, Debug)]
+struct ByFirst((u8, usize));
+
+impl PartialEq for ByFirst {
+    fn eq(&self, other: &Self) -> bool {
+        self.cmp(other).is_eq()
+    }
+}
+
+impl Eq for ByFirst {}
+
+impl PartialOrd for ByFirst {
+    fn partial_cmp(&self, other: &Self) -> Option<Ordering> {
+        Some(self.cmp(other))
+    }
+}
+
+impl Ord for ByFirst {
+    fn cmp(&self, other: &Self) -> Ordering {
+        self.0 .0.cmp(&other.0 .0)
+    }
+}
+
+#[test]
+fn logarithms_are_rounded_down() {
+    assert_eq!(
+        [1usize, 2, 3, 4, 255, 256].map(Log2Down::log2_down),
+        [0, 1, 1, 2, 7, 8]
+    );
+    assert_eq!(usize::MAX.log2_down(), usize::BITS - 1);
+}
+
+#[test]
+fn quotients_are_rounded_up() {
+    assert_eq!([0usize, 1, 2, 3].map(|n| n.div_up(2)), [0, 1, 1, 2]);
+    assert_eq!(usize::MAX.div_up(2), usize::MAX / 2 + 1);
+}

@@ -1,0 +1,107 @@
+//! std's list, with calls that answer where an allocation fails.
+
+use super::{AllocError, Global};
+use core::ops::Deref;
+
+/// A list on the heap.
+#[derive(Debug)]
+pub struct Vec<T>(alloc::vec::Vec<T>);
+
+impl<T> Vec<T> {
+    /// An empty list. It takes no memory.
+    #[inline]
+    pub fn new(_: Global) -> Self {
+        Vec(alloc::vec::Vec::new())
+    }
+
+    /// An empty list with room for `n` items.
+    #[inline]
+    pub fn with_capacity(_: Global, n: usize) -> Result<Self, AllocError> {
+        let mut list = alloc::vec::Vec::new();
+        list.try_reserve_exact(n)?;
+        Ok(Vec(list))
+    }
+
+    /// How many items have room.
+    #[inline(always)]
+    pub fn capacity(&self) -> usize {
+        self.0.capacity()
+    }
+
+    /// The items.
+    #[inline(always)]
+    pub fn as_slice(&self) -> &[T] {
+        &self.0
+    }
+
+    /// Makes room for `n` more items.
+    #[inline]
+    pub fn reserve(&mut self, n: usize) -> Result<(), AllocError> {
+        Ok(self.0.try_reserve(n)?)
+    }
+
+    /// Appends an item where there is room for it.
+    ///
+    /// # Panics
+    ///
+    /// Where there is none.
+    #[inline(always)]
+    pub fn push_reserved(&mut self, value: T) {
+        assert!(self.0.len() < self.0.capacity(), "no room was reserved");
+        self.0.push(value);
+    }
+
+    /// Appends copies of the items.
+    #[inline]
+    pub fn extend_from_slice(&mut self, items: &[T]) -> Result<(), AllocError>
+    where
+        T: Copy,
+    {
+        self.0.try_reserve(items.len())?;
+        self.0.extend_from_slice(items);
+        Ok(())
+    }
+
+    /// The list as std's.
+    #[inline(always)]
+    pub fn into_inner(self) -> alloc::vec::Vec<T> {
+        self.0
+    }
+
+    /// std's list within.
+    #[inline(always)]
+    pub(crate) fn as_inner_mut(&mut self) -> &mut alloc::vec::Vec<T> {
+        &mut self.0
+    }
+}
+
+impl<T> Deref for Vec<T> {
+    type Target = [T];
+
+    #[inline(always)]
+    fn deref(&self) -> &[T] {
+        &self.0
+    }
+}
+
+impl<T> From<alloc::vec::Vec<T>> for Vec<T> {
+    #[inline(always)]
+    fn from(list: alloc::vec::Vec<T>) -> Self {
+        Vec(list)
+    }
+}
+
+/// Collecting into a list, which may be refused.
+pub trait CollectIn: Iterator + Sized {
+    /// The items in a list.
+    fn collect_in(self, alloc: Global) -> Result<Vec<Self::Item>, AllocError> {
+        let mut list = Vec::new(alloc);
+        for item in self {
+            list.reserve(1)?;
+            list.push_reserved(item);
+        }
+        Ok(list)
+    }
+}
+
+impl<I: Iterator> CollectIn for I {}

@@ -1,0 +1,162 @@
+//! The ranges of a set, and what of it lies before, within or after something.
+
+use crate::iter::{Gaps, Iter, RangesWithin};
+use crate::range::RangeSetRange;
+use crate::view::RangeSetRef;
+use core::ops::Range;
+
+impl<T> RangeSetRef<T> {
+    /// Returns an iterator over the ranges, from the lowest on.
+    ///
+    /// # Examples
+    ///
+    /// ```
+    /// use range_sets::RangeSetRef;
+    ///
+    /// let set = RangeSetRef::new(&[0, 10, 20]).unwrap();
+    /// let ranges: Vec<_> = set.iter().map(|range| range.cloned()).collect();
+    /// assert_eq!(ranges, [(0..10).into(), (20..).into()]);
+    /// ```
+    pub fn iter(&self) -> Iter<'_, T> {
+        Iter::new(self.boundaries())
+    }
+
+    /// Returns how many ranges there are.
+    ///
+    /// # Examples
+    ///
+    /// ```
+    /// use range_sets::RangeSetRef;
+    ///
+    /// assert_eq!(RangeSetRef::new(&[0, 10, 20]).unwrap().ranges_len(), 2);
+    /// ```
+    pub fn ranges_len(&self) -> usize {
+        self.iter().len()
+    }
+}
+
+impl<T: Ord> RangeSetRef<T> {
+    /// Splits the set at a value: the left part has the same members below it, the right part the same from it on.
+    ///
+    /// Both are the shortest such slices of this set's boundaries. The left part may have members from `at` on, and the
+    /// right part below it. It makes *O*(log *n*) comparisons and copies nothing.
+    ///
+    /// # Examples
+    ///
+    /// ```
+    /// use range_sets::RangeSetRef;
+    ///
+    /// let set = RangeSetRef::new(&[0, 2, 4, 8]).unwrap();
+    /// let (left, right) = set.split(6);
+    /// assert_eq!(left.boundaries(), [0, 2, 4]);
+    /// assert_eq!(right.boundaries(), [4, 8]);
+    /// ```
+    pub fn split(&self, at: T) -> (&Self, &Self) {
+        let (left, right) = self.proved().split(at);
+        (Self::of_proved(left), Self::of_proved(right))
+    }
+
+    /// Returns the range that has `value`, or `None` if it is no member.
+    ///
+    /// It makes *O*(log *n*) comparisons.
+    ///
+    /// # Examples
+    ///
+    /// ```
+    /// use range_sets::RangeSetRef;
+    ///
+    /// let set = RangeSetRef::new(&[0, 10, 20]).unwrap();
+    /// assert_eq!(set.range_at(&7), Some((&0..&10).into()));
+    /// assert_eq!(set.range_at(&10), None);
+    /// ```
+    pub fn range_at(&self, value: &T) -> Option<RangeSetRange<&T>> {
+        self.proved()
+            .range_at(value)
+            .map(RangeSetRange::from_proved)
+    }
+
+    /// Returns the lowest range, or `None` if the set is empty.
+    ///
+    /// # Examples
+    ///
+    /// ```
+    /// use range_sets::RangeSetRef;
+    ///
+    /// let set = RangeSetRef::new(&[0, 10, 20]).unwrap();
+    /// assert_eq!(set.first(), Some((&0..&10).into()));
+    /// ```
+    pub fn first(&self) -> Option<RangeSetRange<&T>> {
+        self.proved().first().map(RangeSetRange::from_proved)
+    }
+
+    /// Returns the highest range, or `None` if the set is empty.
+    ///
+    /// # Examples
+    ///
+    /// ```
+    /// use range_sets::RangeSetRef;
+    ///
+    /// let set = RangeSetRef::new(&[0, 10, 20]).unwrap();
+    /// assert_eq!(set.last(), Some((&20..).into()));
+    /// ```
+    pub fn last(&self) -> Option<RangeSetRange<&T>> {
+        self.proved().last().map(RangeSetRange::from_proved)
+    }
+
+    /// Returns the range from the start of the lowest range to the end of the highest, or `None` if the set is empty.
+    ///
+    /// # Examples
+    ///
+    /// ```
+    /// use range_sets::RangeSetRef;
+    ///
+    /// let set = RangeSetRef::new(&[9, 13, 15, 20]).unwrap();
+    /// assert_eq!(set.span(), Some((&9..&20).into()));
+    /// ```
+    pub fn span(&self) -> Option<RangeSetRange<&T>> {
+        self.proved().span().map(RangeSetRange::from_proved)
+    }
+
+    /// Returns an iterator over the parts of a range that aren't in the set, from the lowest on.
+    ///
+    /// None of them is empty. It makes *O*(log *n*) comparisons, and none for a step.
+    ///
+    /// # Examples
+    ///
+    /// ```
+    /// use range_sets::RangeSetRef;
+    ///
+    /// let busy = RangeSetRef::new(&[9, 11, 12, 15]).unwrap();
+    /// let free: Vec<_> = busy.gaps(&8..&18).collect();
+    /// assert_eq!(free, [&8..&9, &11..&12, &15..&18]);
+    /// ```
+    pub fn gaps<'a>(&'a self, within: Range<&'a T>) -> Gaps<'a, T> {
+        self.proved().gaps(within)
+    }
+
+    /// Returns an iterator over the parts of a range that are in the set, from the lowest on.
+    ///
+    /// None of them is empty. It makes *O*(log *n*) comparisons, and none for a step.
+    ///
+    /// # Examples
+    ///
+    /// ```
+    /// use range_sets::RangeSetRef;
+    ///
+    /// let busy = RangeSetRef::new(&[9, 11, 12, 15]).unwrap();
+    /// let parts: Vec<_> = busy.ranges_within(&10..&13).collect();
+    /// assert_eq!(parts, [&10..&11, &12..&13]);
+    /// ```
+    pub fn ranges_within<'a>(&'a self, within: Range<&'a T>) -> RangesWithin<'a, T> {
+        self.proved().ranges_within(within)
+    }
+}
+
+impl<'a, T> IntoIterator for &'a RangeSetRef<T> {
+    type Item = RangeSetRange<&'a T>;
+    type IntoIter = Iter<'a, T>;
+
+    fn into_iter(self) -> Iter<'a, T> {
+        self.iter()
+    }
+}

@@ -1,0 +1,291 @@
+//! What is asked of one set, or of two. Nothing here takes memory.
+
+use crate::entry::RangeSetEntry;
+use crate::generated::range_collections::{Comparisons, Countable, Unsigned};
+use crate::generated::range_merge::NoRoom;
+use crate::operation::Connective;
+use crate::view::RangeSetRef;
+use core::ops::Range;
+
+impl<T> RangeSetRef<T> {
+    /// Returns `true` if the set has no member.
+    ///
+    /// # Examples
+    ///
+    /// ```
+    /// use range_sets::RangeSetRef;
+    ///
+    /// assert!(RangeSetRef::<u8>::empty().is_empty());
+    /// ```
+    pub const fn is_empty(&self) -> bool {
+        self.boundaries().is_empty()
+    }
+}
+
+impl<T: Ord> RangeSetRef<T> {
+    /// Returns `true` if `value` is a member.
+    ///
+    /// It makes *O*(log *n*) comparisons, where *n* is the number of boundaries.
+    ///
+    /// # Examples
+    ///
+    /// ```
+    /// use range_sets::RangeSet2;
+    ///
+    /// let set: RangeSet2<i32> = (0..10).into();
+    /// assert!(set.contains(&0));
+    /// assert!(!set.contains(&10));
+    /// ```
+    #[inline]
+    pub fn contains(&self, value: &T) -> bool {
+        self.proved().contains(value)
+    }
+
+    /// Returns `true` if all values are members.
+    ///
+    /// # Examples
+    ///
+    /// ```
+    /// use range_sets::RangeSetRef;
+    ///
+    /// assert!(RangeSetRef::new(&[0u8]).unwrap().is_all());
+    /// assert!(!RangeSetRef::new(&[1u8]).unwrap().is_all());
+    /// ```
+    pub fn is_all(&self) -> bool
+    where
+        T: RangeSetEntry,
+    {
+        self.proved().is_all()
+    }
+
+    /// Returns `true` if the sets have a member in common.
+    ///
+    /// # Examples
+    ///
+    /// ```
+    /// use range_sets::RangeSetRef;
+    ///
+    /// let day = RangeSetRef::new(&[9, 17]).unwrap();
+    /// assert!(day.intersects(RangeSetRef::single(&16)));
+    /// assert!(!day.intersects(RangeSetRef::single(&17)));
+    /// ```
+    pub fn intersects(&self, that: &RangeSetRef<T>) -> bool {
+        self.proved().intersects(that.proved())
+    }
+
+    /// Returns `true` if the sets have no member in common. It stops at the first common one.
+    ///
+    /// # Examples
+    ///
+    /// ```
+    /// use range_sets::RangeSetRef;
+    ///
+    /// let day = RangeSetRef::new(&[9, 17]).unwrap();
+    /// assert!(day.is_disjoint(RangeSetRef::single(&17)));
+    /// ```
+    pub fn is_disjoint(&self, that: &RangeSetRef<T>) -> bool {
+        self.proved().is_disjoint(that.proved())
+    }
+
+    /// Returns `true` if every member of this set is one of `that`. A set is a subset of itself.
+    ///
+    /// # Examples
+    ///
+    /// ```
+    /// use range_sets::RangeSetRef;
+    ///
+    /// let day = RangeSetRef::new(&[9, 17]).unwrap();
+    /// let noon = RangeSetRef::new(&[12, 13]).unwrap();
+    /// assert!(noon.is_subset(day));
+    /// assert!(!day.is_subset(noon));
+    /// ```
+    pub fn is_subset(&self, that: &RangeSetRef<T>) -> bool {
+        self.proved().is_subset(that.proved())
+    }
+
+    /// Returns `true` if every member of `that` is one of this set. A set is a superset of itself.
+    ///
+    /// # Examples
+    ///
+    /// ```
+    /// use range_sets::RangeSetRef;
+    ///
+    /// let day = RangeSetRef::new(&[9, 17]).unwrap();
+    /// let noon = RangeSetRef::new(&[12, 13]).unwrap();
+    /// assert!(day.is_superset(noon));
+    /// ```
+    pub fn is_superset(&self, that: &RangeSetRef<T>) -> bool {
+        self.proved().is_superset(that.proved())
+    }
+
+    /// Returns `true` if every value of the range is a member. It is so for an empty or a reversed range.
+    ///
+    /// It makes *O*(log *n*) comparisons.
+    ///
+    /// # Examples
+    ///
+    /// ```
+    /// use range_sets::RangeSetRef;
+    ///
+    /// let day = RangeSetRef::new(&[9, 17]).unwrap();
+    /// assert!(day.contains_range(10..17));
+    /// assert!(!day.contains_range(16..18));
+    /// ```
+    pub fn contains_range(&self, range: Range<T>) -> bool {
+        self.proved().contains_range(range)
+    }
+
+    /// Returns `true` if some value of the range is a member. An empty or a reversed range has none.
+    ///
+    /// It makes *O*(log *n*) comparisons.
+    ///
+    /// # Examples
+    ///
+    /// ```
+    /// use range_sets::RangeSetRef;
+    ///
+    /// let day = RangeSetRef::new(&[9, 17]).unwrap();
+    /// assert!(day.intersects_range(16..18));
+    /// assert!(!day.intersects_range(17..18));
+    /// ```
+    pub fn intersects_range(&self, range: Range<T>) -> bool {
+        self.proved().intersects_range(range)
+    }
+
+    /// Returns how many values are members, or `None` if the set has no end.
+    ///
+    /// # Examples
+    ///
+    /// ```
+    /// use range_sets::RangeSetRef;
+    ///
+    /// assert_eq!(RangeSetRef::new(&['a', 'd', 'x', 'z']).unwrap().covered(), Some(5));
+    /// assert_eq!(RangeSetRef::single(&7u8).covered(), None);
+    /// ```
+    pub fn covered(&self) -> Option<u128>
+    where
+        T: Countable,
+    {
+        self.proved().covered()
+    }
+
+    /// Returns the least number of the range from which on `len` numbers of it are free, that is, not members.
+    ///
+    /// It is `None` if there is no such stretch. It takes time for each boundary up to the answer.
+    ///
+    /// # Examples
+    ///
+    /// Room for 20 bytes beside those that are in use:
+    ///
+    /// ```
+    /// use range_sets::RangeSetRef;
+    ///
+    /// let used = RangeSetRef::new(&[0u64, 64, 80, 128]).unwrap();
+    /// assert_eq!(used.first_fit(0..4096, 16), Some(64));
+    /// assert_eq!(used.first_fit(0..4096, 20), Some(128));
+    /// assert_eq!(used.first_fit(0..140, 20), None);
+    /// ```
+    pub fn first_fit(&self, within: Range<T>, len: T) -> Option<T>
+    where
+        T: Unsigned,
+    {
+        self.proved().first_fit(within, len)
+    }
+
+    /// Returns `true` if the result of an operation has a member. It stops at the first one.
+    ///
+    /// # Panics
+    ///
+    /// Panics if the operation has members where both sets have none, as [`merge_len`](Self::merge_len) does.
+    ///
+    /// # Examples
+    ///
+    /// ```
+    /// use range_sets::{Connective, RangeSetRef};
+    ///
+    /// let a = RangeSetRef::new(&[0, 10]).unwrap();
+    /// assert!(a.merge_test(RangeSetRef::empty(), Connective::DIFFERENCE));
+    /// assert!(!a.merge_test(a, Connective::SYMMETRIC_DIFFERENCE));
+    /// ```
+    pub fn merge_test(&self, that: &RangeSetRef<T>, op: Connective) -> bool {
+        self.check_merge(that, op);
+        self.proved()
+            .merge_test(that.proved(), &op, &mut Comparisons::new())
+    }
+
+    /// Returns how many boundaries the result of an operation has, without making it.
+    ///
+    /// # Panics
+    ///
+    /// Panics if the operation has members where both sets have none. Those have no list of boundaries without a least
+    /// value: see [`combine`](Self::combine).
+    ///
+    /// # Examples
+    ///
+    /// ```
+    /// use range_sets::{Connective, RangeSetRef};
+    ///
+    /// let a = RangeSetRef::new(&[0, 10]).unwrap();
+    /// let b = RangeSetRef::new(&[5, 15]).unwrap();
+    /// assert_eq!(a.merge_len(b, Connective::UNION), 2);
+    /// assert_eq!(a.merge_len(b, Connective::SYMMETRIC_DIFFERENCE), 4);
+    /// ```
+    pub fn merge_len(&self, that: &RangeSetRef<T>, op: Connective) -> usize {
+        self.check_merge(that, op);
+        self.proved()
+            .merge_len(that.proved(), &op, &mut Comparisons::new())
+    }
+
+    /// Writes the boundaries of an operation's result to the front of `out`, and returns how many there are.
+    ///
+    /// What lies after them in `out` stays.
+    ///
+    /// # Errors
+    ///
+    /// If `out` is too short, the error has the length that is needed, and what `out` then holds isn't specified.
+    ///
+    /// # Panics
+    ///
+    /// Panics if the operation has members where both sets have none, as [`merge_len`](Self::merge_len) does.
+    ///
+    /// # Examples
+    ///
+    /// ```
+    /// use range_sets::{Connective, RangeSetRef};
+    ///
+    /// let day = RangeSetRef::new(&[9, 17]).unwrap();
+    /// let busy = RangeSetRef::new(&[11, 12, 15, 18]).unwrap();
+    /// let mut out = [0; 4];
+    /// assert_eq!(day.merge_into(busy, Connective::DIFFERENCE, &mut out), Ok(4));
+    /// assert_eq!(out, [9, 11, 12, 15]);
+    ///
+    /// let refused = day.merge_into(busy, Connective::DIFFERENCE, &mut out[..2]);
+    /// assert_eq!(refused.unwrap_err().needed, 4);
+    /// ```
+    pub fn merge_into(
+        &self,
+        that: &RangeSetRef<T>,
+        op: Connective,
+        out: &mut [T],
+    ) -> Result<usize, NoRoom>
+    where
+        T: Copy,
+    {
+        self.check_merge(that, op);
+        self.proved()
+            .merge_into(that.proved(), &op, out, &mut Comparisons::new())
+    }
+
+    /// Panics where the generated merges would ask for what these two sets and this operation don't have.
+    fn check_merge(&self, that: &RangeSetRef<T>, op: Connective) {
+        assert!(
+            !op.neither,
+            "the operation has members where both sets have none"
+        );
+        let len = self.boundaries().len().checked_add(that.boundaries().len());
+        assert!(
+            len.is_some(),
+            "both sets together have more boundaries than a usize counts"
+        );
+    }
+}

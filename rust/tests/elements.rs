@@ -1,0 +1,275 @@
+//! Sets of elements that own memory, that have no default, no text or no copy, and whose order is one of their own.
+
+mod common;
+
+use common::{boundaries, pairs, Bitmap, Operation, OPERATIONS};
+use range_sets::{fallible, Array, RangeSet, RangeSet2, RangeSetEntry, RangeSetRef};
+use std::cmp::Ordering;
+use std::num::NonZeroU8;
+
+/// The element that stands for a place.
+type Element<'a, T> = &'a dyn Fn(u8) -> T;
+
+/// The set of a bitmap, where place `i` stands for the element `of(i)`.
+fn set_of<T: Ord>(bits: Bitmap, of: Element<T>) -> RangeSet2<T> {
+    RangeSet::new(boundaries(bits).into_iter().map(of).collect()).expect("they are sorted")
+}
+
+fn is<T: Ord>(set: &RangeSetRef<T>, bits: Bitmap, of: Element<T>) -> bool {
+    let expected: Vec<T> = boundaries(bits).into_iter().map(of).collect();
+    set.boundaries() == expected && (0..64).all(|i| set.contains(&of(i)) == (bits >> i & 1 == 1))
+}
+
+fn assign<T: Ord>(op: Operation, set: &mut RangeSet2<T>, that: RangeSet2<T>) {
+    match op {
+        Operation::Union => *set |= that,
+        Operation::Intersection => *set &= that,
+        Operation::Difference => *set -= that,
+        Operation::SymmetricDifference => *set ^= that,
+    }
+}
+
+/// What asks for an order alone.
+fn moves<T: Ord>(of: Element<T>) {
+    for (a, b) in pairs().step_by(61) {
+        for op in OPERATIONS {
+            let mut set = set_of(a, of);
+            assign(op, &mut set, set_of(b, of));
+            assert!(is(&set, op.of(a, b), of), "{op:?} of {a:x} and {b:x}");
+        }
+        let (start, end) = (
+            b.trailing_zeros().min(40) as u8,
+            b.count_ones().min(63) as u8,
+        );
+        let bits: Bitmap = (start..end).fold(0, |bits, i| bits | 1 << i);
+        let mut set = set_of(a, of);
+        set.insert(of(start)..of(end));
+        assert!(is(&set, a | bits, of));
+        set.remove(of(start)..of(end));
+        assert!(is(&set, a & !bits, of));
+        let unsorted = boundaries(a).into_iter().rev().chain(boundaries(a)).map(of);
+        assert!(is(&RangeSet2::from_unsorted(unsorted), a, of));
+        let ranges = set_of(b, of).into_iter().chain(set_of(a, of));
+        assert!(is(&ranges.collect::<RangeSet2<T>>(), a | b, of));
+    }
+}
+
+/// What also asks for clones.
+fn clones<T: Ord + Clone>(of: Element<T>) {
+    for (a, b) in pairs().step_by(61) {
+        let (left, right) = (set_of(a, of), set_of(b, of));
+        assert!(is(&(&left | &right), a | b, of));
+        assert!(is(&(&left & &right), a & b, of));
+        assert!(is(&(&left - &right), a & !b, of));
+        assert!(is(&(&left ^ &right), a ^ b, of));
+        let mut with = left.clone();
+        with.symmetric_difference_with(&right);
+        assert!(is(&with, a ^ b, of));
+        with.union_with(&right);
+        assert!(is(&with, a | b, of));
+        with.intersection_with(&left);
+        assert!(is(&with, a, of));
+        with.difference_with(&right);
+        assert!(is(&with, a & !b, of));
+        assert!(is(&RangeSet2::union_all([&right, &left]), a | b, of));
+        assert!(is(&left, a, of));
+    }
+    moves(of);
+}
+
+/// What also asks for copies that may be refused.
+fn copies<T: Clone + fallible::EntryClone>(of: Element<T>) {
+    for (a, b) in pairs().step_by(61) {
+        let left = fallible::RangeSet::from(set_of(a, of));
+        let right = fallible::RangeSet::from(set_of(b, of));
+        assert!(is(&left.union::<[T; 2]>(&right).unwrap(), a | b, of));
+        assert!(is(&left.intersection::<[T; 2]>(&right).unwrap(), a & b, of));
+        assert!(is(&left.difference::<[T; 2]>(&right).unwrap(), a & !b, of));
+        assert!(is(
+            &left.symmetric_difference::<[T; 2]>(&right).unwrap(),
+            a ^ b,
+            of
+        ));
+        let mut with = left.try_clone().unwrap();
+        with.symmetric_difference_with(&right).unwrap();
+        assert!(is(&with, a ^ b, of));
+        assert!(is(
+            &fallible::RangeSet2::union_all([&right, &left]).unwrap(),
+            a | b,
+            of
+        ));
+    }
+    clones(of);
+}
+
+/// What also asks for a least value, which is that of place 0.
+fn values<T: RangeSetEntry + Clone>(of: Element<T>) {
+    for (a, _) in pairs().step_by(61) {
+        let set = set_of(a, of);
+        assert!(is(&!&set, !a, of));
+        assert!(is(&!set, !a, of));
+    }
+    assert!(RangeSet2::<T>::all().is_all());
+    assert!(T::min_value() == of(0) && of(0).is_min_value() && !of(1).is_min_value());
+    assert!(is(&RangeSet2::from(..of(9)), 0x1ff, of));
+    assert!(is(&RangeSet2::from(..of(0)), 0, of));
+}
+
+#[test]
+fn owned_and_borrowed_texts() {
+    let text = |i: u8| {
+        if i == 0 {
+            String::new()
+        } else {
+            format!("{i:02}, and some more that lies on the heap")
+        }
+    };
+    copies(&text);
+    values(&text);
+    let texts: Vec<String> = (0..64).map(text).collect();
+    copies(&|i| texts[usize::from(i)].as_str());
+    values(&|i| texts[usize::from(i)].as_str());
+}
+
+#[test]
+fn lists_and_slices() {
+    let list = |i: u8| {
+        if i == 0 {
+            Vec::new()
+        } else {
+            vec![format!("{i:02}")]
+        }
+    };
+    copies(&list);
+    values(&list);
+    let longest = vec![1u16; 64];
+    copies(&|i| &longest[..usize::from(i)]);
+    values(&|i| &longest[..usize::from(i)]);
+}
+
+#[test]
+fn options() {
+    let option = |i: u8| i.checked_sub(1).map(|i| format!("{i:02}"));
+    copies(&option);
+    values(&option);
+}
+
+#[test]
+fn numbers_and_characters() {
+    copies(&|i| NonZeroU8::new(i + 1).unwrap());
+    values(&|i| NonZeroU8::new(i + 1).unwrap());
+    copies(&|i| i128::MIN + i128::from(i));
+    values(&|i| i128::MIN + i128::from(i));
+    copies(&char::from);
+    values(&char::from);
+}
+
+/// A type with nothing but an order, which is that of its numbers turned round.
+struct Bare(Box<u8>);
+
+impl PartialEq for Bare {
+    fn eq(&self, other: &Self) -> bool {
+        self.0 == other.0
+    }
+}
+
+impl Eq for Bare {}
+
+impl PartialOrd for Bare {
+    fn partial_cmp(&self, other: &Self) -> Option<Ordering> {
+        Some(self.cmp(other))
+    }
+}
+
+impl Ord for Bare {
+    fn cmp(&self, other: &Self) -> Ordering {
+        other.0.cmp(&self.0)
+    }
+}
+
+impl RangeSetEntry for Bare {
+    fn min_value() -> Self {
+        Bare(Box::new(u8::MAX))
+    }
+
+    fn is_min_value(&self) -> bool {
+        *self.0 == u8::MAX
+    }
+}
+
+#[test]
+fn a_type_with_an_order_alone() {
+    let of: Element<Bare> = &|i| Bare(Box::new(u8::MAX - i));
+    moves(of);
+    for (a, _) in pairs().step_by(61) {
+        assert!(is(&!set_of(a, of), !a, of));
+    }
+    assert!(is(&RangeSet2::from(..of(9)), 0x1ff, of));
+    assert!(RangeSet2::<Bare>::from(true).is_all());
+}
+
+/// Even numbers first, then the odd ones from the highest down.
+#[derive(Clone, PartialEq, Eq)]
+struct Wild(u8);
+
+impl Wild {
+    fn key(&self) -> (bool, u8) {
+        if self.0 % 2 == 0 {
+            (false, self.0)
+        } else {
+            (true, u8::MAX - self.0)
+        }
+    }
+}
+
+impl PartialOrd for Wild {
+    fn partial_cmp(&self, other: &Self) -> Option<Ordering> {
+        Some(self.cmp(other))
+    }
+}
+
+impl Ord for Wild {
+    fn cmp(&self, other: &Self) -> Ordering {
+        self.key().cmp(&other.key())
+    }
+}
+
+#[test]
+fn a_wild_order() {
+    clones(&|i| {
+        if i < 32 {
+            Wild(2 * i)
+        } else {
+            Wild(63 - 2 * (i - 32))
+        }
+    });
+}
+
+#[test]
+fn elements_without_size() {
+    fn each_form<A: Array<Item = ()>>() {
+        let all = || RangeSet::<A>::from(()..);
+        let (mut set, mut none) = (all(), RangeSet::<A>::empty());
+        set |= all();
+        none |= all();
+        assert_eq!(
+            (set.boundaries(), none.boundaries()),
+            (&[()][..], &[()][..])
+        );
+        set.union_with(&none);
+        assert_eq!(&set & &none, all());
+        set ^= none;
+        assert!(set.is_empty() && RangeSet::<A>::from(()..()).is_empty());
+        assert_eq!(RangeSet::<A>::from_unsorted([(); 30]), all());
+    }
+    each_form::<[(); 0]>();
+    each_form::<[(); 2]>();
+}
+
+#[test]
+fn sets_go_where_their_elements_may() {
+    fn is_send_and_sync<T: Send + Sync>() {}
+    is_send_and_sync::<RangeSet<[String; 4]>>();
+    is_send_and_sync::<fallible::RangeSet2<u8>>();
+    is_send_and_sync::<&RangeSetRef<String>>();
+}

@@ -1,0 +1,125 @@
+//! Sets as sequences of boundaries.
+#![cfg(feature = "serde")]
+
+mod common;
+
+use common::{boundaries, pairs, set};
+use range_sets::{fallible, RangeSet, RangeSet2, RangeSetRef};
+use serde::de::{value, DeserializeSeed, Deserializer, SeqAccess, Visitor};
+use serde::Deserialize;
+use serde_json::{from_str, to_string};
+
+#[test]
+fn what_is_written_is_read_back() {
+    for (a, _) in pairs().step_by(11) {
+        let set: RangeSet2<u8> = set(a);
+        let text = to_string(&set).unwrap();
+        assert_eq!(text, to_string(&boundaries(a)).unwrap());
+        assert_eq!(text, to_string(&*set).unwrap());
+        assert_eq!(from_str::<RangeSet2<u8>>(&text).unwrap(), set);
+        assert_eq!(from_str::<fallible::RangeSet2<u8>>(&text).unwrap(), set);
+        let mut mixed = boundaries(a);
+        mixed.reverse();
+        mixed.extend(boundaries(a));
+        assert_eq!(
+            from_str::<RangeSet2<u8>>(&to_string(&mixed).unwrap()).unwrap(),
+            set
+        );
+    }
+}
+
+#[test]
+fn elements_of_other_types() {
+    let set: RangeSet<[Option<String>; 2]> = RangeSet::from(None..Some("m".to_string()));
+    assert_eq!(to_string(&set).unwrap(), r#"[null,"m"]"#);
+    assert_eq!(
+        from_str::<RangeSet<[Option<String>; 2]>>(r#"["m",null,"m"]"#).unwrap(),
+        set
+    );
+    assert_eq!(to_string(RangeSetRef::single(&'x')).unwrap(), r#"["x"]"#);
+    assert_eq!(
+        to_string(&fallible::RangeSet2::<u8>::empty()).unwrap(),
+        "[]"
+    );
+}
+
+#[test]
+fn faults_have_their_place() {
+    let fault = |text: &str| {
+        let error = from_str::<RangeSet2<u8>>(text).unwrap_err();
+        assert_eq!(
+            error.to_string(),
+            from_str::<fallible::RangeSet2<u8>>(text)
+                .unwrap_err()
+                .to_string()
+        );
+        (error.line(), error.column())
+    };
+    assert_eq!(fault("[1, x]"), (1, 5));
+    assert_eq!(fault("[1,\n 2.5]"), (2, 4));
+    assert_eq!(fault("[1, 256]"), (1, 7));
+    assert_eq!(fault("[1, 2"), (1, 5));
+    assert!(from_str::<RangeSet2<u8>>("{}")
+        .unwrap_err()
+        .to_string()
+        .contains("expected a sequence"));
+}
+
+/// A format that says that there are so many items, and has three.
+struct Boasting(usize);
+
+impl<'de> Deserializer<'de> for Boasting {
+    type Error = value::Error;
+
+    fn deserialize_any<V: Visitor<'de>>(self, visitor: V) -> Result<V::Value, value::Error> {
+        visitor.visit_seq(Items {
+            left: 3,
+            boast: self.0,
+        })
+    }
+
+    serde::forward_to_deserialize_any! {
+        bool i8 i16 i32 i64 i128 u8 u16 u32 u64 u128 f32 f64 char str string bytes byte_buf option unit
+        unit_struct newtype_struct seq tuple tuple_struct map struct enum identifier ignored_any
+    }
+}
+
+struct Items {
+    left: u64,
+    boast: usize,
+}
+
+impl<'de> SeqAccess<'de> for Items {
+    type Error = value::Error;
+
+    fn next_element_seed<S: DeserializeSeed<'de>>(
+        &mut self,
+        seed: S,
+    ) -> Result<Option<S::Value>, value::Error> {
+        if self.left == 0 {
+            return Ok(None);
+        }
+        self.left -= 1;
+        seed.deserialize(value::U64Deserializer::new(self.left))
+            .map(Some)
+    }
+
+    fn size_hint(&self) -> Option<usize> {
+        Some(self.boast)
+    }
+}
+
+#[test]
+fn a_boast_of_the_format_reserves_little() {
+    for boast in [0, 3, 1 << 20, usize::MAX] {
+        let list = RangeSet2::<u64>::deserialize(Boasting(boast))
+            .unwrap()
+            .into_inner();
+        assert_eq!(list.as_slice(), [0, 1, 2]);
+        assert!(list.capacity() <= 4096 / 8);
+        let list = fallible::RangeSet2::<u64>::deserialize(Boasting(boast))
+            .unwrap()
+            .into_inner();
+        assert!(list.capacity() <= 4096 / 8);
+    }
+}

@@ -1,0 +1,226 @@
+//! What is asked of sets, beside a bitmap.
+
+mod common;
+
+use common::{bitmap, boundaries, pairs, set, Bitmap, Random};
+use range_sets::{RangeSet2, RangeSetRange, RangeSetRef};
+
+fn bits_of_range(start: u8, end: u8) -> Bitmap {
+    (start..end).fold(0, |bits, i| bits | 1 << i)
+}
+
+/// The ends of a range as a pair.
+fn ends(range: RangeSetRange<&u8>) -> (u8, Option<u8>) {
+    match range {
+        RangeSetRange::Range(range) => (*range.start, Some(*range.end)),
+        RangeSetRange::RangeFrom(range) => (*range.start, None),
+    }
+}
+
+/// The longest stretches of ones, found bit by bit.
+fn stretches(bits: Bitmap) -> Vec<(u8, Option<u8>)> {
+    let mut found: Vec<(u8, Option<u8>)> = Vec::new();
+    let mut start = None;
+    for i in 0..64 {
+        match (bits >> i & 1 == 1, start) {
+            (true, None) => start = Some(i),
+            (false, Some(from)) => {
+                found.push((from, Some(i)));
+                start = None;
+            }
+            _ => {}
+        }
+    }
+    found.extend(start.map(|from| (from, None)));
+    found
+}
+
+#[test]
+fn members_are_those_of_the_bitmap() {
+    for (a, _) in pairs() {
+        assert_eq!(bitmap(&set::<[u8; 2]>(a)), a);
+    }
+}
+
+#[test]
+fn questions_of_two_sets() {
+    for (a, b) in pairs() {
+        let (left, right): (RangeSet2<u8>, RangeSet2<u8>) = (set(a), set(b));
+        assert_eq!(left.intersects(&right), a & b != 0);
+        assert_eq!(left.is_disjoint(&right), a & b == 0);
+        assert_eq!(left.is_subset(&right), a & !b == 0);
+        assert_eq!(left.is_superset(&right), b & !a == 0);
+        assert_eq!(left == right, a == b);
+        assert_eq!(left.cmp(&right), boundaries(a).cmp(&boundaries(b)));
+        assert_eq!(left.is_empty(), a == 0);
+        assert_eq!(left.is_all(), a == !0);
+    }
+}
+
+#[test]
+fn ranges_within_and_without() {
+    let mut random = Random(5);
+    for (a, _) in pairs().step_by(2) {
+        let set: RangeSet2<u8> = set(a);
+        let (start, end) = (random.below(63) as u8, random.below(63) as u8);
+        let within = bits_of_range(start, end);
+        assert_eq!(
+            set.contains_range(start..end),
+            within & !a == 0,
+            "{set:?} {start}..{end}"
+        );
+        assert_eq!(set.intersects_range(start..end), within & a != 0);
+        let parts = |bits| {
+            stretches(bits)
+                .into_iter()
+                .map(|(from, to)| (from, to.unwrap()))
+                .collect::<Vec<_>>()
+        };
+        let gaps: Vec<_> = set
+            .gaps(&start..&end)
+            .map(|gap| (*gap.start, *gap.end))
+            .collect();
+        assert_eq!(gaps, parts(within & !a));
+        let ranges: Vec<_> = set
+            .ranges_within(&start..&end)
+            .map(|part| (*part.start, *part.end))
+            .collect();
+        assert_eq!(ranges, parts(within & a));
+    }
+}
+
+#[test]
+fn the_range_at_a_value() {
+    for (a, _) in pairs().step_by(5) {
+        let set: RangeSet2<u8> = set(a);
+        for value in 0..64 {
+            let expected = stretches(a)
+                .into_iter()
+                .find(|&(start, end)| start <= value && end.map_or(true, |end| value < end));
+            assert_eq!(set.range_at(&value).map(ends), expected);
+        }
+    }
+}
+
+#[test]
+fn first_last_and_span() {
+    for (a, _) in pairs() {
+        let set: RangeSet2<u8> = set(a);
+        let all = stretches(a);
+        assert_eq!(set.first().map(ends), all.first().copied());
+        assert_eq!(set.last().map(ends), all.last().copied());
+        let span = all
+            .first()
+            .zip(all.last())
+            .map(|(first, last)| (first.0, last.1));
+        assert_eq!(set.span().map(ends), span);
+        assert_eq!(set.ranges_len(), all.len());
+    }
+}
+
+#[test]
+fn split_agrees_on_each_side_and_is_least() {
+    for (a, _) in pairs().step_by(3) {
+        let set: RangeSet2<u8> = set(a);
+        for at in 0..64 {
+            let (left, right) = set.split(at);
+            let below = bits_of_range(0, at);
+            assert_eq!(bitmap(left) & below, a & below);
+            assert_eq!(bitmap(right) & !below, a & !below);
+            assert!(left.boundaries().iter().all(|&x| x < at));
+            assert!(right.boundaries().iter().filter(|&&x| x < at).count() <= 1);
+        }
+    }
+}
+
+#[test]
+fn how_many_are_covered() {
+    for (a, _) in pairs() {
+        let expected = (a >> 63 == 0).then(|| u128::from(a.count_ones()));
+        assert_eq!(set::<[u8; 2]>(a).covered(), expected);
+    }
+    assert_eq!(
+        RangeSetRef::new(&[i128::MIN, i128::MAX]).unwrap().covered(),
+        Some(u128::MAX)
+    );
+    assert_eq!(
+        RangeSetRef::new(&['\u{d7ff}', '\u{e000}'])
+            .unwrap()
+            .covered(),
+        Some(1)
+    );
+}
+
+#[test]
+fn the_first_stretch_that_is_free() {
+    let mut random = Random(11);
+    for (a, _) in pairs().step_by(2) {
+        let set: RangeSet2<u8> = set(a);
+        let (start, end, len) = (
+            random.below(63) as u8,
+            random.below(63) as u8,
+            random.below(9) as u8,
+        );
+        let fits = |x: u8| x + len <= end && bits_of_range(x, x + len) & a == 0;
+        let expected = if len == 0 {
+            (start <= end).then_some(start)
+        } else {
+            (start..end).find(|&x| fits(x))
+        };
+        assert_eq!(
+            set.first_fit(start..end, len),
+            expected,
+            "{set:?} {start}..{end} {len}"
+        );
+    }
+    assert_eq!(
+        RangeSetRef::new(&[0u8, 250]).unwrap().first_fit(0..255, 10),
+        None
+    );
+    assert_eq!(
+        RangeSetRef::<u128>::empty().first_fit(1..u128::MAX, u128::MAX),
+        None
+    );
+}
+
+#[test]
+fn ranges_from_both_ends() {
+    for (a, _) in pairs().step_by(2) {
+        let set: RangeSet2<u8> = set(a);
+        let expected = stretches(a);
+        assert_eq!(set.iter().map(ends).collect::<Vec<_>>(), expected);
+        let mut backwards: Vec<_> = set.iter().rev().map(ends).collect();
+        backwards.reverse();
+        assert_eq!(backwards, expected);
+        let mut ranges = set.iter();
+        for left in (1..=expected.len()).rev() {
+            assert_eq!(
+                (ranges.len(), ranges.size_hint()),
+                (left, (left, Some(left)))
+            );
+            let taken = if left % 2 == 0 {
+                ranges.next()
+            } else {
+                ranges.next_back()
+            };
+            assert!(taken.is_some());
+        }
+        assert_eq!(ranges.len(), 0);
+        assert!(ranges.next().is_none() && ranges.next_back().is_none() && ranges.next().is_none());
+        let owned: Vec<_> = set
+            .clone()
+            .into_iter()
+            .map(|range| ends(range.as_ref()))
+            .collect();
+        assert_eq!(owned, expected);
+        let mut backwards: Vec<_> = set
+            .clone()
+            .into_iter()
+            .rev()
+            .map(|range| ends(range.as_ref()))
+            .collect();
+        backwards.reverse();
+        assert_eq!(backwards, expected);
+        assert_eq!(set.clone().into_iter().len(), expected.len());
+    }
+}

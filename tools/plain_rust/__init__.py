@@ -1,0 +1,1 @@
+"""Writes the crates of Rattle as plain Rust, without their contracts."""

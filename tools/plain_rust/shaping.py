@@ -1,0 +1,124 @@
+"""What is done to the items of a file: some are left out, and others get another visibility or their contract as documentation."""
+
+from plain_rust import tables
+from plain_rust.contracts import with_contract
+from plain_rust.items import items
+from plain_rust.tokens import Refused, made, stands
+
+
+class Shaping:
+    """What the items of one file need: the file's name, the laws, the modules that are left out, and the clauses."""
+
+    def __init__(self, file, laws, modules, clauses):
+        self.file, self.laws, self.modules, self.clauses = file, laws, modules, clauses
+        self.kept = tables.ITEMS_KEPT.get(file)
+        self.wanted = set(tables.ITEMS_LEFT_OUT.get(file, ())) | (self.kept or set())
+        self.hidden = set(tables.SHOWN.get(file, ()))
+        self.shown = set()
+
+    def file_of(self, module):
+        crate, _, rest = self.file.partition("/")
+        return f"{crate}/{module}" if rest == "lib" else f"{self.file}/{module}"
+
+    def shaped(self, found, start, end, within=None):
+        """The tokens of the items between two indices that stay. They stand at the top, or within another item."""
+        kept = [token for item in items(found, start, end) for token in self.item(item, within)]
+        return [one for token in kept for one in (made(token.text, token.lead, token.line) if "pub(" in token.text else [token])]
+
+    def item(self, item, within):
+        if self.is_left_out(item) or (within is None and self.is_not_kept(item)):
+            return []
+        if item.kind == "fn":
+            self.document(item, within)
+        if item.kind in ("fn", "struct", "mod"):
+            self.show(item)
+        if item.kind == "impl" and item.name.startswith("Clone for "):
+            return cloning(item)
+        if item.kind in ("impl", "trait"):
+            return self.with_members(item)
+        return item.found[item.start : item.end]
+
+    def with_members(self, item):
+        found = item.found
+        title = found[item.start : item.body]
+        if item.kind == "trait" and needs_size(item):
+            has_bounds = found[item.body - 1].text not in (item.name, ">")
+            title += made("+ Sized" if has_bounds else ": Sized", " " if has_bounds else "", found[item.body].line)
+        members = self.shaped(found, item.body + 1, item.end - 1, item)
+        return [*title, found[item.body], *members, found[item.end - 1]]
+
+    def is_not_kept(self, item):
+        """Whether others alone are written of the file."""
+        if self.kept is None or item.kind in ("use", "mod"):
+            return False
+        self.wanted.discard(f"{item.kind} {item.name}")
+        return f"{item.kind} {item.name}" not in self.kept
+
+    def is_left_out(self, item):
+        names = {f"{item.kind} {item.name}"}
+        if item.kind == "impl":
+            trait, of = item.trait_and_type()
+            if trait.split("<")[0] in tables.IMPLS_LEFT_OUT:
+                return True
+            if not trait:
+                names.add(f"impl {of}")
+        if item.kind == "mod":
+            return self.file_of(item.name) in self.modules
+        if self.kept is None and names & self.wanted:
+            self.wanted -= names
+            return True
+        return item.kind == "fn" and (item.name in tables.NOTHING or item.name in self.laws)
+
+    def document(self, item, within):
+        """Writes the contract of a public function, and hides one that asks something of its caller."""
+        found = item.found
+        clauses = self.clauses.get(found[item.word], ())
+        exported = item.is_public() or (within and within.kind == "trait" and within.is_public())
+        if exported and clauses:
+            found[item.start].lead = with_contract(found[item.start].lead, clauses)
+        if item.is_public() and any(clause.kind == "requires" for clause in clauses):
+            found[item.head].text = "pub(crate)"
+        if item.name == "clone":
+            found[item.word + 1].text = "try_clone"
+
+    def show(self, item):
+        """Lets the crate see a module, and what the tables name."""
+        found = item.found
+        if item.kind == "mod" and not item.is_exported():
+            found[item.head].text = f"pub(crate) {found[item.head].text}"
+        for at in range(item.word, item.end):
+            name = found[at].text
+            is_field = item.kind == "struct" and stands(found, at + 1, ":") and not stands(found, at + 2, ":")
+            if name in self.hidden and (is_field or (item.kind == "fn" and at == item.word + 1)):
+                token = found[at] if is_field else found[item.head]
+                token.text = f"pub(crate) {token.text}"
+                self.shown.add(name)
+
+    def refuse_what_is_left(self):
+        """Refuses names of the tables that the file hasn't."""
+        left = sorted(self.wanted | self.hidden - self.shown)
+        if left:
+            raise Refused(1, f"the tables name what isn't there: {', '.join(left)}")
+
+
+def needs_size(item):
+    """Whether a trait speaks of values of its own type, which has a size in Rattle in any case."""
+    found = item.found
+    bounds = [token.text for token in found[item.word + 2 : item.body]]
+    if "Sized" in bounds or "Copy" in bounds:
+        return False
+    own = (at for at in range(item.body, item.end) if found[at].text == "Self")
+    return any(not stands(found, at + 1, ":", ":") for at in own)
+
+
+def cloning(item):
+    """A clone of a `Copy` type as Rust's. Of another type it may be refused, and Rust's has no room for that: `try_clone` stays."""
+    found = item.found
+    texts = [token.text for token in found[item.body : item.end]]
+    if texts[-5:] == ["{", "*", "self", "}", "}"]:
+        return found[item.start : item.end]
+    if texts[-8:] != ["{", "Ok", "(", "*", "self", ")", "}", "}"]:
+        return []
+    start = next(at for at in range(item.body, item.end) if found[at].text == "fn")
+    put = made("fn clone(&self) -> Self { *self } }", found[start].lead, found[start].line)
+    return [*found[item.start : start], *put]
