@@ -72,7 +72,7 @@ LEFT_OUT_NAMES = {"JsonError", "NonZeroU8", "NonZeroU16", "NonZeroU32", "NonZero
 
 # Files of which these items alone are written: lists of support have gaps without items, where Rattle's have blank
 # items, so what moves items is theirs. See the module `opened`.
-ITEMS_KEPT = {"range_merge/place": {"trait Place", "fn turn_round"}}
+ITEMS_KEPT = {"range_merge/place": {"trait Place", "trait Shelf"}}
 
 # Items that are left out, by their file: a kind with a name, or an impl with its title up to the generics of the type.
 ITEMS_LEFT_OUT = {
@@ -92,6 +92,5 @@ BY_SUPPORT = {"InPlaceMergeState", "InPlaceMergeStateRef"}
 IMPLS_LEFT_OUT = {"MadeWith", "Model", "RangeSetEntry"}
 # Private fields and functions that support uses, by their file.
 SHOWN = {
-    "range_merge/merge_state/in_place": {"reversed"},
     "range_merge/merge_state/in_place_ref": {"over"},
 }

@@ -5,6 +5,7 @@ pub mod OwnItems
 pub mod Sets
 pub mod Shortest
 pub mod Cut
+pub mod Blocks
 pub mod Within
 pub mod RangesLemmas
 pub mod RangesAtEnds

@@ -25,7 +25,7 @@ pub use range_merge::{
     BoolOpMergeState, Buffer, BufferMergeState, Compare, Connective, Copier, CountMergeState,
     DiffOp, InPlaceBuilder, InPlaceMergeState, InPlaceMergeStateRef, IntersectionOp,
     MergeOperation, MergeState, MergeStateMut, NoRoom, Run, SliceIterator, SmallVecMergeState,
-    UnionOp, XorOp, merge, run_length, search,
+    UnionOp, XorOp, count_up_to, merge, run_length, search,
 };
 pub use range_set::{Expected, JsonError, ParseError, RangeSet, RangeSet2};
 pub use range_set_range::RangeSetRange;

@@ -1,9 +1,9 @@
 -- Items that move within a list, down or up, a gap that is opened in it, and a list that is written back.
 use Rattle.std.proofs.Common.{◌≡◌, ℕ, ◌+◌, ◌-◌, ◌<◌, ◌≤◌, List, [], ◌∷◌, ◌++◌, length, take, drop, get_or, set, sym, ap, ◌∙◌, arith, append_assoc}
 use Rattle.std.specs.List.{swap, refill}
-use Rattle.std.proofs.lemmas.List.{take_at, take-set-le, take_more_set, drop-set-lt, length-take-le, length-drop, take_more, drop_more, get_or-drop, take-append-le, drop-take, drop-drop, drop_at}
+use Rattle.std.proofs.lemmas.List.{take_at, take-set, take-set-le, take-take, take_more_set, drop-set, drop-set-lt, length-set, length-take-le, length-drop, take_more, drop_more, get_or-drop, get_or-take, take-append-le, drop-take, drop-drop, drop_at}
 use Rattle.std.proofs.lemmas.List.Edits.{swap_is}
-use Rattle.std.proofs.Math.Seq.{take-add, take-append-add, drop-append-add}
+use Rattle.std.proofs.Math.Seq.{drop-length, take-add, take-append-add, drop-append-add}
 use borrow.Rule.Slice.PartMut.{put_mid, post_of}
 
 -- a list written whole over another of its length
@@ -32,7 +32,7 @@ module _ {K : Type 0} where
   take-in_place l to from n same = take-add to n l ∙ ap (λ k. take to l ++ take n (drop k l)) same
 
   -- the part of a list from a place on begins with the item there
-  drop-begins : (l old : List K) (q : ℕ) (d : K) → q < length l → q < length old → drop q l ≡ drop q old → (get_or l q d ≡ get_or old q d) × (drop (q + 1) l ≡ drop (q + 1) old)
+  pub drop-begins : (l old : List K) (q : ℕ) (d : K) → q < length l → q < length old → drop q l ≡ drop q old → (get_or l q d ≡ get_or old q d) × (drop (q + 1) l ≡ drop (q + 1) old)
   drop-begins l old q d within within_old same =
       let whole : get_or l q d ∷ drop (q + 1) l ≡ get_or old q d ∷ drop (q + 1) old = sym (drop_more l q d within) ∙ same ∙ drop_more old q d within_old in
       (cc, cc)
@@ -60,6 +60,42 @@ module _ {K : Type 0} where
             ∙ drop-swap l (to + i) (from + i) d first in_l
             ∙ begins.1
             ∙ ap (λ k. drop k old) (sym step_from),
+      )
+
+  -- before the first item is moved up
+  pub moved_up-none : (old : List K) (by : ℕ) → by ≤ length old → drop (length old - by + by) old ≡ drop (length old - by) (take (length old - by) old)
+  moved_up-none old by within =
+      let few : ℕ = length old - by in
+      ap (λ k. drop k old) (omega arith) ∙ drop-length old ∙ sym (drop-length (take few old)) ∙ ap (λ k. drop k (take few old)) (length-take-le few old (omega arith))
+
+  -- one item more moved up, the last of those that are still to be moved
+  pub move_up-more : (old l : List K) (by i j : ℕ) → 0 < by → j + 1 ≡ i → i + by ≤ length old → length l ≡ length old
+      → take i l ≡ take i old → drop (i + by) l ≡ drop i (take (length old - by) old)
+      → (take j (swap l j (j + by)) ≡ take j old) × (drop (j + by) (swap l j (j + by)) ≡ drop j (take (length old - by) old))
+  move_up-more [] l by i j some next within same front behind = absurd (omega arith)
+  move_up-more (d ∷ rest) l by i j some next within same front behind =
+      let old : List K = d ∷ rest in
+      let few : ℕ = length old - by in
+      let moved : K = get_or l j d in
+      let into : List K = set l j (get_or l (j + by) d) in
+      let j_in : j < length l = omega arith in
+      let to_in : j + by < length l = omega arith in
+      let to_in_into : j + by < length into = omega (arith, length-set l j (get_or l (j + by) d)) in
+      let short : few ≤ length old = omega arith in
+      let is : set into (j + by) moved ≡ swap l j (j + by) = swap_is l j (j + by) d j_in to_in in
+      let own : moved ≡ get_or (take few old) j d =
+      sym (get_or-take i l j d (omega arith)) ∙ ap (λ ys. get_or ys j d) front ∙ get_or-take i old j d (omega arith) ∙ sym (get_or-take few old j d (omega arith)) in (
+        ap (take j) (sym is)
+            ∙ take-set-le j into (j + by) moved (omega arith)
+            ∙ take-set l j (get_or l (j + by) d)
+            ∙ sym (take-take j i l (omega arith))
+            ∙ ap (take j) front
+            ∙ take-take j i old (omega arith),
+        ap (drop (j + by)) (sym is)
+            ∙ drop-set into (j + by) moved to_in_into
+            ∙ ap (λ ys. moved ∷ ys) (drop-set-lt (j + by + 1) l j (get_or l (j + by) d) (omega arith) ∙ ap (λ k. drop k l) (omega arith) ∙ behind ∙ ap (λ k. drop k (take few old)) (sym next))
+            ∙ ap (λ x. x ∷ drop (j + 1) (take few old)) own
+            ∙ sym (drop_more (take few old) j d (omega (arith, length-take-le few old short))),
       )
 
   -- what is behind as many turned items as have come to the front

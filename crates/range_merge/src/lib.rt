@@ -23,5 +23,5 @@ pub use merge_state::{
 pub use merging::merge;
 pub use operations::{Connective, DiffOp, IntersectionOp, MergeOperation, UnionOp, XorOp};
 pub use runs::{Run, run_length};
-pub use searching::search;
+pub use searching::{count_up_to, search};
 pub use slice_iterator::SliceIterator;

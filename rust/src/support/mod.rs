@@ -7,6 +7,7 @@ mod clones;
 mod error;
 mod in_place;
 mod opened;
+mod slot;
 mod since;
 mod small_vec;
 mod sorting;

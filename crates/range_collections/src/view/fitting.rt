@@ -5,6 +5,7 @@ ghost use Rattle.range_collections.specs.Fits.{Fits, IsPlaceBelow};
 use crate::comparisons::Comparisons;
 use crate::countable::Unsigned;
 use crate::view::RangeSetRef;
+use range_merge::count_up_to;
 use std::ops::Range;
 
 impl<'a, T: Unsigned> RangeSetRef<'a, T> {
@@ -27,7 +28,7 @@ impl<'a, T: Unsigned> RangeSetRef<'a, T> {
                 None
             };
         }
-        let mut i = self.count_up_to(&start, &mut Comparisons::new());
+        let mut i = count_up_to(self.boundaries, &start, &mut Comparisons::new());
         let mut at = start;
         loop {
             if i % 2 == 0 {

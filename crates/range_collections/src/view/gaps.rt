@@ -8,7 +8,7 @@ ghost use Rattle.range_collections.specs.Within.{GivesParts, within_table};
 use crate::comparisons::Comparisons;
 use crate::gaps::{Gaps, RangesWithin};
 use crate::view::RangeSetRef;
-use range_merge::Compare;
+use range_merge::{Compare, count_up_to};
 use std::ops::Range;
 
 impl<'a, T: Ord> RangeSetRef<'a, T> {
@@ -74,7 +74,7 @@ impl<'a, T: Ord> RangeSetRef<'a, T> {
         if !count.compare(within.start, within.end).is_lt() {
             return RangesWithin::nothing();
         }
-        let from = self.count_up_to(within.start, count);
+        let from = count_up_to(self.boundaries, within.start, count);
         let to = self.count_below(within.end, count);
         let first = ((from % 2 == 1) == inside).then_some(within.start);
         let last = ((to % 2 == 1) == inside).then_some(within.end);

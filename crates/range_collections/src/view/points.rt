@@ -13,7 +13,7 @@ use crate::comparisons::Comparisons;
 use crate::iter::Iter;
 use crate::range_set_range::RangeSetRange;
 use crate::view::RangeSetRef;
-use range_merge::{Compare, search};
+use range_merge::{Compare, count_up_to, search};
 use std::ops::Range;
 
 impl<'a, T: Ord> RangeSetRef<'a, T> {
@@ -43,7 +43,7 @@ impl<'a, T: Ord> RangeSetRef<'a, T> {
         ensures comparisons { AddsAtMost count.old count.new
             (digits (length self.now.boundaries.now)) }
     {
-        let before = self.count_up_to(value, count);
+        let before = count_up_to(self.boundaries, value, count);
         if before % 2 == 0 {
             return None;
         }
@@ -74,29 +74,11 @@ impl<'a, T: Ord> RangeSetRef<'a, T> {
         if !count.compare(&range.start, &range.end).is_lt() {
             return true;
         }
-        let before = self.count_up_to(&range.start, count);
+        let before = count_up_to(self.boundaries, &range.start, count);
         if before % 2 == 0 {
             return false;
         }
         before == self.count_below(&range.end, count)
-    }
-
-    // How many boundaries are at or below `value`.
-    #[inline(always)]
-    pub(super) fn count_up_to(&self, value: &T, count: &mut Comparisons) -> usize
-        requires { count.old < 2 ^ 127 }
-        ensures within { result ≤ length self.now.boundaries.now }
-        ensures before { AllWithin (λ y. is_le (T.cmp y value.now) ≡ true)
-            self.now.boundaries.now 0 result }
-        ensures from { AllWithin (λ y. T.cmp y value.now ≡ Greater)
-            self.now.boundaries.now result (length self.now.boundaries.now) }
-        ensures comparisons { AddsAtMost count.old count.new
-            (digits (length self.now.boundaries.now)) }
-    {
-        match search(self.boundaries, value, count) {
-            Ok(i) => i + 1,
-            Err(i) => i,
-        }
     }
 
     // How many boundaries are below `value`.

@@ -11,7 +11,7 @@ use crate::comparisons::Comparisons;
 use crate::view::RangeSetRef;
 use range_merge::laws::changes_mean_the_connective;
 use range_merge::{
-    BoolOpMergeState, CountMergeState, DiffOp, IntersectionOp, MergeOperation, search,
+    BoolOpMergeState, CountMergeState, DiffOp, IntersectionOp, MergeOperation, count_up_to,
 };
 
 impl<'a, T: Ord> RangeSetRef<'a, T> {
@@ -31,10 +31,7 @@ impl<'a, T: Ord> RangeSetRef<'a, T> {
         ensures comparisons { AddsAtMost count.old count.new
             (digits (length self.now.boundaries.now)) }
     {
-        match search(self.boundaries, value, count) {
-            Ok(i) => i % 2 == 0,
-            Err(i) => i % 2 == 1,
-        }
+        count_up_to(self.boundaries, value, count) % 2 == 1
     }
 
     /// Whether no element is a member.

@@ -5,6 +5,7 @@ ghost use Rattle.range_collections.specs.Intersects.{HasMemberWithin, IsItemBelo
 use crate::comparisons::Comparisons;
 use crate::iter::Iter;
 use crate::view::RangeSetRef;
+use range_merge::count_up_to;
 use std::ops::Range;
 
 impl<'a, T: Ord> RangeSetRef<'a, T> {
@@ -27,7 +28,7 @@ impl<'a, T: Ord> RangeSetRef<'a, T> {
         if !range.start.cmp(&range.end).is_lt() {
             return false;
         }
-        let count = self.count_up_to(&range.start, &mut Comparisons::new());
+        let count = count_up_to(self.boundaries, &range.start, &mut Comparisons::new());
         if count % 2 == 1 {
             return true;
         }

@@ -1,10 +1,16 @@
 //! A merge into its own left list, which leaves what it reads on the right to that side.
-ghost use Rattle.std.specs.Prelude.{◌≡◌, ◌+◌, ◌≤◌, false, List, [], ◌++◌, length, drop, ⊤};
-ghost use Rattle.range_merge.specs.Changes.{Taken, taken_right};
+ghost use Rattle.std.specs.Prelude.{◌≡◌, ◌+◌, ◌*◌, ◌^◌, ◌<◌, ◌≤◌, false, List, [], ◌++◌, length, drop, ⊤};
+ghost use Rattle.range_merge.specs.Boundaries.{IsAscending};
+ghost use Rattle.range_merge.specs.Changes.{Taken, changes, taken_right};
+ghost use Rattle.range_merge.specs.Counting.{AddsAtMost};
+ghost use Rattle.range_merge.specs.Runs.{weight};
 
+use crate::compare::Compare;
 use crate::in_place_builder::InPlaceBuilder;
 use crate::merge_state::right_side::RightSide;
 use crate::merge_state::{MergeState, MergeStateMut};
+use crate::merging;
+use crate::operations::MergeOperation;
 use crate::place::Place;
 use std::alloc::AllocError;
 use std::marker::Model;
@@ -52,6 +58,23 @@ impl<K, const N: usize, R: RightSide<K>, L: Place<K>> PlacingMergeState<K, N, R,
             ac: false,
             bc: false,
         }
+    }
+
+    // The list, with the items at which the connective of `op` changes. It stands here, and not over the list and the right side, since a state made of those would owe the proof that it fits in memory.
+    #[inline(always)]
+    pub(crate) fn merged<O: MergeOperation, C: Compare<K>>(mut self, op: &O, cmp: &mut C) -> L
+        requires left_ascending { IsAscending C.order self.left }
+        requires right_ascending { IsAscending C.order self.right }
+        requires left_off { self.left_on ≡ false }
+        requires right_off { self.right_on ≡ false }
+        requires made { C.count cmp.old < 2 ^ 64 }
+        ensures taken { R.may_be [] self.kept → R.may_be
+            (changes C.order (O.connective op.now) self.left self.right) (L.items result) }
+        ensures comparisons { AddsAtMost (C.count cmp.old) (C.count cmp.new)
+            (2 * weight C.order self.left self.right) }
+    {
+        let _ = merging::merge(&mut self, op, cmp);
+        self.result()
     }
 
     /// The list, with the items that were taken. What is still unread is dropped.
@@ -155,11 +178,9 @@ fn put_front<K, const N: usize, R: RightSide<K>, L: Place<K>>(
     ensures rest { R.unread right.new ≡ drop n (R.unread right.old) }
     ensures puts { length (R.unread right.new) ≤ builder.new.puts_left }
 {
-    if !wanted {
+    if wanted {
+        builder.put_from(n, right);
+    } else {
         right.drop_front(n);
-        return;
-    }
-    for _i in 0..n {
-        builder.put(right.take_front());
     }
 }

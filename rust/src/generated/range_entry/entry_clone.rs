@@ -16,6 +16,18 @@ pub trait EntryClone: Ord + Sized {
     /// ```
     fn entry_clone(&self) -> Result<Self, AllocError>;
 
+    /// Whether no copy of any element is refused: `true` only where the type says so, as numbers, characters and references do.
+    ///
+    /// # Contract
+    ///
+    /// ```text
+    /// ensures IsTrue result → (x : Self) → is_infallible x
+    /// ```
+    #[inline(always)]
+    fn never_refuses() -> bool {
+        false
+    }
+
     /// Appends a copy of each item to the list, or answers an error where there is no memory for all of them; the copies made before it stay. It asks for room once.
     ///
     /// # Contract

@@ -39,6 +39,18 @@ pub trait Copier<K> {
     /// ```
     fn copy(&self, item: &K) -> Result<K, AllocError>;
 
+    /// Whether no copy of any item is refused: `true` only where the type of the items says so. Then a merge in place copies an item as it takes it, and makes no list of copies first.
+    ///
+    /// # Contract
+    ///
+    /// ```text
+    /// ensures IsTrue result → (x : K) → is_infallible x
+    /// ```
+    #[inline(always)]
+    fn never_refuses(&self) -> bool {
+        false
+    }
+
     /// Appends a copy of each item, or answers an error where there is no memory for all of them; the copies made before it stay. It asks for room once.
     ///
     /// # Contract

@@ -4,12 +4,25 @@
 use crate::generated::range_merge::compare::Compare;
 use core::cmp::Ordering;
 
-/// A list whose items are read by their places.
-pub(crate) trait Side<K> {
+/// Items in a row that are read by their places.
+pub trait Side<K> {
     /// How many items there are.
+    ///
+    /// # Contract
+    ///
+    /// ```text
+    /// ensures result ≡ length (items self.now)
+    /// ```
     fn len(&self) -> usize;
 
     /// The item at index `i`.
+    ///
+    /// # Contract
+    ///
+    /// ```text
+    /// requires i < length (items self.now)
+    /// ensures slice_get (items self.now) i ≡ Some result.now
+    /// ```
     fn at(&self, i: usize) -> &K;
 }
 

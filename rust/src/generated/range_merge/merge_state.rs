@@ -19,6 +19,7 @@ pub use crate::support::InPlaceMergeStateRef;
 pub use bool_op::BoolOpMergeState;
 pub use buffer::{Buffer, BufferMergeState, NoRoom};
 pub use count::CountMergeState;
+pub(crate) use right_side::RightSide;
 pub(crate) use sink::append_copies;
 pub use small_vec::SmallVecMergeState;
 

@@ -2,7 +2,7 @@
 //! The first run of two lists.
 
 use crate::generated::range_merge::compare::Compare;
-use crate::generated::range_merge::galloping::{gallop, Side};
+use crate::generated::range_merge::galloping::{gallop, Front, Side};
 use crate::generated::range_merge::merge_state::MergeState;
 use core::cmp::Ordering;
 
@@ -93,40 +93,23 @@ pub(crate) fn run_length<S: MergeState, C: Compare<S::Item>>(state: &S, cmp: &mu
     }
 }
 
-/// The first run of two lists, and how the two items behind it stand to one another, if both lists go on.
-pub(crate) struct FirstRun {
-    pub(crate) run: Run,
-    pub(crate) behind: Option<Ordering>,
-}
-
-/// The first run of the unread lists of `state`, where it is known how their first items stand.
+/// The first run of the unread lists of `state`, where it is known to be of the left list, and how the two items behind it stand to one another.
 ///
 /// For a run of `n` items it makes at most twice as many comparisons as `n` has binary digits, less one.
 #[inline(always)]
-pub(crate) fn first_run<S: MergeState, C: Compare<S::Item>>(
-    state: &S,
-    how: Ordering,
-    cmp: &mut C,
-) -> FirstRun {
-    match how {
-        Ordering::Less => {
-            let front = gallop(&LeftOf(state), state.b_at(0), cmp);
-            FirstRun {
-                run: Run::Left(front.len),
-                behind: front.next,
-            }
-        }
-        Ordering::Equal => FirstRun {
-            run: Run::Both,
-            behind: order_at(state, 1, cmp),
-        },
-        Ordering::Greater => {
-            let front = gallop(&RightOf(state), state.a_at(0), cmp);
-            FirstRun {
-                run: Run::Right(front.len),
-                behind: reversed(front.next),
-            }
-        }
+pub(crate) fn left_run<S: MergeState, C: Compare<S::Item>>(state: &S, cmp: &mut C) -> Front {
+    gallop(&LeftOf(state), state.b_at(0), cmp)
+}
+
+/// The first run of the unread lists of `state`, where it is known to be of the right list, and how the two items behind it stand to one another.
+///
+/// For a run of `n` items it makes at most twice as many comparisons as `n` has binary digits, less one.
+#[inline(always)]
+pub(crate) fn right_run<S: MergeState, C: Compare<S::Item>>(state: &S, cmp: &mut C) -> Front {
+    let front = gallop(&RightOf(state), state.a_at(0), cmp);
+    Front {
+        len: front.len,
+        next: reversed(front.next),
     }
 }
 

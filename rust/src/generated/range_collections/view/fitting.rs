@@ -4,6 +4,7 @@
 use crate::generated::range_collections::comparisons::Comparisons;
 use crate::generated::range_collections::countable::Unsigned;
 use crate::generated::range_collections::view::RangeSetRef;
+use crate::generated::range_merge::count_up_to;
 use core::ops::Range;
 
 impl<'a, T: Unsigned> RangeSetRef<'a, T> {
@@ -28,7 +29,7 @@ impl<'a, T: Unsigned> RangeSetRef<'a, T> {
                 None
             };
         }
-        let mut i = self.count_up_to(&start, &mut Comparisons::new());
+        let mut i = count_up_to(self.boundaries, &start, &mut Comparisons::new());
         let mut at = start;
         loop {
             if i % 2 == 0 {

@@ -4,7 +4,7 @@
 use crate::generated::range_collections::comparisons::Comparisons;
 use crate::generated::range_collections::gaps::{Gaps, RangesWithin};
 use crate::generated::range_collections::view::RangeSetRef;
-use crate::generated::range_merge::Compare;
+use crate::generated::range_merge::{count_up_to, Compare};
 use core::ops::Range;
 
 impl<'a, T: Ord> RangeSetRef<'a, T> {
@@ -82,7 +82,7 @@ impl<'a, T: Ord> RangeSetRef<'a, T> {
         if !count.compare(within.start, within.end).is_lt() {
             return RangesWithin::nothing();
         }
-        let from = self.count_up_to(within.start, count);
+        let from = count_up_to(self.boundaries, within.start, count);
         let to = self.count_below(within.end, count);
         let first = ((from % 2 == 1) == inside).then_some(within.start);
         let last = ((to % 2 == 1) == inside).then_some(within.end);

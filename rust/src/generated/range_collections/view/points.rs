@@ -5,7 +5,7 @@ use crate::generated::range_collections::comparisons::Comparisons;
 use crate::generated::range_collections::iter::Iter;
 use crate::generated::range_collections::range_set_range::RangeSetRange;
 use crate::generated::range_collections::view::RangeSetRef;
-use crate::generated::range_merge::{search, Compare};
+use crate::generated::range_merge::{count_up_to, search, Compare};
 use core::ops::Range;
 
 impl<'a, T: Ord> RangeSetRef<'a, T> {
@@ -43,7 +43,7 @@ impl<'a, T: Ord> RangeSetRef<'a, T> {
         value: &T,
         count: &mut Comparisons,
     ) -> Option<RangeSetRange<&'a T>> {
-        let before = self.count_up_to(value, count);
+        let before = count_up_to(self.boundaries, value, count);
         if before % 2 == 0 {
             return None;
         }
@@ -78,20 +78,11 @@ impl<'a, T: Ord> RangeSetRef<'a, T> {
         if !count.compare(&range.start, &range.end).is_lt() {
             return true;
         }
-        let before = self.count_up_to(&range.start, count);
+        let before = count_up_to(self.boundaries, &range.start, count);
         if before % 2 == 0 {
             return false;
         }
         before == self.count_below(&range.end, count)
-    }
-
-    // How many boundaries are at or below `value`.
-    #[inline(always)]
-    pub(super) fn count_up_to(&self, value: &T, count: &mut Comparisons) -> usize {
-        match search(self.boundaries, value, count) {
-            Ok(i) => i + 1,
-            Err(i) => i,
-        }
     }
 
     // How many boundaries are below `value`.

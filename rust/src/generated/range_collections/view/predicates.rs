@@ -4,7 +4,7 @@
 use crate::generated::range_collections::comparisons::Comparisons;
 use crate::generated::range_collections::view::RangeSetRef;
 use crate::generated::range_merge::{
-    search, BoolOpMergeState, CountMergeState, DiffOp, IntersectionOp, MergeOperation,
+    count_up_to, BoolOpMergeState, CountMergeState, DiffOp, IntersectionOp, MergeOperation,
 };
 
 impl<'a, T: Ord> RangeSetRef<'a, T> {
@@ -32,10 +32,7 @@ impl<'a, T: Ord> RangeSetRef<'a, T> {
     /// ```
     #[inline]
     pub(crate) fn contains_counted(&self, value: &T, count: &mut Comparisons) -> bool {
-        match search(self.boundaries, value, count) {
-            Ok(i) => i % 2 == 0,
-            Err(i) => i % 2 == 1,
-        }
+        count_up_to(self.boundaries, value, count) % 2 == 1
     }
 
     /// Whether no element is a member.

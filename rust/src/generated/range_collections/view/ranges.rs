@@ -4,6 +4,7 @@
 use crate::generated::range_collections::comparisons::Comparisons;
 use crate::generated::range_collections::iter::Iter;
 use crate::generated::range_collections::view::RangeSetRef;
+use crate::generated::range_merge::count_up_to;
 use core::ops::Range;
 
 impl<'a, T: Ord> RangeSetRef<'a, T> {
@@ -31,7 +32,7 @@ impl<'a, T: Ord> RangeSetRef<'a, T> {
         if !range.start.cmp(&range.end).is_lt() {
             return false;
         }
-        let count = self.count_up_to(&range.start, &mut Comparisons::new());
+        let count = count_up_to(self.boundaries, &range.start, &mut Comparisons::new());
         if count % 2 == 1 {
             return true;
         }

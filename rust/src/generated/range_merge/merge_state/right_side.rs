@@ -22,17 +22,18 @@ pub trait RightSide<K> {
     /// ```
     fn at(&self, i: usize) -> &K;
 
-    /// Removes the first unread item, and answers what is put for it.
+    /// Removes as many unread items from the front as there are slots, and puts what stands for them there.
     ///
     /// # Contract
     ///
     /// ```text
-    /// requires 0 < length (unread self.old)
-    /// ensures rest: unread self.new ≡ drop 1 (unread self.old)
+    /// requires length slots.old ≤ length (unread self.old)
+    /// ensures rest: unread self.new ≡ drop (length slots.old) (unread self.old)
+    /// ensures len: length slots.new ≡ length slots.old
     /// ensures put: (ts : List (Taken K)) (kept : List K) → may_be ts kept → may_be (ts ++
-    ///     taken_right true 1 (unread self.old)) (kept ++ result ∷ [])
+    ///     taken_right true (length slots.old) (unread self.old)) (kept ++ slots.new)
     /// ```
-    fn take_front(&mut self) -> K;
+    fn put_front(&mut self, slots: &mut [K]);
 
     /// Drops the first `n` unread items.
     ///
