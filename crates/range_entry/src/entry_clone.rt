@@ -1,5 +1,5 @@
 //! Clones that are equal to their source.
-ghost use Rattle.std.specs.Prelude.{◌≡◌, ◌+◌, ◌≤◌, length, take, drop, All, IsOk, IfOk, OnOk};
+ghost use Rattle.std.specs.Prelude.{◌≡◌, ◌+◌, ◌≤◌, length, take, drop, All, IsTrue, IsOk, IfOk, OnOk};
 ghost use Rattle.std.specs.List.{AllZip};
 ghost use Rattle.std.specs.Vec.{vec_capacity};
 ghost use Rattle.std.specs.declared.cmp.Ordering.TheVariants.{Equal};
@@ -19,6 +19,14 @@ pub trait EntryClone: Ord {
         ensures same { IfOk result (λ copied. Self.cmp self.now copied ≡ Equal) }
         ensures copy { IfOk result (λ copied. is_copy self.now copied) }
         ensures succeeds { is_infallible self.now → IsOk result };
+
+    /// Whether no copy of any element is refused: `true` only where the type says so, as numbers, characters and references do.
+    #[inline(always)]
+    fn never_refuses() -> bool
+        ensures { IsTrue result → (x : Self) → is_infallible x }
+    {
+        false
+    }
 
     /// Appends a copy of each item to the list, or answers an error where there is no memory for all of them; the copies made before it stay. It asks for room once.
     fn append_clones(list: &mut Vec<Self>, items: &[Self]) -> Result<(), AllocError>

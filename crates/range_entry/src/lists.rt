@@ -97,5 +97,10 @@ impl<T: Ord> EntryClone for &[T] {
         Ok(*self)
     }
 
+    #[inline(always)]
+    fn never_refuses() -> bool {
+        true
+    }
+
     ghost copy_is_equal = { λ x y e. same_list-equal T.cmp T.total x.now y.now (ap (λ z. z.now) e) };
 }

@@ -130,7 +130,3 @@ module _ {K : Type 0} {order : K → K → Ordering} (o : IsTotalOrder order) (a
 
   pub runs-right_all : 0 < length b → length a ≡ 0 → slice_get (runs order a b) 0 ≡ Some (Right (length b))
   runs-right_all some none = rw (nil_from_length a none) (found.runs-right_all o b b_ascends some)
-
-  pub runs-none : length a ≡ 0 → length b ≡ 0 → slice_get (runs order a b) 0 ≡ None
-  unfolding runs_of owners
-  runs-none no_left no_right = rw (nil_from_length a no_left, nil_from_length b no_right) refl

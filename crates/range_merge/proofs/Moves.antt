@@ -32,7 +32,7 @@ module _ {K : Type 0} where
   take-in_place l to from n same = take-add to n l ∙ ap (λ k. take to l ++ take n (drop k l)) same
 
   -- the part of a list from a place on begins with the item there
-  drop-begins : (l old : List K) (q : ℕ) (d : K) → q < length l → q < length old → drop q l ≡ drop q old → (get_or l q d ≡ get_or old q d) × (drop (q + 1) l ≡ drop (q + 1) old)
+  pub drop-begins : (l old : List K) (q : ℕ) (d : K) → q < length l → q < length old → drop q l ≡ drop q old → (get_or l q d ≡ get_or old q d) × (drop (q + 1) l ≡ drop (q + 1) old)
   drop-begins l old q d within within_old same =
       let whole : get_or l q d ∷ drop (q + 1) l ≡ get_or old q d ∷ drop (q + 1) old = sym (drop_more l q d within) ∙ same ∙ drop_more old q d within_old in
       (cc, cc)

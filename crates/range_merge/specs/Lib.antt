@@ -6,6 +6,7 @@ pub mod Runs
 pub mod Counting
 pub mod Walk
 pub mod Steps
+pub mod Parts
 pub mod Galloping
 pub mod States
 pub mod Copies

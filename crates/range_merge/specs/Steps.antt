@@ -35,11 +35,6 @@ one_of_run Less = Left 1
 one_of_run Equal = Both
 one_of_run Greater = Right 1
 
--- the binary digits of a run's length, if there is a run
-abbrev pub digits_of_run : Option Run → ℕ
-digits_of_run None = 0
-digits_of_run (Some run) = digits (run_len run)
-
 module _ {K : Type 0} where
   -- the unread lists have the items of the run
   abbrev pub RunFits : Run → List K → List K → Type 0

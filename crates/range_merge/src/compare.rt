@@ -1,5 +1,5 @@
 //! What a merge is handed to compare items with and to copy them by. Nothing in this crate can make either, so each comparison of items is one call that its caller counts.
-ghost use Rattle.std.specs.Prelude.{◌≡◌, ℕ, ◌+◌, ◌-◌, ◌^◌, ◌<◌, ◌≤◌, length, take, drop, All, IsOk, IfOk, OnOk};
+ghost use Rattle.std.specs.Prelude.{◌≡◌, ℕ, ◌+◌, ◌-◌, ◌^◌, ◌<◌, ◌≤◌, length, take, drop, All, IsTrue, IsOk, IfOk, OnOk};
 ghost use Rattle.std.specs.Cmp.{IsTotalOrder};
 ghost use Rattle.std.specs.List.{AllZip};
 ghost use Rattle.std.specs.Vec.{vec_capacity};
@@ -42,6 +42,14 @@ pub trait Copier<K> {
     fn copy(&self, item: &K) -> Result<K, AllocError>
         ensures alike { IfOk result (λ copied. alike item.now copied) }
         ensures succeeds { is_infallible item.now → IsOk result };
+
+    /// Whether no copy of any item is refused: `true` only where the type of the items says so. Then a merge in place copies an item as it takes it, and makes no list of copies first.
+    #[inline(always)]
+    fn never_refuses(&self) -> bool
+        ensures { IsTrue result → (x : K) → is_infallible x }
+    {
+        false
+    }
 
     /// Appends a copy of each item, or answers an error where there is no memory for all of them; the copies made before it stay. It asks for room once.
     fn append(&self, list: &mut Vec<K>, items: &[K]) -> Result<(), AllocError>

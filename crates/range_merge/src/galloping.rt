@@ -8,8 +8,8 @@ ghost use Rattle.range_merge.specs.Runs.{digits};
 use crate::compare::Compare;
 use std::cmp::Ordering;
 
-/// A list whose items are read by their places.
-pub(crate) trait Side<K> {
+/// Items in a row that are read by their places.
+pub trait Side<K> {
     // The list.
     ghost items: { Self → List K };
 

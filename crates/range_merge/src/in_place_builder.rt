@@ -1,11 +1,13 @@
 //! A list that is rebuilt in place: some of its items are kept, some are dropped, and new ones are put between them.
 //!
 //! The kept items stand in front, then a gap, and then the unread ones. The gap is what was dropped, or, from the first put that finds none on, the room that was asked for: the unread items move up behind it, once at most.
-ghost use Rattle.std.specs.Prelude.{◌≡◌, ◌+◌, ◌-◌, ◌≤◌, ◌<◌, [], ◌++◌, ◌∷◌, length, take, drop, Some, slice_get, IsOk, IfOk, IfErr};
+ghost use Rattle.std.specs.Prelude.{◌≡◌, ◌+◌, ◌-◌, ◌≤◌, ◌<◌, true, List, [], ◌++◌, ◌∷◌, length, take, drop, Some, slice_get, IsOk, IfOk, IfErr};
 ghost use Rattle.range_merge.specs.Building.{IsSound};
+ghost use Rattle.range_merge.specs.Changes.{Taken, taken_right};
 ghost use Rattle.range_merge.specs.Copies.{items_if};
 
 use crate::in_place_memory::prepared;
+use crate::merge_state::RightSide;
 use crate::place::Place;
 use smallvec::SmallVec;
 use std::alloc::{AllocError, Global};
@@ -156,6 +158,22 @@ impl<K, const N: usize, L: Place<K>> InPlaceBuilder<K, N, L> {
         self.puts -= 1;
     }
 
+    /// Puts what the right side gives for its first `n` unread items. Where too few dropped items give way to them, the unread items move up first, far enough for all that the right side has.
+    #[inline(always)]
+    pub(crate) fn put_from<R: RightSide<K>>(&mut self, n: usize, right: &mut R)
+        requires some { n ≤ length (R.unread right.old) }
+        requires puts { length (R.unread right.old) ≤ self.old.puts_left }
+        ensures kept { (ts : List (Taken K)) → R.may_be ts self.old.kept →
+            R.may_be (ts ++ taken_right true n (R.unread right.old)) self.new.kept }
+        ensures unread { self.new.unread ≡ self.old.unread }
+        ensures puts_left { self.new.puts_left + n ≡ self.old.puts_left }
+        ensures rest { R.unread right.new ≡ drop n (R.unread right.old) }
+    {
+        self.start = put_items(&mut self.list, self.kept, self.start, self.puts, n, right);
+        self.kept += n;
+        self.puts -= n;
+    }
+
     /// The list, with the kept items followed by those that are still unread.
     pub fn finish(mut self) -> L
         ensures { L.items result ≡ self.kept ++ self.unread }
@@ -190,28 +208,64 @@ fn put_item<K, L: Place<K>>(list: &mut L, kept: usize, start: usize, puts: usize
     ensures kept { take (kept + 1) (L.items list.new) ≡ take kept (L.items list.old) ++ value ∷ [] }
     ensures unread { drop result (L.items list.new) ≡ drop start (L.items list.old) }
 {
-    let first = with_gap(list, kept, start, puts);
+    let first = with_gap(list, kept, start, puts, 1, puts);
     list.set(kept, value);
     first
 }
 
-// Opens a gap for as many items as may still be put, where there is none. It answers where the unread items begin now.
+// Puts what the right side gives for its first `n` unread items behind the kept ones, into the gap. It answers where the unread items begin now.
 #[inline(always)]
-fn with_gap<K, L: Place<K>>(list: &mut L, kept: usize, start: usize, puts: usize) -> usize
+fn put_items<K, L: Place<K>, R: RightSide<K>>(
+    list: &mut L,
+    kept: usize,
+    start: usize,
+    puts: usize,
+    n: usize,
+    right: &mut R,
+) -> usize
     requires sound { IsSound kept start puts (L.items list.old) (L.room list.old) }
-    requires some { 0 < puts }
+    requires some { n ≤ length (R.unread right.old) }
+    requires puts { length (R.unread right.old) ≤ puts }
+    ensures sound { IsSound (kept + n) result (puts - n) (L.items list.new) (L.room list.new) }
+    ensures kept { (ts : List (Taken K)) → R.may_be ts (take kept (L.items list.old)) →
+        R.may_be (ts ++ taken_right true n (R.unread right.old)) (take (kept + n) (L.items list.new)) }
+    ensures unread { drop result (L.items list.new) ≡ drop start (L.items list.old) }
+    ensures rest { R.unread right.new ≡ drop n (R.unread right.old) }
+{
+    let first = with_gap(list, kept, start, puts, n, right.len());
+    list.put_from(kept, n, right);
+    first
+}
+
+// Sees that the gap has room for `n` items: where it has not, it opens one for `wanted`. It answers where the unread items begin now.
+#[inline(always)]
+fn with_gap<K, L: Place<K>>(
+    list: &mut L,
+    kept: usize,
+    start: usize,
+    puts: usize,
+    n: usize,
+    wanted: usize,
+) -> usize
+    requires sound { IsSound kept start puts (L.items list.old) (L.room list.old) }
+    requires some { n ≤ wanted }
+    requires puts { wanted ≤ puts }
     ensures sound { IsSound kept result puts (L.items list.new) (L.room list.new) }
-    ensures gap { kept < result }
-    ensures whole { kept ≡ start → result ≡ start + puts }
-    ensures stays { kept < start → result ≡ start }
+    ensures gap { kept + n ≤ result }
     ensures kept { take kept (L.items list.new) ≡ take kept (L.items list.old) }
     ensures unread { drop result (L.items list.new) ≡ drop start (L.items list.old) }
+
+    // It opens as much as is wanted, and nothing where there is a gap.
+    ensures whole { start < kept + n → result ≡ kept + wanted }
+    ensures stays { kept + n ≤ start → result ≡ start }
 {
-    if kept < start {
+    let gap = start - kept;
+    if n <= gap {
         return start;
     }
-    list.open_gap(start, puts);
+    let more = wanted - gap;
+    list.open_gap(start, more);
     // Brings that the length is within usize.
     let _len = list.len();
-    start + puts
+    start + more
 }

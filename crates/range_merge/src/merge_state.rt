@@ -22,7 +22,8 @@ pub use buffer::{Buffer, BufferMergeState, NoRoom};
 pub use count::CountMergeState;
 pub use in_place::InPlaceMergeState;
 pub use in_place_ref::InPlaceMergeStateRef;
-pub(crate) use sink::append_copies;
+pub(crate) use right_side::RightSide;
+pub(crate) use sink::{Sink, append_copies};
 pub use small_vec::SmallVecMergeState;
 use std::alloc::AllocError;
 

@@ -1,68 +1,78 @@
-//! Where a list lies that is changed in place: by value or borrowed. What moves its items is generic in that.
-ghost use Rattle.std.specs.Prelude.{◌≡◌, ℕ, ◌+◌, ◌-◌, ◌≤◌, ◌<◌, List, [], ◌++◌, ◌∷◌, length, take, drop, reverse, Some, slice_get, slice_set};
+//! Where a list lies that is changed in place: in a list that may lie inline, by value or borrowed, or in an allocation. What moves its items is generic in that.
+ghost use Rattle.std.specs.Prelude.{◌≡◌, ℕ, ◌+◌, ◌-◌, ◌≤◌, ◌<◌, true, List, ◌++◌, length, take, drop, slice_set};
+ghost use Rattle.std.specs.Vec.{vec_capacity};
+ghost use Rattle.range_merge.specs.Changes.{Taken, taken_right};
 
+use crate::galloping::Side;
+use crate::merge_state::{RightSide, Sink};
 use smallvec::SmallVec;
 use std::alloc::Global;
 use std::default::MadeWith;
+use std::mem;
 
-/// A list of items that can be moved within it and taken from its end, and that grows only by a gap, where there is room for that.
-pub trait Place<K>: Drop {
-    // The items, and how many have room.
-    ghost items: { Self → List K };
-
+/// A list of items that can be moved within it, and that grows only by a gap, where there is room for that.
+pub trait Place<K>: Side<K> + Drop {
+    // How many items have room.
     ghost room: { Self → ℕ };
 
-    /// How many items there are.
-    fn len(&self) -> usize
-        ensures { result ≡ length (items self.now) };
-
-    /// The item at index `i`.
-    fn at(&self, i: usize) -> &K
-        requires { i < length (items self.now) }
-        ensures { slice_get (items self.now) i ≡ Some result.now };
-
-    /// Moves `n` items down from `from` to `to`. What they replace comes to lie behind them.
+    /// Moves `n` items down from `from` to `to`. What they replace comes to lie after them.
     fn move_down(&mut self, to: usize, from: usize, n: usize)
         requires ordered { to ≤ from }
-        requires within { from + n ≤ length (items self.old) }
-        ensures front { take (to + n) (items self.new) ≡
-            take to (items self.old) ++ take n (drop from (items self.old)) }
-        ensures behind { drop (from + n) (items self.new) ≡ drop (from + n) (items self.old) }
-        ensures len { length (items self.new) ≡ length (items self.old) }
+        requires within { from + n ≤ length (Self.items self.old) }
+        ensures front { take (to + n) (Self.items self.new) ≡
+            take to (Self.items self.old) ++ take n (drop from (Self.items self.old)) }
+        ensures behind { drop (from + n) (Self.items self.new) ≡ drop (from + n) (Self.items self.old) }
+        ensures len { length (Self.items self.new) ≡ length (Self.items self.old) }
         ensures room { room self.new ≡ room self.old };
 
     /// Opens a gap of `n` places at `at`: the items from there on move up by so many.
     fn open_gap(&mut self, at: usize, n: usize)
-        requires within { at ≤ length (items self.old) }
+        requires within { at ≤ length (Self.items self.old) }
         requires some { 0 < n }
-        requires enough { length (items self.old) + n ≤ room self.old }
-        ensures front { take at (items self.new) ≡ take at (items self.old) }
-        ensures behind { drop (at + n) (items self.new) ≡ drop at (items self.old) }
-        ensures len { length (items self.new) ≡ length (items self.old) + n }
+        requires enough { length (Self.items self.old) + n ≤ room self.old }
+        ensures front { take at (Self.items self.new) ≡ take at (Self.items self.old) }
+        ensures behind { drop (at + n) (Self.items self.new) ≡ drop at (Self.items self.old) }
+        ensures len { length (Self.items self.new) ≡ length (Self.items self.old) + n }
         ensures room { room self.new ≡ room self.old };
 
     /// Replaces the item at index `i`, and drops the old one.
     fn set(&mut self, i: usize, item: K)
-        requires { i < length (items self.old) }
-        ensures items { items self.new ≡ slice_set (items self.old) i item }
+        requires { i < length (Self.items self.old) }
+        ensures items { Self.items self.new ≡ slice_set (Self.items self.old) i item }
         ensures room { room self.new ≡ room self.old };
 
-    /// Removes the last item.
-    fn pop(&mut self) -> K
-        requires { 0 < length (items self.old) }
-        ensures items { items self.old ≡ items self.new ++ result ∷ [] }
-        ensures room { room self.new ≡ room self.old };
+    /// Puts what the right side gives for its first `n` unread items in the place of the `n` items at `at`.
+    fn put_from<R: RightSide<K>>(&mut self, at: usize, n: usize, right: &mut R)
+        requires within { at + n ≤ length (Self.items self.old) }
+        requires some { n ≤ length (R.unread right.old) }
+        ensures front { take at (Self.items self.new) ≡ take at (Self.items self.old) }
+        ensures behind { drop (at + n) (Self.items self.new) ≡ drop (at + n) (Self.items self.old) }
+        ensures len { length (Self.items self.new) ≡ length (Self.items self.old) }
+        ensures room { room self.new ≡ room self.old }
+        ensures rest { R.unread right.new ≡ drop n (R.unread right.old) }
+        ensures put { (ts : List (Taken K)) (kept : List K) → R.may_be ts kept →
+            R.may_be (ts ++ taken_right true n (R.unread right.old))
+            (kept ++ take n (drop at (Self.items self.new))) };
 
     /// Keeps the first `n` items, and drops the others.
     fn truncate(&mut self, n: usize)
-        ensures items { items self.new ≡ take n (items self.old) }
+        ensures items { Self.items self.new ≡ take n (Self.items self.old) }
         ensures room { room self.new ≡ room self.old };
 }
 
-impl<K: MadeWith<Global> + Drop, const N: usize> Place<K> for SmallVec<K, N> {
-    ghost items = { λ list. list.items };
+/// Items that are exchanged for others.
+pub trait Shelf<K>: Side<K> + Drop {
+    /// Exchanges the items from `at` on with `others`, as many as there are.
+    fn swap_with(&mut self, at: usize, others: &mut [K])
+        requires { at + length others.old ≤ length (Self.items self.old) }
+        ensures others { others.new ≡ take (length others.old) (drop at (Self.items self.old)) }
+        ensures behind { drop (at + length others.old) (Self.items self.new) ≡
+            drop (at + length others.old) (Self.items self.old) }
+        ensures len { length (Self.items self.new) ≡ length (Self.items self.old) };
+}
 
-    ghost room = { λ list. list.capacity };
+impl<K: MadeWith<Global> + Drop, const N: usize> Side<K> for SmallVec<K, N> {
+    ghost items = { λ list. list.items };
 
     #[inline(always)]
     fn len(&self) -> usize {
@@ -73,6 +83,10 @@ impl<K: MadeWith<Global> + Drop, const N: usize> Place<K> for SmallVec<K, N> {
     fn at(&self, i: usize) -> &K {
         &self.as_slice()[i]
     }
+}
+
+impl<K: MadeWith<Global> + Drop, const N: usize> Place<K> for SmallVec<K, N> {
+    ghost room = { λ list. list.capacity };
 
     #[inline(always)]
     fn move_down(&mut self, to: usize, from: usize, n: usize) {
@@ -90,11 +104,8 @@ impl<K: MadeWith<Global> + Drop, const N: usize> Place<K> for SmallVec<K, N> {
     }
 
     #[inline(always)]
-    fn pop(&mut self) -> K {
-        match SmallVec::pop(self) {
-            Some(item) => item,
-            None => unreachable!(),
-        }
+    fn put_from<R: RightSide<K>>(&mut self, at: usize, n: usize, right: &mut R) {
+        put_between(self.as_mut_slice(), at, n, right);
     }
 
     #[inline(always)]
@@ -103,10 +114,61 @@ impl<K: MadeWith<Global> + Drop, const N: usize> Place<K> for SmallVec<K, N> {
     }
 }
 
-impl<K, L: Place<K>> Place<K> for &mut L {
-    ghost items = { λ list. L.items list.now };
+impl<K: MadeWith<Global> + Drop, const N: usize> Shelf<K> for SmallVec<K, N> {
+    #[inline(always)]
+    fn swap_with(&mut self, at: usize, others: &mut [K]) {
+        exchange(self.as_mut_slice(), at, others);
+    }
+}
 
-    ghost room = { λ list. L.room list.now };
+impl<K> Side<K> for Vec<K> {
+    ghost items = { λ list. list.items };
+
+    #[inline(always)]
+    fn len(&self) -> usize {
+        Vec::len(self)
+    }
+
+    #[inline(always)]
+    fn at(&self, i: usize) -> &K {
+        &self.as_slice()[i]
+    }
+}
+
+// A list in an allocation, whose items are reached with no look at where they lie.
+impl<K: MadeWith<Global> + Drop> Place<K> for Vec<K> {
+    ghost room = { λ list. vec_capacity list };
+
+    #[inline(always)]
+    fn move_down(&mut self, to: usize, from: usize, n: usize) {
+        swap_down(self.as_mut_slice(), to, from, n);
+    }
+
+    #[inline(always)]
+    fn open_gap(&mut self, at: usize, n: usize) {
+        let alloc = *self.allocator();
+        let list = mem::replace(self, Vec::new(alloc));
+        *self = gap_opened(list, at, n);
+    }
+
+    #[inline(always)]
+    fn set(&mut self, i: usize, item: K) {
+        replace_item(self.as_mut_slice(), i, item);
+    }
+
+    #[inline(always)]
+    fn put_from<R: RightSide<K>>(&mut self, at: usize, n: usize, right: &mut R) {
+        put_between(self.as_mut_slice(), at, n, right);
+    }
+
+    #[inline(always)]
+    fn truncate(&mut self, n: usize) {
+        Vec::truncate(self, n);
+    }
+}
+
+impl<K, L: Side<K>> Side<K> for &mut L {
+    ghost items = { λ list. L.items list.now };
 
     #[inline(always)]
     fn len(&self) -> usize {
@@ -117,6 +179,10 @@ impl<K, L: Place<K>> Place<K> for &mut L {
     fn at(&self, i: usize) -> &K {
         (**self).at(i)
     }
+}
+
+impl<K, L: Place<K>> Place<K> for &mut L {
+    ghost room = { λ list. L.room list.now };
 
     #[inline(always)]
     fn move_down(&mut self, to: usize, from: usize, n: usize) {
@@ -134,14 +200,99 @@ impl<K, L: Place<K>> Place<K> for &mut L {
     }
 
     #[inline(always)]
-    fn pop(&mut self) -> K {
-        (**self).pop()
+    fn put_from<R: RightSide<K>>(&mut self, at: usize, n: usize, right: &mut R) {
+        (**self).put_from(at, n, right);
     }
 
     #[inline(always)]
     fn truncate(&mut self, n: usize) {
         (**self).truncate(n);
     }
+}
+
+/// A borrowed slice whose items are exchanged for others.
+#[derive(Drop)]
+pub struct Slots<'b, K> {
+    pub(crate) items: &'b mut [K],
+}
+
+impl<'b, K> Side<K> for Slots<'b, K> {
+    ghost items = { λ slots. slots.items.now };
+
+    #[inline(always)]
+    fn len(&self) -> usize {
+        self.items.len()
+    }
+
+    #[inline(always)]
+    fn at(&self, i: usize) -> &K {
+        let items = &*self.items;
+        &items[i]
+    }
+}
+
+impl<'b, K> Shelf<K> for Slots<'b, K> {
+    #[inline(always)]
+    fn swap_with(&mut self, at: usize, others: &mut [K]) {
+        exchange(self.items, at, others);
+    }
+}
+
+// Puts what the right side gives for its first `n` unread items in the place of the `n` items at `at`.
+#[inline(always)]
+fn put_between<K, R: RightSide<K>>(items: &mut [K], at: usize, n: usize, right: &mut R)
+    requires within { at + n ≤ length items.old }
+    requires some { n ≤ length (R.unread right.old) }
+    ensures front { take at items.new ≡ take at items.old }
+    ensures behind { drop (at + n) items.new ≡ drop (at + n) items.old }
+    ensures len { length items.new ≡ length items.old }
+    ensures rest { R.unread right.new ≡ drop n (R.unread right.old) }
+    ensures put { (ts : List (Taken K)) (kept : List K) → R.may_be ts kept →
+        R.may_be (ts ++ taken_right true n (R.unread right.old))
+        (kept ++ take n (drop at items.new)) }
+{
+    right.put_front(&mut items[at..at + n]);
+}
+
+// Exchanges the items from `at` on with `others`, as many as there are.
+#[inline(always)]
+fn exchange<K>(items: &mut [K], at: usize, others: &mut [K])
+    requires within { at + length others.old ≤ length items.old }
+    ensures others { others.new ≡ take (length others.old) (drop at items.old) }
+    ensures behind { drop (at + length others.old) items.new ≡ drop (at + length others.old) items.old }
+    ensures len { length items.new ≡ length items.old }
+{
+    if others.len() < MANY {
+        exchange_few(items, at, others);
+    } else {
+        exchange_many(items, at, others);
+    }
+}
+
+// Exchanges items one by one.
+#[inline(always)]
+fn exchange_few<K>(items: &mut [K], at: usize, others: &mut [K])
+    requires within { at + length others.old ≤ length items.old }
+    ensures others { others.new ≡ take (length others.old) (drop at items.old) }
+    ensures behind { drop (at + length others.old) items.new ≡ drop (at + length others.old) items.old }
+    ensures len { length items.new ≡ length items.old }
+{
+    // Brings that the length is within usize.
+    let _len = items.len();
+    for i in 0..others.len() {
+        mem::swap(&mut items[at + i], &mut others[i]);
+    }
+}
+
+// Exchanges items all at once.
+#[inline(always)]
+fn exchange_many<K>(items: &mut [K], at: usize, others: &mut [K])
+    requires within { at + length others.old ≤ length items.old }
+    ensures others { others.new ≡ take (length others.old) (drop at items.old) }
+    ensures behind { drop (at + length others.old) items.new ≡ drop (at + length others.old) items.old }
+    ensures len { length items.new ≡ length items.old }
+{
+    items[at..at + others.len()].swap_with_slice(others);
 }
 
 #[inline(always)]
@@ -231,15 +382,14 @@ fn swap_up<K>(items: &mut [K], at: usize, by: usize)
 }
 
 // Appends `n` blank items where there is room.
-fn push_blanks<K: MadeWith<Global> + Drop, const N: usize>(list: &mut SmallVec<K, N>, n: usize)
-    requires { length list.old.items + n ≤ list.old.capacity }
-    ensures front { take (length list.old.items) list.new.items ≡ list.old.items }
-    ensures len { length list.new.items ≡ length list.old.items + n }
-    ensures room { list.new.capacity ≡ list.old.capacity }
+fn push_blanks<K: MadeWith<Global>, L: Sink<K>>(list: &mut L, n: usize, alloc: Global)
+    requires { length (L.items list.old) + n ≤ L.room list.old }
+    ensures front { take (length (L.items list.old)) (L.items list.new) ≡ L.items list.old }
+    ensures len { length (L.items list.new) ≡ length (L.items list.old) + n }
+    ensures room { L.room list.new ≡ L.room list.old }
 {
-    let alloc = *list.allocator();
     for _i in 0..n {
-        list.push_reserved(K::made_with(alloc));
+        list.push(K::made_with(alloc));
     }
 }
 
@@ -258,14 +408,24 @@ fn open_gap_in<K: MadeWith<Global> + Drop, const N: usize>(
     ensures len { length list.new.items ≡ length list.old.items + n }
     ensures room { list.new.capacity ≡ list.old.capacity }
 {
-    push_blanks(list, n);
+    let alloc = *list.allocator();
+    push_blanks(list, n, alloc);
     swap_up(list.as_mut_slice(), at, n);
 }
 
-// Reverses the items of a list.
-pub(crate) fn turn_round<K: MadeWith<Global> + Drop, const N: usize>(list: &mut SmallVec<K, N>)
-    ensures items { list.new.items ≡ reverse list.old.items }
-    ensures room { list.new.capacity ≡ list.old.capacity }
+// The same for a list in an allocation. It is taken by value, so that where it lies stays in registers in a merge.
+#[inline(never)]
+fn gap_opened<K: MadeWith<Global> + Drop>(mut list: Vec<K>, at: usize, n: usize) -> Vec<K>
+    requires within { at ≤ length list.items }
+    requires some { 0 < n }
+    requires enough { length list.items + n ≤ vec_capacity list }
+    ensures front { take at result.items ≡ take at list.items }
+    ensures behind { drop (at + n) result.items ≡ drop at list.items }
+    ensures len { length result.items ≡ length list.items + n }
+    ensures room { vec_capacity result ≡ vec_capacity list }
 {
-    list.as_mut_slice().reverse();
+    let alloc = *list.allocator();
+    push_blanks(&mut list, n, alloc);
+    swap_up(list.as_mut_slice(), at, n);
+    list
 }

@@ -4,10 +4,12 @@ ghost use Rattle.std.specs.Prelude.{option_map, ◌≡◌, ◌+◌, ◌*◌, ◌
 ghost use Rattle.range_merge.specs.Boundaries.{IsAscending};
 ghost use Rattle.range_merge.specs.Counting.{AddsAtMost};
 ghost use Rattle.range_merge.specs.Runs.{digits, run_len, runs};
-ghost use Rattle.range_merge.specs.Steps.{FirstsStand, ahead_of, left_after, right_after};
+ghost use Rattle.range_merge.specs.Steps.{FirstsStand, ahead_of};
+ghost use Rattle.range_merge.specs.declared.runs.Run.TheVariants.{Left, Right};
+ghost use Rattle.std.specs.declared.cmp.Ordering.TheVariants.{Less, Greater};
 
 use crate::compare::Compare;
-use crate::galloping::{Side, gallop};
+use crate::galloping::{Front, Side, gallop};
 use crate::merge_state::MergeState;
 use std::cmp::Ordering;
 
@@ -82,51 +84,43 @@ pub fn run_length<S: MergeState, C: Compare<S::Item>>(state: &S, cmp: &mut C) ->
     }
 }
 
-/// The first run of two lists, and how the two items behind it stand to one another, if both lists go on.
-pub(crate) struct FirstRun {
-    pub(crate) run: Run,
-    pub(crate) behind: Option<Ordering>,
-}
-
-/// The first run of the unread lists of `state`, where it is known how their first items stand.
+/// The first run of the unread lists of `state`, where it is known to be of the left list, and how the two items behind it stand to one another.
 ///
 /// For a run of `n` items it makes at most twice as many comparisons as `n` has binary digits, less one.
 #[inline(always)]
-pub(crate) fn first_run<S: MergeState, C: Compare<S::Item>>(
-    state: &S,
-    how: Ordering,
-    cmp: &mut C,
-) -> FirstRun
-    requires firsts { FirstsStand C.order (S.left state.now) (S.right state.now) (Some how) }
+pub(crate) fn left_run<S: MergeState, C: Compare<S::Item>>(state: &S, cmp: &mut C) -> Front
+    requires firsts { FirstsStand C.order (S.left state.now) (S.right state.now) (Some Less) }
     requires left_ascending { IsAscending C.order (S.left state.now) }
     requires right_ascending { IsAscending C.order (S.right state.now) }
     requires made { C.count cmp.old < 2 ^ 127 }
     ensures first { slice_get (runs C.order (S.left state.now) (S.right state.now)) 0 ≡
-        Some result.run }
-    ensures behind { FirstsStand C.order (left_after result.run (S.left state.now))
-        (right_after result.run (S.right state.now)) result.behind }
+        Some (Left result.len) }
+    ensures behind { FirstsStand C.order (drop result.len (S.left state.now)) (S.right state.now) result.next }
     ensures counted { C.count cmp.old ≤ C.count cmp.new }
-    ensures comparisons { C.count cmp.new + 1 ≤ C.count cmp.old + 2 * digits (run_len result.run) }
+    ensures comparisons { C.count cmp.new + 1 ≤ C.count cmp.old + 2 * digits result.len }
 {
-    match how {
-        Ordering::Less => {
-            let front = gallop(&LeftOf(state), state.b_at(0), cmp);
-            FirstRun {
-                run: Run::Left(front.len),
-                behind: front.next,
-            }
-        }
-        Ordering::Equal => FirstRun {
-            run: Run::Both,
-            behind: order_at(state, 1, cmp),
-        },
-        Ordering::Greater => {
-            let front = gallop(&RightOf(state), state.a_at(0), cmp);
-            FirstRun {
-                run: Run::Right(front.len),
-                behind: reversed(front.next),
-            }
-        }
+    gallop(&LeftOf(state), state.b_at(0), cmp)
+}
+
+/// The first run of the unread lists of `state`, where it is known to be of the right list, and how the two items behind it stand to one another.
+///
+/// For a run of `n` items it makes at most twice as many comparisons as `n` has binary digits, less one.
+#[inline(always)]
+pub(crate) fn right_run<S: MergeState, C: Compare<S::Item>>(state: &S, cmp: &mut C) -> Front
+    requires firsts { FirstsStand C.order (S.left state.now) (S.right state.now) (Some Greater) }
+    requires left_ascending { IsAscending C.order (S.left state.now) }
+    requires right_ascending { IsAscending C.order (S.right state.now) }
+    requires made { C.count cmp.old < 2 ^ 127 }
+    ensures first { slice_get (runs C.order (S.left state.now) (S.right state.now)) 0 ≡
+        Some (Right result.len) }
+    ensures behind { FirstsStand C.order (S.left state.now) (drop result.len (S.right state.now)) result.next }
+    ensures counted { C.count cmp.old ≤ C.count cmp.new }
+    ensures comparisons { C.count cmp.new + 1 ≤ C.count cmp.old + 2 * digits result.len }
+{
+    let front = gallop(&RightOf(state), state.a_at(0), cmp);
+    Front {
+        len: front.len,
+        next: reversed(front.next),
     }
 }
 

@@ -1,6 +1,6 @@
 //! Operations that change a set in place. Of two boundaries that are equal, this set's own stays.
 //!
-//! Each asks for all its memory before it changes a boundary: room in this set for the boundaries of the other; with a view also a copy of each of its boundaries, even of those that are not kept. Where it is refused, the boundaries of this set are as they were, and a set that was handed over comes back as it was.
+//! Each asks for all its memory before it changes a boundary: room in this set for the boundaries of the other; with a view also a copy of each of its boundaries, even of those that are not kept, unless no copy of the element type is refused. Where it is refused, the boundaries of this set are as they were, and a set that was handed over comes back as it was.
 ghost use Rattle.std.specs.Prelude.{◌≡◌, ◌*◌, ◌^◌, ◌<◌, false};
 ghost use Rattle.range_merge.specs.Connective.{union_table, intersection_table, difference_table, symmetric_difference_table};
 ghost use Rattle.range_merge.specs.Counting.{AddsAtMost};

@@ -1,13 +1,24 @@
 //! A merge into its own left list, which leaves what it reads on the right to that side.
-ghost use Rattle.std.specs.Prelude.{◌≡◌, ◌+◌, ◌≤◌, false, List, [], ◌++◌, length, drop, ⊤};
-ghost use Rattle.range_merge.specs.Changes.{Taken, taken_right};
+ghost use Rattle.std.specs.Prelude.{◌≡◌, ◌+◌, ◌*◌, ◌^◌, ◌<◌, ◌≤◌, false, List, [], ◌++◌, length, drop, None, IfSome, ⊤};
+ghost use Rattle.std.specs.Vec.{vec_capacity};
+ghost use Rattle.smallvec.specs.SmallVec.{HasRoomFor};
+ghost use Rattle.range_merge.specs.Boundaries.{IsAscending};
+ghost use Rattle.range_merge.specs.Changes.{Taken, changes, taken_right};
+ghost use Rattle.range_merge.specs.Counting.{AddsAtMost};
+ghost use Rattle.range_merge.specs.Runs.{weight};
 
+use crate::compare::Compare;
 use crate::in_place_builder::InPlaceBuilder;
 use crate::merge_state::right_side::RightSide;
 use crate::merge_state::{MergeState, MergeStateMut};
+use crate::merging;
+use crate::operations::MergeOperation;
 use crate::place::Place;
-use std::alloc::AllocError;
+use smallvec::SmallVec;
+use std::alloc::{AllocError, Global};
+use std::default::MadeWith;
 use std::marker::Model;
+use std::mem;
 
 /// A state that keeps items of its left list, and puts what its right side gives between them. Once made it takes no memory and never refuses. `L` is the list, by value where a caller makes the state.
 #[derive(Drop)]
@@ -52,6 +63,23 @@ impl<K, const N: usize, R: RightSide<K>, L: Place<K>> PlacingMergeState<K, N, R,
             ac: false,
             bc: false,
         }
+    }
+
+    // The list, with the items at which the connective of `op` changes. It stands here, and not over the list and the right side, since a state made of those would owe the proof that it fits in memory.
+    #[inline(always)]
+    pub(crate) fn merged<O: MergeOperation, C: Compare<K>>(mut self, op: &O, cmp: &mut C) -> L
+        requires left_ascending { IsAscending C.order self.left }
+        requires right_ascending { IsAscending C.order self.right }
+        requires left_off { self.left_on ≡ false }
+        requires right_off { self.right_on ≡ false }
+        requires made { C.count cmp.old < 2 ^ 64 }
+        ensures taken { R.may_be [] self.kept → R.may_be
+            (changes C.order (O.connective op.now) self.left self.right) (L.items result) }
+        ensures comparisons { AddsAtMost (C.count cmp.old) (C.count cmp.new)
+            (2 * weight C.order self.left self.right) }
+    {
+        let _ = merging::merge(&mut self, op, cmp);
+        self.result()
     }
 
     /// The list, with the items that were taken. What is still unread is dropped.
@@ -155,11 +183,46 @@ fn put_front<K, const N: usize, R: RightSide<K>, L: Place<K>>(
     ensures rest { R.unread right.new ≡ drop n (R.unread right.old) }
     ensures puts { length (R.unread right.new) ≤ builder.new.puts_left }
 {
-    if !wanted {
+    if wanted {
+        builder.put_from(n, right);
+    } else {
         right.drop_front(n);
-        return;
     }
-    for _i in 0..n {
-        builder.put(right.take_front());
+}
+
+/// Merges a right side into the list `a`, where it lies: in `list`, if that was taken out of `a`, which is empty then. There is room for `extra` more items.
+#[inline(always)]
+pub(crate) fn merge_into<
+    K: MadeWith<Global> + Drop,
+    R: RightSide<K>,
+    O: MergeOperation,
+    C: Compare<K>,
+    const N: usize,
+>(a: &mut SmallVec<K, N>, list: Option<Vec<K>>, right: &mut R, extra: usize, op: &O, cmp: &mut C)
+    requires puts { length (R.unread right.old) ≤ extra }
+    requires right_ascending { IsAscending C.order (R.unread right.old) }
+    requires made { C.count cmp.old < 2 ^ 64 }
+    requires taken_out { IfSome list (λ items. IsAscending C.order items.items × (length items.items + extra ≤ vec_capacity items)) }
+    requires stays { list ≡ None → IsAscending C.order a.old.items × HasRoomFor a.old extra }
+    ensures taken { R.may_be [] [] → IfSome list (λ items. R.may_be
+        (changes C.order (O.connective op.now) items.items (R.unread right.old)) a.new.items) }
+    ensures taken_here { R.may_be [] [] → list ≡ None → R.may_be
+        (changes C.order (O.connective op.now) a.old.items (R.unread right.old)) a.new.items }
+    ensures comparisons { IfSome list (λ items. AddsAtMost (C.count cmp.old) (C.count cmp.new)
+        (2 * weight C.order items.items (R.unread right.old))) }
+    ensures comparisons_here { list ≡ None → AddsAtMost (C.count cmp.old) (C.count cmp.new)
+        (2 * weight C.order a.old.items (R.unread right.old)) }
+{
+    let alloc = *a.allocator();
+    match list {
+        Some(list) => {
+            let state = PlacingMergeState::<K, N, _, _>::over(list, right, extra);
+            *a = SmallVec::from_vec(state.merged(op, cmp));
+        }
+        None => {
+            let state = PlacingMergeState::<K, N, _, _>::over(&mut *a, right, extra);
+            let kept = mem::replace(state.merged(op, cmp), SmallVec::new(alloc));
+            *a = kept;
+        }
     }
 }

@@ -8,6 +8,7 @@ ghost use Rattle.range_merge.specs.Runs.{weight};
 ghost use Rattle.range_merge.specs.States.{HasRoomForAll};
 
 use crate::compare::{Compare, Copier};
+use crate::in_place_memory::fit_together;
 use crate::merge_state::output::Output;
 use crate::merge_state::over_slices::SliceMergeState;
 use crate::merge_state::sink::append_copies;
@@ -137,13 +138,6 @@ fn inline_if_few<K: MadeWith<Global> + Drop, const M: usize>(items: Vec<K>) -> S
         list.shrink_to_fit();
     }
     list
-}
-
-// Whether so many items of two lists are together at most `room`.
-fn fit_together(a: usize, b: usize, room: usize) -> bool
-    ensures { IsTrue result ↔ (a + b ≤ room) }
-{
-    a <= room && b <= room - a
 }
 
 /// How a list is appended to: by copies that the copier makes, behind the items that it had at first.
