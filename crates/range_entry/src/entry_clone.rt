@@ -1,5 +1,5 @@
 //! Clones that are equal to their source.
-ghost use Rattle.std.specs.Prelude.{◌≡◌, ◌+◌, ◌≤◌, length, take, drop, All, IsOk, IfOk, OnOk};
+ghost use Rattle.std.specs.Prelude.{◌≡◌, ◌+◌, ◌≤◌, length, take, drop, All, IsTrue, IsOk, IfOk, OnOk};
 ghost use Rattle.std.specs.List.{AllZip};
 ghost use Rattle.std.specs.Vec.{vec_capacity};
 ghost use Rattle.std.specs.declared.cmp.Ordering.TheVariants.{Equal};
@@ -8,19 +8,27 @@ use std::alloc::AllocError;
 
 /// An element type whose clones are equal to their source.
 pub trait EntryClone: Ord {
-    // A clone of this element is never refused.
+    // A clone of this element never fails.
     ghost is_infallible: { Self → Type 0 };
 
     // The second element counts as a copy of the first.
     ghost is_copy: { Self → Self → Type 0 };
 
-    /// A copy of this element, which is equal to it, or an error where there is no memory for it.
+    /// A copy of this element, which is equal to it, or an error if memory runs out.
     fn entry_clone(&self) -> Result<Self, AllocError>
         ensures same { IfOk result (λ copied. Self.cmp self.now copied ≡ Equal) }
         ensures copy { IfOk result (λ copied. is_copy self.now copied) }
         ensures succeeds { is_infallible self.now → IsOk result };
 
-    /// Appends a copy of each item to the list, or answers an error where there is no memory for all of them; the copies made before it stay. It asks for room once.
+    /// Whether copies of elements never fail: `true` only if the type says so, as numbers, characters and references do.
+    #[inline(always)]
+    fn never_refuses() -> bool
+        ensures { IsTrue result → (x : Self) → is_infallible x }
+    {
+        false
+    }
+
+    /// Appends a copy of each item to the list. If memory runs out it is an error, and the copies made before stay. It asks for room once.
     fn append_clones(list: &mut Vec<Self>, items: &[Self]) -> Result<(), AllocError>
         ensures kept { OnOk result (take (length list.old.items) list.new.items ≡ list.old.items) }
         ensures copied { OnOk result (AllZip is_copy items.now (drop (length list.old.items) list.new.items)) }

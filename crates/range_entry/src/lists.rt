@@ -1,5 +1,5 @@
 //! Lists, ordered item by item. The empty list is the least value.
-ghost use Rattle.std.specs.Prelude.{◌≡◌, ◌↔◌, [], ⊤, IsTrue, IsOk, IfOk};
+ghost use Rattle.std.specs.Prelude.{◌≡◌, ◌↔◌, [], ⊤, true, IsTrue, IsOk, IfOk};
 ghost use Rattle.std.specs.List.{AllZip};
 ghost use Rattle.std.specs.Cmp.Lexicographic.{slice_cmp};
 ghost use Rattle.std.specs.declared.cmp.Ordering.TheVariants.{Equal};
@@ -95,6 +95,13 @@ impl<T: Ord> EntryClone for &[T] {
         ensures same_reference { result ≡ Ok self.now }
     {
         Ok(*self)
+    }
+
+    #[inline(always)]
+    fn never_refuses() -> bool
+        ensures { result ≡ true }
+    {
+        true
     }
 
     ghost copy_is_equal = { λ x y e. same_list-equal T.cmp T.total x.now y.now (ap (λ z. z.now) e) };

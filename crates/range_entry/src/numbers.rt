@@ -1,5 +1,5 @@
 //! Whole numbers. Each type says what its least number is and which numbers it has; the rest is written once.
-ghost use Rattle.std.specs.Prelude.{◌≡◌, ◌≢◌, ◌^◌, ◌-◌, ◌<◌, ⊤, negsuc, FitsSigned};
+ghost use Rattle.std.specs.Prelude.{◌≡◌, ◌≢◌, ◌^◌, ◌-◌, ◌<◌, ⊤, true, negsuc, FitsSigned};
 ghost use Rattle.std.specs.Int.{w8, w16, w32, w64, w128};
 ghost use Rattle.std.specs.declared.cmp.Ordering.TheVariants.{Less};
 ghost use Rattle.std.proofs.Common.{rules};
@@ -65,6 +65,13 @@ impl<T: Number> EntryClone for T {
         ensures { result ≡ Ok self.now }
     {
         Ok(*self)
+    }
+
+    #[inline(always)]
+    fn never_refuses() -> bool
+        ensures { result ≡ true }
+    {
+        true
     }
 
     /// All at once.

@@ -1,4 +1,4 @@
-//! Element types with a least value, on which "all values", a range without a start and negation stand.
+//! Element types with a least value, which "all values", ranges without a start, and negation need.
 //!
 //! Not every element of a type need be a value, since a contract reads a `u8` as any number: the values of `u8` are 0 to 255. Whatever is in hand at run time is a value, as `known` promises.
 ghost use Rattle.std.specs.Prelude.{◌≡◌, ◌≢◌, ◌↔◌, IsTrue, IsOk, IfOk};
@@ -14,10 +14,10 @@ pub trait RangeSetEntry: Ord {
     // The least value. It exists also where there is no memory to make one.
     ghost least: { Self };
 
-    // `min_value` is never refused.
+    // `min_value` never fails.
     ghost is_min_infallible: { Type 0 };
 
-    /// The least value, or an error where there is no memory for it.
+    /// The least value, or an error if memory runs out.
     fn min_value(alloc: Global) -> Result<Self, AllocError>
         ensures least { IfOk result (λ value. Self.cmp value least ≡ Equal) }
         ensures succeeds { is_min_infallible → IsOk result };

@@ -1,5 +1,5 @@
 //! Texts, ordered by their bytes. The empty text is the least value.
-ghost use Rattle.std.specs.Prelude.{◌≡◌, [], ⊤, IfOk, IsOk, string_bytes};
+ghost use Rattle.std.specs.Prelude.{◌≡◌, [], ⊤, true, IfOk, IsOk, string_bytes};
 ghost use Rattle.std.specs.Cmp.Lexicographic.{slice_cmp};
 ghost use Rattle.std.specs.Ordering.{nat_cmp};
 ghost use Rattle.std.specs.String.{string_cmp};
@@ -40,7 +40,7 @@ impl EntryClone for String {
 
     ghost is_copy = { λ x y. string_bytes y ≡ string_bytes x };
 
-    /// The same text, or an error where there is no memory for it.
+    /// The same text, or an error if memory runs out.
     #[tactic(auto, using(crate::proofs::ItemOrder::equal_texts))]
     fn entry_clone(&self) -> Result<String, AllocError>
         ensures same { IfOk result (λ copied. string_cmp self.now copied ≡ Equal) }
@@ -89,6 +89,13 @@ impl EntryClone for &str {
         ensures same_reference { result ≡ Ok self.now }
     {
         Ok(*self)
+    }
+
+    #[inline(always)]
+    fn never_refuses() -> bool
+        ensures { result ≡ true }
+    {
+        true
     }
 
     ghost copy_is_equal = { λ x y e. same_text-equal x.now y.now (ap (λ z. z.now) e) };

@@ -1,4 +1,4 @@
--- How the first items stand behind a run, from what the search for the run's end saw.
+-- How the first items stand after a run, from what the search for the run's end saw.
 use Rattle.std.proofs.Common.{◌≡◌, ℕ, ◌≤◌, List, Option, Some, None, get_or, slice_get, drop, ap, ◌∙◌, get_or-drop, add-zero, length-drop, arith}
 use Rattle.std.specs.Option.{option_map}
 use Rattle.std.specs.Ordering.{ordering_reverse}
@@ -9,7 +9,7 @@ use Rattle.range_merge.specs.Galloping.{StandsAt}
 use Rattle.range_merge.specs.Steps.{FirstsStand, ahead_of}
 
 module _ {K : Type 0} (order : K → K → Ordering) (a b : List K) where
-  -- behind a run of the left's items that are below the right's first
+  -- after a run of the left's items that are below the right's first
   pub FirstsStand-left : (n : ℕ) (key : K) (next : Option Ordering) → slice_get b 0 ≡ Some key → StandsAt order a key n next → FirstsStand order (drop n a) b next
   FirstsStand-left n key None read at = λ some. absurd (omega (arith, length-drop n a, at, some))
   FirstsStand-left n key (Some how) read at = (
@@ -18,7 +18,7 @@ module _ {K : Type 0} (order : K → K → Ordering) (a b : List K) where
     λ d. ap (λ k. order (get_or (drop n a) 0 d) k) (get_or_from_slice_get b 0 key d read) ∙ rw (get_or-drop n a 0 d, add-zero) (at.1 d),
   )
 
-  -- behind a run of the right's items that are below the left's first
+  -- after a run of the right's items that are below the left's first
   pub FirstsStand-right : IsTotalOrder order → (n : ℕ) (key : K) (next : Option Ordering) → slice_get a 0 ≡ Some key → StandsAt order b key n next
       → FirstsStand order a (drop n b) (option_map ordering_reverse next)
   FirstsStand-right o n key None read at = λ some. omega (arith, length-drop n b, at)

@@ -111,7 +111,7 @@ module _ {K : Type 0} (order : K → K → Ordering) where
       ∙ ap (λ z. differ (d && is_le (order z x)) (member order (taken_items rest) x)) (taken_item-taken_of p)
 
 module _ {K : Type 0} {order : K → K → Ordering} (o : IsTotalOrder order) where
-  -- the owners behind the first are above its item
+  -- the owners after the first are above its item
   owners-above : (p : Owner K) (os : List (Owner K)) → OwnersAscend order (p ∷ os) → All (λ q. order (item_of q) (item_of p) ≡ Greater) os
   owners-above p os h k d within =
       Greater-from_less o _ _ (AllPairs-head (λ q r. order (item_of q) (item_of r) ≡ Less) p os h k d within)

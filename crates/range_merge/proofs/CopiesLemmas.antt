@@ -36,9 +36,9 @@ module _ {K : Type 0} (alike : K → K → Type 0) where
     appended = ap (λ zs. zs ++ y ∷ []) h.appended ∙ append_assoc old h.copies (y ∷ []);
   }
 
-  -- a list that stands in front of copies
-  pub IsAppended-behind : (xs old new : List K) → take (length old) new ≡ old → AllZip alike xs (drop (length old) new) → IsAppended alike xs old new
-  IsAppended-behind xs old new kept copied = record {
+  -- a list that stands before copies
+  pub IsAppended-after : (xs old new : List K) → take (length old) new ≡ old → AllZip alike xs (drop (length old) new) → IsAppended alike xs old new
+  IsAppended-after xs old new kept copied = record {
     copies = drop (length old) new;
     alike_to = copied;
     appended = sym (take-append-drop (length old) new) ∙ ap (λ front. front ++ drop (length old) new) kept;
@@ -83,7 +83,7 @@ module _ {K : Type 0} (alike : K → K → Type 0) where
         appended = sym (append-nil _ ∙ ap taken_items (take_all (length items) marked (omega (arith, long))) ∙ taken_items-map_left items);
       }
 
-  -- of a list that began with old, the copies stand behind old
+  -- of a list that began with old, the copies stand after old
   pub IsAppended-kept : (old : List K) (ts : List (Taken K)) (items : List K) → AreKeptThenCopies alike (length old) (map from_left old ++ ts) items → IsAppended alike (taken_items ts) old items
   IsAppended-kept old ts items h =
       let marked : List (Taken K) = map from_left old in
@@ -111,7 +111,7 @@ length-items_if : {K : Type 0} (take' : Bool) (items : List K) → length (items
 length-items_if true items = omega arith
 length-items_if false items = omega arith
 
--- a list that had room for n items has room for m more behind those that were appended
+-- a list that had room for n items has room for m more after those that were appended
 pub room_after : {K : Type 0} (alike : K → K → Type 0) (take' : Bool) (items old new : List K) (m n room room' : ℕ) → length items + m ≤ n
     → length old + n ≤ room → (length old + length items ≤ room → room' ≡ room) → IsAppended alike (items_if take' items) old new → length new + m ≤ room'
 room_after alike take' items old new m n room room' within fits same h =

@@ -2,9 +2,11 @@
 --     digits-suc, digits-le, digits-mono      how many digits a number has
 --     weight_of-cons                          the weight of a run and of the rest
 --     weight-le                               the weight is at most the lengths
-use Rattle.std.proofs.Common.{◌≡◌, refl, ap, ℕ, zero, suc, ◌+◌, ◌*◌, ◌/◌, ◌<◌, ◌≤◌, List, [], ◌∷◌, length, map, inl, inr, eq-zero-or-pos, arith}
+use Rattle.std.proofs.Common.{◌≡◌, refl, ap, ℕ, zero, suc, ◌+◌, ◌*◌, ◌/◌, ◌^◌, ◌<◌, ◌≤◌, List, [], ◌∷◌, length, map, inl, inr, eq-zero-or-pos, arith}
 use Rattle.std.proofs.lemmas.Int.Digits.{length-digits_of_step}
 use Rattle.std.proofs.lemmas.List.Sums.{sum_by-cons}
+use Rattle.std.proofs.lemmas.Nat.{pow_pos}
+use Rattle.std.proofs.Math.Nat.{pow-suc}
 use Rattle.std.proofs.lemmas.List.{length-map}
 use Rattle.std.specs.declared.cmp.Ordering.{Ordering}
 use Rattle.std.specs.declared.cmp.Ordering.TheVariants.{Less, Equal, Greater}
@@ -56,6 +58,13 @@ digits-double_and_one n =
     let e : (2 * n + 1) / 2 ≡ n = omega arith in
     omega (arith, digits-suc (2 * n + 1) (omega arith), ap digits e)
 
+-- a number from a power of two on has a digit more than the exponent says
+pub digits-pow : (b n : ℕ) → 2 ^ b ≤ n → b + 1 ≤ digits n
+digits-pow zero n h = omega (arith, digits-half 0 n (omega arith) (omega arith))
+digits-pow (suc b) n h =
+    let double : 2 ^ suc b ≡ 2 ^ b * 2 = pow-suc 2 b in
+    omega (arith, digits-suc n (omega (arith, pow_pos b)), digits-pow b (n / 2) (omega arith))
+
 -- the first run's weight and that of the rest
 pub weight_of-cons : (r : Run) (rs : List Run) → weight_of (r ∷ rs) ≡ digits (run_len r) + weight_of rs
 unfolding weight_of
@@ -93,11 +102,11 @@ module _ {K : Type 0} where
   total_len-runs_of (p ∷ os) = omega (arith, total_len-joined p (runs_of os), total_len-runs_of os)
 
   module _ (order : K → K → Ordering) where
-    length-with_right_at : (r : Ordering) (y : K) (p : Owner K) (os behind : List (Owner K)) → length behind ≤ length os + 1 →
-        length (with_right_at order r y p os behind) ≤ length (p ∷ os) + 1
-    length-with_right_at Less y p os behind h = omega arith
-    length-with_right_at Equal y p os behind h = omega arith
-    length-with_right_at Greater y p os behind h = omega arith
+    length-with_right_at : (r : Ordering) (y : K) (p : Owner K) (os after : List (Owner K)) → length after ≤ length os + 1 →
+        length (with_right_at order r y p os after) ≤ length (p ∷ os) + 1
+    length-with_right_at Less y p os after h = omega arith
+    length-with_right_at Equal y p os after h = omega arith
+    length-with_right_at Greater y p os after h = omega arith
 
     -- an item of the right adds an owner at most
     length-with_right : (y : K) (os : List (Owner K)) → length (with_right order y os) ≤ length os + 1

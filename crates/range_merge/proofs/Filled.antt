@@ -67,10 +67,10 @@ module _ {K : Type 0} where
       filled.written (omega (arith, fits, same)) ∙ ap (λ xs. taken_items xs ++ drop given (taken_items (take (length new) (map from_left items ++ ts)))) rest
       ∙ ap (λ xs. taken_items ts ++ drop given xs) front
 
--- a merge that cannot be refused and never stops leaves the whole output, behind what was there
-pub whole-output_behind : {K E : Type 0} (r : Result Bool E) (old new : List (Taken K) → Type 0) (first items : List (Taken K)) (X : Type 0) → IsOk r
+-- a merge that cannot be refused and never stops leaves the whole output, after what was there
+pub whole-output_after : {K E : Type 0} (r : Result Bool E) (old new : List (Taken K) → Type 0) (first items : List (Taken K)) (X : Type 0) → IsOk r
     → IfOk r (λ more. more ≡ true → (before : List (Taken K)) → old before → new (before ++ items))
     → IfOk r (λ more. more ≡ false → (false ≡ true) × X) → old first → new (first ++ items)
-whole-output_behind (Ok true) old new first items X ok through stopped start = through refl first start
-whole-output_behind (Ok false) old new first items X ok through stopped start = cc ((stopped refl).0)
-whole-output_behind (Err e) old new first items X ok through stopped start = cc
+whole-output_after (Ok true) old new first items X ok through stopped start = through refl first start
+whole-output_after (Ok false) old new first items X ok through stopped start = cc ((stopped refl).0)
+whole-output_after (Err e) old new first items X ok through stopped start = cc

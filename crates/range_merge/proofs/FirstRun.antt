@@ -10,7 +10,7 @@ use Rattle.range_merge.specs.Changes.{Taken, changes, from_left, from_right, tak
 use Rattle.range_merge.specs.Owners.{Owner, left_only, right_only, shared, owners}
 use Rattle.range_merge.specs.Runs.{runs, runs_of, run_len, weight}
 use Rattle.range_merge.specs.Walk.{walk}
-use Rattle.range_merge.specs.Steps.{RunFits, StandsInFront, StandsFirst, FirstsStand, one_of_run}
+use Rattle.range_merge.specs.Steps.{RunFits, StandsAtStart, StandsFirst, FirstsStand, one_of_run}
 use Rattle.range_merge.specs.declared.runs.Run.{Run}
 use Rattle.range_merge.specs.declared.runs.Run.TheVariants.{Left, Right, Both}
 use Rattle.range_merge.proofs.Digits as numbers
@@ -48,7 +48,7 @@ module _ {K : Type 0} where
   run_len-some Both a b fits = omega arith
 
 module _ {K : Type 0} {order : K → K → Ordering} (o : IsTotalOrder order) (a b : List K) (a_ascends : IsAscending order a) (b_ascends : IsAscending order b) where
-  front_left : (n : ℕ) → 1 ≤ n → n ≤ length a → owners order a b ≡ map left_only (take n a) ++ owners order (drop n a) b → StandsInFront order (Left n) a b
+  front_left : (n : ℕ) → 1 ≤ n → n ≤ length a → owners order a b ≡ map left_only (take n a) ++ owners order (drop n a) b → StandsAtStart order (Left n) a b
   unfolding runs_of
   front_left n some within are = record {
     fits = (some, within);
@@ -59,7 +59,7 @@ module _ {K : Type 0} {order : K → K → Ordering} (o : IsTotalOrder order) (a
     walked = λ f ac bc. ap (walk f ac bc) are ∙ walk-left f ac bc n a _ within;
   }
 
-  front_right : (n : ℕ) → 1 ≤ n → n ≤ length b → owners order a b ≡ map right_only (take n b) ++ owners order a (drop n b) → StandsInFront order (Right n) a b
+  front_right : (n : ℕ) → 1 ≤ n → n ≤ length b → owners order a b ≡ map right_only (take n b) ++ owners order a (drop n b) → StandsAtStart order (Right n) a b
   unfolding runs_of
   front_right n some within are = record {
     fits = (some, within);
@@ -73,14 +73,14 @@ module _ {K : Type 0} {order : K → K → Ordering} (o : IsTotalOrder order) (a
   pub stands_first : (run : Run) → slice_get (runs order a b) 0 ≡ Some run → StandsFirst order run a b
   stands_first (Left n) e =
       let first : FirstLeft order a b n = first_left o a b a_ascends b_ascends n e in
-      record { in_front = front_left n first.some first.within first.owners_are; weighs = first.weight_is }
+      record { at_start = front_left n first.some first.within first.owners_are; weighs = first.weight_is }
   stands_first (Right n) e =
       let first : FirstRight order a b n = first_right o a b a_ascends b_ascends n e in
-      record { in_front = front_right n first.some first.within first.owners_are; weighs = first.weight_is }
+      record { at_start = front_right n first.some first.within first.owners_are; weighs = first.weight_is }
   stands_first Both e =
       let first : FirstBoth order a b = first_both o a b a_ascends b_ascends e in
       record {
-        in_front = record {
+        at_start = record {
           fits = (first.left_some, first.right_some);
           its_owners = shared first.left_item first.right_item ∷ [];
           owners_are = first.owners_are;
@@ -100,23 +100,23 @@ module _ {K : Type 0} {order : K → K → Ordering} (o : IsTotalOrder order) (a
   weight-some_at None e some = absurd (omega (arith, some, ap length (used_up e).0))
   weight-some_at (Some run) e some =
       let first : StandsFirst order run a b = stands_first run e in
-      omega (arith, first.weighs, numbers.digits-half 0 (run_len run) (run_len-some run a b first.in_front.fits) (omega arith))
+      omega (arith, first.weighs, numbers.digits-half 0 (run_len run) (run_len-some run a b first.at_start.fits) (omega arith))
 
   -- lists with an item weigh something
   pub weight-some : 1 ≤ length a → 1 ≤ weight order a b
   weight-some some = weight-some_at (slice_get (runs order a b) 0) refl some
 
-  one_stands_at : (how : Ordering) → FirstsStand order a b (Some how) → StandsInFront order (one_of_run how) a b
+  one_stands_at : (how : Ordering) → FirstsStand order a b (Some how) → StandsAtStart order (one_of_run how) a b
   one_stands_at Less firsts =
       front_left 1 (omega arith) firsts.0 (found.owners-left o a b a_ascends b_ascends 1 firsts.0 firsts.1 firsts.2)
   one_stands_at Equal firsts =
-      (stands_first Both (found.runs-both o a b a_ascends b_ascends firsts.0 firsts.1 firsts.2)).in_front
+      (stands_first Both (found.runs-both o a b a_ascends b_ascends firsts.0 firsts.1 firsts.2)).at_start
   one_stands_at Greater firsts =
       front_right 1 (omega arith) firsts.1
       (found.owners-right o a b a_ascends b_ascends 1 firsts.1 firsts.0 (λ d. Less-from_greater o (get_or a 0 d) (get_or b 0 d) (firsts.2 d)))
 
-  -- one item of the first run stands in front of both lists
-  pub one_stands : (run : Run) (how : Ordering) → run ≡ one_of_run how → FirstsStand order a b (Some how) → StandsInFront order run a b
+  -- one item of the first run stands at the start of both lists
+  pub one_stands : (run : Run) (how : Ordering) → run ≡ one_of_run how → FirstsStand order a b (Some how) → StandsAtStart order run a b
   one_stands run how e firsts = rw e (one_stands_at how firsts)
 
   pub weight-le : weight order a b ≤ length a + length b
@@ -130,7 +130,3 @@ module _ {K : Type 0} {order : K → K → Ordering} (o : IsTotalOrder order) (a
 
   pub runs-right_all : 0 < length b → length a ≡ 0 → slice_get (runs order a b) 0 ≡ Some (Right (length b))
   runs-right_all some none = rw (nil_from_length a none) (found.runs-right_all o b b_ascends some)
-
-  pub runs-none : length a ≡ 0 → length b ≡ 0 → slice_get (runs order a b) 0 ≡ None
-  unfolding runs_of owners
-  runs-none no_left no_right = rw (nil_from_length a no_left, nil_from_length b no_right) refl

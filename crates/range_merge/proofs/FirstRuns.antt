@@ -47,10 +47,10 @@ unfolding digits
 digits-one = refl
 
 module _ {K : Type 0} {order : K → K → Ordering} (o : IsTotalOrder order) where
-  -- the owners behind the first few are those of the rests
-  behind : (n : ℕ) (a b a' b' : List K) → IsOwners order a b (owners order a b) →
+  -- the owners after the first few are those of the rests
+  after : (n : ℕ) (a b a' b' : List K) → IsOwners order a b (owners order a b) →
       left_items (drop n (owners order a b)) ≡ a' → right_items (drop n (owners order a b)) ≡ b' → drop n (owners order a b) ≡ owners order a' b'
-  behind n a b a' b' h lefts rights = owners-unique o a' b' (drop n (owners order a b)) (record {
+  after n a b a' b' h lefts rights = owners-unique o a' b' (drop n (owners order a b)) (record {
     ascend = AllPairs-drop (Ascends order) n (owners order a b) h.ascend;
     lefts = lefts;
     rights = rights;
@@ -65,7 +65,7 @@ module _ {K : Type 0} {order : K → K → Ordering} (o : IsTotalOrder order) wh
 
   FirstLeft-from_leads : (a b : List K) (n : ℕ) → IsOwners order a b (owners order a b) → LeadsLeft (owners order a b) n → FirstLeft order a b n
   FirstLeft-from_leads a b n h s =
-      let rest = behind n a b (drop n a) b h (s.lefts ∙ ap (drop n) h.lefts) (s.rights ∙ h.rights) in
+      let rest = after n a b (drop n a) b h (s.lefts ∙ ap (drop n) h.lefts) (s.rights ∙ h.rights) in
       record {
         some = s.some;
         within = omega (arith, s.within, ap length h.lefts);
@@ -75,7 +75,7 @@ module _ {K : Type 0} {order : K → K → Ordering} (o : IsTotalOrder order) wh
 
   FirstRight-from_leads : (a b : List K) (n : ℕ) → IsOwners order a b (owners order a b) → LeadsRight (owners order a b) n → FirstRight order a b n
   FirstRight-from_leads a b n h s =
-      let rest = behind n a b a (drop n b) h (s.lefts ∙ h.lefts) (s.rights ∙ ap (drop n) h.rights) in
+      let rest = after n a b a (drop n b) h (s.lefts ∙ h.lefts) (s.rights ∙ ap (drop n) h.rights) in
       record {
         some = s.some;
         within = omega (arith, s.within, ap length h.rights);

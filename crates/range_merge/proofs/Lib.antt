@@ -11,6 +11,7 @@ pub mod FirstRuns
 pub mod RunsFound
 pub mod RunsRead
 pub mod Fronts
+pub mod Searches
 pub mod Gallops
 pub mod Ahead
 pub mod WalkLemmas
@@ -18,13 +19,14 @@ pub mod ChangesLemmas
 pub mod SameSet
 pub mod FirstRun
 pub mod MergeLoop
+pub mod PartsOfMerge
 pub mod Testing
 pub mod CopiesLemmas
 pub mod Outputs
 pub mod Counts
 pub mod Marks
 pub mod Moves
-pub mod BuildingLemmas
+pub mod Exchanges
 pub mod TakenInPlace
 pub mod OwnOrCopies
 pub mod Filled

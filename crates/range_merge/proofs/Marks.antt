@@ -15,19 +15,19 @@ use Rattle.range_merge.proofs.OwnersLemmas.{Above, All-left_items, IsGood, IsGoo
 pub Contains-here : {K : Type 0} (x : K) (xs : List K) → Contains (x ∷ xs) x
 Contains-here x xs = (0, omega arith, refl)
 
-pub Contains-behind : {K : Type 0} (x y : K) (xs : List K) → Contains xs y → Contains (x ∷ xs) y
-Contains-behind x y xs (k, within, is) = (suc k, omega arith, is)
+pub Contains-after : {K : Type 0} (x y : K) (xs : List K) → Contains xs y → Contains (x ∷ xs) y
+Contains-after x y xs (k, within, is) = (suc k, omega arith, is)
 
 module _ {K : Type 0} {order : K → K → Ordering} (o : IsTotalOrder order) where
-  -- an owner in front keeps the marks of those behind it true
-  IsMarkedTruly-behind_left : (x : K) (l r : List K) (t : Taken K) → IsMarkedTruly order l r t → order x (taken_item t) ≡ Less → IsMarkedTruly order (x ∷ l) r t
-  IsMarkedTruly-behind_left x l r (from_left z) h below = Contains-behind x z l h
-  IsMarkedTruly-behind_left x l r (from_right z) h below =
+  -- an owner put first keeps the marks of those after it true
+  IsMarkedTruly-after_left : (x : K) (l r : List K) (t : Taken K) → IsMarkedTruly order l r t → order x (taken_item t) ≡ Less → IsMarkedTruly order (x ∷ l) r t
+  IsMarkedTruly-after_left x l r (from_left z) h below = Contains-after x z l h
+  IsMarkedTruly-after_left x l r (from_right z) h below =
       (h.0, All-cons (λ w. order w z ≢ Equal) x l (λ same. let no : Less ≡ Equal = sym below ∙ same in cc) h.1)
 
-  IsMarkedTruly-behind_right : (y : K) (l r : List K) (t : Taken K) → IsMarkedTruly order l r t → IsMarkedTruly order l (y ∷ r) t
-  IsMarkedTruly-behind_right y l r (from_left z) h = h
-  IsMarkedTruly-behind_right y l r (from_right z) h = (Contains-behind y z r h.0, h.1)
+  IsMarkedTruly-after_right : (y : K) (l r : List K) (t : Taken K) → IsMarkedTruly order l r t → IsMarkedTruly order l (y ∷ r) t
+  IsMarkedTruly-after_right y l r (from_left z) h = h
+  IsMarkedTruly-after_right y l r (from_right z) h = (Contains-after y z r h.0, h.1)
 
   marks : (os : List (Owner K)) → IsGood order os → All (λ p. IsMarkedTruly order (left_items os) (right_items os) (taken_of p)) os
   marks [] good = All-nil (λ p. IsMarkedTruly order [] [] (taken_of p))
@@ -35,7 +35,7 @@ module _ {K : Type 0} {order : K → K → Ordering} (o : IsTotalOrder order) wh
       let rest = marks os (IsOwners-tail order _ _ (left_only x) os good) in
       let above = IsOwners-above order _ _ (left_only x) os good in
       All-cons (λ p. IsMarkedTruly order (x ∷ left_items os) (right_items os) (taken_of p)) (left_only x) os (Contains-here x (left_items os))
-      (λ k d within. IsMarkedTruly-behind_left x (left_items os) (right_items os) (taken_of (get_or os k d)) (rest k d within)
+      (λ k d within. IsMarkedTruly-after_left x (left_items os) (right_items os) (taken_of (get_or os k d)) (rest k d within)
       (ap (order x) (taken_item-taken_of (get_or os k d)) ∙ above k d within))
   marks (right_only y ∷ os) good =
       let rest = marks os (IsOwners-tail order _ _ (right_only y) os good) in
@@ -43,13 +43,13 @@ module _ {K : Type 0} {order : K → K → Ordering} (o : IsTotalOrder order) wh
       let none : All (λ w. order w y ≢ Equal) (left_items os) =
       All-weaker (Above order y) (λ w. order w y ≢ Equal) (λ w less same. let no : Greater ≡ Equal = sym (Greater-from_less o y w less) ∙ same in cc) (left_items os) (All-left_items (Above order y) os above) in
       All-cons (λ p. IsMarkedTruly order (left_items os) (y ∷ right_items os) (taken_of p)) (right_only y) os (Contains-here y (right_items os), none)
-      (λ k d within. IsMarkedTruly-behind_right y (left_items os) (right_items os) (taken_of (get_or os k d)) (rest k d within))
+      (λ k d within. IsMarkedTruly-after_right y (left_items os) (right_items os) (taken_of (get_or os k d)) (rest k d within))
   marks (shared x y ∷ os) good =
       let rest = marks os (IsOwners-tail order _ _ (shared x y) os good) in
       let above = IsOwners-above order _ _ (shared x y) os good in
       All-cons (λ p. IsMarkedTruly order (x ∷ left_items os) (y ∷ right_items os) (taken_of p)) (shared x y) os (Contains-here x (left_items os))
-      (λ k d within. IsMarkedTruly-behind_left x (left_items os) (y ∷ right_items os) (taken_of (get_or os k d))
-      (IsMarkedTruly-behind_right y (left_items os) (right_items os) (taken_of (get_or os k d)) (rest k d within))
+      (λ k d within. IsMarkedTruly-after_left x (left_items os) (y ∷ right_items os) (taken_of (get_or os k d))
+      (IsMarkedTruly-after_right y (left_items os) (right_items os) (taken_of (get_or os k d)) (rest k d within))
       (ap (order x) (taken_item-taken_of (get_or os k d)) ∙ above k d within))
 
   -- each change is marked by the list that it is taken from

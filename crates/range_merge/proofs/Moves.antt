@@ -1,9 +1,9 @@
 -- Items that move within a list, down or up, a gap that is opened in it, and a list that is written back.
 use Rattle.std.proofs.Common.{◌≡◌, ℕ, ◌+◌, ◌-◌, ◌<◌, ◌≤◌, List, [], ◌∷◌, ◌++◌, length, take, drop, get_or, set, sym, ap, ◌∙◌, arith, append_assoc}
 use Rattle.std.specs.List.{swap, refill}
-use Rattle.std.proofs.lemmas.List.{take_at, take-set-le, take_more_set, drop-set-lt, length-take-le, length-drop, take_more, drop_more, get_or-drop, take-append-le, drop-take, drop-drop, drop_at}
+use Rattle.std.proofs.lemmas.List.{take_at, take-set, take-set-le, take-take, take_more_set, drop-set, drop-set-lt, length-set, length-take-le, length-drop, take_more, drop_more, get_or-drop, get_or-take, take-append-le, drop-take, drop-drop, drop_at}
 use Rattle.std.proofs.lemmas.List.Edits.{swap_is}
-use Rattle.std.proofs.Math.Seq.{take-add, take-append-add, drop-append-add}
+use Rattle.std.proofs.Math.Seq.{drop-length, take-add, take-append-add, drop-append-add}
 use borrow.Rule.Slice.PartMut.{put_mid, post_of}
 
 -- a list written whole over another of its length
@@ -11,7 +11,7 @@ pub refill_all : {K : Type 0} (xs ys : List K) → length ys ≡ length xs → r
 refill_all xs ys e = take_at ys (drop (length ys) xs) (length xs) e
 
 module _ {K : Type 0} where
-  -- what is behind two places that are exchanged, and what is up to the first
+  -- what is after two places that are exchanged, and what is up to the first
   take-swap : (l : List K) (p q : ℕ) (d : K) → p < q → q < length l → take (p + 1) (swap l p q) ≡ take p l ++ get_or l q d ∷ []
   take-swap l p q d below within =
       let first : p + 1 ≤ q = omega arith in
@@ -32,7 +32,7 @@ module _ {K : Type 0} where
   take-in_place l to from n same = take-add to n l ∙ ap (λ k. take to l ++ take n (drop k l)) same
 
   -- the part of a list from a place on begins with the item there
-  drop-begins : (l old : List K) (q : ℕ) (d : K) → q < length l → q < length old → drop q l ≡ drop q old → (get_or l q d ≡ get_or old q d) × (drop (q + 1) l ≡ drop (q + 1) old)
+  pub drop-begins : (l old : List K) (q : ℕ) (d : K) → q < length l → q < length old → drop q l ≡ drop q old → (get_or l q d ≡ get_or old q d) × (drop (q + 1) l ≡ drop (q + 1) old)
   drop-begins l old q d within within_old same =
       let whole : get_or l q d ∷ drop (q + 1) l ≡ get_or old q d ∷ drop (q + 1) old = sym (drop_more l q d within) ∙ same ∙ drop_more old q d within_old in
       (cc, cc)
@@ -41,14 +41,14 @@ module _ {K : Type 0} where
   pub move_down-more : (old l : List K) (to from i : ℕ) → to < from → from + i < length old → length l ≡ length old
       → take (to + i) l ≡ take to old ++ take i (drop from old) → drop (from + i) l ≡ drop (from + i) old
       → (take (to + (i + 1)) (swap l (to + i) (from + i)) ≡ take to old ++ take (i + 1) (drop from old)) × (drop (from + (i + 1)) (swap l (to + i) (from + i)) ≡ drop (from + (i + 1)) old)
-  move_down-more [] l to from i below within same front behind = absurd (omega arith)
-  move_down-more (d ∷ rest) l to from i below within same front behind =
+  move_down-more [] l to from i below within same front after = absurd (omega arith)
+  move_down-more (d ∷ rest) l to from i below within same front after =
       let old : List K = d ∷ rest in
       let first : to + i < from + i = omega arith in
       let in_l : from + i < length l = omega arith in
       let step_to : to + (i + 1) ≡ (to + i) + 1 = omega arith in
       let step_from : from + (i + 1) ≡ (from + i) + 1 = omega arith in
-      let begins = drop-begins l old (from + i) d in_l within behind in
+      let begins = drop-begins l old (from + i) d in_l within after in
       let in_part : i < length (drop from old) = simp length-drop (omega arith) in (
         ap (λ k. take k (swap l (to + i) (from + i))) step_to
             ∙ take-swap l (to + i) (from + i) d first in_l
@@ -62,7 +62,43 @@ module _ {K : Type 0} where
             ∙ ap (λ k. drop k old) (sym step_from),
       )
 
-  -- what is behind as many turned items as have come to the front
+  -- before the first item is moved up
+  pub moved_up-none : (old : List K) (by : ℕ) → by ≤ length old → drop (length old - by + by) old ≡ drop (length old - by) (take (length old - by) old)
+  moved_up-none old by within =
+      let few : ℕ = length old - by in
+      ap (λ k. drop k old) (omega arith) ∙ drop-length old ∙ sym (drop-length (take few old)) ∙ ap (λ k. drop k (take few old)) (length-take-le few old (omega arith))
+
+  -- one item more moved up, the last of those that are still to be moved
+  pub move_up-more : (old l : List K) (by i j : ℕ) → 0 < by → j + 1 ≡ i → i + by ≤ length old → length l ≡ length old
+      → take i l ≡ take i old → drop (i + by) l ≡ drop i (take (length old - by) old)
+      → (take j (swap l j (j + by)) ≡ take j old) × (drop (j + by) (swap l j (j + by)) ≡ drop j (take (length old - by) old))
+  move_up-more [] l by i j some next within same front after = absurd (omega arith)
+  move_up-more (d ∷ rest) l by i j some next within same front after =
+      let old : List K = d ∷ rest in
+      let few : ℕ = length old - by in
+      let moved : K = get_or l j d in
+      let into : List K = set l j (get_or l (j + by) d) in
+      let j_in : j < length l = omega arith in
+      let to_in : j + by < length l = omega arith in
+      let to_in_into : j + by < length into = omega (arith, length-set l j (get_or l (j + by) d)) in
+      let short : few ≤ length old = omega arith in
+      let is : set into (j + by) moved ≡ swap l j (j + by) = swap_is l j (j + by) d j_in to_in in
+      let own : moved ≡ get_or (take few old) j d =
+      sym (get_or-take i l j d (omega arith)) ∙ ap (λ ys. get_or ys j d) front ∙ get_or-take i old j d (omega arith) ∙ sym (get_or-take few old j d (omega arith)) in (
+        ap (take j) (sym is)
+            ∙ take-set-le j into (j + by) moved (omega arith)
+            ∙ take-set l j (get_or l (j + by) d)
+            ∙ sym (take-take j i l (omega arith))
+            ∙ ap (take j) front
+            ∙ take-take j i old (omega arith),
+        ap (drop (j + by)) (sym is)
+            ∙ drop-set into (j + by) moved to_in_into
+            ∙ ap (λ ys. moved ∷ ys) (drop-set-lt (j + by + 1) l j (get_or l (j + by) d) (omega arith) ∙ ap (λ k. drop k l) (omega arith) ∙ after ∙ ap (λ k. drop k (take few old)) (sym next))
+            ∙ ap (λ x. x ∷ drop (j + 1) (take few old)) own
+            ∙ sym (drop_more (take few old) j d (omega (arith, length-take-le few old short))),
+      )
+
+  -- what is after as many turned items as have come to the front
   pub drop-turned : (xs : List K) (at by : ℕ) → at + by ≤ length xs
       → drop (at + by) (take at xs ++ (drop (length (drop at xs) - by) (drop at xs) ++ take (length (drop at xs) - by) (drop at xs))) ≡ drop at (take (length xs - by) xs)
   drop-turned xs at by within =

@@ -1,7 +1,6 @@
 -- What a merge in place that borrows its right list keeps, run by run: the left's own items, and copies of the right's.
-use Rattle.std.proofs.Common.{◌≡◌, ℕ, zero, suc, Bool, true, false, List, [], ◌∷◌, ◌++◌, take, drop, map, reverse, refl, ap, ◌∙◌}
+use Rattle.std.proofs.Common.{◌≡◌, ℕ, zero, suc, Bool, true, false, List, [], ◌∷◌, ◌++◌, take, drop, map, refl}
 use Rattle.std.specs.List.{AllZip}
-use Rattle.std.proofs.lemmas.List.{reverse-append}
 use Rattle.range_merge.specs.Changes.{Taken, taken_left, taken_right, from_left, from_right}
 use Rattle.range_merge.specs.Copies.{items_if, IsOwnOrCopy, AreOwnOrCopies}
 use Rattle.range_merge.proofs.CopiesLemmas.{AllZip-append}
@@ -21,14 +20,6 @@ module _ {K : Type 0} (alike : K → K → Type 0) where
   AllZip-drop (suc n) (x ∷ xs) [] h = absurd h
   AllZip-drop (suc n) (x ∷ xs) (y ∷ ys) h = AllZip-drop n xs ys h.1
 
-  -- one copy taken from the end
-  pub copy-taken : (unread copies copies' : List K) (y : K) → copies ≡ copies' ++ y ∷ [] → AllZip alike unread (reverse copies)
-      → AllZip alike (take 1 unread) (y ∷ []) × AllZip alike (drop 1 unread) (reverse copies')
-  copy-taken unread copies copies' y last h =
-      let turned : reverse copies ≡ y ∷ reverse copies' = ap reverse last ∙ reverse-append copies' (y ∷ []) in
-      let zipped = rw turned at h in
-      (AllZip-take 1 unread (y ∷ reverse copies') zipped, AllZip-drop 1 unread (y ∷ reverse copies') zipped)
-
   own : (xs : List K) → AreOwnOrCopies alike (map from_left xs) xs
   own [] = tt
   own (x ∷ xs) = (refl, own xs)
@@ -43,10 +34,10 @@ module _ {K : Type 0} (alike : K → K → Type 0) where
   left-if true n left = own (take n left)
   left-if false n left = tt
 
-  pub AreOwnOrCopies-put : (right kept : List K) (y : K) (ts : List (Taken K)) → AllZip alike (take 1 right) (y ∷ [])
-      → AreOwnOrCopies alike ts kept → AreOwnOrCopies alike (ts ++ taken_right true 1 right) (kept ++ y ∷ [])
-  AreOwnOrCopies-put right kept y ts alike_to so_far =
-      AllZip-append (IsOwnOrCopy alike) ts kept (taken_right true 1 right) (y ∷ []) so_far (copied (take 1 right) (y ∷ []) alike_to)
+  pub AreOwnOrCopies-put : (right kept new : List K) (n : ℕ) (ts : List (Taken K)) → AllZip alike (take n right) new
+      → AreOwnOrCopies alike ts kept → AreOwnOrCopies alike (ts ++ taken_right true n right) (kept ++ new)
+  AreOwnOrCopies-put right kept new n ts alike_to so_far =
+      AllZip-append (IsOwnOrCopy alike) ts kept (taken_right true n right) new so_far (copied (take n right) new alike_to)
 
   pub AreOwnOrCopies-left : (wanted : Bool) (n : ℕ) (left kept kept' : List K) (before : List (Taken K)) → kept' ≡ kept ++ items_if wanted (take n left)
       → AreOwnOrCopies alike before kept → AreOwnOrCopies alike (before ++ taken_left wanted n left) kept'

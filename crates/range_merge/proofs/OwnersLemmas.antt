@@ -137,7 +137,7 @@ module _ {K : Type 0} {order : K → K → Ordering} (o : IsTotalOrder order) wh
   Above-trans x y os h all =
       All-weaker (OfItem (Above order y)) (OfItem (Above order x)) (λ p k. Less-trans o x y (item_of p) h k) os all
 
-  -- y is put before, into or behind an owner of the left alone
+  -- y is put before, into or after an owner of the left alone
   with_right-left : (y x : K) (os : List (Owner K)) (r : Ordering) → order y x ≡ r → IsGood order (left_only x ∷ os) →
       All (Above order y) (right_items os) →
       IsOwners order (left_items os) (y ∷ right_items os) (with_right order y os) →

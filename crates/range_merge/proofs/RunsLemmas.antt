@@ -2,7 +2,7 @@
 --     LeadsLeft-first, LeadsRight-first, LeadsBoth-first, nil-from_no_run
 --                                 the first run says which owners come first
 --     runs_of-map_left_only, runs_of-map_right_only
---                                 owners of one side in front are the first run
+--                                 owners of one side at the start are the first run
 use Rattle.std.proofs.Common.{◌≡◌, refl, ap, ◌∙◌, subst, ℕ, ◌+◌, ◌≤◌, List, [], ◌∷◌, ◌++◌, length, map, take, drop, slice_get, Some, None, add-one, arith}
 use Rattle.range_merge.specs.Owners.{Owner, left_only, right_only, shared, left_items, right_items}
 use Rattle.range_merge.specs.Runs.{joined, runs_of}

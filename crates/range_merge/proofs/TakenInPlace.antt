@@ -1,10 +1,9 @@
 -- What a merge in place keeps, run by run.
-use Rattle.std.proofs.Common.{◌≡◌, ℕ, ◌+◌, Bool, true, false, List, [], ◌∷◌, ◌++◌, take, drop, map, Result, Ok, Err, IsOk, IfOk, refl, ap, sym, ◌∙◌, append_assoc}
+use Rattle.std.proofs.Common.{◌≡◌, ℕ, Bool, true, false, List, [], ◌++◌, take, Result, Ok, Err, IsOk, IfOk, refl, ap, sym, ◌∙◌}
 use Rattle.std.proofs.lemmas.List.{map-append}
-use Rattle.std.proofs.Math.Seq.{take-add}
-use Rattle.range_merge.specs.Changes.{Taken, taken_item, taken_items, taken_left, taken_right, from_right}
+use Rattle.range_merge.specs.Changes.{Taken, taken_item, taken_items, taken_left, taken_right}
 use Rattle.range_merge.specs.Copies.{items_if}
-use Rattle.range_merge.proofs.CopiesLemmas.{taken_items-taken_left}
+use Rattle.range_merge.proofs.CopiesLemmas.{taken_items-taken_left, taken_items-taken_right}
 
 module _ {K : Type 0} (wanted : Bool) (n : ℕ) where
   pub taken_items-left : (left kept kept' : List K) (before : List (Taken K)) → kept' ≡ kept ++ items_if wanted (take n left)
@@ -15,12 +14,6 @@ module _ {K : Type 0} (wanted : Bool) (n : ℕ) where
       ∙ ap (λ xs. kept ++ xs) (taken_items-taken_left wanted n left)
       ∙ sym more
 
--- one item of the right side more
-pub taken_right-more : {K : Type 0} (i : ℕ) (right : List K) (ts : List (Taken K)) → (ts ++ taken_right true i right) ++ taken_right true 1 (drop i right) ≡ ts ++ taken_right true (i + 1) right
-taken_right-more i right ts =
-    append_assoc ts (taken_right true i right) (taken_right true 1 (drop i right))
-    ∙ ap (λ us. ts ++ us) (sym (map-append from_right (take i right) (take 1 (drop i right))) ∙ ap (map from_right) (sym (take-add i 1 right)))
-
 -- a merge that cannot be refused and never stops leaves the whole output
 pub whole-output : {K E : Type 0} (r : Result Bool E) (old new : List (Taken K) → Type 0) (items : List (Taken K)) (X : Type 0) → IsOk r
     → IfOk r (λ more. more ≡ true → (before : List (Taken K)) → old before → new (before ++ items))
@@ -29,7 +22,9 @@ whole-output (Ok true) old new items X ok through stopped start = through refl [
 whole-output (Ok false) old new items X ok through stopped start = cc ((stopped refl).0)
 whole-output (Err e) old new items X ok through stopped start = cc
 
--- the first item of the right side itself
-pub taken_items-put : {K : Type 0} (right rest kept : List K) (x : K) (ts : List (Taken K)) → right ≡ x ∷ rest → taken_items ts ≡ kept → taken_items (ts ++ taken_right true 1 right) ≡ kept ++ x ∷ []
-taken_items-put right rest kept x ts begins so_far =
-    ap (λ xs. taken_items (ts ++ taken_right true 1 xs)) begins ∙ map-append taken_item ts (from_right x ∷ []) ∙ ap (λ xs. xs ++ x ∷ []) so_far
+-- the first items of the right side themselves
+pub taken_items-front : {K : Type 0} (right kept new : List K) (n : ℕ) (ts : List (Taken K)) → new ≡ take n right → taken_items ts ≡ kept → taken_items (ts ++ taken_right true n right) ≡ kept ++ new
+taken_items-front right kept new n ts is so_far =
+    map-append taken_item ts (taken_right true n right)
+    ∙ ap (λ xs. taken_items ts ++ xs) (taken_items-taken_right true n right ∙ sym is)
+    ∙ ap (λ xs. xs ++ new) so_far

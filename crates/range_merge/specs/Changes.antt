@@ -40,7 +40,7 @@ module _ {K : Type 0} where
   taken_right true n items = map from_right (take n items)
   taken_right false n items = []
 
-  -- these items stand one behind the other among the owners, all in one run
+  -- these items stand one after the other among the owners, all in one run
   abbrev pub AreOfOneRun : List (Owner K) → List (Taken K) → Type 0
   AreOfOneRun os ts =
       (earlier these later : List (Owner K)) × (os ≡ earlier ++ (these ++ later))

@@ -6,8 +6,11 @@ pub mod Runs
 pub mod Counting
 pub mod Walk
 pub mod Steps
+pub mod Searching
+pub mod Parts
 pub mod Galloping
 pub mod States
 pub mod Copies
 pub mod Building
 pub mod Buffers
+pub mod Filling

@@ -50,12 +50,12 @@ module _ {K : Type 0} where
       pub rights : right_items os ≡ b
       pub equal : All IsShare os
 
-    -- y among the owners, put by the way it compares with the first: before it, into it, or behind it
+    -- y among the owners, put by the way it compares with the first: before it, into it, or after it
     abbrev pub with_right_at : Ordering → K → Owner K → List (Owner K) → List (Owner K) →
         List (Owner K)
-    with_right_at Less y o os behind = right_only y ∷ o ∷ os
-    with_right_at Equal y o os behind = shared (item_of o) y ∷ os
-    with_right_at Greater y o os behind = o ∷ behind
+    with_right_at Less y o os after = right_only y ∷ o ∷ os
+    with_right_at Equal y o os after = shared (item_of o) y ∷ os
+    with_right_at Greater y o os after = o ∷ after
 
     -- the owners with an item of the right put in its place
     unfoldable pub with_right : K → List (Owner K) → List (Owner K)

@@ -11,7 +11,7 @@ pub record Merging (K : Type 0) (Output : Type 0) : Type 0 where
   pub taken : Output
   pub began : ℕ
 
--- the list has room for what is unread, and no copy of it is refused
+-- the list has room for what is unread, and no copy of it fails
 abbrev pub HasRoomForAll : {K : Type 0} → (K → Type 0) → Merging K (SmallVec K) → Type 0
 HasRoomForAll is_infallible s =
     (length s.taken.items + (length s.left + length s.right) ≤ s.taken.capacity) × All is_infallible s.left × All is_infallible s.right

@@ -17,13 +17,13 @@ takes f ac bc (Left n) = differ (f false bc) (f true bc)
 takes f ac bc (Right n) = differ (f ac false) (f ac true)
 takes f ac bc Both = differ (f ac bc) (f (not ac) (not bc))
 
--- whether the left side is on behind a run
+-- whether the left side is on after a run
 abbrev pub left_on_after : Run → Bool → Bool
 left_on_after (Left n) ac = differ ac (is_odd n)
 left_on_after (Right n) ac = ac
 left_on_after Both ac = not ac
 
--- whether the right side is on behind a run
+-- whether the right side is on after a run
 abbrev pub right_on_after : Run → Bool → Bool
 right_on_after (Left n) bc = bc
 right_on_after (Right n) bc = differ bc (is_odd n)
@@ -35,11 +35,6 @@ one_of_run Less = Left 1
 one_of_run Equal = Both
 one_of_run Greater = Right 1
 
--- the binary digits of a run's length, if there is a run
-abbrev pub digits_of_run : Option Run → ℕ
-digits_of_run None = 0
-digits_of_run (Some run) = digits (run_len run)
-
 module _ {K : Type 0} where
   -- the unread lists have the items of the run
   abbrev pub RunFits : Run → List K → List K → Type 0
@@ -47,13 +42,13 @@ module _ {K : Type 0} where
   RunFits (Right n) a b = (1 ≤ n) × (n ≤ length b)
   RunFits Both a b = (1 ≤ length a) × (1 ≤ length b)
 
-  -- what is left of the left list behind a run
+  -- what is left of the left list after a run
   abbrev pub left_after : Run → List K → List K
   left_after (Left n) a = drop n a
   left_after (Right n) a = a
   left_after Both a = drop 1 a
 
-  -- what is left of the right list behind a run
+  -- what is left of the right list after a run
   abbrev pub right_after : Run → List K → List K
   right_after (Left n) b = b
   right_after (Right n) b = drop n b
@@ -65,8 +60,8 @@ module _ {K : Type 0} where
   taken_of_run takes (Right n) a b = taken_right takes n b
   taken_of_run takes Both a b = taken_left takes 1 a
 
-  -- a run, or some of one, stands in front of two lists: it fits, its owners are all in one run, and the walk takes it whole or drops it
-  pub record StandsInFront (order : K → K → Ordering) (run : Run) (a b : List K) : Type 0 where
+  -- a run, or some of one, is at the start of two lists: it fits, its owners are all in one run, and the walk takes it whole or drops it
+  pub record StandsAtStart (order : K → K → Ordering) (run : Run) (a b : List K) : Type 0 where
     pub fits : RunFits run a b
     pub its_owners : List (Owner K)
     pub owners_are : owners order a b ≡
@@ -81,7 +76,7 @@ module _ {K : Type 0} where
 
   -- the first run: it weighs its digits
   pub record StandsFirst (order : K → K → Ordering) (run : Run) (a b : List K) : Type 0 where
-    pub in_front : StandsInFront order run a b
+    pub at_start : StandsAtStart order run a b
     pub weighs : weight order a b ≡
         digits (run_len run) + weight order (left_after run a) (right_after run b)
 

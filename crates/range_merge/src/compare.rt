@@ -1,5 +1,5 @@
-//! What a merge is handed to compare items with and to copy them by. Nothing in this crate can make either, so each comparison of items is one call that its caller counts.
-ghost use Rattle.std.specs.Prelude.{◌≡◌, ℕ, ◌+◌, ◌-◌, ◌^◌, ◌<◌, ◌≤◌, length, take, drop, All, IsOk, IfOk, OnOk};
+//! What a merge is given to compare and to copy items. Nothing in this crate can make either, so each comparison of items is one call that its caller counts.
+ghost use Rattle.std.specs.Prelude.{◌≡◌, ℕ, ◌+◌, ◌-◌, ◌^◌, ◌<◌, ◌≤◌, length, take, drop, All, IsTrue, IsOk, IfOk, OnOk};
 ghost use Rattle.std.specs.Cmp.{IsTotalOrder};
 ghost use Rattle.std.specs.List.{AllZip};
 ghost use Rattle.std.specs.Vec.{vec_capacity};
@@ -16,7 +16,7 @@ pub trait Compare<K> {
     // How many comparisons were made.
     ghost count: { Self → ℕ };
 
-    /// How `a` stands to `b`, for one more comparison.
+    /// Compares `a` with `b`, and counts one comparison.
     fn compare(&mut self, a: &K, b: &K) -> Ordering
         requires { count self.old < 2 ^ 128 - 1 }
         ensures answer { result ≡ order a.now b.now }
@@ -35,15 +35,23 @@ pub trait Copier<K> {
     // The second item may be a copy of the first.
     ghost alike: { K → K → Type 0 };
 
-    // A copy of this item is never refused.
+    // A copy of this item never fails.
     ghost is_infallible: { K → Type 0 };
 
-    /// A copy of the item, or an error where there is no memory for one.
+    /// A copy of the item, or an error if memory runs out.
     fn copy(&self, item: &K) -> Result<K, AllocError>
         ensures alike { IfOk result (λ copied. alike item.now copied) }
         ensures succeeds { is_infallible item.now → IsOk result };
 
-    /// Appends a copy of each item, or answers an error where there is no memory for all of them; the copies made before it stay. It asks for room once.
+    /// Whether copies of items never fail: `true` only if their type says so. Then a merge in place copies an item as it takes it, and makes no list of copies first.
+    #[inline(always)]
+    fn never_refuses(&self) -> bool
+        ensures { IsTrue result → (x : K) → is_infallible x }
+    {
+        false
+    }
+
+    /// Appends a copy of each item. If memory runs out it is an error, and the copies made before stay. It asks for room once.
     fn append(&self, list: &mut Vec<K>, items: &[K]) -> Result<(), AllocError>
         ensures kept { OnOk result (take (length list.old.items) list.new.items ≡ list.old.items) }
         ensures copied { OnOk result (AllZip alike items.now (drop (length list.old.items) list.new.items)) }

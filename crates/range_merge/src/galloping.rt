@@ -6,24 +6,10 @@ ghost use Rattle.range_merge.specs.Galloping.{IsBracket, StandsAt};
 ghost use Rattle.range_merge.specs.Runs.{digits};
 
 use crate::compare::Compare;
+use crate::indexed::Indexed;
 use std::cmp::Ordering;
 
-/// A list whose items are read by their places.
-pub(crate) trait Side<K> {
-    // The list.
-    ghost items: { Self → List K };
-
-    /// How many items there are.
-    fn len(&self) -> usize
-        ensures { result ≡ length (items self.now) };
-
-    /// The item at index `i`.
-    fn at(&self, i: usize) -> &K
-        requires { i < length (items self.now) }
-        ensures { slice_get (items self.now) i ≡ Some result.now };
-}
-
-/// How many items at the front of a side are below a key, and how the item behind them stands to the key, if there is one.
+/// How many items at the start of a side are below a key, and how the item after them stands to the key, if there is one.
 #[derive(Clone, Copy)]
 pub(crate) struct Front {
     pub(crate) len: usize,
@@ -41,7 +27,7 @@ struct Window {
 ///
 /// For an answer of `n` it makes at most twice as many comparisons as `n` has binary digits, less one. Most runs are of one item, so the second is looked at before any step is doubled.
 #[inline(always)]
-pub(crate) fn gallop<K, L: Side<K>, C: Compare<K>>(side: &L, key: &K, cmp: &mut C) -> Front
+pub(crate) fn gallop<K, L: Indexed<K>, C: Compare<K>>(side: &L, key: &K, cmp: &mut C) -> Front
     requires some { 0 < length (L.items side.now) }
     requires first { HoldsAt (λ y. C.order y key.now ≡ Less) (L.items side.now) 0 }
     requires made { C.count cmp.old + 2 ^ 66 < 2 ^ 128 }
@@ -66,7 +52,7 @@ pub(crate) fn gallop<K, L: Side<K>, C: Compare<K>>(side: &L, key: &K, cmp: &mut 
 
 // Looks at the places 3, 7, 15, .. until one is not below the key or the list ends, where the second item is known to be below it.
 #[inline(always)]
-fn doubled<K, L: Side<K>, C: Compare<K>>(side: &L, key: &K, cmp: &mut C) -> Window
+fn doubled<K, L: Indexed<K>, C: Compare<K>>(side: &L, key: &K, cmp: &mut C) -> Window
     requires some { 1 < length (L.items side.now) }
     requires second { HoldsAt (λ y. C.order y key.now ≡ Less) (L.items side.now) 1 }
     requires made { C.count cmp.old + 2 ^ 65 < 2 ^ 128 }
@@ -98,7 +84,7 @@ fn doubled<K, L: Side<K>, C: Compare<K>>(side: &L, key: &K, cmp: &mut C) -> Wind
 
 // Halves a window until it is empty, which is where the items below the key end.
 #[inline(always)]
-fn halved<K, L: Side<K>, C: Compare<K>>(side: &L, key: &K, window: Window, cmp: &mut C) -> Front
+fn halved<K, L: Indexed<K>, C: Compare<K>>(side: &L, key: &K, window: Window, cmp: &mut C) -> Front
     requires bracket { IsBracket C.order (L.items side.now) key.now window.low window.high }
     requires next { StandsAt C.order (L.items side.now) key.now window.high window.next }
     requires made { C.count cmp.old + 2 ^ 64 < 2 ^ 128 }

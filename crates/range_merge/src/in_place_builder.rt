@@ -1,18 +1,20 @@
 //! A list that is rebuilt in place: some of its items are kept, some are dropped, and new ones are put between them.
 //!
-//! The kept items stand in front, then a gap, and then the unread ones. The gap is what was dropped, or, from the first put that finds none on, the room that was asked for: the unread items move up behind it, once at most.
-ghost use Rattle.std.specs.Prelude.{◌≡◌, ◌+◌, ◌-◌, ◌≤◌, ◌<◌, [], ◌++◌, ◌∷◌, length, take, drop, Some, slice_get, IsOk, IfOk, IfErr};
+//! The kept items come first, then a gap, then the unread ones. The gap is what was dropped. Once a put finds too little of that, it is room that was asked for, and the unread items move up, at most once.
+ghost use Rattle.std.specs.Prelude.{◌≡◌, ◌+◌, ◌-◌, ◌≤◌, ◌<◌, true, List, [], ◌++◌, ◌∷◌, length, take, drop, Some, slice_get, IsOk, IfOk, IfErr};
 ghost use Rattle.range_merge.specs.Building.{IsSound};
+ghost use Rattle.range_merge.specs.Changes.{Taken, taken_right};
 ghost use Rattle.range_merge.specs.Copies.{items_if};
 
 use crate::in_place_memory::prepared;
+use crate::merge_state::RightSide;
 use crate::place::Place;
 use smallvec::SmallVec;
 use std::alloc::{AllocError, Global};
 use std::default::MadeWith;
 use std::marker::{Model, PhantomData};
 
-/// A list with the items that are kept, in front of those that are still unread. `L` is the list, by value where a caller makes the builder.
+/// A list with the kept items before those that are still unread. `L` is the list, by value where a caller makes the builder.
 #[derive(Drop)]
 pub struct InPlaceBuilder<K, const N: usize, L: Place<K> = SmallVec<K, N>> {
     list: L,
@@ -41,7 +43,7 @@ impl<K, const N: usize, L: Place<K>> Model for InPlaceBuilder<K, N, L> {
 impl<K: MadeWith<Global> + Drop, const N: usize> InPlaceBuilder<K, N> {
     /// A builder over the items of `list`, all of them unread, that can put `extra` more.
     ///
-    /// It asks for room for those. Nothing else that a builder does takes memory. A refusal hands the list back.
+    /// It asks for room for those; nothing else that a builder does takes memory. If that fails, the list comes back.
     pub fn new(mut list: SmallVec<K, N>, extra: usize) -> Result<Self, (AllocError, SmallVec<K, N>)>
         ensures kept { IfOk result (λ builder. builder.kept ≡ []) }
         ensures unread { IfOk result (λ builder. builder.unread ≡ list.items) }
@@ -100,7 +102,7 @@ impl<K, const N: usize, L: Place<K>> InPlaceBuilder<K, N, L> {
         self.puts
     }
 
-    /// Moves the first `n` unread items behind the kept ones.
+    /// Moves the first `n` unread items after the kept ones.
     #[inline(always)]
     pub fn keep(&mut self, n: usize)
         requires { n ≤ length self.old.unread }
@@ -143,7 +145,7 @@ impl<K, const N: usize, L: Place<K>> InPlaceBuilder<K, N, L> {
         self.skip(n);
     }
 
-    /// Puts an item behind the kept ones. Where no dropped item gives way to it, all unread items move up first, once at most in the life of a builder.
+    /// Puts an item after the kept ones. If no dropped item gives way to it, all unread items move up first, at most once in the life of a builder.
     #[inline(always)]
     pub fn put(&mut self, value: K)
         requires { 0 < self.old.puts_left }
@@ -154,6 +156,22 @@ impl<K, const N: usize, L: Place<K>> InPlaceBuilder<K, N, L> {
         self.start = put_item(&mut self.list, self.kept, self.start, self.puts, value);
         self.kept += 1;
         self.puts -= 1;
+    }
+
+    /// Puts what the right side gives for its first `n` unread items. Where too few dropped items give way to them, the unread items move up first, far enough for all that the right side has.
+    #[inline(always)]
+    pub(crate) fn put_from<R: RightSide<K>>(&mut self, n: usize, right: &mut R)
+        requires some { n ≤ length (R.items right.old) }
+        requires puts { length (R.items right.old) ≤ self.old.puts_left }
+        ensures kept { (ts : List (Taken K)) → R.may_be ts self.old.kept →
+            R.may_be (ts ++ taken_right true n (R.items right.old)) self.new.kept }
+        ensures unread { self.new.unread ≡ self.old.unread }
+        ensures puts_left { self.new.puts_left + n ≡ self.old.puts_left }
+        ensures rest { R.items right.new ≡ drop n (R.items right.old) }
+    {
+        self.start = put_items(&mut self.list, self.kept, self.start, self.puts, n, right);
+        self.kept += n;
+        self.puts -= n;
     }
 
     /// The list, with the kept items followed by those that are still unread.
@@ -181,7 +199,7 @@ impl<K, const N: usize, L: Place<K>> InPlaceBuilder<K, N, L> {
     }
 }
 
-// Puts an item behind the kept ones, into the gap. It answers where the unread items begin now.
+// Puts an item after the kept ones, into the gap. It returns where the unread items begin now.
 #[inline(always)]
 fn put_item<K, L: Place<K>>(list: &mut L, kept: usize, start: usize, puts: usize, value: K) -> usize
     requires sound { IsSound kept start puts (L.items list.old) (L.room list.old) }
@@ -190,28 +208,64 @@ fn put_item<K, L: Place<K>>(list: &mut L, kept: usize, start: usize, puts: usize
     ensures kept { take (kept + 1) (L.items list.new) ≡ take kept (L.items list.old) ++ value ∷ [] }
     ensures unread { drop result (L.items list.new) ≡ drop start (L.items list.old) }
 {
-    let first = with_gap(list, kept, start, puts);
+    let first = with_gap(list, kept, start, puts, 1, puts);
     list.set(kept, value);
     first
 }
 
-// Opens a gap for as many items as may still be put, where there is none. It answers where the unread items begin now.
+// Puts what the right side gives for its first `n` unread items after the kept ones, into the gap. It returns where the unread items begin now.
 #[inline(always)]
-fn with_gap<K, L: Place<K>>(list: &mut L, kept: usize, start: usize, puts: usize) -> usize
+fn put_items<K, L: Place<K>, R: RightSide<K>>(
+    list: &mut L,
+    kept: usize,
+    start: usize,
+    puts: usize,
+    n: usize,
+    right: &mut R,
+) -> usize
     requires sound { IsSound kept start puts (L.items list.old) (L.room list.old) }
-    requires some { 0 < puts }
+    requires some { n ≤ length (R.items right.old) }
+    requires puts { length (R.items right.old) ≤ puts }
+    ensures sound { IsSound (kept + n) result (puts - n) (L.items list.new) (L.room list.new) }
+    ensures kept { (ts : List (Taken K)) → R.may_be ts (take kept (L.items list.old)) →
+        R.may_be (ts ++ taken_right true n (R.items right.old)) (take (kept + n) (L.items list.new)) }
+    ensures unread { drop result (L.items list.new) ≡ drop start (L.items list.old) }
+    ensures rest { R.items right.new ≡ drop n (R.items right.old) }
+{
+    let first = with_gap(list, kept, start, puts, n, right.len());
+    list.put_from(kept, n, right);
+    first
+}
+
+// Sees that the gap has room for `n` items: if it hasn't, it opens one for `wanted`. It returns where the unread items begin now.
+#[inline(always)]
+fn with_gap<K, L: Place<K>>(
+    list: &mut L,
+    kept: usize,
+    start: usize,
+    puts: usize,
+    n: usize,
+    wanted: usize,
+) -> usize
+    requires sound { IsSound kept start puts (L.items list.old) (L.room list.old) }
+    requires some { n ≤ wanted }
+    requires puts { wanted ≤ puts }
     ensures sound { IsSound kept result puts (L.items list.new) (L.room list.new) }
-    ensures gap { kept < result }
-    ensures whole { kept ≡ start → result ≡ start + puts }
-    ensures stays { kept < start → result ≡ start }
+    ensures gap { kept + n ≤ result }
     ensures kept { take kept (L.items list.new) ≡ take kept (L.items list.old) }
     ensures unread { drop result (L.items list.new) ≡ drop start (L.items list.old) }
+
+    // It opens as much as is wanted, and nothing where there is a gap.
+    ensures whole { start < kept + n → result ≡ kept + wanted }
+    ensures stays { kept + n ≤ start → result ≡ start }
 {
-    if kept < start {
+    let gap = start - kept;
+    if n <= gap {
         return start;
     }
-    list.open_gap(start, puts);
+    let more = wanted - gap;
+    list.open_gap(start, more);
     // Brings that the length is within usize.
     let _len = list.len();
-    start + puts
+    start + more
 }

@@ -1,11 +1,10 @@
 //! What a change in place asks for before it moves an item: room in the list, and copies.
-ghost use Rattle.std.specs.Prelude.{◌≡◌, ◌+◌, ◌≤◌, length, reverse, All, IsOk, IfOk, OnOk};
+ghost use Rattle.std.specs.Prelude.{◌≡◌, ◌+◌, ◌≤◌, length, All, IsOk, IfOk, OnOk};
 ghost use Rattle.std.specs.List.{AllZip};
 ghost use Rattle.smallvec.specs.SmallVec.{HasRoomFor};
 
 use crate::compare::Copier;
 use crate::merge_state::append_copies;
-use crate::place::turn_round;
 use smallvec::SmallVec;
 use std::alloc::{AllocError, Global};
 use std::default::MadeWith;
@@ -24,7 +23,7 @@ pub(crate) fn prepared<K: MadeWith<Global> + Drop, const N: usize>(
     list.reserve(extra)
 }
 
-// Asks for room in the list for as many items as there are in `items`, and for a copy of each of `items`, the last one first.
+// Asks for room in the list for as many items as there are in `items`, and for a copy of each of `items`.
 pub(crate) fn prepared_copies<K: MadeWith<Global> + Drop, P: Copier<K>, const N: usize>(
     list: &mut SmallVec<K, N>,
     items: &[K],
@@ -32,26 +31,12 @@ pub(crate) fn prepared_copies<K: MadeWith<Global> + Drop, P: Copier<K>, const N:
 ) -> Result<SmallVec<K, N>, AllocError>
     ensures items { list.new.items ≡ list.old.items }
     ensures room { OnOk result (HasRoomFor list.new (length items.now)) }
-    ensures copies { IfOk result (λ made. AllZip P.alike items.now (reverse made.items)) }
+    ensures copies { IfOk result (λ made. AllZip P.alike items.now made.items) }
     ensures succeeds { length list.old.items + length items.now ≤ N →
         All P.is_infallible items.now → IsOk result }
 {
     prepared(list, items.len())?;
-    reversed_copies(*list.allocator(), items, copier)
-}
-
-// A copy of each item, the last one first.
-fn reversed_copies<K: MadeWith<Global> + Drop, P: Copier<K>, const N: usize>(
-    alloc: Global,
-    items: &[K],
-    copier: &P,
-) -> Result<SmallVec<K, N>, AllocError>
-    ensures copies { IfOk result (λ made. AllZip P.alike items.now (reverse made.items)) }
-    ensures succeeds { length items.now ≤ N → All P.is_infallible items.now → IsOk result }
-{
-    let mut copies = copies(alloc, items, copier)?;
-    turn_round(&mut copies);
-    Ok(copies)
+    copies(*list.allocator(), items, copier)
 }
 
 // A copy of each item. It asks for room once.

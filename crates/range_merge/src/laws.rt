@@ -59,9 +59,9 @@ pub fn changes_are_marked_truly<K, C: Compare<K>>()
         All (IsMarkedTruly C.order a b) (changes C.order f a b) }
 {}
 
-/// A list that began with some items has these in front still, and behind them the copies of what was taken since.
+/// A list that began with some items still begins with them, followed by copies of what was taken since.
 pub fn copies_stand_behind_what_was_there<K, P: Copier<K>>()
-    ensures behind { (r : List K) (ts : List (Taken K)) (items : List K) →
+    ensures after { (r : List K) (ts : List (Taken K)) (items : List K) →
         AreKeptThenCopies P.alike (length r) (map from_left r ++ ts) items →
         IsAppended P.alike (taken_items ts) r items }
 {}

@@ -5,6 +5,7 @@ mod compare;
 mod galloping;
 mod in_place_builder;
 mod in_place_memory;
+mod indexed;
 pub mod laws;
 mod merge_state;
 mod merging;
@@ -16,6 +17,7 @@ mod slice_iterator;
 
 pub use compare::{Compare, Copier};
 pub use in_place_builder::InPlaceBuilder;
+pub use indexed::Indexed;
 pub use merge_state::{
     BoolOpMergeState, Buffer, BufferMergeState, CountMergeState, InPlaceMergeState,
     InPlaceMergeStateRef, MergeState, MergeStateMut, NoRoom, SmallVecMergeState,
@@ -23,5 +25,5 @@ pub use merge_state::{
 pub use merging::merge;
 pub use operations::{Connective, DiffOp, IntersectionOp, MergeOperation, UnionOp, XorOp};
 pub use runs::{Run, run_length};
-pub use searching::search;
+pub use searching::{count_up_to, search};
 pub use slice_iterator::SliceIterator;

@@ -22,6 +22,7 @@ pub use buffer::{Buffer, BufferMergeState, NoRoom};
 pub use count::CountMergeState;
 pub use in_place::InPlaceMergeState;
 pub use in_place_ref::InPlaceMergeStateRef;
+pub(crate) use right_side::RightSide;
 pub(crate) use sink::append_copies;
 pub use small_vec::SmallVecMergeState;
 use std::alloc::AllocError;
@@ -74,7 +75,7 @@ pub trait MergeStateMut: MergeState {
     // No advance from here on is refused.
     ghost infallible: { Self → Type 0 };
 
-    /// Removes the first `n` unread items of the left list, and appends them to the output if `take`. The answer `false` stops the merge; an error comes where memory or a copy was refused.
+    /// Removes the first `n` unread items of the left list, and appends them to the output if `take`. `false` stops the merge. It is an error if an allocation or a copy fails.
     fn advance_a(&mut self, n: usize, take: bool) -> Result<bool, AllocError>
         requires some { 1 ≤ n }
         requires within { n ≤ length (Self.left self.old) }
@@ -127,7 +128,7 @@ pub trait MergeStateMut: MergeState {
     fn bc(&self) -> bool
         ensures { result ≡ right_on self.now };
 
-    /// Whether the merge may hand over the first item alone of a run that is taken, and no more: `true` only of a state that stops there.
+    /// Whether the merge may pass only the first item of a run that is taken: `true` only of a state that stops there.
     #[inline(always)]
     fn stops(&self) -> bool
         ensures { IsTrue result → can_stop ≡ true }

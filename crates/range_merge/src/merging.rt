@@ -1,28 +1,30 @@
 //! The merge: it takes the first run of the unread lists whole or drops it whole, until both lists are used up.
-ghost use Rattle.std.specs.Prelude.{◌≡◌, ℕ, ◌+◌, ◌*◌, ◌^◌, ◌<◌, ◌≤◌, Bool, true, false, not, ◌&&◌, List, [], ◌++◌, length, take, Some, Option, IsOk, OnOk, IfOk, IfSome, slice_get, IsTrue};
+ghost use Rattle.std.specs.Prelude.{◌≡◌, ◌+◌, ◌*◌, ◌^◌, ◌<◌, ◌≤◌, true, false, not, ◌&&◌, List, [], ◌++◌, length, IsOk, OnOk, IfOk, Ok, None, Some, IsTrue, ◌↔◌};
+ghost use Rattle.std.specs.declared.cmp.Ordering.TheVariants.{Less, Equal, Greater};
 ghost use Rattle.range_merge.specs.Boundaries.{IsAscending};
 ghost use Rattle.range_merge.specs.Changes.{Taken, changes, StopsAmong};
 ghost use Rattle.range_merge.specs.Counting.{AddsAtMost};
 ghost use Rattle.range_merge.specs.Owners.{owners};
-ghost use Rattle.range_merge.specs.Runs.{weight, digits, runs, run_len};
-ghost use Rattle.range_merge.specs.Steps.{RunFits, one_of_run, digits_of_run, takes, taken_of_run, left_after, right_after, left_on_after, right_on_after};
-ghost use Rattle.std.specs.Cmp.{IsTotalOrder};
-ghost use Rattle.std.specs.declared.cmp.Ordering.{Ordering as TheOrdering};
+ghost use Rattle.range_merge.specs.Parts.{IfOn, IsFront, IsTurn, Part, Ran};
+ghost use Rattle.range_merge.specs.Runs.{weight};
+ghost use Rattle.range_merge.specs.Steps.{FirstsStand, ahead_of, takes};
+ghost use Rattle.range_merge.specs.declared.runs.Run.TheVariants.{Left, Right, Both};
 
 use crate::compare::Compare;
-use crate::merge_state::{MergeState, MergeStateMut};
+use crate::galloping::{Front, gallop};
+use crate::merge_state::MergeStateMut;
 use crate::operations::MergeOperation;
-use crate::runs::{FirstRun, Run, first_run, order_at};
+use crate::runs::{LeftOf, RightOf, order_at, reversed};
 use std::alloc::AllocError;
 use std::cmp::Ordering;
 
 /// Merges the unread lists of `state` by the operation `op`.
 ///
 /// Both lists are strictly sorted by the order of `cmp`, and both sides are off at the start. The merge appends to the output exactly the items at which the connective of `op` changes, in order; of two equal items the left's.
-/// It answers `true` where it used up both lists, and `false` where the state stopped, which a state that stops does at the first item that it takes.
-/// An error comes only where an advance of the state was refused (seen by reading; the clause says that none comes where the state never refuses). It asks for no memory itself.
+/// It returns `true` if it used up both lists, and `false` if the state stopped, which a state that stops does at the first item that it takes.
+/// It fails only if an advance of the state does (seen by reading; the clause says that it doesn't fail if the state never does). It asks for no memory itself.
 ///
-/// It makes at most twice the weight of the two lists in comparisons, whether it ends, stops or is refused.
+/// It makes at most twice the weight of the two lists in comparisons, whether it ends, stops or fails.
 pub fn merge<S: MergeStateMut, O: MergeOperation, C: Compare<S::Item>>(
     state: &mut S,
     op: &O,
@@ -55,125 +57,294 @@ pub fn merge<S: MergeStateMut, O: MergeOperation, C: Compare<S::Item>>(
     ensures comparisons { AddsAtMost (C.count cmp.old) (C.count cmp.new)
         (2 * weight C.order (S.left state.old) (S.right state.old)) }
 {
+    match take_all(state, op, cmp)? {
+        Went::Stopped => Ok(false),
+        Went::On(_) => Ok(true),
+    }
+}
+
+/// How a part of a merge went.
+#[derive(Clone, Copy)]
+pub(crate) enum Went {
+    /// The state stopped.
+    Stopped,
+    /// It goes on. The next two items stand so to one another, if both lists have one.
+    On(Option<Ordering>),
+}
+
+// Takes runs or drops them, until both lists are used up.
+#[inline(always)]
+fn take_all<S: MergeStateMut, O: MergeOperation, C: Compare<S::Item>>(
+    state: &mut S,
+    op: &O,
+    cmp: &mut C,
+) -> Result<Went, AllocError>
+    requires left_ascending { IsAscending C.order (S.left state.old) }
+    requires right_ascending { IsAscending C.order (S.right state.old) }
+    requires made { C.count cmp.old < 2 ^ 64 }
+    ensures part { Part S.left S.right S.left_on S.right_on S.output S.began S.infallible S.can_stop
+        C.order (O.connective op.now) state.old state.new
+        0 (C.count cmp.old) (C.count cmp.new) result }
+    ensures used_up { IfOk result (IfOn (λ _.
+        (S.left state.new ≡ []) × (S.right state.new ≡ []))) }
+{
+    match take_runs(state, op, cmp)? {
+        Went::Stopped => Ok(Went::Stopped),
+        Went::On(_) => {
+            if take_rest(state, op)? {
+                return Ok(Went::On(None));
+            }
+            Ok(Went::Stopped)
+        }
+    }
+}
+
+// Takes runs or drops them, while both lists have items. The steps follow one another, so that each knows how the first items stand.
+#[inline(always)]
+fn take_runs<S: MergeStateMut, O: MergeOperation, C: Compare<S::Item>>(
+    state: &mut S,
+    op: &O,
+    cmp: &mut C,
+) -> Result<Went, AllocError>
+    requires left_ascending { IsAscending C.order (S.left state.old) }
+    requires right_ascending { IsAscending C.order (S.right state.old) }
+    requires made { C.count cmp.old < 2 ^ 64 }
+    ensures part { Part S.left S.right S.left_on S.right_on S.output S.began S.infallible S.can_stop
+        C.order (O.connective op.now) state.old state.new
+        0 (C.count cmp.old) (C.count cmp.new) result }
+    ensures used_up { IfOk result (IfOn (λ next. next ≡ None)) }
+{
     // Brings that both lengths are within usize.
     let _lengths = (state.a_len(), state.b_len());
     let mut firsts = order_at(state, 0, cmp);
-    while let Some(how) = firsts {
-        if stops_at_first(state, op, how) {
-            let goes_on = take_run(state, op, one_of(how))?;
-            return Ok(goes_on);
-        }
-        let FirstRun { run, behind } = first_run(state, how, cmp);
-        if !take_run(state, op, run)? {
-            return Ok(false);
-        }
-        firsts = behind;
+    while firsts.is_some() {
+        let Went::On(next) = step_left(state, op, firsts, cmp)? else {
+            return Ok(Went::Stopped);
+        };
+        let Went::On(next) = step_right(state, op, next, cmp)? else {
+            return Ok(Went::Stopped);
+        };
+        let Went::On(next) = steps_both(state, op, next, cmp)? else {
+            return Ok(Went::Stopped);
+        };
+        firsts = next;
     }
-    let Some(run) = last_run(state) else {
-        return Ok(true);
-    };
-    let more = take_run(state, op, run)?;
-    Ok(more)
+    Ok(Went::On(firsts))
 }
 
-// Whether the state stops at the first run, of which one item is enough then.
+// Takes or drops the first run, where it is of the left list.
 #[inline(always)]
-fn stops_at_first<S: MergeStateMut, O: MergeOperation>(state: &S, op: &O, how: Ordering) -> bool
-    ensures can_stop { IsTrue result → S.can_stop ≡ true }
-    ensures taken { IsTrue result →
-        takes (O.connective op.now) (S.left_on state.now) (S.right_on state.now) (one_of_run how)
-        ≡ true }
-{
-    state.stops() && takes_first(state, op, how)
-}
-
-// Whether the first run is taken, by how the first items stand.
-#[inline(always)]
-fn takes_first<S: MergeStateMut, O: MergeOperation>(state: &S, op: &O, how: Ordering) -> bool
-    ensures { result ≡
-        takes (O.connective op.now) (S.left_on state.now) (S.right_on state.now) (one_of_run how) }
-{
-    match how {
-        Ordering::Less => op.takes_a(state.bc()),
-        Ordering::Equal => op.takes_both(state.ac(), state.bc()),
-        Ordering::Greater => op.takes_b(state.ac()),
-    }
-}
-
-// One item of the first run, by how the first items stand.
-#[inline(always)]
-fn one_of(how: Ordering) -> Run
-    ensures { result ≡ one_of_run how }
-{
-    match how {
-        Ordering::Less => Run::Left(1),
-        Ordering::Equal => Run::Both,
-        Ordering::Greater => Run::Right(1),
-    }
-}
-
-// The one run of what is unread, if anything is, where one list is used up. It needs no comparison.
-#[inline(always)]
-fn last_run<S: MergeState>(state: &S) -> Option<Run>
-    requires used_up { 1 ≤ length (S.left state.now) → length (S.right state.now) ≡ 0 }
-    ensures first { (order : S.Item → S.Item → TheOrdering) → IsTotalOrder order →
-        IsAscending order (S.left state.now) → IsAscending order (S.right state.now)
-        → slice_get (runs order (S.left state.now) (S.right state.now)) 0 ≡ result }
-    ensures all { IfSome result (λ run.
-        (left_after run (S.left state.now) ≡ []) × (right_after run (S.right state.now) ≡ [])) }
-{
-    match (state.a_len(), state.b_len()) {
-        (0, 0) => None,
-        (0, n) => Some(Run::Right(n)),
-        (n, _) => Some(Run::Left(n)),
-    }
-}
-
-// Takes a run or drops it, as the operation says. Runs of one item have arms of their own, since most runs are.
-#[inline(always)]
-fn take_run<S: MergeStateMut, O: MergeOperation>(
+fn step_left<S: MergeStateMut, O: MergeOperation, C: Compare<S::Item>>(
     state: &mut S,
     op: &O,
-    run: Run,
-) -> Result<bool, AllocError>
-    requires { RunFits run (S.left state.old) (S.right state.old) }
-    ensures goes_on { IfOk result (λ more. more ≡ not (S.can_stop
-        && takes (O.connective op.now) (S.left_on state.old) (S.right_on state.old) run)) }
-    ensures left { IfOk result (λ more.
-        more ≡ true → S.left state.new ≡ left_after run (S.left state.old)) }
-    ensures right { IfOk result (λ more.
-        more ≡ true → S.right state.new ≡ right_after run (S.right state.old)) }
-    ensures left_on { OnOk result (S.left_on state.new ≡ left_on_after run (S.left_on state.old)) }
-    ensures right_on { OnOk result
-        (S.right_on state.new ≡ right_on_after run (S.right_on state.old)) }
-    ensures output { OnOk result ((before : List (Taken S.Item)) →
-        S.output state.old before → S.output state.new (before ++ taken_of_run
-        (takes (O.connective op.now) (S.left_on state.old) (S.right_on state.old) run)
-        run (S.left state.old) (S.right state.old))) }
-    ensures began { S.began state.new ≡ S.began state.old }
-    ensures succeeds { S.infallible state.old → IsOk result }
-    ensures still_infallible { S.infallible state.old → OnOk result (S.infallible state.new) }
+    firsts: Option<Ordering>,
+    cmp: &mut C,
+) -> Result<Went, AllocError>
+    requires stands { FirstsStand C.order (S.left state.old) (S.right state.old) firsts }
+    requires left_ascending { IsAscending C.order (S.left state.old) }
+    requires right_ascending { IsAscending C.order (S.right state.old) }
+    requires made { C.count cmp.old < 2 ^ 127 }
+    ensures part { Part S.left S.right S.left_on S.right_on S.output S.began S.infallible S.can_stop
+        C.order (O.connective op.now) state.old state.new
+        (ahead_of firsts) (C.count cmp.old) (C.count cmp.new) result }
+    ensures turn { IfOk result (IfOn (λ next. IsTurn Less firsts next
+        (length (S.left state.old) + length (S.right state.old))
+        (length (S.left state.new) + length (S.right state.new)))) }
 {
-    match run {
-        Run::Left(1) => {
-            let take = op.takes_a(state.bc());
-            state.advance_a(1, take)
-        }
-        Run::Left(n) => {
-            let take = op.takes_a(state.bc());
-            state.advance_a(n, take)
-        }
-        Run::Right(1) => {
-            let take = op.takes_b(state.ac());
-            state.advance_b(1, take)
-        }
-        Run::Right(n) => {
+    if !stand(firsts, Ordering::Less) {
+        return Ok(Went::On(firsts));
+    }
+    let take = op.takes_a(state.bc());
+    let front = left_front(state, take, cmp);
+    if !advance_left(state, front.len, take)? {
+        return Ok(Went::Stopped);
+    }
+    Ok(Went::On(front.next))
+}
+
+// Takes or drops the first run, where it is of the right list.
+#[inline(always)]
+fn step_right<S: MergeStateMut, O: MergeOperation, C: Compare<S::Item>>(
+    state: &mut S,
+    op: &O,
+    firsts: Option<Ordering>,
+    cmp: &mut C,
+) -> Result<Went, AllocError>
+    requires stands { FirstsStand C.order (S.left state.old) (S.right state.old) firsts }
+    requires left_ascending { IsAscending C.order (S.left state.old) }
+    requires right_ascending { IsAscending C.order (S.right state.old) }
+    requires made { C.count cmp.old < 2 ^ 127 }
+    ensures part { Part S.left S.right S.left_on S.right_on S.output S.began S.infallible S.can_stop
+        C.order (O.connective op.now) state.old state.new
+        (ahead_of firsts) (C.count cmp.old) (C.count cmp.new) result }
+    ensures turn { IfOk result (IfOn (λ next. IsTurn Greater firsts next
+        (length (S.left state.old) + length (S.right state.old))
+        (length (S.left state.new) + length (S.right state.new)))) }
+{
+    if !stand(firsts, Ordering::Greater) {
+        return Ok(Went::On(firsts));
+    }
+    let take = op.takes_b(state.ac());
+    let front = right_front(state, take, cmp);
+    if !advance_right(state, front.len, take)? {
+        return Ok(Went::Stopped);
+    }
+    Ok(Went::On(front.next))
+}
+
+// Takes or drops the first items, while they are equal.
+#[inline(always)]
+fn steps_both<S: MergeStateMut, O: MergeOperation, C: Compare<S::Item>>(
+    state: &mut S,
+    op: &O,
+    mut firsts: Option<Ordering>,
+    cmp: &mut C,
+) -> Result<Went, AllocError>
+    requires stands { FirstsStand C.order (S.left state.old) (S.right state.old) firsts }
+    requires left_ascending { IsAscending C.order (S.left state.old) }
+    requires right_ascending { IsAscending C.order (S.right state.old) }
+    requires fits { length (S.left state.old) + length (S.right state.old) < 2 ^ 65 }
+    requires made { C.count cmp.old < 2 ^ 126 }
+    ensures part { Part S.left S.right S.left_on S.right_on S.output S.began S.infallible S.can_stop
+        C.order (O.connective op.now) state.old state.new
+        (ahead_of firsts) (C.count cmp.old) (C.count cmp.new) result }
+    ensures turn { IfOk result (IfOn (λ next. IsTurn Equal firsts next
+        (length (S.left state.old) + length (S.right state.old))
+        (length (S.left state.new) + length (S.right state.new)))) }
+{
+    while stand(firsts, Ordering::Equal) {
+        let Went::On(next) = step_both(state, op, cmp)? else {
+            return Ok(Went::Stopped);
+        };
+        firsts = next;
+    }
+    Ok(Went::On(firsts))
+}
+
+// Takes or drops the first items, which are equal.
+#[inline(always)]
+fn step_both<S: MergeStateMut, O: MergeOperation, C: Compare<S::Item>>(
+    state: &mut S,
+    op: &O,
+    cmp: &mut C,
+) -> Result<Went, AllocError>
+    requires stands { FirstsStand C.order (S.left state.old) (S.right state.old) (Some Equal) }
+    requires left_ascending { IsAscending C.order (S.left state.old) }
+    requires right_ascending { IsAscending C.order (S.right state.old) }
+    requires made { C.count cmp.old < 2 ^ 127 }
+    ensures part { Part S.left S.right S.left_on S.right_on S.output S.began S.infallible S.can_stop
+        C.order (O.connective op.now) state.old state.new
+        1 (C.count cmp.old) (C.count cmp.new) result }
+    ensures shorter { IfOk result (IfOn (λ _.
+        (length (S.left state.new) + 1 ≡ length (S.left state.old))
+        × (length (S.right state.new) + 1 ≡ length (S.right state.old)))) }
+{
+    let take = op.takes_both(state.ac(), state.bc());
+    match state.advance_both(take) {
+        Ok(true) => Ok(Went::On(order_at(state, 0, cmp))),
+        Ok(false) => Ok(Went::Stopped),
+        Err(error) => Err(error),
+    }
+}
+
+// Whether the first items stand so to one another.
+#[inline(always)]
+fn stand(firsts: Option<Ordering>, how: Ordering) -> bool
+    ensures { IsTrue result ↔ (firsts ≡ Some how) }
+{
+    firsts == Some(how)
+}
+
+// Takes or drops what is left where one list is used up: it is one run, and needs no comparison.
+#[inline(always)]
+fn take_rest<S: MergeStateMut, O: MergeOperation>(state: &mut S, op: &O) -> Result<bool, AllocError>
+    requires used_up { 1 ≤ length (S.left state.old) → length (S.right state.old) ≡ 0 }
+    ensures left { 1 ≤ length (S.left state.old) →
+        Ran S.left S.right S.left_on S.right_on S.output S.began S.infallible S.can_stop
+        (Left (length (S.left state.old)))
+        (takes (O.connective op.now) (S.left_on state.old) (S.right_on state.old)
+        (Left (length (S.left state.old)))) state.old state.new result }
+    ensures right { 1 ≤ length (S.right state.old) →
+        Ran S.left S.right S.left_on S.right_on S.output S.began S.infallible S.can_stop
+        (Right (length (S.right state.old)))
+        (takes (O.connective op.now) (S.left_on state.old) (S.right_on state.old)
+        (Right (length (S.right state.old)))) state.old state.new result }
+    ensures nothing { length (S.left state.old) ≡ 0 → length (S.right state.old) ≡ 0 →
+        (result ≡ Ok true) × (state.new ≡ state.old) }
+{
+    match (state.a_len(), state.b_len()) {
+        (0, 0) => Ok(true),
+        (0, n) => {
             let take = op.takes_b(state.ac());
             state.advance_b(n, take)
         }
-        Run::Both => {
-            let take = op.takes_both(state.ac(), state.bc());
-            state.advance_both(take)
+        (n, _) => {
+            let take = op.takes_a(state.bc());
+            state.advance_a(n, take)
         }
     }
+}
+
+// The first run, which is of the left list. Where the state stops at it, its first item is enough.
+#[inline(always)]
+fn left_front<S: MergeStateMut, C: Compare<S::Item>>(state: &S, take: bool, cmp: &mut C) -> Front
+    requires stands { FirstsStand C.order (S.left state.now) (S.right state.now) (Some Less) }
+    requires left_ascending { IsAscending C.order (S.left state.now) }
+    requires right_ascending { IsAscending C.order (S.right state.now) }
+    requires made { C.count cmp.old < 2 ^ 127 }
+    ensures { IsFront C.order (Left result.len) (S.left state.now) (S.right state.now) result.next
+        (not (S.can_stop && take)) 1 (C.count cmp.old) (C.count cmp.new) }
+{
+    if take && state.stops() {
+        return Front { len: 1, next: None };
+    }
+    gallop(&LeftOf(state), state.b_at(0), cmp)
+}
+
+// The first run, which is of the right list. Where the state stops at it, its first item is enough.
+#[inline(always)]
+fn right_front<S: MergeStateMut, C: Compare<S::Item>>(state: &S, take: bool, cmp: &mut C) -> Front
+    requires stands { FirstsStand C.order (S.left state.now) (S.right state.now) (Some Greater) }
+    requires left_ascending { IsAscending C.order (S.left state.now) }
+    requires right_ascending { IsAscending C.order (S.right state.now) }
+    requires made { C.count cmp.old < 2 ^ 127 }
+    ensures { IsFront C.order (Right result.len) (S.left state.now) (S.right state.now) result.next
+        (not (S.can_stop && take)) 1 (C.count cmp.old) (C.count cmp.new) }
+{
+    if take && state.stops() {
+        return Front { len: 1, next: None };
+    }
+    let front = gallop(&RightOf(state), state.a_at(0), cmp);
+    Front {
+        len: front.len,
+        next: reversed(front.next),
+    }
+}
+
+// Runs of one item have a call of their own, since most runs are.
+#[inline(always)]
+fn advance_left<S: MergeStateMut>(state: &mut S, n: usize, take: bool) -> Result<bool, AllocError>
+    requires some { 1 ≤ n }
+    requires within { n ≤ length (S.left state.old) }
+    ensures { Ran S.left S.right S.left_on S.right_on S.output S.began S.infallible S.can_stop
+        (Left n) take state.old state.new result }
+{
+    if n == 1 {
+        return state.advance_a(1, take);
+    }
+    state.advance_a(n, take)
+}
+
+// Runs of one item have a call of their own, since most runs are.
+#[inline(always)]
+fn advance_right<S: MergeStateMut>(state: &mut S, n: usize, take: bool) -> Result<bool, AllocError>
+    requires some { 1 ≤ n }
+    requires within { n ≤ length (S.right state.old) }
+    ensures { Ran S.left S.right S.left_on S.right_on S.output S.began S.infallible S.can_stop
+        (Right n) take state.old state.new result }
+{
+    if n == 1 {
+        return state.advance_b(1, take);
+    }
+    state.advance_b(n, take)
 }

@@ -2,7 +2,7 @@
 ghost use Rattle.std.specs.Prelude.{◌≡◌, Bool, false, true, not};
 ghost use Rattle.range_merge.specs.Connective.{Table, differ, union_table, intersection_table, difference_table, symmetric_difference_table, table_of};
 
-/// A connective of two sides, and where it changes.
+/// A boolean operation on two sides (a connective), and where it changes.
 pub trait MergeOperation {
     // The table from whether the left and the right side are on.
     ghost connective: { Self → Table };

@@ -1,68 +1,77 @@
 //! Where a list lies that is changed in place: by value or borrowed. What moves its items is generic in that.
-ghost use Rattle.std.specs.Prelude.{◌≡◌, ℕ, ◌+◌, ◌-◌, ◌≤◌, ◌<◌, List, [], ◌++◌, ◌∷◌, length, take, drop, reverse, Some, slice_get, slice_set};
+ghost use Rattle.std.specs.Prelude.{◌≡◌, ℕ, ◌+◌, ◌-◌, ◌≤◌, ◌<◌, true, List, ◌++◌, length, take, drop, slice_set};
+ghost use Rattle.range_merge.specs.Changes.{Taken, taken_right};
 
+use crate::indexed::Indexed;
+use crate::merge_state::RightSide;
 use smallvec::SmallVec;
 use std::alloc::Global;
 use std::default::MadeWith;
+use std::mem;
 
-/// A list of items that can be moved within it and taken from its end, and that grows only by a gap, where there is room for that.
-pub trait Place<K>: Drop {
-    // The items, and how many have room.
-    ghost items: { Self → List K };
-
+/// A list of items that can be moved within it, and that grows only by a gap, where there is room for that.
+pub trait Place<K>: Indexed<K> + Drop {
+    // How many items have room.
     ghost room: { Self → ℕ };
 
-    /// How many items there are.
-    fn len(&self) -> usize
-        ensures { result ≡ length (items self.now) };
-
-    /// The item at index `i`.
-    fn at(&self, i: usize) -> &K
-        requires { i < length (items self.now) }
-        ensures { slice_get (items self.now) i ≡ Some result.now };
-
-    /// Moves `n` items down from `from` to `to`. What they replace comes to lie behind them.
+    /// Moves `n` items down from `from` to `to`. What they replace comes to lie after them.
     fn move_down(&mut self, to: usize, from: usize, n: usize)
         requires ordered { to ≤ from }
-        requires within { from + n ≤ length (items self.old) }
-        ensures front { take (to + n) (items self.new) ≡
-            take to (items self.old) ++ take n (drop from (items self.old)) }
-        ensures behind { drop (from + n) (items self.new) ≡ drop (from + n) (items self.old) }
-        ensures len { length (items self.new) ≡ length (items self.old) }
+        requires within { from + n ≤ length (Self.items self.old) }
+        ensures front { take (to + n) (Self.items self.new) ≡
+            take to (Self.items self.old) ++ take n (drop from (Self.items self.old)) }
+        ensures after { drop (from + n) (Self.items self.new) ≡ drop (from + n) (Self.items self.old) }
+        ensures len { length (Self.items self.new) ≡ length (Self.items self.old) }
         ensures room { room self.new ≡ room self.old };
 
     /// Opens a gap of `n` places at `at`: the items from there on move up by so many.
     fn open_gap(&mut self, at: usize, n: usize)
-        requires within { at ≤ length (items self.old) }
+        requires within { at ≤ length (Self.items self.old) }
         requires some { 0 < n }
-        requires enough { length (items self.old) + n ≤ room self.old }
-        ensures front { take at (items self.new) ≡ take at (items self.old) }
-        ensures behind { drop (at + n) (items self.new) ≡ drop at (items self.old) }
-        ensures len { length (items self.new) ≡ length (items self.old) + n }
+        requires enough { length (Self.items self.old) + n ≤ room self.old }
+        ensures front { take at (Self.items self.new) ≡ take at (Self.items self.old) }
+        ensures after { drop (at + n) (Self.items self.new) ≡ drop at (Self.items self.old) }
+        ensures len { length (Self.items self.new) ≡ length (Self.items self.old) + n }
         ensures room { room self.new ≡ room self.old };
 
     /// Replaces the item at index `i`, and drops the old one.
     fn set(&mut self, i: usize, item: K)
-        requires { i < length (items self.old) }
-        ensures items { items self.new ≡ slice_set (items self.old) i item }
+        requires { i < length (Self.items self.old) }
+        ensures items { Self.items self.new ≡ slice_set (Self.items self.old) i item }
         ensures room { room self.new ≡ room self.old };
 
-    /// Removes the last item.
-    fn pop(&mut self) -> K
-        requires { 0 < length (items self.old) }
-        ensures items { items self.old ≡ items self.new ++ result ∷ [] }
-        ensures room { room self.new ≡ room self.old };
+    /// Replaces the `n` items at `at` by what the right side gives for its first `n` unread items.
+    fn put_from<R: RightSide<K>>(&mut self, at: usize, n: usize, right: &mut R)
+        requires within { at + n ≤ length (Self.items self.old) }
+        requires some { n ≤ length (R.items right.old) }
+        ensures front { take at (Self.items self.new) ≡ take at (Self.items self.old) }
+        ensures after { drop (at + n) (Self.items self.new) ≡ drop (at + n) (Self.items self.old) }
+        ensures len { length (Self.items self.new) ≡ length (Self.items self.old) }
+        ensures room { room self.new ≡ room self.old }
+        ensures rest { R.items right.new ≡ drop n (R.items right.old) }
+        ensures put { (ts : List (Taken K)) (kept : List K) → R.may_be ts kept →
+            R.may_be (ts ++ taken_right true n (R.items right.old))
+            (kept ++ take n (drop at (Self.items self.new))) };
 
     /// Keeps the first `n` items, and drops the others.
     fn truncate(&mut self, n: usize)
-        ensures items { items self.new ≡ take n (items self.old) }
+        ensures items { Self.items self.new ≡ take n (Self.items self.old) }
         ensures room { room self.new ≡ room self.old };
 }
 
-impl<K: MadeWith<Global> + Drop, const N: usize> Place<K> for SmallVec<K, N> {
-    ghost items = { λ list. list.items };
+/// Items that are exchanged for others.
+pub trait Shelf<K>: Indexed<K> + Drop {
+    /// Exchanges the items from `at` on with `others`, as many as there are.
+    fn swap_with(&mut self, at: usize, others: &mut [K])
+        requires { at + length others.old ≤ length (Self.items self.old) }
+        ensures others { others.new ≡ take (length others.old) (drop at (Self.items self.old)) }
+        ensures after { drop (at + length others.old) (Self.items self.new) ≡
+            drop (at + length others.old) (Self.items self.old) }
+        ensures len { length (Self.items self.new) ≡ length (Self.items self.old) };
+}
 
-    ghost room = { λ list. list.capacity };
+impl<K: MadeWith<Global> + Drop, const N: usize> Indexed<K> for SmallVec<K, N> {
+    ghost items = { λ list. list.items };
 
     #[inline(always)]
     fn len(&self) -> usize {
@@ -73,6 +82,10 @@ impl<K: MadeWith<Global> + Drop, const N: usize> Place<K> for SmallVec<K, N> {
     fn at(&self, i: usize) -> &K {
         &self.as_slice()[i]
     }
+}
+
+impl<K: MadeWith<Global> + Drop, const N: usize> Place<K> for SmallVec<K, N> {
+    ghost room = { λ list. list.capacity };
 
     #[inline(always)]
     fn move_down(&mut self, to: usize, from: usize, n: usize) {
@@ -90,11 +103,8 @@ impl<K: MadeWith<Global> + Drop, const N: usize> Place<K> for SmallVec<K, N> {
     }
 
     #[inline(always)]
-    fn pop(&mut self) -> K {
-        match SmallVec::pop(self) {
-            Some(item) => item,
-            None => unreachable!(),
-        }
+    fn put_from<R: RightSide<K>>(&mut self, at: usize, n: usize, right: &mut R) {
+        put_between(self.as_mut_slice(), at, n, right);
     }
 
     #[inline(always)]
@@ -103,10 +113,15 @@ impl<K: MadeWith<Global> + Drop, const N: usize> Place<K> for SmallVec<K, N> {
     }
 }
 
-impl<K, L: Place<K>> Place<K> for &mut L {
-    ghost items = { λ list. L.items list.now };
+impl<K: MadeWith<Global> + Drop, const N: usize> Shelf<K> for SmallVec<K, N> {
+    #[inline(always)]
+    fn swap_with(&mut self, at: usize, others: &mut [K]) {
+        exchange(self.as_mut_slice(), at, others);
+    }
+}
 
-    ghost room = { λ list. L.room list.now };
+impl<K, L: Indexed<K>> Indexed<K> for &mut L {
+    ghost items = { λ list. L.items list.now };
 
     #[inline(always)]
     fn len(&self) -> usize {
@@ -117,6 +132,10 @@ impl<K, L: Place<K>> Place<K> for &mut L {
     fn at(&self, i: usize) -> &K {
         (**self).at(i)
     }
+}
+
+impl<K, L: Place<K>> Place<K> for &mut L {
+    ghost room = { λ list. L.room list.now };
 
     #[inline(always)]
     fn move_down(&mut self, to: usize, from: usize, n: usize) {
@@ -134,14 +153,99 @@ impl<K, L: Place<K>> Place<K> for &mut L {
     }
 
     #[inline(always)]
-    fn pop(&mut self) -> K {
-        (**self).pop()
+    fn put_from<R: RightSide<K>>(&mut self, at: usize, n: usize, right: &mut R) {
+        (**self).put_from(at, n, right);
     }
 
     #[inline(always)]
     fn truncate(&mut self, n: usize) {
         (**self).truncate(n);
     }
+}
+
+/// A borrowed slice whose items are exchanged for others.
+#[derive(Drop)]
+pub struct Slots<'b, K> {
+    pub(crate) items: &'b mut [K],
+}
+
+impl<'b, K> Indexed<K> for Slots<'b, K> {
+    ghost items = { λ slots. slots.items.now };
+
+    #[inline(always)]
+    fn len(&self) -> usize {
+        self.items.len()
+    }
+
+    #[inline(always)]
+    fn at(&self, i: usize) -> &K {
+        let items = &*self.items;
+        &items[i]
+    }
+}
+
+impl<'b, K> Shelf<K> for Slots<'b, K> {
+    #[inline(always)]
+    fn swap_with(&mut self, at: usize, others: &mut [K]) {
+        exchange(self.items, at, others);
+    }
+}
+
+// Replaces the `n` items at `at` by what the right side gives for its first `n` unread items.
+#[inline(always)]
+fn put_between<K, R: RightSide<K>>(items: &mut [K], at: usize, n: usize, right: &mut R)
+    requires within { at + n ≤ length items.old }
+    requires some { n ≤ length (R.items right.old) }
+    ensures front { take at items.new ≡ take at items.old }
+    ensures after { drop (at + n) items.new ≡ drop (at + n) items.old }
+    ensures len { length items.new ≡ length items.old }
+    ensures rest { R.items right.new ≡ drop n (R.items right.old) }
+    ensures put { (ts : List (Taken K)) (kept : List K) → R.may_be ts kept →
+        R.may_be (ts ++ taken_right true n (R.items right.old))
+        (kept ++ take n (drop at items.new)) }
+{
+    right.put_front(&mut items[at..at + n]);
+}
+
+// Exchanges the items from `at` on with `others`, as many as there are.
+#[inline(always)]
+fn exchange<K>(items: &mut [K], at: usize, others: &mut [K])
+    requires within { at + length others.old ≤ length items.old }
+    ensures others { others.new ≡ take (length others.old) (drop at items.old) }
+    ensures after { drop (at + length others.old) items.new ≡ drop (at + length others.old) items.old }
+    ensures len { length items.new ≡ length items.old }
+{
+    if others.len() < MANY {
+        exchange_few(items, at, others);
+    } else {
+        exchange_many(items, at, others);
+    }
+}
+
+// Exchanges items one by one.
+#[inline(always)]
+fn exchange_few<K>(items: &mut [K], at: usize, others: &mut [K])
+    requires within { at + length others.old ≤ length items.old }
+    ensures others { others.new ≡ take (length others.old) (drop at items.old) }
+    ensures after { drop (at + length others.old) items.new ≡ drop (at + length others.old) items.old }
+    ensures len { length items.new ≡ length items.old }
+{
+    // Brings that the length is within usize.
+    let _len = items.len();
+    for i in 0..others.len() {
+        mem::swap(&mut items[at + i], &mut others[i]);
+    }
+}
+
+// Exchanges items all at once.
+#[inline(always)]
+fn exchange_many<K>(items: &mut [K], at: usize, others: &mut [K])
+    requires within { at + length others.old ≤ length items.old }
+    ensures others { others.new ≡ take (length others.old) (drop at items.old) }
+    ensures after { drop (at + length others.old) items.new ≡ drop (at + length others.old) items.old }
+    ensures len { length items.new ≡ length items.old }
+{
+    items[at..at + others.len()].swap_with_slice(others);
 }
 
 #[inline(always)]
@@ -152,13 +256,13 @@ fn replace_item<K: Drop>(items: &mut [K], i: usize, item: K)
     items[i] = item;
 }
 
-// Moves `n` items down from `from` to `to`. What they replace comes to lie behind them.
+// Moves `n` items down from `from` to `to`. What they replace comes to lie after them.
 #[inline(always)]
 fn swap_down<K>(items: &mut [K], to: usize, from: usize, n: usize)
     requires ordered { to ≤ from }
     requires within { from + n ≤ length items.old }
     ensures front { take (to + n) items.new ≡ take to items.old ++ take n (drop from items.old) }
-    ensures behind { drop (from + n) items.new ≡ drop (from + n) items.old }
+    ensures after { drop (from + n) items.new ≡ drop (from + n) items.old }
     ensures len { length items.new ≡ length items.old }
 {
     if to == from {
@@ -174,13 +278,16 @@ fn swap_down<K>(items: &mut [K], to: usize, from: usize, n: usize)
 // So many items are moved all at once, which costs more than it saves for a few.
 const MANY: usize = 8;
 
+// So many are turned by a rotation where their old places and the new ones overlap. It clears a buffer of 4 KB first, and fewer are moved one by one.
+const TURNED: usize = 64;
+
 // Moves items down one by one.
 #[inline(always)]
 fn swap_few_down<K>(items: &mut [K], to: usize, from: usize, n: usize)
     requires apart { to < from }
     requires within { from + n ≤ length items.old }
     ensures front { take (to + n) items.new ≡ take to items.old ++ take n (drop from items.old) }
-    ensures behind { drop (from + n) items.new ≡ drop (from + n) items.old }
+    ensures after { drop (from + n) items.new ≡ drop (from + n) items.old }
     ensures len { length items.new ≡ length items.old }
 {
     // Brings that the length is within usize.
@@ -196,7 +303,7 @@ fn swap_many_down<K>(items: &mut [K], to: usize, from: usize, n: usize)
     requires apart { to < from }
     requires within { from + n ≤ length items.old }
     ensures front { take (to + n) items.new ≡ take to items.old ++ take n (drop from items.old) }
-    ensures behind { drop (from + n) items.new ≡ drop (from + n) items.old }
+    ensures after { drop (from + n) items.new ≡ drop (from + n) items.old }
     ensures len { length items.new ≡ length items.old }
 {
     // Brings that the length is within usize.
@@ -204,9 +311,9 @@ fn swap_many_down<K>(items: &mut [K], to: usize, from: usize, n: usize)
     last_to_front(&mut items[to..from + n], n);
 }
 
-// Moves the last `n` items to the front: they change places with what stands there, or all are turned where they are more than what stands before them.
+// Moves the last `n` items to the front: they change places with what stands there, one by one or all at once, or all are turned where they are many and more than what stands before them.
 fn last_to_front<K>(items: &mut [K], n: usize)
-    requires { n ≤ length items.old }
+    requires { n < length items.old }
     ensures front { take n items.new ≡ drop (length items.old - n) items.old }
     ensures len { length items.new ≡ length items.old }
 {
@@ -214,20 +321,52 @@ fn last_to_front<K>(items: &mut [K], n: usize)
     if n <= before {
         let (front, last) = items.split_at_mut(before);
         front[..n].swap_with_slice(last);
+    } else if n < TURNED {
+        swap_few_down(items, 0, before, n);
     } else {
         items.rotate_left(before);
     }
 }
 
-// Moves the last items up, those from `at` on, by `by` places. What they replace comes to lie in front of them.
+// Moves the last items up, those from `at` on, by `by` places. What they replace comes to lie before them.
 fn swap_up<K>(items: &mut [K], at: usize, by: usize)
-    requires { at + by ≤ length items.old }
+    requires some { 0 < by }
+    requires within { at + by ≤ length items.old }
     ensures front { take at items.new ≡ take at items.old }
-    ensures behind { drop (at + by) items.new ≡ drop at (take (length items.old - by) items.old) }
+    ensures after { drop (at + by) items.new ≡ drop at (take (length items.old - by) items.old) }
     ensures len { length items.new ≡ length items.old }
 {
-    let (_front, behind) = items.split_at_mut(at);
-    behind.rotate_right(by);
+    if items.len() - at < TURNED {
+        swap_few_up(items, at, by);
+    } else {
+        swap_many_up(items, at, by);
+    }
+}
+
+// Moves items up one by one, from the last one on.
+fn swap_few_up<K>(items: &mut [K], at: usize, by: usize)
+    requires some { 0 < by }
+    requires within { at + by ≤ length items.old }
+    ensures front { take at items.new ≡ take at items.old }
+    ensures after { drop (at + by) items.new ≡ drop at (take (length items.old - by) items.old) }
+    ensures len { length items.new ≡ length items.old }
+{
+    let mut i = items.len() - by;
+    while at < i {
+        i -= 1;
+        items.swap(i, i + by);
+    }
+}
+
+// Moves items up all at once.
+fn swap_many_up<K>(items: &mut [K], at: usize, by: usize)
+    requires within { at + by ≤ length items.old }
+    ensures front { take at items.new ≡ take at items.old }
+    ensures after { drop (at + by) items.new ≡ drop at (take (length items.old - by) items.old) }
+    ensures len { length items.new ≡ length items.old }
+{
+    let (_front, after) = items.split_at_mut(at);
+    after.rotate_right(by);
 }
 
 // Appends `n` blank items where there is room.
@@ -254,18 +393,10 @@ fn open_gap_in<K: MadeWith<Global> + Drop, const N: usize>(
     requires some { 0 < n }
     requires enough { length list.old.items + n ≤ list.old.capacity }
     ensures front { take at list.new.items ≡ take at list.old.items }
-    ensures behind { drop (at + n) list.new.items ≡ drop at list.old.items }
+    ensures after { drop (at + n) list.new.items ≡ drop at list.old.items }
     ensures len { length list.new.items ≡ length list.old.items + n }
     ensures room { list.new.capacity ≡ list.old.capacity }
 {
     push_blanks(list, n);
     swap_up(list.as_mut_slice(), at, n);
-}
-
-// Reverses the items of a list.
-pub(crate) fn turn_round<K: MadeWith<Global> + Drop, const N: usize>(list: &mut SmallVec<K, N>)
-    ensures items { list.new.items ≡ reverse list.old.items }
-    ensures room { list.new.capacity ≡ list.old.capacity }
-{
-    list.as_mut_slice().reverse();
 }

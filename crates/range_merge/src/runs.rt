@@ -4,10 +4,13 @@ ghost use Rattle.std.specs.Prelude.{option_map, ◌≡◌, ◌+◌, ◌*◌, ◌
 ghost use Rattle.range_merge.specs.Boundaries.{IsAscending};
 ghost use Rattle.range_merge.specs.Counting.{AddsAtMost};
 ghost use Rattle.range_merge.specs.Runs.{digits, run_len, runs};
-ghost use Rattle.range_merge.specs.Steps.{FirstsStand, ahead_of, left_after, right_after};
+ghost use Rattle.range_merge.specs.Steps.{FirstsStand, ahead_of};
+ghost use Rattle.range_merge.specs.declared.runs.Run.TheVariants.{Left, Right};
+ghost use Rattle.std.specs.declared.cmp.Ordering.TheVariants.{Less, Greater};
 
 use crate::compare::Compare;
-use crate::galloping::{Side, gallop};
+use crate::galloping::gallop;
+use crate::indexed::Indexed;
 use crate::merge_state::MergeState;
 use std::cmp::Ordering;
 
@@ -24,13 +27,13 @@ pub enum Run {
 
 // The left list of a state.
 #[derive_where(Clone, Copy)]
-struct LeftOf<'a, S>(&'a S);
+pub(crate) struct LeftOf<'a, S>(pub(crate) &'a S);
 
 // The right list of a state.
 #[derive_where(Clone, Copy)]
-struct RightOf<'a, S>(&'a S);
+pub(crate) struct RightOf<'a, S>(pub(crate) &'a S);
 
-impl<S: MergeState> Side<S::Item> for LeftOf<'_, S> {
+impl<S: MergeState> Indexed<S::Item> for LeftOf<'_, S> {
     ghost items = { λ it. S.left it.0.now };
 
     #[inline(always)]
@@ -44,7 +47,7 @@ impl<S: MergeState> Side<S::Item> for LeftOf<'_, S> {
     }
 }
 
-impl<S: MergeState> Side<S::Item> for RightOf<'_, S> {
+impl<S: MergeState> Indexed<S::Item> for RightOf<'_, S> {
     ghost items = { λ it. S.right it.0.now };
 
     #[inline(always)]
@@ -60,7 +63,7 @@ impl<S: MergeState> Side<S::Item> for RightOf<'_, S> {
 
 /// The first run of the unread lists of `state`.
 ///
-/// Both lists have to be strictly sorted, with an item at least. For a run of `n` items it makes at most twice as many comparisons as `n` has binary digits.
+/// Both lists must be strictly sorted, with at least one item. For a run of `n` items it makes at most twice as many comparisons as `n` has binary digits.
 #[inline(always)]
 pub fn run_length<S: MergeState, C: Compare<S::Item>>(state: &S, cmp: &mut C) -> Run
     requires left_some { 0 < length (S.left state.now) }
@@ -82,54 +85,6 @@ pub fn run_length<S: MergeState, C: Compare<S::Item>>(state: &S, cmp: &mut C) ->
     }
 }
 
-/// The first run of two lists, and how the two items behind it stand to one another, if both lists go on.
-pub(crate) struct FirstRun {
-    pub(crate) run: Run,
-    pub(crate) behind: Option<Ordering>,
-}
-
-/// The first run of the unread lists of `state`, where it is known how their first items stand.
-///
-/// For a run of `n` items it makes at most twice as many comparisons as `n` has binary digits, less one.
-#[inline(always)]
-pub(crate) fn first_run<S: MergeState, C: Compare<S::Item>>(
-    state: &S,
-    how: Ordering,
-    cmp: &mut C,
-) -> FirstRun
-    requires firsts { FirstsStand C.order (S.left state.now) (S.right state.now) (Some how) }
-    requires left_ascending { IsAscending C.order (S.left state.now) }
-    requires right_ascending { IsAscending C.order (S.right state.now) }
-    requires made { C.count cmp.old < 2 ^ 127 }
-    ensures first { slice_get (runs C.order (S.left state.now) (S.right state.now)) 0 ≡
-        Some result.run }
-    ensures behind { FirstsStand C.order (left_after result.run (S.left state.now))
-        (right_after result.run (S.right state.now)) result.behind }
-    ensures counted { C.count cmp.old ≤ C.count cmp.new }
-    ensures comparisons { C.count cmp.new + 1 ≤ C.count cmp.old + 2 * digits (run_len result.run) }
-{
-    match how {
-        Ordering::Less => {
-            let front = gallop(&LeftOf(state), state.b_at(0), cmp);
-            FirstRun {
-                run: Run::Left(front.len),
-                behind: front.next,
-            }
-        }
-        Ordering::Equal => FirstRun {
-            run: Run::Both,
-            behind: order_at(state, 1, cmp),
-        },
-        Ordering::Greater => {
-            let front = gallop(&RightOf(state), state.a_at(0), cmp);
-            FirstRun {
-                run: Run::Right(front.len),
-                behind: reversed(front.next),
-            }
-        }
-    }
-}
-
 /// How the two unread items at index `i` stand to one another, if both lists have one.
 #[inline(always)]
 pub(crate) fn order_at<S: MergeState, C: Compare<S::Item>>(
@@ -148,9 +103,9 @@ pub(crate) fn order_at<S: MergeState, C: Compare<S::Item>>(
     None
 }
 
-// How the second of two items stands to the first, where it is known how the first stands to the second.
+/// How the second of two items stands to the first, where it is known how the first stands to the second.
 #[inline(always)]
-fn reversed(how: Option<Ordering>) -> Option<Ordering>
+pub(crate) fn reversed(how: Option<Ordering>) -> Option<Ordering>
     ensures { result ≡ option_map ordering_reverse how }
 {
     match how {

@@ -42,7 +42,7 @@ impl<'a, K> SliceIterator<'a, K> {
         self.unread = &self.unread[n..];
     }
 
-    /// Removes the first `n` unread items, and answers them.
+    /// Removes the first `n` unread items, and returns them.
     #[inline(always)]
     pub fn take_front(&mut self, n: usize) -> &'a [K]
         requires { n ≤ length self.old }

@@ -12,7 +12,7 @@ use crate::merging;
 use crate::operations::MergeOperation;
 use std::alloc::AllocError;
 
-/// A state that counts the items that are taken. It never stops the merge, takes no memory and never refuses.
+/// A state that counts the items that are taken. It never stops the merge, takes no memory and never fails.
 pub type CountMergeState<'a, K> = SliceMergeState<'a, K, usize>;
 
 impl<'a, K> CountMergeState<'a, K> {

@@ -1,5 +1,5 @@
 //! A merge into its own left list, which takes the items of a right list that it owns.
-ghost use Rattle.std.specs.Prelude.{◌≡◌, ◌+◌, ◌*◌, ◌^◌, ◌<◌, ◌≤◌, false, [], length, reverse, Some, slice_get, IsOk, IfOk, IfErr, OnOk, OnErr};
+ghost use Rattle.std.specs.Prelude.{◌≡◌, ◌+◌, ◌*◌, ◌^◌, ◌<◌, ◌≤◌, false, [], length, IsOk, IfOk, IfErr, OnOk, OnErr};
 ghost use Rattle.range_merge.specs.Boundaries.{IsAscending};
 ghost use Rattle.range_merge.specs.Changes.{changes, taken_items};
 ghost use Rattle.range_merge.specs.Counting.{AddsAtMost};
@@ -7,31 +7,32 @@ ghost use Rattle.range_merge.specs.Runs.{weight};
 
 use crate::compare::Compare;
 use crate::in_place_memory::prepared;
+use crate::indexed::Indexed;
 use crate::merge_state::placing::PlacingMergeState;
 use crate::merge_state::right_side::RightSide;
-use crate::merging;
 use crate::operations::MergeOperation;
-use crate::place::{Place, turn_round};
+use crate::place::{Shelf, Slots};
 use smallvec::SmallVec;
 use std::alloc::{AllocError, Global};
 use std::default::MadeWith;
+use std::marker::{Model, PhantomData};
 use std::mem;
 
-/// A state that keeps items of its left list and puts items of its right list between them. Once made it takes no memory and never refuses.
+/// A state that keeps items of its left list and puts items of its right list between them. Once made, it takes no memory and never fails.
 pub type InPlaceMergeState<K, const N: usize> = PlacingMergeState<
     K,
     N,
-    OwnedRight<SmallVec<K, N>>,
+    OwnedRight<K, SmallVec<K, N>>,
     SmallVec<K, N>,
 >;
 
 impl<K: MadeWith<Global> + Drop, const N: usize> InPlaceMergeState<K, N> {
     /// All items of both lists unread, both sides off, and nothing kept.
     ///
-    /// It asks for room in `a` for the items of `b`. A refusal hands both lists back.
+    /// It asks for room in `a` for the items of `b`. If that fails, both lists come back.
     pub fn new(
         mut a: SmallVec<K, N>,
-        mut b: SmallVec<K, N>,
+        b: SmallVec<K, N>,
     ) -> Result<Self, (AllocError, SmallVec<K, N>, SmallVec<K, N>)>
         ensures left { IfOk result (λ state. state.left ≡ a.items) }
         ensures right { IfOk result (λ state. state.right ≡ b.items) }
@@ -45,8 +46,8 @@ impl<K: MadeWith<Global> + Drop, const N: usize> InPlaceMergeState<K, N> {
         let extra = b.len();
         match prepared(&mut a, extra) {
             Ok(()) => {
-                turn_round(&mut b);
-                Ok(Self::over(a, OwnedRight { reversed: b }, extra))
+                let right = OwnedRight::over(b);
+                Ok(Self::over(a, right, extra))
             }
             Err(error) => Err((error, a, b)),
         }
@@ -54,7 +55,7 @@ impl<K: MadeWith<Global> + Drop, const N: usize> InPlaceMergeState<K, N> {
 
     /// Leaves in `a` the items at which the connective of `op` changes between two strictly sorted lists. Of two equal items it is the one of `a` that stays.
     ///
-    /// It asks for room in `a` for the items of `b` before it changes anything; where both lengths together are at most `N`, it succeeds. A refusal leaves the items of `a` as they were and hands `b` back.
+    /// It asks for room in `a` for the items of `b` before it changes anything, and succeeds if both lengths together are at most `N`. If it fails, the items of `a` are as they were, and `b` comes back.
     /// It makes at most twice the weight of the two lists in comparisons.
     pub fn merge<O: MergeOperation, C: Compare<K>>(
         a: &mut SmallVec<K, N>,
@@ -75,11 +76,10 @@ impl<K: MadeWith<Global> + Drop, const N: usize> InPlaceMergeState<K, N> {
         let extra = b.len();
         match prepared(a, extra) {
             Ok(()) => {
-                turn_round(&mut b);
-                let right = OwnedRight { reversed: &mut b };
-                let mut state = PlacingMergeState::<K, N, _, _>::over(&mut *a, right, extra);
-                let _ = merging::merge(&mut state, op, cmp);
-                let kept = mem::replace(state.result(), SmallVec::new(alloc));
+                let items = b.as_mut_slice();
+                let right = OwnedRight::over(Slots { items });
+                let state = PlacingMergeState::<K, N, _, _>::over(&mut *a, right, extra);
+                let kept = mem::replace(state.merged(op, cmp), SmallVec::new(alloc));
                 *a = kept;
                 Ok(())
             }
@@ -88,47 +88,71 @@ impl<K: MadeWith<Global> + Drop, const N: usize> InPlaceMergeState<K, N> {
     }
 }
 
-/// A right list that is owned: its unread items, the last one first.
+/// A right list that is owned: its items, of which the first are done with. What was exchanged for an item lies in its place.
 #[derive(Drop)]
-pub struct OwnedRight<L> {
-    reversed: L,
+pub struct OwnedRight<K, L: Shelf<K>> {
+    list: L,
+    start: usize,
+    of: PhantomData<K>,
 }
 
-impl<K, L: Place<K>> RightSide<K> for OwnedRight<L> {
-    ghost unread = { λ s. reverse (L.items s.reversed) };
+impl<K, L: Shelf<K>> Model for OwnedRight<K, L> {
+    ghost use Rattle.std.specs.Prelude.{◌≤◌, List, length, drop};
 
-    ghost may_be = { λ ts kept. taken_items ts ≡ kept };
+    ghost Value = { List K };
+
+    ghost view = { λ s. drop s.start (L.items s.list) };
+
+    ghost invariant = { λ s. s.start ≤ length (L.items s.list) };
+}
+
+impl<K, L: Shelf<K>> OwnedRight<K, L> {
+    // All items of the list unread.
+    pub(crate) fn over(list: L) -> Self
+        ensures { result ≡ L.items list }
+    {
+        OwnedRight {
+            list,
+            start: 0,
+            of: PhantomData,
+        }
+    }
+}
+
+impl<K, L: Shelf<K>> Indexed<K> for OwnedRight<K, L> {
+    ghost items = { λ s. s };
 
     #[inline(always)]
     fn len(&self) -> usize {
-        self.reversed.len()
+        self.list.len() - self.start
     }
 
     #[inline(always)]
     fn at(&self, i: usize) -> &K {
-        at_from_end(&self.reversed, i)
+        // Brings that the length is within usize.
+        let _len = self.list.len();
+        self.list.at(self.start + i)
     }
+}
+
+impl<K, L: Shelf<K>> RightSide<K> for OwnedRight<K, L> {
+    ghost may_be = { λ ts kept. taken_items ts ≡ kept };
 
     #[inline(always)]
-    fn take_front(&mut self) -> K {
-        self.reversed.pop()
+    fn put_front(&mut self, slots: &mut [K]) {
+        self.list.swap_with(self.start, slots);
+        // Brings that the length is within usize.
+        let _len = self.list.len();
+        self.start += slots.len();
     }
 
     #[inline(always)]
     fn drop_front(&mut self, n: usize) {
-        let left = self.reversed.len() - n;
-        self.reversed.truncate(left);
+        // Brings that the length is within usize.
+        let _len = self.list.len();
+        self.start += n;
     }
 
     #[inline(always)]
     fn keeps_own() {}
-}
-
-// The item at index `i` from the end.
-#[inline(always)]
-fn at_from_end<K, L: Place<K>>(list: &L, i: usize) -> &K
-    requires { i < length (L.items list.now) }
-    ensures { slice_get (reverse (L.items list.now)) i ≡ Some result.now }
-{
-    list.at(list.len() - 1 - i)
 }

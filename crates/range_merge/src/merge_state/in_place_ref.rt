@@ -1,5 +1,5 @@
 //! A merge into its own left list, which takes copies of the items of a right list that it borrows.
-ghost use Rattle.std.specs.Prelude.{◌≡◌, ◌+◌, ◌*◌, ◌^◌, ◌<◌, ◌≤◌, false, [], length, reverse, All, IsOk, IfOk, IfErr, OnOk, OnErr};
+ghost use Rattle.std.specs.Prelude.{◌≡◌, ◌+◌, ◌*◌, ◌^◌, ◌<◌, ◌≤◌, false, [], length, All, IsOk, IfOk, IfErr, OnOk, OnErr};
 ghost use Rattle.std.specs.List.{AllZip};
 ghost use Rattle.range_merge.specs.Boundaries.{IsAscending};
 ghost use Rattle.range_merge.specs.Changes.{changes};
@@ -8,12 +8,13 @@ ghost use Rattle.range_merge.specs.Counting.{AddsAtMost};
 ghost use Rattle.range_merge.specs.Runs.{weight};
 
 use crate::compare::{Compare, Copier};
-use crate::in_place_memory::prepared_copies;
+use crate::in_place_memory::{prepared, prepared_copies};
+use crate::indexed::Indexed;
+use crate::merge_state::in_place::OwnedRight;
 use crate::merge_state::placing::PlacingMergeState;
 use crate::merge_state::right_side::RightSide;
-use crate::merging;
 use crate::operations::MergeOperation;
-use crate::place::Place;
+use crate::place::{Shelf, Slots};
 use crate::slice_iterator::SliceIterator;
 use smallvec::SmallVec;
 use std::alloc::{AllocError, Global};
@@ -21,7 +22,7 @@ use std::default::MadeWith;
 use std::marker::{Model, PhantomData};
 use std::mem;
 
-/// A state that keeps items of its left list and puts copies of items of its right list between them. The copies are made with the state, so once made it takes no memory and never refuses.
+/// A state that keeps items of its left list and puts copies of items of its right list between them. The copies are made with the state, so once made, it takes no memory and never fails.
 pub type InPlaceMergeStateRef<'a, K, P, const N: usize> = PlacingMergeState<
     K,
     N,
@@ -37,7 +38,7 @@ impl<'a, K: MadeWith<Global> + Drop, P: Copier<K>, const N: usize> InPlaceMergeS
 > {
     /// All items of both lists unread, both sides off, and nothing kept.
     ///
-    /// It asks for room in `a` for the items of `b`, and for a copy of each item of `b`, also of those that will be dropped. A refusal hands `a` back.
+    /// It asks for room in `a` for the items of `b`, and for a copy of each item of `b`, even of those that will be dropped. If that fails, `a` comes back.
     pub fn new(
         mut a: SmallVec<K, N>,
         b: &'a [K],
@@ -62,7 +63,7 @@ impl<'a, K: MadeWith<Global> + Drop, P: Copier<K>, const N: usize> InPlaceMergeS
 
     /// Leaves in `a` the items at which the connective of `op` changes between two strictly sorted lists: its own, and copies of those of `b`. Of two equal items it is the one of `a` that stays.
     ///
-    /// It asks for room in `a` for the items of `b`, and for a copy of each item of `b`, before it changes anything; where both lengths together are at most `N` and no copy is refused, it succeeds. A refusal leaves the items of `a` as they were.
+    /// It asks for room in `a` for the items of `b`, and, unless copies never fail, for a copy of each item of `b`, before it changes anything. It succeeds if both lengths together are at most `N` and no copy fails. If it fails, the items of `a` are as they were.
     /// It makes at most twice the weight of the two lists in comparisons.
     pub fn merge<O: MergeOperation, C: Compare<K>>(
         a: &mut SmallVec<K, N>,
@@ -80,57 +81,59 @@ impl<'a, K: MadeWith<Global> + Drop, P: Copier<K>, const N: usize> InPlaceMergeS
         ensures comparisons { AddsAtMost (C.count cmp.old) (C.count cmp.new) (2 * weight C.order a.old.items b.now) }
     {
         let alloc = *a.allocator();
-        match prepared_copies(a, b, copier) {
-            Ok(mut copies) => {
-                let right = CopiedRight::<'a, K, P, &mut SmallVec<K, N>>::over(b, &mut copies);
-                let mut state = PlacingMergeState::<K, N, _, _>::over(&mut *a, right, b.len());
-                let _ = merging::merge(&mut state, op, cmp);
-                let kept = mem::replace(state.result(), SmallVec::new(alloc));
-                *a = kept;
-                Ok(())
-            }
-            Err(error) => Err(error),
+        if copier.never_refuses() {
+            prepared(a, b.len())?;
+            let right = BorrowedRight::over(b, copier);
+            let state = PlacingMergeState::<K, N, _, _>::over(&mut *a, right, b.len());
+            let kept = mem::replace(state.merged(op, cmp), SmallVec::new(alloc));
+            *a = kept;
+            return Ok(());
         }
+        let mut copies = prepared_copies(a, b, copier)?;
+        let items = copies.as_mut_slice();
+        let right = CopiedRight::<'a, K, P, Slots<K>>::over(b, Slots { items });
+        let state = PlacingMergeState::<K, N, _, _>::over(&mut *a, right, b.len());
+        let kept = mem::replace(state.merged(op, cmp), SmallVec::new(alloc));
+        *a = kept;
+        Ok(())
     }
 }
 
-/// A right slice that is borrowed: its unread items, and a copy of each, the last one first.
+/// A right slice that is borrowed: its unread items, and a copy of each.
 #[derive(Drop)]
-pub struct CopiedRight<'a, K, P: Copier<K>, L: Place<K>> {
+pub struct CopiedRight<'a, K, P: Copier<K>, L: Shelf<K>> {
     b: SliceIterator<'a, K>,
-    copies: L,
+    copies: OwnedRight<K, L>,
     by: PhantomData<P>,
 }
 
-impl<'a, K, P: Copier<K>, L: Place<K>> Model for CopiedRight<'a, K, P, L> {
-    ghost use Rattle.std.specs.Prelude.{List, reverse};
+impl<'a, K, P: Copier<K>, L: Shelf<K>> Model for CopiedRight<'a, K, P, L> {
+    ghost use Rattle.std.specs.Prelude.{List};
     ghost use Rattle.std.specs.List.{AllZip};
 
     ghost Value = { List K };
 
     ghost view = { λ s. s.b };
 
-    ghost invariant = { λ s. AllZip P.alike s.b (reverse (L.items s.copies)) };
+    ghost invariant = { λ s. AllZip P.alike s.b s.copies };
 }
 
-impl<'a, K, P: Copier<K>, L: Place<K>> CopiedRight<'a, K, P, L> {
+impl<'a, K, P: Copier<K>, L: Shelf<K>> CopiedRight<'a, K, P, L> {
     // All items of the slice unread, with their copies.
     fn over(b: &'a [K], copies: L) -> Self
-        requires { AllZip P.alike b.now (reverse (L.items copies)) }
+        requires { AllZip P.alike b.now (L.items copies) }
         ensures { result ≡ b.now }
     {
         CopiedRight {
             b: SliceIterator::new(b),
-            copies,
+            copies: OwnedRight::over(copies),
             by: PhantomData,
         }
     }
 }
 
-impl<'a, K, P: Copier<K>, L: Place<K>> RightSide<K> for CopiedRight<'a, K, P, L> {
-    ghost unread = { λ s. s };
-
-    ghost may_be = { AreOwnOrCopies P.alike };
+impl<'a, K, P: Copier<K>, L: Shelf<K>> Indexed<K> for CopiedRight<'a, K, P, L> {
+    ghost items = { λ s. s };
 
     #[inline(always)]
     fn len(&self) -> usize {
@@ -141,20 +144,99 @@ impl<'a, K, P: Copier<K>, L: Place<K>> RightSide<K> for CopiedRight<'a, K, P, L>
     fn at(&self, i: usize) -> &K {
         &self.b.as_slice()[i]
     }
+}
+
+impl<'a, K, P: Copier<K>, L: Shelf<K>> RightSide<K> for CopiedRight<'a, K, P, L> {
+    ghost may_be = { AreOwnOrCopies P.alike };
 
     #[inline(always)]
-    fn take_front(&mut self) -> K {
-        self.b.drop_front(1);
-        self.copies.pop()
+    fn put_front(&mut self, slots: &mut [K]) {
+        self.b.drop_front(slots.len());
+        self.copies.put_front(slots);
     }
 
     #[inline(always)]
     fn drop_front(&mut self, n: usize) {
         self.b.drop_front(n);
-        let left = self.copies.len() - n;
-        self.copies.truncate(left);
+        self.copies.drop_front(n);
     }
 
     #[inline(always)]
     fn keeps_own() {}
+}
+
+/// A right slice that is borrowed, each item of which is copied as it is taken: no copy fails.
+#[derive(Drop)]
+pub struct BorrowedRight<'a, 'p, K, P: Copier<K>> {
+    b: SliceIterator<'a, K>,
+    copier: &'p P,
+}
+
+impl<'a, 'p, K, P: Copier<K>> Model for BorrowedRight<'a, 'p, K, P> {
+    ghost use Rattle.std.specs.Prelude.{List};
+
+    ghost Value = { List K };
+
+    ghost view = { λ s. s.b };
+
+    ghost invariant = { λ _. (x : K) → P.is_infallible x };
+}
+
+impl<'a, 'p, K, P: Copier<K>> BorrowedRight<'a, 'p, K, P> {
+    // All items of the slice unread.
+    fn over(b: &'a [K], copier: &'p P) -> Self
+        requires { (x : K) → P.is_infallible x }
+        ensures { result ≡ b.now }
+    {
+        BorrowedRight {
+            b: SliceIterator::new(b),
+            copier,
+        }
+    }
+}
+
+impl<'a, 'p, K, P: Copier<K>> Indexed<K> for BorrowedRight<'a, 'p, K, P> {
+    ghost items = { λ s. s };
+
+    #[inline(always)]
+    fn len(&self) -> usize {
+        self.b.as_slice().len()
+    }
+
+    #[inline(always)]
+    fn at(&self, i: usize) -> &K {
+        &self.b.as_slice()[i]
+    }
+}
+
+impl<'a, 'p, K: Drop, P: Copier<K>> RightSide<K> for BorrowedRight<'a, 'p, K, P> {
+    ghost may_be = { AreOwnOrCopies P.alike };
+
+    #[inline(always)]
+    fn put_front(&mut self, slots: &mut [K]) {
+        copy_each(slots, self.b.take_front(slots.len()), self.copier);
+    }
+
+    #[inline(always)]
+    fn drop_front(&mut self, n: usize) {
+        self.b.drop_front(n);
+    }
+
+    #[inline(always)]
+    fn keeps_own() {}
+}
+
+// Puts a copy of each item into the slot at its place.
+#[inline(always)]
+fn copy_each<K: Drop, P: Copier<K>>(slots: &mut [K], items: &[K], copier: &P)
+    requires infallible { (x : K) → P.is_infallible x }
+    requires as_many { length slots.old ≡ length items.now }
+    ensures { AllZip P.alike items.now slots.new }
+{
+    for i in 0..slots.len() {
+        match copier.copy(&items[i]) {
+            Ok(copied) => slots[i] = copied,
+            Err(_) => unreachable!(),
+        }
+    }
 }

@@ -25,7 +25,7 @@ pub trait Output<K, By> {
     // This item is never refused where there is room.
     ghost is_infallible: { K → Type 0 };
 
-    /// Appends the items, if they are taken. The answer `false` stops the merge; an error comes where memory or a copy was refused.
+    /// Appends the items, if they are taken. `false` stops the merge. It is an error if an allocation or a copy fails.
     fn append(&mut self, items: &[K], take: bool, by: &By) -> Result<bool, AllocError>
         requires some { 1 ≤ length items.now }
         requires fits { (n : ℕ) × (length items.now ≤ n) × fits self.old n }

@@ -1,15 +1,21 @@
 //! A merge into its own left list, which leaves what it reads on the right to that side.
-ghost use Rattle.std.specs.Prelude.{◌≡◌, ◌+◌, ◌≤◌, false, List, [], ◌++◌, length, drop, ⊤};
-ghost use Rattle.range_merge.specs.Changes.{Taken, taken_right};
+ghost use Rattle.std.specs.Prelude.{◌≡◌, ◌+◌, ◌*◌, ◌^◌, ◌<◌, ◌≤◌, false, List, [], ◌++◌, length, drop, ⊤};
+ghost use Rattle.range_merge.specs.Boundaries.{IsAscending};
+ghost use Rattle.range_merge.specs.Changes.{Taken, changes, taken_right};
+ghost use Rattle.range_merge.specs.Counting.{AddsAtMost};
+ghost use Rattle.range_merge.specs.Runs.{weight};
 
+use crate::compare::Compare;
 use crate::in_place_builder::InPlaceBuilder;
 use crate::merge_state::right_side::RightSide;
 use crate::merge_state::{MergeState, MergeStateMut};
+use crate::merging;
+use crate::operations::MergeOperation;
 use crate::place::Place;
 use std::alloc::AllocError;
 use std::marker::Model;
 
-/// A state that keeps items of its left list, and puts what its right side gives between them. Once made it takes no memory and never refuses. `L` is the list, by value where a caller makes the state.
+/// A state that keeps items of its left list, and puts what its right side gives between them. Once made, it takes no memory and never fails. `L` is the list, by value where a caller makes the state.
 #[derive(Drop)]
 pub struct PlacingMergeState<K, const N: usize, R: RightSide<K>, L: Place<K>> {
     builder: InPlaceBuilder<K, N, L>,
@@ -26,22 +32,22 @@ impl<K, const N: usize, R: RightSide<K>, L: Place<K>> Model for PlacingMergeStat
 
     ghost view = { λ s. record {
       left = s.builder.unread;
-      right = R.unread s.right;
+      right = R.items s.right;
       left_on = s.ac;
       right_on = s.bc;
       kept = s.builder.kept;
     } };
 
-    ghost invariant = { λ s. length (R.unread s.right) ≤ s.builder.puts_left };
+    ghost invariant = { λ s. length (R.items s.right) ≤ s.builder.puts_left };
 }
 
 impl<K, const N: usize, R: RightSide<K>, L: Place<K>> PlacingMergeState<K, N, R, L> {
     // All items of both sides unread, both sides off, and nothing kept.
     pub(crate) fn over(list: L, right: R, extra: usize) -> Self
         requires room { length (L.items list) + extra ≤ L.room list }
-        requires puts { length (R.unread right) ≤ extra }
+        requires puts { length (R.items right) ≤ extra }
         ensures left { result.left ≡ L.items list }
-        ensures right { result.right ≡ R.unread right }
+        ensures right { result.right ≡ R.items right }
         ensures left_on { result.left_on ≡ false }
         ensures right_on { result.right_on ≡ false }
         ensures kept { result.kept ≡ [] }
@@ -52,6 +58,23 @@ impl<K, const N: usize, R: RightSide<K>, L: Place<K>> PlacingMergeState<K, N, R,
             ac: false,
             bc: false,
         }
+    }
+
+    // The list, with the items at which the connective of `op` changes. It stands here, and not over the list and the right side, since a state made of those would owe the proof that it fits in memory.
+    #[inline(always)]
+    pub(crate) fn merged<O: MergeOperation, C: Compare<K>>(mut self, op: &O, cmp: &mut C) -> L
+        requires left_ascending { IsAscending C.order self.left }
+        requires right_ascending { IsAscending C.order self.right }
+        requires left_off { self.left_on ≡ false }
+        requires right_off { self.right_on ≡ false }
+        requires made { C.count cmp.old < 2 ^ 64 }
+        ensures taken { R.may_be [] self.kept → R.may_be
+            (changes C.order (O.connective op.now) self.left self.right) (L.items result) }
+        ensures comparisons { AddsAtMost (C.count cmp.old) (C.count cmp.new)
+            (2 * weight C.order self.left self.right) }
+    {
+        let _ = merging::merge(&mut self, op, cmp);
+        self.result()
     }
 
     /// The list, with the items that were taken. What is still unread is dropped.
@@ -148,18 +171,16 @@ fn put_front<K, const N: usize, R: RightSide<K>, L: Place<K>>(
     n: usize,
     wanted: bool,
 )
-    requires some { n ≤ length (R.unread right.old) }
-    requires puts { length (R.unread right.old) ≤ builder.old.puts_left }
-    ensures kept { (ts : List (Taken K)) → R.may_be ts builder.old.kept → R.may_be (ts ++ taken_right wanted n (R.unread right.old)) builder.new.kept }
+    requires some { n ≤ length (R.items right.old) }
+    requires puts { length (R.items right.old) ≤ builder.old.puts_left }
+    ensures kept { (ts : List (Taken K)) → R.may_be ts builder.old.kept → R.may_be (ts ++ taken_right wanted n (R.items right.old)) builder.new.kept }
     ensures unread { builder.new.unread ≡ builder.old.unread }
-    ensures rest { R.unread right.new ≡ drop n (R.unread right.old) }
-    ensures puts { length (R.unread right.new) ≤ builder.new.puts_left }
+    ensures rest { R.items right.new ≡ drop n (R.items right.old) }
+    ensures puts { length (R.items right.new) ≤ builder.new.puts_left }
 {
-    if !wanted {
+    if wanted {
+        builder.put_from(n, right);
+    } else {
         right.drop_front(n);
-        return;
-    }
-    for _i in 0..n {
-        builder.put(right.take_front());
     }
 }

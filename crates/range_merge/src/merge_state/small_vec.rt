@@ -1,9 +1,10 @@
 //! A merge that copies what is taken into a list.
-ghost use Rattle.std.specs.Prelude.{◌≡◌, ◌+◌, ◌*◌, ◌^◌, ◌<◌, ◌≤◌, ◌↔◌, false, [], length, map, All, IsOk, IfOk, IsTrue, ⊤};
+ghost use Rattle.std.specs.Prelude.{◌≡◌, ◌+◌, ◌*◌, ◌^◌, ◌<◌, ◌≤◌, ◌↔◌, false, [], length, map, All, IsTrue, ⊤};
 ghost use Rattle.range_merge.specs.Boundaries.{IsAscending};
-ghost use Rattle.range_merge.specs.Changes.{changes, from_left};
-ghost use Rattle.range_merge.specs.Copies.{AreCopies, AreKeptThenCopies};
+ghost use Rattle.range_merge.specs.Changes.{from_left};
+ghost use Rattle.range_merge.specs.Copies.{AreKeptThenCopies};
 ghost use Rattle.range_merge.specs.Counting.{AddsAtMost};
+ghost use Rattle.range_merge.specs.Filling.{FitInline, GivesCopies};
 ghost use Rattle.range_merge.specs.Runs.{weight};
 ghost use Rattle.range_merge.specs.States.{HasRoomForAll};
 
@@ -29,7 +30,7 @@ pub type SmallVecMergeState<'a, K, P, const M: usize> = SliceMergeState<
 impl<'a, K: MadeWith<Global> + Drop, P: Copier<K>, const M: usize> SmallVecMergeState<'a, K, P, M> {
     /// All items of both slices unread, both sides off, and the items of `r` as what was taken so far, from the left.
     ///
-    /// Copies of what is taken are appended to them. No advance is refused where the items of `r` and those of both slices together are at most `M`, and no copy is refused. It takes no memory.
+    /// Copies of what is taken are appended to them. No advance fails if the items of `r` and those of both slices together are at most `M`, and no copy fails. It takes no memory.
     pub fn new(a: &'a [K], b: &'a [K], r: SmallVec<K, M>, copier: &'a P) -> Self
         ensures left { result.left ≡ a.now }
         ensures right { result.right ≡ b.now }
@@ -49,8 +50,8 @@ impl<'a, K: MadeWith<Global> + Drop, P: Copier<K>, const M: usize> SmallVecMerge
 
     /// Fills the empty list `r` with copies of the items at which the connective of `op` changes between two strictly sorted lists.
     ///
-    /// It asks for room for both lengths at once where they are more than a few; where that is refused, and for a few, for each run that is taken; and for what the copies ask (seen by reading). Where both lengths together are at most `M` and no copy is refused, it succeeds. A refusal drops `r`.
-    /// It makes at most twice the weight of the two lists in comparisons, also where it is refused.
+    /// It asks for room for both lengths at once if they are more than a few; if that fails, and for a few, it asks for each run that is taken. Copies ask for what they need (seen by reading). It succeeds if both lengths together are at most `M` and no copy fails. If it fails, `r` is dropped.
+    /// It makes at most twice the weight of the two lists in comparisons, even if it fails.
     pub fn merge<O: MergeOperation, C: Compare<K>>(
         r: SmallVec<K, M>,
         a: &'a [K],
@@ -63,8 +64,7 @@ impl<'a, K: MadeWith<Global> + Drop, P: Copier<K>, const M: usize> SmallVecMerge
         requires left_ascending { IsAscending C.order a.now }
         requires right_ascending { IsAscending C.order b.now }
         requires made { C.count cmp.old < 2 ^ 64 }
-        ensures copied { IfOk result (λ list. AreCopies P.alike (changes C.order (O.connective op.now) a.now b.now) list.items) }
-        ensures succeeds { length a.now + length b.now ≤ M → All P.is_infallible a.now → All P.is_infallible b.now → IsOk result }
+        ensures gives { GivesCopies P.alike C.order (O.connective op.now) a.now b.now (FitInline P.is_infallible M a.now b.now) result }
         ensures comparisons { AddsAtMost (C.count cmp.old) (C.count cmp.new) (2 * weight C.order a.now b.now) }
     {
         if fit_together(a.len(), b.len(), FEW.max(M)) {
@@ -87,8 +87,7 @@ impl<'a, K: MadeWith<Global> + Drop, P: Copier<K>, const M: usize> SmallVecMerge
         requires left_ascending { IsAscending C.order a.now }
         requires right_ascending { IsAscending C.order b.now }
         requires made { C.count cmp.old < 2 ^ 64 }
-        ensures copied { IfOk result (λ list. AreCopies P.alike (changes C.order (O.connective op.now) a.now b.now) list.items) }
-        ensures succeeds { length a.now + length b.now ≤ M → All P.is_infallible a.now → All P.is_infallible b.now → IsOk result }
+        ensures gives { GivesCopies P.alike C.order (O.connective op.now) a.now b.now (FitInline P.is_infallible M a.now b.now) result }
         ensures comparisons { AddsAtMost (C.count cmp.old) (C.count cmp.new) (2 * weight C.order a.now b.now) }
     {
         let alloc = *r.allocator();
@@ -112,7 +111,9 @@ impl<'a, K: MadeWith<Global> + Drop, P: Copier<K>, const M: usize> SmallVecMerge
         requires left_ascending { IsAscending C.order a.now }
         requires right_ascending { IsAscending C.order b.now }
         requires made { C.count cmp.old < 2 ^ 64 }
-        ensures copied { IfOk result (λ list. AreCopies P.alike (changes C.order (O.connective op.now) a.now b.now) list.items) }
+
+        // It may need memory, so nothing is said of when it succeeds.
+        ensures gives { GivesCopies P.alike C.order (O.connective op.now) a.now b.now ⊥ result }
         ensures comparisons { AddsAtMost (C.count cmp.old) (C.count cmp.new) (2 * weight C.order a.now b.now) }
     {
         let alloc = *r.allocator();
@@ -146,7 +147,7 @@ fn fit_together(a: usize, b: usize, room: usize) -> bool
     a <= room && b <= room - a
 }
 
-/// How a list is appended to: by copies that the copier makes, behind the items that it had at first.
+/// How a list is appended to: by copies that the copier makes, after the items that it had at first.
 #[derive(Drop)]
 pub struct Copying<'a, P> {
     pub copier: &'a P,

@@ -15,14 +15,14 @@ compare-how-requires g c =
 
 pub loop-low-preserved-then-is_lt : goal.loop-low-preserved-then-is_lt
 loop-low-preserved-then-is_lt g c =
-    IsHalved-after g.C.Compare.order (g.L.Side.items c.args.side.now) c.args.key.now
+    IsHalved-after g.C.Compare.order (g.L.Indexed.items c.args.side.now) c.args.key.now
     _ c.at.result.now c.at.ensures _ _ _ _ _ _ _ _
     (Less-from_test _ c.compare-how.result _ c.compare-how.ensures.answer c.is_lt.ensures (search rules))
     (omega arith) (omega arith) (omega arith) c.compare-how.ensures.counted c.loop-low.invariant
 
 pub loop-low-preserved : goal.loop-low-preserved
 loop-low-preserved g c =
-    IsHalved-before g.C.Compare.order (g.L.Side.items c.args.side.now) c.args.key.now
+    IsHalved-before g.C.Compare.order (g.L.Indexed.items c.args.side.now) c.args.key.now
     _ c.at.result.now c.at.ensures _ _ _ _ _ _ _ _ c.compare-how.result (sym c.compare-how.ensures.answer)
     (not_less-from_test _ c.compare-how.result _ c.compare-how.ensures.answer c.is_lt.ensures (search rules))
     (omega arith) (omega arith) (omega arith) c.compare-how.ensures.counted c.loop-low.invariant

@@ -4,7 +4,7 @@ use Rattle.range_merge.proofs.galloping.halved.Given as goal
 
 abbrev pub invariant-loop-low : goal.invariant-loop-low
 invariant-loop-low g l =
-    IsHalved g.C.Compare.order (g.L.Side.items l.side) l.key
+    IsHalved g.C.Compare.order (g.L.Indexed.items l.side) l.key
     l.fn.window.low (l.fn.window.high - l.fn.window.low) l.low l.high l.next (g.C.Compare.count l.fn.cmp) (g.C.Compare.count l.cmp)
 
 abbrev pub decreases-loop-low : goal.decreases-loop-low

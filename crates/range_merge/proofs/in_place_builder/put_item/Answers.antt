@@ -18,12 +18,12 @@ returns-clause-sound g c =
 pub returns-clause-kept : goal.returns-clause-kept
 returns-clause-kept g c =
     let opened = c.with_gap-first.ensures in
-    let list = g.L.Place.items c.with_gap-first.new.list in
+    let list = g.L.Indexed.items c.with_gap-first.new.list in
     let within : c.args.kept < length list = omega (arith, opened.gap, opened.sound.within) in
     rw c.set.ensures.items (take_more_set list c.args.kept c.args.value within ∙ ap (λ ys. ys ++ c.args.value ∷ []) opened.kept)
 
 pub returns-clause-unread : goal.returns-clause-unread
 returns-clause-unread g c =
     let opened = c.with_gap-first.ensures in
-    let list = g.L.Place.items c.with_gap-first.new.list in
-    rw c.set.ensures.items (drop-set-lt c.with_gap-first.result list c.args.kept c.args.value opened.gap ∙ opened.unread)
+    let list = g.L.Indexed.items c.with_gap-first.new.list in
+    rw c.set.ensures.items (drop-set-lt c.with_gap-first.result list c.args.kept c.args.value (omega (arith, opened.gap)) ∙ opened.unread)

@@ -8,10 +8,10 @@ loop-i-preserved g c =
     let so_far = c.loop-i.invariant in
     let further =
     move_down-more c.args.items.now c.loop-i.items c.args.to c.args.from c.loop-i.i c.requires.apart (omega arith) so_far.len so_far.front
-    so_far.behind in
+    so_far.after in
     rw c.swap.ensures.after
     record {
       front = further.0;
-      behind = further.1;
+      after = further.1;
       len = length-swap c.loop-i.items (c.args.to + c.loop-i.i) (c.args.from + c.loop-i.i) ∙ so_far.len;
     }

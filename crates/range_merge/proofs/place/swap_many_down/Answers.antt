@@ -8,8 +8,8 @@ returns-clause-front g c =
     take-written c.args.items.now c.last_to_front.new.items c.args.to c.args.from c.args.n (omega arith) c.requires.within
     c.last_to_front.ensures.len c.last_to_front.ensures.front
 
-pub returns-clause-behind : goal.returns-clause-behind
-returns-clause-behind g c =
+pub returns-clause-after : goal.returns-clause-after
+returns-clause-after g c =
     drop-put_mid c.args.to (c.args.from + c.args.n - c.args.to) c.args.items.now c.last_to_front.new.items (c.args.from + c.args.n) (omega arith)
     (omega arith)
     (c.last_to_front.ensures.len ∙ length-part c.args.items.now c.args.to c.args.from c.args.n (omega arith) c.requires.within)

@@ -1,5 +1,6 @@
 use Rattle.std.proofs.Common.{◌≡◌, [], refl, ap, ◌∙◌, arith}
 use Rattle.std.proofs.lemmas.Bool.{false≢true}
+use Rattle.std.proofs.lemmas.Result.{IfOk-from_err}
 use Rattle.range_merge.proofs.Testing.{went_through}
 use Rattle.range_merge.proofs.CopiesLemmas.{AreKeptThenCopies-first, AreCopies-kept}
 use Rattle.range_merge.proofs.merge_state.small_vec.SmallVecMergeState+K+P+M.merge_few.Goals as goal
@@ -19,24 +20,27 @@ merge-requires-clause-right_off g c = c.over-state.ensures.right_on
 pub merge-requires-clause-made : goal.merge-requires-clause-made
 merge-requires-clause-made g c = c.requires.made
 
-pub returns-in_err-_went_through-clause-succeeds : goal.returns-in_err-_went_through-clause-succeeds
-returns-in_err-_went_through-clause-succeeds g c = λ fits left right.
-    absurd (
-    false≢true (
-    c.in_err-_went_through.ensures.succeeds (
-    rw (c.over-state.ensures.taken, c.over-state.ensures.left, c.over-state.ensures.right, c.requires.empty, ← c.capacity-inline.ensures.value)
-    (omega (arith, fits, c.capacity-inline.ensures.at_least_inline), left, right)
-    )
-    )
-    )
+pub returns-in_err-_went_through-clause-gives : goal.returns-in_err-_went_through-clause-gives
+returns-in_err-_went_through-clause-gives g c = record {
+  copied = IfOk-from_err c.from_residual.result _ c.from_residual.ensures.0;
+  succeeds = λ (fits, left, right).
+      absurd (
+      false≢true (
+      c.in_err-_went_through.ensures.succeeds (
+      rw (c.over-state.ensures.taken, c.over-state.ensures.left, c.over-state.ensures.right, c.requires.empty, ← c.capacity-inline.ensures.value)
+      (omega (arith, fits, c.capacity-inline.ensures.at_least_inline), left, right)
+      )
+      )
+      );
+}
 
 pub returns-in_err-_went_through-clause-comparisons : goal.returns-in_err-_went_through-clause-comparisons
 returns-in_err-_went_through-clause-comparisons g c =
     let merged = rw (c.over-state.ensures.left, c.over-state.ensures.right) at c.merge.ensures in
     merged.comparisons
 
-pub returns-clause-copied : goal.returns-clause-copied
-returns-clause-copied g c =
+pub returns-clause-gives : goal.returns-clause-gives
+returns-clause-gives g c =
     let alike = g.P.Copier.alike in
     let merged = rw (c.over-state.ensures.left, c.over-state.ensures.right) at c.in_ok-_went_through.ensures in
     let went = went_through c.in_ok-_went_through._went_through merged.stopped in
@@ -44,10 +48,7 @@ returns-clause-copied g c =
     let kept = merged.taken went [] (rw (empty, c.over-state.ensures.began) (AreKeptThenCopies-first alike [])) in
     let copies = AreCopies-kept alike _ _ (rw (merged.began, c.over-state.ensures.began) at kept) in
     let items = ap (λ list. list.now.items) c.result.ensures in
-    rw (c.replace.ensures.value, items) copies
-
-pub returns-clause-succeeds : goal.returns-clause-succeeds
-returns-clause-succeeds g c = λ _ _ _. refl
+    record { copied = rw (c.replace.ensures.value, items) copies; succeeds = λ _. refl }
 
 pub returns-clause-comparisons : goal.returns-clause-comparisons
 returns-clause-comparisons g c =

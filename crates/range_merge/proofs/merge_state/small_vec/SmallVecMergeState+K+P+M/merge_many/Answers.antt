@@ -23,8 +23,8 @@ returns-in_err-_went_through-clause-comparisons g c =
     let merged = rw (c.over-state.ensures.left, c.over-state.ensures.right) at c.merge.ensures in
     merged.comparisons
 
-pub returns-clause-copied : goal.returns-clause-copied
-returns-clause-copied g c =
+pub returns-clause-gives : goal.returns-clause-gives
+returns-clause-gives g c =
     let alike = g.P.Copier.alike in
     let merged = rw (c.over-state.ensures.left, c.over-state.ensures.right) at c.in_ok-_went_through.ensures in
     let went = went_through c.in_ok-_went_through._went_through merged.stopped in
@@ -33,7 +33,7 @@ returns-clause-copied g c =
     let kept = merged.taken went [] (rw (empty, c.over-state.ensures.began) (AreKeptThenCopies-first alike [])) in
     let copies = AreCopies-kept alike _ _ (rw (merged.began, c.over-state.ensures.began) at kept) in
     let items = ap (λ list. list.now.items) c.result.ensures in
-    rw (c.inline_if_few.ensures, c.replace.ensures.value, items) copies
+    record { copied = rw (c.inline_if_few.ensures, c.replace.ensures.value, items) copies; succeeds = absurd }
 
 pub returns-clause-comparisons : goal.returns-clause-comparisons
 returns-clause-comparisons g c =

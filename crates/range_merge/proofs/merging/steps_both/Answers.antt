@@ -1,0 +1,39 @@
+use Rattle.std.proofs.Common.{Ok, refl, arith}
+use Rattle.range_merge.specs.declared.merging.Went.TheVariants.{On, Stopped}
+use Rattle.range_merge.proofs.Ahead.{ahead_of-le}
+use Rattle.range_merge.proofs.FirstRun.{weight-le}
+use Rattle.range_merge.proofs.PartsOfMerge.{Part-none, Part-then}
+use Rattle.range_merge.proofs.merging.steps_both.Goals as goal
+
+pub loop-firsts-init : goal.loop-firsts-init
+loop-firsts-init g c = record {
+  part = Part-none g.met.C.Compare.total c.args.state.now c.args.firsts _ _ _ c.requires.left_ascending c.requires.right_ascending c.requires.stands (omega arith) (omega arith);
+  no_longer = omega arith;
+  same = λ _. refl;
+}
+
+pub step_both-requires-clause-made : goal.step_both-requires-clause-made
+step_both-requires-clause-made g c =
+    omega (
+      arith,
+      c.loop-firsts.invariant.part.counted,
+      ahead_of-le c.loop-firsts.firsts,
+      weight-le g.met.C.Compare.total _ _ c.requires.left_ascending c.requires.right_ascending,
+    )
+
+pub returns-in_default-clause-part : goal.returns-in_default-clause-part
+returns-in_default-clause-part g c =
+    let so_far = rw (c.stand.ensures.0 c.loop-firsts-test.true) at c.loop-firsts.invariant.part in
+    let further = rw c.in_default.is at c.in_ok-next.ensures.part in
+    Part-then g.met.C.Compare.total (Ok Stopped) so_far further
+
+pub loop-firsts-preserved : goal.loop-firsts-preserved
+loop-firsts-preserved g c =
+    let invariant = c.loop-firsts.invariant in
+    let so_far = rw (c.stand.ensures.0 c.loop-firsts-test.true) at invariant.part in
+    let further = rw c.in-On.is at c.in_ok-next.ensures in
+    record {
+      part = Part-then g.met.C.Compare.total (Ok (On c.in-On.next)) so_far further.part;
+      no_longer = omega (arith, invariant.no_longer, further.shorter.0, further.shorter.1);
+      same = λ as_long. absurd (omega (arith, invariant.no_longer, further.shorter.0, further.shorter.1, as_long));
+    }

@@ -1,0 +1,45 @@
+//! A search without a branch on what it compares: the list's length alone decides how many items it looks at.
+ghost use Rattle.std.specs.Prelude.{◌^◌, ◌<◌, ◌≤◌, length};
+ghost use Rattle.range_merge.specs.Boundaries.{IsAscending};
+ghost use Rattle.range_merge.specs.Counting.{AddsAtMost};
+ghost use Rattle.range_merge.specs.Runs.{digits};
+ghost use Rattle.range_merge.specs.Searching.{IsSearched};
+
+use crate::compare::Compare;
+
+/// How many items at the front of a list are at or below a key, and whether the last of them is equal to it.
+#[derive(Clone, Copy)]
+pub(super) struct Front {
+    pub(super) len: usize,
+    pub(super) has_equal: bool,
+}
+
+/// The items at or below `key`, of a list that isn't long.
+#[inline(always)]
+pub(super) fn count_branchless<K, C: Compare<K>>(items: &[K], key: &K, cmp: &mut C) -> Front
+    requires ascending { IsAscending C.order items.now }
+    requires short { length items.now ≤ 2 ^ 17 }
+    requires made { C.count cmp.old < 2 ^ 127 }
+    ensures front { IsSearched C.order items.now key.now
+        result.len result.len result.has_equal }
+    ensures comparisons { AddsAtMost (C.count cmp.old) (C.count cmp.new)
+        (digits (length items.now)) }
+{
+    let mut low = 0;
+    let mut len = items.len();
+    let mut has_equal = false;
+    while len > 0 {
+        // Whichever half the search goes on in, it is as long as the other: of an even number, the first one has the item that was compared.
+        let half = len / 2;
+        let skipped = len - half;
+        let how = cmp.compare(&items[low + skipped - 1], key);
+        has_equal = has_equal | how.is_eq();
+        // `low` grows by `skipped` or by nothing. An `if` or a product would become a branch.
+        low = low + (skipped << how.is_le() as u32) - skipped;
+        len = half;
+    }
+    Front {
+        len: low,
+        has_equal,
+    }
+}
