@@ -52,6 +52,23 @@ module _ {K : Type 0} (order : K → K → Ordering) where
   pub length-merged : (ts : List (Taken K)) (m : List K) → AreEqual order (taken_items ts) m → length m ≡ length ts
   length-merged ts m h = sym (length_all_zip (λ x y. order x y ≡ Equal) (taken_items ts) m h) ∙ length-map ts taken_item
 
+  module _ (is_value : K → Type 0) where
+    pub MeansAmong-from_means : (f : Table) (r a b : List K) → Means order f r a b → MeansAmong order is_value f r a b
+    MeansAmong-from_means f r a b m = record { sorted = m.sorted; members = λ x _. m.members x }
+
+    -- what means the opposite, negated
+    MeansAmong-negated : (f : Table) (m r a b : List K) → f false false ≡ true → Means order (opposite f) m a b → Negates order is_value r m →
+        MeansAmong order is_value f r a b
+    MeansAmong-negated f m r a b on means n = record {
+      sorted = n.sorted;
+      members = λ x v. n.members x (v on) ∙ ap not (means.members x) ∙ not-not (f (member order a x) (member order b x));
+    }
+
+    pub IfOk-negated : (f : Table) (m a b : List K) (r : Result (List K) AllocError) → f false false ≡ true → Means order (opposite f) m a b →
+        IfOk r (λ i. Negates order is_value i m) → IfOk r (λ i. MeansAmong order is_value f i a b)
+    IfOk-negated f m a b r on means =
+        IfOk-weaker r (λ i. Negates order is_value i m) (λ i. MeansAmong order is_value f i a b) (λ i. MeansAmong-negated f m i a b on means)
+
 -- what lists mean, and how long they are
 
 module _ {K : Type 0} {order : K → K → Ordering} (o : IsTotalOrder order) where
@@ -70,32 +87,11 @@ module _ {K : Type 0} {order : K → K → Ordering} (o : IsTotalOrder order) wh
       ∙ length-map ts taken_item ∙ sym is
 
   module _ (is_value : K → Type 0) where
-    MeansAmong-from_means : (f : Table) (r a b : List K) → Means order f r a b → MeansAmong order is_value f r a b
-    MeansAmong-from_means f r a b m = record { sorted = m.sorted; members = λ x _. m.members x }
-
     pub Means-of_off : (f : Table) (r a b : List K) → f false false ≡ false → MeansAmong order is_value f r a b ↔ Means order f r a b
     Means-of_off f r a b off = (
       λ m. record { sorted = m.sorted; members = λ x. m.members x (λ on. absurd (true≢false (sym on ∙ off))) },
-      MeansAmong-from_means f r a b,
+      MeansAmong-from_means order is_value f r a b,
     )
-
-    -- the changes, copied
-    pub MeansAmong-merged : (f : Table) (xs m a b : List K) → AreEqual order xs m → Means order f xs a b → MeansAmong order is_value f m a b
-    MeansAmong-merged f xs m a b h means = MeansAmong-from_means f m a b (Means-equal f xs m a b h means)
-
-    -- the changes, copied and negated
-    MeansAmong-negated : (f : Table) (xs m r a b : List K) → f false false ≡ true → AreEqual order xs m → Means order (opposite f) xs a b →
-        Negates order is_value r m → MeansAmong order is_value f r a b
-    MeansAmong-negated f xs m r a b on h means n = record {
-      sorted = n.sorted;
-      members = λ x v.
-          n.members x (v on) ∙ ap not ((Means-equal (opposite f) xs m a b h means).members x) ∙ not-not (f (member order a x) (member order b x));
-    }
-
-    pub IfOk-negated : (f : Table) (xs m a b : List K) (r : Result (List K) AllocError) → f false false ≡ true → AreEqual order xs m →
-        Means order (opposite f) xs a b → IfOk r (λ i. Negates order is_value i m) → IfOk r (λ i. MeansAmong order is_value f i a b)
-    IfOk-negated f xs m a b r on h means =
-        IfOk-weaker r (λ i. Negates order is_value i m) (λ i. MeansAmong order is_value f i a b) (λ i. MeansAmong-negated f xs m i a b on h means)
 
   -- negation as the connective "not left"
 

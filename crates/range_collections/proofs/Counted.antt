@@ -73,16 +73,16 @@ module _ {K : Type 0} (order : K → K → Ordering) (value : ℕ → K) where
       ((k : ℕ) → k < n → s ≤ k → k < p → member order items (value k) ≡ true) →
       ((k : ℕ) → k < n → p ≤ k → member order items (value k) ≡ false) →
       members_below order value items n ≡ min n p - min n s
-  members_below-between items s p zero up before within behind = omega (arith, members_below-zero items)
-  members_below-between items s p (suc n) up before within behind =
-      let rest = members_below-between items s p n up (λ k less. before k (omega arith)) (λ k less. within k (omega arith)) (λ k less. behind k (omega arith)) in
+  members_below-between items s p zero up before within after = omega (arith, members_below-zero items)
+  members_below-between items s p (suc n) up before within after =
+      let rest = members_below-between items s p n up (λ k less. before k (omega arith)) (λ k less. within k (omega arith)) (λ k less. after k (omega arith)) in
       let more = members_below-suc items n in
       elim (cases_lt n s) as (λ _. members_below order value items (suc n) ≡ min (suc n) p - min (suc n) s) [
         | inl low ↦ omega (arith, up, rest, more, low, ap bit (before n (omega arith) low))
         | inr from ↦
             elim (cases_lt n p) as (λ _. members_below order value items (suc n) ≡ min (suc n) p - min (suc n) s) [
               | inl inside ↦ omega (arith, up, rest, more, from, inside, ap bit (within n (omega arith) from inside))
-              | inr high ↦ omega (arith, up, rest, more, from, high, ap bit (behind n (omega arith) high))
+              | inr high ↦ omega (arith, up, rest, more, from, high, ap bit (after n (omega arith) high))
             ]
       ]
 

@@ -222,9 +222,9 @@ module _ {K : Type 0} {order : K → K → Ordering} (o : IsTotalOrder order) wh
   within-cons P y ys i p h zero d low high = p
   within-cons P y ys i p h (suc k) d low high = h k d (omega arith) (omega arith)
 
-  within-behind : (P : K → Type 0) (y : K) (ys : List K) (i n : ℕ) → AllWithin P ys i n → AllWithin P (y ∷ ys) (suc i) (suc n)
-  within-behind P y ys i n h zero d low high = absurd (omega arith)
-  within-behind P y ys i n h (suc k) d low high = h k d (omega arith) (omega arith)
+  within-after : (P : K → Type 0) (y : K) (ys : List K) (i n : ℕ) → AllWithin P ys i n → AllWithin P (y ∷ ys) (suc i) (suc n)
+  within-after P y ys i n h zero d low high = absurd (omega arith)
+  within-after P y ys i n h (suc k) d low high = h k d (omega arith) (omega arith)
 
   -- it stands at a place, or else before one
   by_place : {G : Type 0} (cut : K) (xs : List K) → IsAscending order xs →
@@ -238,7 +238,7 @@ module _ {K : Type 0} {order : K → K → Ordering} (o : IsTotalOrder order) wh
       (λ i within here. found (suc i) (omega arith) here)
       (λ i within before from.
       missing (suc i) (omega arith) (within-cons (λ z. order z cut ≡ Less) y ys i l before)
-      (within-behind (λ z. order z cut ≡ Greater) y ys i (length ys) from)))
+      (within-after (λ z. order z cut ≡ Greater) y ys i (length ys) from)))
       (λ e. found 0 (omega arith) (λ d. e))
       (λ g.
       missing 0 (omega arith) (λ k d low high. absurd (omega arith))

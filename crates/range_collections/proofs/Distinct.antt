@@ -14,7 +14,7 @@ use Rattle.std.specs.declared.cmp.Ordering.{Ordering}
 use Rattle.std.specs.declared.cmp.Ordering.TheVariants.{Less, Equal, Greater}
 use Rattle.range_merge.specs.Boundaries.{IsAscending}
 use Rattle.range_collections.specs.Unsorted.{AreDistinctOf}
-use Rattle.range_merge.proofs.Marks.{Contains-here, Contains-behind}
+use Rattle.range_merge.proofs.Marks.{Contains-here, Contains-after}
 use Rattle.range_merge.proofs.OwnersUnique.{not_both_less}
 
 module _ {K : Type 0} {order : K → K → Ordering} (o : IsTotalOrder order) {E : K → K → Bool} (e : IsEquivalence E)
@@ -106,13 +106,13 @@ module _ {K : Type 0} {order : K → K → Ordering} (o : IsTotalOrder order) wh
       others = record {
         sorted = IsAscending-tail order y ys h.sorted;
         taken = λ z later.
-            Contains-cons_cases order x xs z (h.taken z (Contains-behind y z ys later))
+            Contains-cons_cases order x xs z (h.taken z (Contains-after y z ys later))
             (λ e.
             absurd (not_tied y z (Less-contained order y ys z h.sorted later)
             (subst (λ w. order w y ≡ Equal) e first)))
             (λ inside. inside);
         kept = λ z later.
-            let (k, w, within, is, e) = h.kept z (Contains-behind x z xs later) in
+            let (k, w, within, is, e) = h.kept z (Contains-after x z xs later) in
             Contains-cons_cases order y ys w (k, within, is)
             (λ at_y.
             absurd (not_tied x z (Less-contained order x xs z up later)

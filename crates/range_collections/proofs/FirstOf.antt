@@ -1,4 +1,4 @@
--- A sort that keeps the order of equal items, and a removal of repeats behind it, leave the first of each.
+-- A sort that keeps the order of equal items, and a removal of repeats after it, leave the first of each.
 use Rattle.std.proofs.Common.{◌≡◌, refl, sym, ap, ◌∙◌, Bool, true, false, List, [], ◌∷◌, All, Some}
 use Rattle.std.specs.Prelude.{filter, not, ◌&&◌, slice_get}
 use Rattle.std.specs.List.{dedup, dedup_from}
@@ -43,11 +43,11 @@ module _ {K : Type 0} {order : K → K → Ordering} (o : IsTotalOrder order) wh
     first-here : (k : K) (xs : List K) → first k (k ∷ xs)
     first-here k xs = rw (tied_itself o k) refl
 
-    -- an item that is not equal to z changes nothing in front
+    -- an item that is not equal to z changes nothing before it
     first-past : (z k : K) (xs : List K) → is_eq (order z k) ≡ false → first z xs → first z (k ∷ xs)
     first-past z k xs differs h = rw differs h
 
-    -- a repeat behind k changes nothing
+    -- a repeat after k changes nothing
     first-repeat : (z k x : K) (xs : List K) → order x k ≡ Equal → first z (k ∷ xs) → first z (k ∷ x ∷ xs)
     first-repeat z k x xs e =
         cond_both (is_eq (order z k)) (k ∷ filter (λ y. is_eq (order z y)) xs) (filter (λ y. is_eq (order z y)) xs)

@@ -1,27 +1,66 @@
--- Where a stretch of numbers fits: from one boundary to the next, nothing below the next fits unless it fits at the first.
-use Rattle.std.proofs.Common.{◌≡◌, refl, sym, ap, ◌∙◌, subst, ℕ, suc, inl, inr, ◌<◌, ◌≤◌, ◌+◌, ◌%◌, ◌==◌, true, false, not, Option, Some, None, IfNone, List, length, get_or, arith}
+-- Where a stretch of numbers fits: in the first gap that is as long, and at its start.
+use Rattle.std.proofs.Common.{◌≡◌, sym, ap, ap₂, ◌∙◌, subst, ℕ, suc, inl, inr, ◌<◌, ◌≤◌, ◌+◌, ◌%◌, Bool, true, false, not, ◌&&◌, List, [], ◌∷◌, length, drop, get_or, arith, refl, length-drop, get_or-drop}
 use Rattle.std.specs.Cmp.{IsTotalOrder, ranks}
 use Rattle.std.specs.List.{AllWithin}
-use Rattle.std.specs.Ordering.{is_le, nat_cmp}
+use Rattle.std.specs.Ordering.{is_le, is_lt, nat_cmp}
 use Rattle.std.specs.declared.cmp.Ordering.{Ordering}
 use Rattle.std.specs.declared.cmp.Ordering.TheVariants.{Less, Equal, Greater}
+use Rattle.std.specs.declared.ops.Bound.TheVariants.{Excluded}
 use Rattle.std.proofs.lemmas.Bool.{cases_lt, true≢false}
 use Rattle.std.proofs.lemmas.Cmp.{by_ranked}
-use Rattle.std.proofs.lemmas.List.{get_or_default}
+use Rattle.std.proofs.lemmas.List.{drop-drop}
 use Rattle.range_merge.specs.Boundaries.{IsAscending, member, is_odd}
-use Rattle.range_merge.proofs.Orders.{Greater-from_less, Equal-self}
-use Rattle.range_merge.proofs.Parity.{is_odd-suc}
-use Rattle.range_collections.specs.Fits.{Fits, IsPlaceBelow}
+use Rattle.range_merge.proofs.Orders.{Greater-from_less, Less-from_greater, Equal-self}
+use Rattle.range_collections.specs.Fits.{Fits}
+use Rattle.range_collections.specs.Ranges.{ranges_of, range_start, range_end}
+use Rattle.range_collections.specs.declared.range_set_range.RangeSetRange.TheVariants.{Range, RangeFrom}
+use Rattle.range_collections.proofs.Ascending.{Less-from_is_lt}
 use Rattle.range_collections.proofs.CountUpTo.{count_up_to-split}
-use Rattle.range_collections.proofs.Shortest.{le-trans, count_up_to-item}
+use Rattle.range_collections.proofs.Points.{is_odd-at_one, is_odd-at_zero}
+use Rattle.range_collections.proofs.Shortest.{is_le-cases, Less-then_le, count_up_to-item}
 
--- what a search for a place keeps: it stands between the boundaries before place i and the others, and nothing below it fits
-pub record Reached {K : Type 0} (order : K → K → Ordering) (place : K → ℕ) (items : List K) (start end len : K) (i : ℕ) (at : K) : Type 0 where
-  pub within : i ≤ length items
-  pub before : AllWithin (λ y. is_le (order y at) ≡ true) items 0 i
-  pub from : AllWithin (λ y. order y at ≡ Greater) items i (length items)
-  pub started : place start ≤ place at
-  pub least : (y : K) → Fits order place items start end len y → place at ≤ place y
+and-true : (p q : Bool) → (p && q) ≡ true → (p ≡ true) × (q ≡ true)
+and-true true true e = (refl, refl)
+and-true true false e = absurd (cc)
+and-true false q e = absurd (cc)
+
+not-true : (b : Bool) → not b ≡ true → b ≡ false
+not-true true e = cc
+not-true false e = refl
+
+-- a list has the ranges that it begins with
+module _ {K : Type 0} where
+  same_ranges : (a b : List K) → ranges_of a ≡ ranges_of b → a ≡ b
+  same_ranges [] [] e = refl
+  same_ranges [] (y ∷ []) e = cc
+  same_ranges [] (y ∷ z ∷ b) e = cc
+  same_ranges (x ∷ []) [] e = cc
+  same_ranges (x ∷ []) (y ∷ []) e =
+      let one : RangeFrom (record { start = x }) ≡ RangeFrom (record { start = y }) = cc in
+      ap (λ z. z ∷ []) (ap range_start one)
+  same_ranges (x ∷ []) (y ∷ z ∷ b) e = cc
+  same_ranges (x ∷ w ∷ a) [] e = cc
+  same_ranges (x ∷ w ∷ a) (y ∷ []) e = cc
+  same_ranges (x ∷ w ∷ a) (y ∷ z ∷ b) e =
+      let one : Range (record { start = x; end = w }) ≡ Range (record { start = y; end = z }) = cc in
+      let ends : Excluded w ≡ Excluded z = ap range_end one in
+      let second : w ≡ z = cc in
+      let rest : ranges_of a ≡ ranges_of b = cc in
+      ap₂ ◌∷◌ (ap range_start one) (ap₂ ◌∷◌ second (same_ranges a b rest))
+
+  pub two-from_range : (unread rest : List K) (s e : K) → ranges_of unread ≡ Range (record { start = s; end = e }) ∷ ranges_of rest → unread ≡ s ∷ e ∷ rest
+  two-from_range unread rest s e h = same_ranges unread (s ∷ e ∷ rest) h
+
+-- what a walk through the gaps keeps: `at` of their boundaries are read, and nothing fits before these
+pub record Searched {K : Type 0} (order : K → K → Ordering) (place : K → ℕ) (items : List K) (start end len : K) (unread : List K) : Type 0 where
+  pub parts : List K
+  pub ascending : IsAscending order parts
+  pub members : (x : K) → member order parts x ≡ ((is_le (order start x) && is_lt (order x end)) && not (member order items x))
+  pub at : ℕ
+  pub even : at % 2 ≡ 0
+  pub within : at ≤ length parts
+  pub left : unread ≡ drop at parts
+  pub passed : (y : K) → Fits order place items start end len y → AllWithin (λ x. is_le (order x y) ≡ true) parts 0 at
 
 module _ {K : Type 0} {order : K → K → Ordering} (o : IsTotalOrder order) (place : K → ℕ)
     (order_of_places : (x y : K) → order x y ≡ nat_cmp (place x) (place y)) where
@@ -35,133 +74,177 @@ module _ {K : Type 0} {order : K → K → Ordering} (o : IsTotalOrder order) (p
       by_ranked (place x < place y) (place x ≡ place y) (place y < place x) (nat_cmp (place x) (place y)) (ranks (place x) (place y))
       (λ e _. ap is_le (order_of_places x y ∙ e)) (λ e _. ap is_le (order_of_places x y ∙ e)) (λ e more. absurd (omega (arith, more, h)))
 
-  place-Greater : (x y : K) → place y < place x → order x y ≡ Greater
-  place-Greater x y h =
+  place-Less : (x y : K) → place x < place y → order x y ≡ Less
+  place-Less x y h =
       by_ranked (place x < place y) (place x ≡ place y) (place y < place x) (nat_cmp (place x) (place y)) (ranks (place x) (place y))
-      (λ e below. absurd (omega (arith, below, h))) (λ e same. absurd (omega (arith, same, h))) (λ e _. order_of_places x y ∙ e)
+      (λ e _. order_of_places x y ∙ e) (λ e same. absurd (omega (arith, same, h))) (λ e more. absurd (omega (arith, more, h)))
 
-  Greater-place : (x y : K) → order x y ≡ Greater → place y < place x
-  Greater-place x y h =
+  pub Less-place : (x y : K) → order x y ≡ Less → place x < place y
+  Less-place x y h =
       by_ranked (place x < place y) (place x ≡ place y) (place y < place x) (nat_cmp (place x) (place y)) (ranks (place x) (place y))
-      (λ e _. absurd (Less≢Greater (sym e ∙ sym (order_of_places x y) ∙ h))) (λ e _. absurd (Equal≢Greater (sym e ∙ sym (order_of_places x y) ∙ h))) (λ e more. more)
+      (λ e below. below) (λ e same. absurd (Equal≢Less (sym e ∙ sym (order_of_places x y) ∙ h))) (λ e more. absurd (Greater≢Less (sym e ∙ sym (order_of_places x y) ∙ h)))
     where
-      Less≢Greater : Less ≡ Greater → ⊥
-      Less≢Greater e = cc
+      Equal≢Less : Equal ≡ Less → ⊥
+      Equal≢Less e = cc
 
-      Equal≢Greater : Equal ≡ Greater → ⊥
-      Equal≢Greater e = cc
+      Greater≢Less : Greater ≡ Less → ⊥
+      Greater≢Less e = cc
 
-  module _ (items : List K) (start end len : K) (up : IsAscending order items) where
-    module _ (i : ℕ) (at : K) (r : Reached order place items start end len i at) where
-      -- an element from here on, and below the next boundary, is a member exactly if i is odd
-      between : (y : K) → place at ≤ place y → AllWithin (λ x. place y < place x) items i (length items) → member order items y ≡ is_odd i
-      between y far low =
-          ap is_odd (count_up_to-split order y items i r.within
-          (λ k d a b. le-trans o (get_or items k d) at y (r.before k d a b) (place-le at y far))
-          (λ k d a b. place-Greater (get_or items k d) y (low k d a b)))
+  module _ (items : List K) (start end len : K) (unread : List K) (r : Searched order place items start end len unread) (some : 0 < place len) where
+    -- what fits begins in a gap
+    in_parts : (y : K) → Fits order place items start end len y → member order r.parts y ≡ true
+    in_parts y f =
+        r.members y
+        ∙ ap₂ (λ p q. p && not q)
+        (ap₂ ◌&&◌ (place-le start y f.from) (ap is_lt (place-Less y end (omega (arith, some, f.up_to)))))
+        (f.free y (omega arith) (omega (arith, some)))
 
-      -- the boundaries from place i on are at or above the one at place i
-      rising : (next : K) → (i < length items → (d : K) → get_or items i d ≡ next) → (y : K) → place y < place next →
-          AllWithin (λ x. place y < place x) items i (length items)
-      rising next here y low k d a b =
-          elim (cases_lt i k) as (λ _. place y < place (get_or items k d)) [
-            | inl less ↦
-                let more = Greater-place (get_or items k d) next (Greater-from_less o next (get_or items k d)
-                (subst (λ z. order z (get_or items k d) ≡ Less) (here (omega (arith, less, b)) d) (up i k d less b))) in
-                omega (arith, low, more)
-            | inr same ↦
-                let e : k ≡ i = omega (arith, same, a) in
-                subst (λ n. place y < place (get_or items n d)) (sym e) (subst (λ z. place y < place z) (sym (here (omega (arith, e, b)) d)) low)
+    -- but not where all boundaries that are read are at or below it, and all others are above it
+    between_gaps : (y : K) → Fits order place items start end len y → AllWithin (λ x. order x y ≡ Greater) r.parts r.at (length r.parts) → ⊥
+    between_gaps y f high =
+        true≢false (sym (in_parts y f)
+        ∙ ap is_odd (count_up_to-split order y r.parts r.at r.within (r.passed y f) high) ∙ is_odd-at_zero r.at r.even)
+
+    pub none_left : ranges_of unread ≡ [] → (y : K) → Fits order place items start end len y → ⊥
+    none_left none y f =
+        let is : unread ≡ [] = same_ranges unread [] none in
+        let all : length r.parts ≤ r.at = omega (arith, length-drop r.at r.parts, ap length (sym r.left ∙ is)) in
+        between_gaps y f (λ k d a b. absurd (omega (arith, all, a, b)))
+
+    in_range : (x : K) → member order r.parts x ≡ true → (is_le (order start x) ≡ true) × (order x end ≡ Less) × (member order items x ≡ false)
+    in_range x m =
+        let all = and-true (is_le (order start x) && is_lt (order x end)) (not (member order items x)) (sym (r.members x) ∙ m) in
+        let ends = and-true (is_le (order start x)) (is_lt (order x end)) all.0 in
+        (ends.0, Less-from_is_lt (order x end) ends.1, not-true (member order items x) all.1)
+
+    module _ (s e : K) (rest : List K) (gap : unread ≡ s ∷ e ∷ rest) where
+      here : drop r.at r.parts ≡ s ∷ e ∷ rest
+      here = sym r.left ∙ gap
+
+      two : r.at + 1 < length r.parts
+      two = omega (arith, length-drop r.at r.parts, ap length here)
+
+      first : (d : K) → get_or r.parts r.at d ≡ s
+      first d =
+          let same : r.at ≡ r.at + 0 = omega arith in
+          ap (λ k. get_or r.parts k d) same ∙ sym (get_or-drop r.at r.parts 0 d) ∙ ap (λ l. get_or l 0 d) here
+
+      second : (d : K) → get_or r.parts (r.at + 1) d ≡ e
+      second d = sym (get_or-drop r.at r.parts 1 d) ∙ ap (λ l. get_or l 1 d) here
+
+      pub gap_rises : order s e ≡ Less
+      gap_rises = sym (ap₂ order (first s) (second s)) ∙ r.ascending r.at (r.at + 1) s (omega arith) two
+
+      -- the elements of the gap
+      inside : (x : K) → is_le (order s x) ≡ true → order x e ≡ Less → member order r.parts x ≡ true
+      inside x far low =
+          ap is_odd (count_up_to-split order x r.parts (r.at + 1) (omega (arith, two)) before past) ∙ is_odd-at_one (r.at + 1) (omega (arith, r.even))
+        where
+          before : AllWithin (λ y. is_le (order y x) ≡ true) r.parts 0 (r.at + 1)
+          before k d a b =
+              elim (cases_lt k r.at) as (λ _. is_le (order (get_or r.parts k d) x) ≡ true) [
+                | inl less ↦
+                    ap is_le (Less-then_le o (get_or r.parts k d) s x
+                    (subst (λ z. order (get_or r.parts k d) z ≡ Less) (first d) (r.ascending k r.at d less (omega (arith, two)))) far)
+                | inr same ↦
+                    let is : k ≡ r.at = omega (arith, same, b) in
+                    subst (λ m. is_le (order (get_or r.parts m d) x) ≡ true) (sym is) (subst (λ z. is_le (order z x) ≡ true) (sym (first d)) far)
+              ]
+
+          past : AllWithin (λ y. order y x ≡ Greater) r.parts (r.at + 1) (length r.parts)
+          past k d a b =
+              elim (cases_lt (r.at + 1) k) as (λ _. order (get_or r.parts k d) x ≡ Greater) [
+                | inl less ↦
+                    Greater-from_less o x (get_or r.parts k d)
+                    (o.trans x e (get_or r.parts k d) low (subst (λ z. order z (get_or r.parts k d) ≡ Less) (second d) (r.ascending (r.at + 1) k d less b)))
+                | inr same ↦
+                    let is : k ≡ r.at + 1 = omega (arith, same, a) in
+                    subst (λ m. order (get_or r.parts m d) x ≡ Greater) (sym is) (subst (λ z. order z x ≡ Greater) (sym (second d)) (Greater-from_less o x e low))
+              ]
+
+      first_inside : member order r.parts s ≡ true
+      first_inside = inside s (ap is_le (Equal-self o s)) gap_rises
+
+      -- its end is in no gap
+      end_outside : member order r.parts e ≡ true → ⊥
+      end_outside m =
+          let off : member order r.parts e ≡ false =
+          subst (λ z. member order r.parts z ≡ false) (second e)
+          (ap is_odd (count_up_to-item o r.parts r.ascending (r.at + 1) e two) ∙ is_odd-at_zero (suc (r.at + 1)) (omega (arith, r.even))) in
+          true≢false (sym m ∙ off)
+
+      end_within : place e ≤ place end
+      end_within =
+          elim (cases_lt (place end) (place e)) as (λ _. place e ≤ place end) [
+            | inl past ↦
+                let low = (in_range s first_inside).1 in
+                let off : order end end ≡ Less = (in_range end (inside end (ap is_le low) (place-Less end e past))).1 in
+                let same : order end end ≡ Equal = Equal-self o end in
+                absurd (cc)
+            | inr fine ↦ fine
           ]
 
-      -- what fits here is the answer
-      pub Fits-here : is_odd i ≡ false → place at + place len ≤ place end →
-          (i < length items → (d : K) → place at + place len ≤ place (get_or items i d)) → Fits order place items start end len at
-      Fits-here even room free = record {
-        from = r.started;
-        up_to = room;
-        free = λ y far low. between y far (λ k d a b.
-            elim (cases_lt i k) as (λ _. place y < place (get_or items k d)) [
-              | inl less ↦
-                  let more = Greater-place (get_or items k d) (get_or items i d) (Greater-from_less o (get_or items i d) (get_or items k d) (up i k d less b)) in
-                  omega (arith, more, low, free (omega (arith, less, b)) d)
-              | inr same ↦
-                  let e : k ≡ i = omega (arith, same, a) in
-                  subst (λ n. place y < place (get_or items n d)) (sym e) (omega (arith, low, free (omega (arith, e, b)) d))
-            ]) ∙ even;
+      -- a gap that is long enough has room at its start, and nowhere before it
+      pub Fits-first : place s + place len ≤ place e → Fits order place items start end len s
+      Fits-first room = record {
+        from = le-place start s (in_range s first_inside).0;
+        up_to = omega (arith, room, end_within);
+        free = λ y far low. (in_range y (inside y (place-le s y far) (place-Less y e (omega (arith, low, room))))).2;
       }
 
-      -- where it doesn't fit before the end, nothing does
-      pub none_past_end : place end < place at + place len → (y : K) → Fits order place items start end len y → ⊥
-      none_past_end past y f = absurd (omega (arith, past, f.up_to, r.least y f))
+      from_first : (y : K) → Fits order place items start end len y → is_le (order s y) ≡ true
+      from_first y f = is_le-cases (order s y) (λ t. t) (λ g. absurd (between_gaps y f (above g)))
+        where
+          above : order s y ≡ Greater → AllWithin (λ x. order x y ≡ Greater) r.parts r.at (length r.parts)
+          above g k d a b =
+              elim (cases_lt r.at k) as (λ _. order (get_or r.parts k d) y ≡ Greater) [
+                | inl less ↦
+                    Greater-from_less o y (get_or r.parts k d)
+                    (o.trans y s (get_or r.parts k d) (Less-from_greater o s y g)
+                    (subst (λ z. order z (get_or r.parts k d) ≡ Less) (first d) (r.ascending r.at k d less b)))
+                | inr same ↦
+                    let is : k ≡ r.at = omega (arith, same, a) in
+                    subst (λ m. order (get_or r.parts m d) y ≡ Greater) (sym is) (subst (λ z. order z y ≡ Greater) (sym (first d)) g)
+              ]
 
-      -- what is a member fits nowhere
-      member_is_taken : 0 < place len → (y : K) → member order items y ≡ true → Fits order place items start end len y → ⊥
-      member_is_taken some y inside f = true≢false (sym inside ∙ f.free y (omega arith) (omega (arith, some)))
+      pub least-first : (y : K) → Fits order place items start end len y → place s ≤ place y
+      least-first y f = le-place s y (from_first y f)
 
-      -- behind the last boundary nothing fits where all elements are members
-      pub none_inside : 0 < place len → is_odd i ≡ true → length items ≤ i → (y : K) → Fits order place items start end len y → ⊥
-      none_inside some odd last y f =
-          member_is_taken some y (between y (r.least y f) (λ k d a b. absurd (omega (arith, last, a, b))) ∙ odd) f
-
-      -- the next boundary is the next place to try: the elements from here to there are members, or too few
-      pub Reached-next : 0 < place len → (next : K) → i < length items → ((d : K) → get_or items i d ≡ next) →
-          (is_odd i ≡ false → place next < place at + place len) → Reached order place items start end len (i + 1) next
-      Reached-next some next more here few = record {
-        within = omega (arith, more);
-        before = before;
-        from = from;
-        started = omega (arith, r.started, ahead);
-        least = least;
+      -- a gap that is too short is passed
+      pub Searched-next : place e < place s + place len → Searched order place items start end len rest
+      Searched-next short = record {
+        parts = r.parts;
+        ascending = r.ascending;
+        members = r.members;
+        at = r.at + 2;
+        even = omega (arith, r.even);
+        within = omega (arith, two);
+        left = ap (drop 2) (sym here) ∙ drop-drop 2 r.at r.parts;
+        passed = passed;
       }
         where
-          ahead : place at < place next
-          ahead = Greater-place next at (subst (λ z. order z at ≡ Greater) (here at) (r.from i at (omega arith) more))
+          from_end : (y : K) → Fits order place items start end len y → is_le (order e y) ≡ true
+          from_end y f =
+              is_le-cases (order e y) (λ t. t) (λ g.
+              let low : place y < place e = Less-place y e (Less-from_greater o e y g) in
+              let near : place e < place y + place len = omega (arith, short, least-first y f) in
+              absurd (end_outside
+              (r.members e
+              ∙ ap₂ (λ p q. p && not q)
+              (ap₂ ◌&&◌ (place-le start e (omega (arith, f.from, low))) (ap is_lt (place-Less e end (omega (arith, near, f.up_to)))))
+              (f.free e (omega (arith, low)) near))))
 
-          before : AllWithin (λ y. is_le (order y next) ≡ true) items 0 (i + 1)
-          before k d a b =
-              elim (cases_lt k i) as (λ _. is_le (order (get_or items k d) next) ≡ true) [
-                | inl less ↦ ap is_le (subst (λ z. order (get_or items k d) z ≡ Less) (here d) (up k i d less more))
-                | inr same ↦
-                    let e : k ≡ i = omega (arith, same, b) in
-                    subst (λ n. is_le (order (get_or items n d) next) ≡ true) (sym e) (subst (λ z. is_le (order z next) ≡ true) (sym (here d)) (ap is_le (Equal-self o next)))
+          passed : (y : K) → Fits order place items start end len y → AllWithin (λ x. is_le (order x y) ≡ true) r.parts 0 (r.at + 2)
+          passed y f k d a b =
+              elim (cases_lt k r.at) as (λ _. is_le (order (get_or r.parts k d) y) ≡ true) [
+                | inl less ↦ r.passed y f k d a less
+                | inr more ↦
+                    elim (cases_lt r.at k) as (λ _. is_le (order (get_or r.parts k d) y) ≡ true) [
+                      | inl later ↦
+                          let is : k ≡ r.at + 1 = omega (arith, later, b) in
+                          subst (λ m. is_le (order (get_or r.parts m d) y) ≡ true) (sym is) (subst (λ z. is_le (order z y) ≡ true) (sym (second d)) (from_end y f))
+                      | inr same ↦
+                          let is : k ≡ r.at = omega (arith, same, more) in
+                          subst (λ m. is_le (order (get_or r.parts m d) y) ≡ true) (sym is) (subst (λ z. is_le (order z y) ≡ true) (sym (first d)) (from_first y f))
+                    ]
               ]
-
-          from : AllWithin (λ y. order y next ≡ Greater) items (i + 1) (length items)
-          from k d a b =
-              Greater-from_less o next (get_or items k d) (subst (λ z. order z (get_or items k d) ≡ Less) (here d) (up i k d (omega (arith, a)) b))
-
-          odd_next : is_odd i ≡ false → is_odd (suc i) ≡ true
-          odd_next even = is_odd-suc i ∙ ap not even
-
-          least : (y : K) → Fits order place items start end len y → place next ≤ place y
-          least y f =
-              elim (cases_lt (place y) (place next)) as (λ _. place next ≤ place y) [
-                | inr reached ↦ reached
-                | inl low ↦ absurd (by_parity (is_odd i) refl low)
-              ]
-            where
-              by_parity : (b : _) → is_odd i ≡ b → place y < place next → ⊥
-              by_parity true odd low = member_is_taken some y (between y (r.least y f) (rising next (λ _. here) y low) ∙ odd) f
-              by_parity false even low =
-                  let inside : member order items next ≡ true =
-                  subst (λ z. member order items z ≡ true) (here next) (ap is_odd (count_up_to-item o items up i next more) ∙ odd_next even) in
-                  true≢false (sym inside ∙ f.free next (omega (arith, low)) (omega (arith, few even, r.least y f)))
-
--- a number that is not even is odd
-pub is_odd-not_even : (i : ℕ) → (i % 2 ≡ 0 → ⊥) → is_odd i ≡ true
-is_odd-not_even i h = let e : i % 2 ≡ 1 = omega (arith, h) in ap (λ m. m == 1) e
-
--- where the item at a place isn't below a number, the number is at most its place
-pub reaches : {K : Type 0} (place : K → ℕ) (items : List K) (i past sum : ℕ) → sum ≡ past → (IsPlaceBelow place items i past → ⊥) →
-    i < length items → (d : K) → sum ≤ place (get_or items i d)
-reaches place items i past sum e not_below more d =
-    elim (cases_lt (place (get_or items i d)) sum) as (λ _. sum ≤ place (get_or items i d)) [
-      | inl low ↦ absurd (not_below (more, λ z. subst (λ x. place x < past) (get_or_default items i d z more) (omega (arith, low, e))))
-      | inr reached ↦ reached
-    ]
-
--- where the answer is none, what holds then is what `none` says
-pub none_by_variant : {X P : Type 0} (r : Option X) → r ≡ None → P → IfNone r P
-none_by_variant None e p = p
-none_by_variant (Some x) e p = tt

@@ -8,13 +8,13 @@ use Rattle.std.proofs.lemmas.List.{append-nil, length-take-le, take-append-drop}
 use Rattle.std.proofs.lemmas.Str.{encodes-append, encode_same, cons_from_encodes, encodes-chars, scalars-chars, length-encode, len_utf8_bounds}
 use Rattle.range_collections.specs.ParseErrors.{BeginsRanges, IsExpected, IsFaultIn}
 use Rattle.range_collections.specs.Reading.{any_number, is_ranges}
-use Rattle.range_collections.specs.Scanning.{kind_of, is_end, expected, behind}
-use Rattle.range_collections.specs.declared.range_set.parse_errors.Expected.{Expected}
-use Rattle.range_collections.specs.declared.range_set.parse_errors.ParseError.TheVariants.{Malformed}
-use Rattle.range_collections.specs.declared.range_set.scanning.Place.{Place}
-use Rattle.range_collections.specs.declared.range_set.scanning.Place.TheVariants.{First, Start, StartSign, InStart, OneDot, End, EndSign, InEnd, Behind}
+use Rattle.range_collections.specs.Scanning.{kind_of, is_end, expected, after}
+use Rattle.range_collections.specs.declared.parse.Expected.{Expected}
+use Rattle.range_collections.specs.declared.parse.ParseError.TheVariants.{Malformed}
+use Rattle.range_collections.specs.declared.parse.Place.{Place}
+use Rattle.range_collections.specs.declared.parse.Place.TheVariants.{First, Start, StartSign, InStart, OneDot, End, EndSign, InEnd, After}
 use Rattle.range_collections.proofs.ReadRange.{follow}
-use Rattle.range_collections.proofs.ReadTexts.{text_ends, place_behind, place_on, ends_on, begins, stops, may, may_not}
+use Rattle.range_collections.proofs.ReadTexts.{text_ends, place_after, place_on, ends_on, begins, stops, may, may_not}
 use Rattle.range_collections.proofs.ReadRanges.{ends}
 
 -- the characters of the text before byte `at` lead to the place, and the rest is left
@@ -24,7 +24,7 @@ pub record IsReadTo (text rest : List ℕ) (at : ℕ) (place : Place) : Type 0 w
   pub split : chars text ≡ done ++ left
   pub spells : encode_utf8_all left ≡ rest
   pub ends_at : at ≡ length (encode_utf8_all done)
-  pub leads_to : place_behind done First ≡ Some place
+  pub leads_to : place_after done First ≡ Some place
 
 pub nothing_read : (text : List ℕ) → IsUtf8 text → IsReadTo text text 0 First
 nothing_read text h = record { done = []; left = chars text; split = refl; spells = encodes-chars text h; ends_at = refl; leads_to = refl }
@@ -33,7 +33,7 @@ length_one : (c : ℕ) → length (encode_utf8_all (c ∷ [])) ≡ length (encod
 length_one c = ap length (append-nil (encode_utf8 c))
 
 pub one_read : (text rest later : List ℕ) (at next : ℕ) (c : ℕ) (place later_place : Place) → IsReadTo text rest at place → rest ≡ encode_utf8 c ++ later → next ≡ at + length (encode_utf8 c) →
-    Some later_place ≡ behind place (kind_of c) → IsReadTo text later next later_place
+    Some later_place ≡ after place (kind_of c) → IsReadTo text later next later_place
 one_read text rest later at next c place later_place h e n k =
     let more = cons_from_encodes h.left later c (h.spells ∙ e) in
     record {
@@ -44,12 +44,12 @@ one_read text rest later at next c place later_place h e n k =
       ends_at =
           n ∙ ap (λ m. m + length (encode_utf8 c)) h.ends_at ∙ ap (λ m. length (encode_utf8_all h.done) + m) (sym (length_one c))
           ∙ sym (length-append (encode_utf8_all h.done) (encode_utf8_all (c ∷ []))) ∙ ap length (sym (encodes-append h.done (c ∷ [])));
-      leads_to = place_on h.done (c ∷ []) First ∙ ap (option_and_then (place_behind (c ∷ []))) h.leads_to ∙ ap (option_and_then (λ q. Some q)) (sym k);
+      leads_to = place_on h.done (c ∷ []) First ∙ ap (option_and_then (place_after (c ∷ []))) h.leads_to ∙ ap (option_and_then (λ q. Some q)) (sym k);
     }
 
 -- the front that was read
 
-ends_here : (done : List ℕ) (place : Place) → place_behind done First ≡ Some place → ends done First ≡ is_end place
+ends_here : (done : List ℕ) (place : Place) → place_after done First ≡ Some place → ends done First ≡ is_end place
 ends_here done place e = ap (λ w. ends w First) (sym (append-nil done)) ∙ ends_on done [] First ∙ ap (λ o. follow o (ends [])) e
 
 front_scalars : (cs ds : List ℕ) → all_scalars (cs ++ ds) ≡ true → all_scalars cs ≡ true
@@ -59,7 +59,7 @@ front_scalars (c ∷ cs) ds h = go _ (front_scalars cs ds) h where
   go true f h = f h
   go false f h = h
 
--- a longer front goes on with the character behind it
+-- a longer front goes on with the character after it
 goes_on : (ds done rest later : List ℕ) (c : ℕ) → encode_utf8_all ds ++ later ≡ encode_utf8_all done ++ (encode_utf8 c ++ rest) →
     length (encode_utf8_all done) < length (encode_utf8_all ds) → (es : List ℕ) × (ds ≡ done ++ c ∷ es)
 goes_on [] [] rest later c e l = absurd (omega arith)
@@ -78,29 +78,29 @@ goes_on (b ∷ ds) (d ∷ done) rest later c e l =
     (more.0, ap₂ (λ x xs. x ∷ xs) same.0 more.1)
 
 -- what may follow, place by place
-expected_behind : (done : List ℕ) (place : Place) → all_scalars done ≡ true → place_behind done First ≡ Some place → IsExpected (encode_utf8_all done) (expected place)
-expected_behind done First h e =
+expected_after : (done : List ℕ) (place : Place) → all_scalars done ≡ true → place_after done First ≡ Some place → IsExpected (encode_utf8_all done) (expected place)
+expected_after done First h e =
     (may done 48 First InStart h e (omega arith) refl refl, may_not done 46 First h e (omega arith) refl refl, λ _. may done 43 First StartSign h e (omega arith) refl refl)
-expected_behind done Start h e =
+expected_after done Start h e =
     (may done 48 Start InStart h e (omega arith) refl refl, may_not done 46 Start h e (omega arith) refl refl, λ _. may done 43 Start StartSign h e (omega arith) refl refl)
-expected_behind done StartSign h e = (
+expected_after done StartSign h e = (
   may done 48 StartSign InStart h e (omega arith) refl refl,
   may_not done 46 StartSign h e (omega arith) refl refl,
   λ k. absurd (may_not done 44 StartSign h e (omega arith) refl refl k),
 )
-expected_behind done InStart h e = may done 46 InStart OneDot h e (omega arith) refl refl
-expected_behind done OneDot h e = may done 46 OneDot End h e (omega arith) refl refl
-expected_behind done End h e =
+expected_after done InStart h e = may done 46 InStart OneDot h e (omega arith) refl refl
+expected_after done OneDot h e = may done 46 OneDot End h e (omega arith) refl refl
+expected_after done End h e =
     (may done 48 End InEnd h e (omega arith) refl refl, may_not done 46 End h e (omega arith) refl refl, λ _. may done 43 End EndSign h e (omega arith) refl refl)
-expected_behind done EndSign h e = (
+expected_after done EndSign h e = (
   may done 48 EndSign InEnd h e (omega arith) refl refl,
   may_not done 46 EndSign h e (omega arith) refl refl,
   λ k. absurd (may_not done 44 EndSign h e (omega arith) refl refl k),
 )
-expected_behind done InEnd h e =
+expected_after done InEnd h e =
     (may done 44 InEnd Start h e (omega arith) refl refl, text_ends done h ∙ ends_here done InEnd e, may_not done 43 InEnd h e (omega arith) refl refl)
-expected_behind done Behind h e =
-    (may done 44 Behind Start h e (omega arith) refl refl, text_ends done h ∙ ends_here done Behind e, may_not done 43 Behind h e (omega arith) refl refl)
+expected_after done After h e =
+    (may done 44 After Start h e (omega arith) refl refl, text_ends done h ∙ ends_here done After e, may_not done 43 After h e (omega arith) refl refl)
 
 module _ (text rest : List ℕ) (at : ℕ) (place : Place) (utf8 : IsUtf8 text) (h : IsReadTo text rest at place) where
   scalars : all_scalars h.done ≡ true
@@ -124,9 +124,9 @@ module _ (text rest : List ℕ) (at : ℕ) (place : Place) (utf8 : IsUtf8 text) 
   front_begins = subst BeginsRanges (sym front) (begins h.done place scalars h.leads_to)
 
   expected_there : (e : Expected) → e ≡ expected place → IsExpected (take at text) e
-  expected_there e k = subst (λ x. IsExpected (take at text) x) (sym k) (subst (λ w. IsExpected w (expected place)) (sym front) (expected_behind h.done place scalars h.leads_to))
+  expected_there e k = subst (λ x. IsExpected (take at text) x) (sym k) (subst (λ w. IsExpected w (expected place)) (sym front) (expected_after h.done place scalars h.leads_to))
 
-  longer_begins : (later : List ℕ) (c n : ℕ) → rest ≡ encode_utf8 c ++ later → None ≡ behind place (kind_of c) → at < n → n ≤ length text → ¬ (BeginsRanges (take n text))
+  longer_begins : (later : List ℕ) (c n : ℕ) → rest ≡ encode_utf8 c ++ later → None ≡ after place (kind_of c) → at < n → n ≤ length text → ¬ (BeginsRanges (take n text))
   longer_begins later c n e k above most b =
       let ds : List ℕ = b.is_text.0 in
       let spelt : encode_utf8_all ds ≡ take n text = b.is_text.1.1 in
@@ -135,12 +135,12 @@ module _ (text rest : List ℕ) (at : ℕ) (place : Place) (utf8 : IsUtf8 text) 
       (omega (arith, h.ends_at, ap length spelt, length-take-le n text most))
       in
       stops ds b.is_text.1.0
-      (ap (λ w. place_behind w First) more.1 ∙ place_on h.done (c ∷ more.0) First ∙ ap (option_and_then (place_behind (c ∷ more.0))) h.leads_to
-      ∙ ap (option_and_then (place_behind more.0)) (sym k))
+      (ap (λ w. place_after w First) more.1 ∙ place_on h.done (c ∷ more.0) First ∙ ap (option_and_then (place_after (c ∷ more.0))) h.leads_to
+      ∙ ap (option_and_then (place_after more.0)) (sym k))
       (subst BeginsRanges (sym spelt) b)
 
   -- a character that may not stand there
-  pub fault_there : (later : List ℕ) (c : ℕ) (e : Expected) → rest ≡ encode_utf8 c ++ later → None ≡ behind place (kind_of c) → e ≡ expected place → IsFaultIn text (Malformed at e)
+  pub fault_there : (later : List ℕ) (c : ℕ) (e : Expected) → rest ≡ encode_utf8 c ++ later → None ≡ after place (kind_of c) → e ≡ expected place → IsFaultIn text (Malformed at e)
   fault_there later c e r k x =
       let more = cons_from_encodes h.left later c (h.spells ∙ r) in (
         whole ∙ ap (λ w. ends w place) more.1 ∙ ap (λ o. follow o (ends more.0)) (sym k),

@@ -82,8 +82,8 @@ module _ {K : Type 0} {order : K → K → Ordering} (o : IsTotalOrder order) wh
       parity = ap is_odd (plus_zero i) ∙ odd;
     }
 
-    pub IsCut-behind_found : i < length xs → HoldsAt (λ y. order y at ≡ Equal) xs i → (is_odd i ≡ inside → ⊥) → IsCut order inside xs at (i + 1) None
-    IsCut-behind_found within here even = record {
+    pub IsCut-after_found : i < length xs → HoldsAt (λ y. order y at ≡ Equal) xs i → (is_odd i ≡ inside → ⊥) → IsCut order inside xs at (i + 1) None
+    IsCut-after_found within here even = record {
       within = omega arith;
       before = le_found o at xs i up within here;
       from = λ k d low high. le-from_greater o (get_or xs k d) at (after_found o at xs i up within here k d low high);

@@ -5,6 +5,7 @@ pub mod OwnItems
 pub mod Sets
 pub mod Shortest
 pub mod Cut
+pub mod Blocks
 pub mod Within
 pub mod RangesLemmas
 pub mod RangesAtEnds
@@ -31,3 +32,7 @@ pub mod ReadTexts
 pub mod Fronts
 pub mod ReadBack
 pub mod Decimals
+pub mod ManyRanges
+pub mod Next
+pub mod RangeMembers
+pub mod Texts

@@ -20,7 +20,7 @@ use Rattle.range_merge.proofs.Pairs.{AllPairs-drop}
 use Rattle.range_merge.proofs.Parity.{is_odd-add, is_odd-suc, differ-self}
 use Rattle.range_collections.specs.InPlace.{IsOwnElse, AreOwnElseOf}
 use Rattle.range_collections.specs.Ranges.{range_items}
-use Rattle.range_collections.specs.Within.{within_table, lent_items, GivesParts}
+use Rattle.range_collections.specs.Within.{within_table, borrowed_items, GivesParts}
 use Rattle.range_collections.proofs.Ascending.{IsAscending-nil}
 use Rattle.range_collections.proofs.Cut.{IsAscending-take, count_up_to-front}
 use Rattle.range_collections.proofs.Insertion.{IsAscending-append, same_from_beq, other_from_beq}
@@ -264,15 +264,15 @@ module _ {K : Type 0} {order : K → K → Ordering} (o : IsTotalOrder order) wh
       (within_n : n ≤ length xs) (before_n : AllWithin (λ y. is_le (order y start.now) ≡ true) xs 0 n) (from_n : AllWithin (λ y. order y start.now ≡ Greater) xs n (length xs))
       (within_m : m ≤ length xs) (before_m : AllWithin (λ y. order y end.now ≡ Less) xs 0 m) (from_m : AllWithin (λ y. is_le (order end.now y) ≡ true) xs m (length xs))
       (inside s e : Bool) (put_s : s ≡ beq (is_odd n) inside) (put_e : e ≡ beq (is_odd m) inside) where
-    pub GivesParts-lent : GivesParts order (within_table inside) (record { start = start; end = end }) xs (lent_items (then_some s start) (take (m - n) (drop n xs)) (then_some e end))
-    GivesParts-lent = record {
+    pub GivesParts-borrowed : GivesParts order (within_table inside) (record { start = start; end = end }) xs (borrowed_items (then_some s start) (take (m - n) (drop n xs)) (then_some e end))
+    GivesParts-borrowed = record {
       means = Means-parts o start.now end.now xs n m up less within_n before_n from_n within_m before_m from_m inside _ _
           (All-put start s) (All-put end e) (is_odd-put start n inside s put_s) (is_odd-put end m inside e put_e);
       own_ends = AreOwnElseOf-parts o start.now end.now xs n m up less within_n before_n from_n within_m before_m from_m inside _ _
           (All-put start s) (All-put end e) (is_odd-put start n inside s put_s) (is_odd-put end m inside e put_e);
     }
 
-    pub is_even-lent : is_odd (length (lent_items (then_some s start) (take (m - n) (drop n xs)) (then_some e end))) ≡ false
-    is_even-lent =
+    pub is_even-borrowed : is_odd (length (borrowed_items (then_some s start) (take (m - n) (drop n xs)) (then_some e end))) ≡ false
+    is_even-borrowed =
         is_even-parts o start.now end.now xs n m up less within_n before_n from_n within_m before_m from_m inside _ _
         (All-put start s) (All-put end e) (is_odd-put start n inside s put_s) (is_odd-put end m inside e put_e)

@@ -1,5 +1,5 @@
 -- A strictly sorted list between a start and an end: how many items lie at or below the start, and how many below the end.
-use Rattle.std.proofs.Common.{◌≡◌, ◌↔◌, IsTrue, refl, sym, ap, ◌∙◌, subst, ℕ, suc, inl, inr, ◌<◌, ◌≤◌, ◌+◌, ◌-◌, ◌%◌, ◌==◌, Option, Some, None, IsSome, IfSome, true, false, List, [], ◌∷◌, length, take, drop, get_or, arith, get_or-drop, length-drop, Contains}
+use Rattle.std.proofs.Common.{Bool, ◌≡◌, ◌↔◌, IsTrue, refl, sym, ap, ◌∙◌, subst, ℕ, suc, inl, inr, ◌<◌, ◌≤◌, ◌+◌, ◌-◌, ◌%◌, ◌==◌, Option, Some, None, IsSome, IfSome, true, false, List, [], ◌∷◌, length, take, drop, get_or, arith, get_or-drop, length-drop, Contains}
 use Rattle.std.specs.Borrow.{Bor}
 use Rattle.std.specs.List.{AllWithin}
 use Rattle.std.specs.Iterator.{YieldsFirstBy}
@@ -31,6 +31,18 @@ is_odd-at_one n e = ap (λ m. m == 1) e
 
 pub is_odd-at_zero : (n : ℕ) → n % 2 ≡ 0 → is_odd n ≡ false
 is_odd-at_zero n e = ap (λ m. m == 1) e
+
+-- what a test for odd numbers says
+pub even-from_test : (r : Bool) (n : ℕ) → r ≡ is_odd n → r ≡ false → n % 2 ≡ 0
+even-from_test r n e off = elim (cases_lt (n % 2) 1) as (λ _. n % 2 ≡ 0) [
+  | inl none ↦ omega (arith, none)
+  | inr some ↦
+      let one : n % 2 ≡ 1 = omega (arith, some) in
+      absurd (true≢false (sym (is_odd-at_one n one) ∙ sym e ∙ off))
+]
+
+pub odd-from_test : (r : Bool) (n : ℕ) → r ≡ is_odd n → r ≡ true → n % 2 ≡ 0 → ⊥
+odd-from_test r n e on even = true≢false (sym on ∙ e ∙ is_odd-at_zero n even)
 
 module _ {K : Type 0} (order : K → K → Ordering) where
   -- the first range of a list whose first item is at or below the value, and whose second is above it, holds the value

@@ -8,7 +8,7 @@ use Rattle.range_collections.specs.declared.range_set_range.RangeSetRange.{Range
 use Rattle.range_collections.specs.declared.range_set_range.RangeSetRange.TheVariants.{Range, RangeFrom}
 
 module _ {K : Type 0} where
-  -- an even number of boundaries in front has its own ranges
+  -- an even number of boundaries at the start has its own ranges
   pub ranges_of-append : (xs ys : List K) → length xs % 2 ≡ 0 → ranges_of (xs ++ ys) ≡ ranges_of xs ++ ranges_of ys
   ranges_of-append [] ys even = refl
   ranges_of-append (x ∷ []) ys even = absurd (omega (arith, even))

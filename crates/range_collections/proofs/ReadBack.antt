@@ -11,7 +11,7 @@ use Rattle.std.proofs.lemmas.Str.{encodes-IsAscii, chars-IsAscii}
 use Rattle.std.proofs.lemmas.Str.Ascii.{IsAscii-nil, IsAscii-cons}
 use Rattle.range_collections.specs.Ranges.{ranges_of, AllEnds}
 use Rattle.range_collections.specs.Text.{range_text, others_text, ranges_text}
-use Rattle.range_collections.specs.Reading.{IsPlain, IsReadBack, parts_of, range_up_to, range_behind_dot, range_of, range_in, is_ranges, ranges_in}
+use Rattle.range_collections.specs.Reading.{IsPlain, IsReadBack, parts_of, range_up_to, range_after_dot, range_of, range_in, is_ranges, ranges_in}
 use Rattle.range_collections.specs.declared.range_set_range.RangeSetRange.{RangeSetRange}
 use Rattle.range_collections.specs.declared.range_set_range.RangeSetRange.TheVariants.{Range, RangeFrom}
 
@@ -95,8 +95,8 @@ module _ {K : Type 0} (number : List ℕ → Option K) (digits : K → List ℕ)
       let word : List ℕ = digits x ++ 46 ∷ 46 ∷ rest in
       let front : before_first (λ b. b == 46) word ≡ digits x = ap (λ n. take n word) (at_dot (digits x) (46 ∷ rest) h.plain) ∙ take_front (digits x) (46 ∷ 46 ∷ rest) in
       let back : after_first (λ b. b == 46) word ≡ 46 ∷ rest = ap (λ n. drop (n + 1) word) (at_dot (digits x) (46 ∷ rest) h.plain) ∙ drop_past (digits x) 46 (46 ∷ rest) in
-      ap₂ (λ f b. option_and_then (λ start. range_behind_dot number start b) (number f)) front back
-      ∙ ap (option_and_then (λ start. range_behind_dot number start (46 ∷ rest))) h.read
+      ap₂ (λ f b. option_and_then (λ start. range_after_dot number start b) (number f)) front back
+      ∙ ap (option_and_then (λ start. range_after_dot number start (46 ∷ rest))) h.read
 
   end_read : (x y : K) (text : List ℕ) → number text ≡ Some y → range_up_to number x text ≡ Some (Range (record { start = x; end = y }))
   end_read x y [] h =
@@ -140,7 +140,7 @@ module _ {K : Type 0} (number : List ℕ → Option K) (digits : K → List ℕ)
 
   nothing_in : range_in number [] ≡ None
   unfolding range_in
-  nothing_in = ap (range_of number) (trim_word [] tt) ∙ ap (option_and_then (λ start. range_behind_dot number start [])) nothing
+  nothing_in = ap (range_of number) (trim_word [] tt) ∙ ap (option_and_then (λ start. range_after_dot number start [])) nothing
 
   ranges_read : (rs : List (RangeSetRange K)) → AllByRecursion ReadsBack rs → ranges_in number (ranges_text digits rs) ≡ rs
   unfolding ranges_in

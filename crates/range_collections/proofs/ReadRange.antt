@@ -6,12 +6,12 @@ use Rattle.std.specs.Option.{is_some, option_and_then, option_map}
 use Rattle.std.specs.Str.{all_ascii_digits}
 use Rattle.std.specs.Str.Parse.{without_leading_sign, signed_digits_value}
 use Rattle.std.proofs.lemmas.Bool.Decides.{Decides-ltb, eqb_tells}
-use Rattle.range_collections.specs.Reading.{is_numeral, any_number, range_up_to, range_behind_dot, range_of}
-use Rattle.range_collections.specs.Scanning.{kind_of, is_range_end, behind_dot, behind_sign, behind_digit}
-use Rattle.range_collections.specs.declared.range_set.scanning.Kind.{Kind}
-use Rattle.range_collections.specs.declared.range_set.scanning.Kind.TheVariants.{Blank, Comma, Dot, Sign, Digit, Other}
-use Rattle.range_collections.specs.declared.range_set.scanning.Place.{Place}
-use Rattle.range_collections.specs.declared.range_set.scanning.Place.TheVariants.{Start, StartSign, InStart, OneDot, End, EndSign, InEnd}
+use Rattle.range_collections.specs.Reading.{is_numeral, any_number, range_up_to, range_after_dot, range_of}
+use Rattle.range_collections.specs.Scanning.{kind_of, is_range_end, after_dot, after_sign, after_digit}
+use Rattle.range_collections.specs.declared.parse.Kind.{Kind}
+use Rattle.range_collections.specs.declared.parse.Kind.TheVariants.{Blank, Comma, Dot, Sign, Digit, Other}
+use Rattle.range_collections.specs.declared.parse.Place.{Place}
+use Rattle.range_collections.specs.declared.parse.Place.TheVariants.{Start, StartSign, InStart, OneDot, End, EndSign, InEnd}
 
 -- kinds, by the tests of a character
 
@@ -92,11 +92,11 @@ abbrev pub follow : Option Place → (Place → Bool) → Bool
 follow None f = false
 follow (Some place) f = f place
 
--- the place behind a character within a range
+-- the place after a character within a range
 abbrev pub within : Place → Kind → Option Place
-within place Dot = behind_dot place
-within place Sign = behind_sign place
-within place Digit = behind_digit place
+within place Dot = after_dot place
+within place Sign = after_sign place
+within place Digit = after_digit place
 within place _ = None
 
 -- the characters go on from the place to the end of a range
@@ -160,7 +160,7 @@ up_to start (c ∷ cs) = go (kind_of c) ∙ sym (some_mapped _ (any_number (c �
   go Digit = in_end cs
   go _ = refl
 
-one_dot : (start : ℤ) (cs : List ℕ) → ends_range cs OneDot ≡ is_some (range_behind_dot any_number start cs)
+one_dot : (start : ℤ) (cs : List ℕ) → ends_range cs OneDot ≡ is_some (range_after_dot any_number start cs)
 one_dot start [] = refl
 one_dot start (c ∷ cs) = go (kind_of c) ∙ ap (λ t. is_some (cond t (range_up_to any_number start cs) None)) (sym (has_kind c).dot) where
   go : (kind : Kind) → follow (within OneDot kind) (ends_range cs) ≡ is_some (cond (is_dot kind) (range_up_to any_number start cs) None)
@@ -172,8 +172,8 @@ one_dot start (c ∷ cs) = go (kind_of c) ∙ ap (λ t. is_some (cond t (range_u
 abbrev before_dot : List ℕ → List ℕ
 before_dot cs = before_first (λ b. b == 46) cs
 
-abbrev after_dot : List ℕ → List ℕ
-after_dot cs = after_first (λ b. b == 46) cs
+abbrev past_dot : List ℕ → List ℕ
+past_dot cs = after_first (λ b. b == 46) cs
 
 add_one : (n : ℕ) → 1 + n ≡ suc n
 add_one n = omega arith
@@ -187,35 +187,35 @@ before c cs = go (c == 46) ∙ ap (λ t. cond t [] (c ∷ before_dot cs)) (has_k
 suc_add_one : (n : ℕ) → (1 + n) + 1 ≡ suc (n + 1)
 suc_add_one n = omega arith
 
-after : (c : ℕ) (cs : List ℕ) → after_dot (c ∷ cs) ≡ cond (is_dot (kind_of c)) cs (after_dot cs)
-after c cs = go (c == 46) ∙ ap (λ t. cond t cs (after_dot cs)) (has_kind c).dot where
-  go : (dot : Bool) → drop (cond (not dot) (1 + position_or_len (λ b. b == 46) cs) 0 + 1) (c ∷ cs) ≡ cond dot cs (after_dot cs)
+after : (c : ℕ) (cs : List ℕ) → past_dot (c ∷ cs) ≡ cond (is_dot (kind_of c)) cs (past_dot cs)
+after c cs = go (c == 46) ∙ ap (λ t. cond t cs (past_dot cs)) (has_kind c).dot where
+  go : (dot : Bool) → drop (cond (not dot) (1 + position_or_len (λ b. b == 46) cs) 0 + 1) (c ∷ cs) ≡ cond dot cs (past_dot cs)
   go true = refl
   go false = ap (λ n. drop n (c ∷ cs)) (suc_add_one (position_or_len (λ b. b == 46) cs))
 
 -- what is tested before the first dot, and the end of a range after it
 abbrev around : (List ℕ → Bool) → List ℕ → Bool
-around test cs = test (before_dot cs) && ends_range (after_dot cs) OneDot
+around test cs = test (before_dot cs) && ends_range (past_dot cs) OneDot
 
 around_first : (test : List ℕ → Bool) (c : ℕ) (cs : List ℕ) →
     around test (c ∷ cs) ≡ cond (is_dot (kind_of c)) (test [] && ends_range cs OneDot) (around (λ w. test (c ∷ w)) cs)
 around_first test c cs =
-    ap (λ w. test w && ends_range (after_dot (c ∷ cs)) OneDot) (before c cs)
+    ap (λ w. test w && ends_range (past_dot (c ∷ cs)) OneDot) (before c cs)
     ∙ ap (λ w. test (cond (is_dot (kind_of c)) [] (c ∷ before_dot cs)) && ends_range w OneDot) (after c cs) ∙ go (is_dot (kind_of c))
   where
-    go : (dot : Bool) → (test (cond dot [] (c ∷ before_dot cs)) && ends_range (cond dot cs (after_dot cs)) OneDot) ≡
+    go : (dot : Bool) → (test (cond dot [] (c ∷ before_dot cs)) && ends_range (cond dot cs (past_dot cs)) OneDot) ≡
         cond dot (test [] && ends_range cs OneDot) (around (λ w. test (c ∷ w)) cs)
     go true = refl
     go false = refl
 
 around_digit : (c : ℕ) (cs : List ℕ) → around (λ w. all_ascii_digits (c ∷ w)) cs ≡ (is_digit (kind_of c) && around all_ascii_digits cs)
-around_digit c cs = ap (λ t. (t && all_ascii_digits (before_dot cs)) && ends_range (after_dot cs) OneDot) (has_kind c).digit ∙ go (is_digit (kind_of c)) where
-  go : (digit : Bool) → ((digit && all_ascii_digits (before_dot cs)) && ends_range (after_dot cs) OneDot) ≡ (digit && around all_ascii_digits cs)
+around_digit c cs = ap (λ t. (t && all_ascii_digits (before_dot cs)) && ends_range (past_dot cs) OneDot) (has_kind c).digit ∙ go (is_digit (kind_of c)) where
+  go : (digit : Bool) → ((digit && all_ascii_digits (before_dot cs)) && ends_range (past_dot cs) OneDot) ≡ (digit && around all_ascii_digits cs)
   go true = refl
   go false = refl
 
 around_numeral : (c : ℕ) (cs : List ℕ) → around (λ w. is_numeral (c ∷ w)) cs ≡ (is_digit (kind_of c) && around all_ascii_digits cs)
-around_numeral c cs = ap (λ t. t && ends_range (after_dot cs) OneDot) (numeral c (before_dot cs)) ∙ around_digit c cs
+around_numeral c cs = ap (λ t. t && ends_range (past_dot cs) OneDot) (numeral c (before_dot cs)) ∙ around_digit c cs
 
 in_start : (cs : List ℕ) → ends_range cs InStart ≡ around all_ascii_digits cs
 in_start [] = refl
@@ -239,9 +239,9 @@ start_sign (c ∷ cs) = go (kind_of c) ∙ ap (cond (is_dot (kind_of c)) false) 
 around_signed : (c : ℕ) (cs : List ℕ) →
     around (λ w. is_numeral (without_leading_sign (c ∷ w))) cs ≡ cond (is_sign (kind_of c)) (around is_numeral cs) (is_digit (kind_of c) && around all_ascii_digits cs)
 around_signed c cs =
-    ap (λ t. t && ends_range (after_dot cs) OneDot) (signed_numeral c (before_dot cs)) ∙ go (is_sign (kind_of c)) (is_digit (kind_of c))
+    ap (λ t. t && ends_range (past_dot cs) OneDot) (signed_numeral c (before_dot cs)) ∙ go (is_sign (kind_of c)) (is_digit (kind_of c))
   where
-    go : (sign digit : Bool) → (cond sign (is_numeral (before_dot cs)) (digit && all_ascii_digits (before_dot cs)) && ends_range (after_dot cs) OneDot) ≡
+    go : (sign digit : Bool) → (cond sign (is_numeral (before_dot cs)) (digit && all_ascii_digits (before_dot cs)) && ends_range (past_dot cs) OneDot) ≡
         cond sign (around is_numeral cs) (digit && around all_ascii_digits cs)
     go true digit = refl
     go false true = refl
@@ -266,5 +266,5 @@ both f (Some a) t h = h a
 -- a range without blanks, where its numbers may have any size
 pub is_range : (cs : List ℕ) → ends_range cs Start ≡ is_some (range_of any_number cs)
 is_range cs =
-    start cs ∙ ap (λ t. t && ends_range (after_dot cs) OneDot) (sym (is_any_number (before_dot cs)))
-    ∙ both (λ s. range_behind_dot any_number s (after_dot cs)) (any_number (before_dot cs)) (ends_range (after_dot cs) OneDot) (λ s. one_dot s (after_dot cs))
+    start cs ∙ ap (λ t. t && ends_range (past_dot cs) OneDot) (sym (is_any_number (before_dot cs)))
+    ∙ both (λ s. range_after_dot any_number s (past_dot cs)) (any_number (before_dot cs)) (ends_range (past_dot cs) OneDot) (λ s. one_dot s (past_dot cs))

@@ -5,21 +5,21 @@ use Rattle.std.specs.Option.{is_some}
 use Rattle.std.specs.Str.{skip_leading_whitespace, drop_trailing_whitespace}
 use Rattle.std.proofs.lemmas.Bool.Decides.{eqb_tells}
 use Rattle.range_collections.specs.Reading.{any_number, range_of, parts_of}
-use Rattle.range_collections.specs.Scanning.{kind_of, is_range_end, is_end, behind}
-use Rattle.range_collections.specs.declared.range_set.scanning.Kind.{Kind}
-use Rattle.range_collections.specs.declared.range_set.scanning.Kind.TheVariants.{Blank, Comma, Dot, Sign, Digit, Other}
-use Rattle.range_collections.specs.declared.range_set.scanning.Place.{Place}
-use Rattle.range_collections.specs.declared.range_set.scanning.Place.TheVariants.{First, Start, End, InEnd, Behind}
+use Rattle.range_collections.specs.Scanning.{kind_of, is_range_end, is_end, after}
+use Rattle.range_collections.specs.declared.parse.Kind.{Kind}
+use Rattle.range_collections.specs.declared.parse.Kind.TheVariants.{Blank, Comma, Dot, Sign, Digit, Other}
+use Rattle.range_collections.specs.declared.parse.Place.{Place}
+use Rattle.range_collections.specs.declared.parse.Place.TheVariants.{First, Start, End, InEnd, After}
 use Rattle.range_collections.proofs.ReadRange.{is_blank, is_comma, has_kind, follow, within, ends_range, is_range}
 
 -- a part between commas
 
--- the place behind a character of a part
+-- the place after a character of a part
 abbrev along : Place → Kind → Option Place
 along place Comma = None
-along place kind = behind place kind
+along place kind = after place kind
 
--- the characters go on from the place to the end of a range, or to blanks behind one
+-- the characters go on from the place to the end of a range, or to blanks after one
 abbrev pub ends_part : List ℕ → Place → Bool
 ends_part [] place = is_range_end place
 ends_part (c ∷ cs) place = follow (along place (kind_of c)) (ends_part cs)
@@ -48,10 +48,10 @@ more_blanks c cs = ap (λ ds. length ds == 0) (trailing c cs) ∙ go (is_blank (
   go true = refl
   go false = not_empty c (drop_trailing_whitespace cs)
 
-behind_part : (cs : List ℕ) → ends_part cs Behind ≡ are_blanks cs
-behind_part [] = refl
-behind_part (c ∷ cs) = go (behind_part cs) (kind_of c) ∙ sym (more_blanks c cs) where
-  go : ends_part cs Behind ≡ are_blanks cs → (kind : Kind) → follow (along Behind kind) (ends_part cs) ≡ (is_blank kind && are_blanks cs)
+after_part : (cs : List ℕ) → ends_part cs After ≡ are_blanks cs
+after_part [] = refl
+after_part (c ∷ cs) = go (after_part cs) (kind_of c) ∙ sym (more_blanks c cs) where
+  go : ends_part cs After ≡ are_blanks cs → (kind : Kind) → follow (along After kind) (ends_part cs) ≡ (is_blank kind && are_blanks cs)
   go h Blank = h
   go h _ = refl
 
@@ -59,7 +59,7 @@ behind_part (c ∷ cs) = go (behind_part cs) (kind_of c) ∙ sym (more_blanks c 
 abbrev is_inside : Place → Bool
 is_inside First = false
 is_inside Start = false
-is_inside Behind = false
+is_inside After = false
 is_inside _ = true
 
 abbrev all_inside : Option Place → Bool
@@ -111,9 +111,9 @@ and_false false = refl
 blank_inside : (cs : List ℕ) (place : Place) → is_inside place ≡ true → follow (along place Blank) (ends_part cs) ≡ (are_blanks cs && is_range_end place)
 blank_inside cs First e = cc
 blank_inside cs Start e = cc
-blank_inside cs Behind e = cc
-blank_inside cs End e = behind_part cs ∙ sym (and_true (are_blanks cs))
-blank_inside cs InEnd e = behind_part cs ∙ sym (and_true (are_blanks cs))
+blank_inside cs After e = cc
+blank_inside cs End e = after_part cs ∙ sym (and_true (are_blanks cs))
+blank_inside cs InEnd e = after_part cs ∙ sym (and_true (are_blanks cs))
 blank_inside cs place e = sym (and_false (are_blanks cs))
 
 inside_part : (cs : List ℕ) (place : Place) → is_inside place ≡ true → ends_part cs place ≡ ends_range (drop_trailing_whitespace cs) place
@@ -158,10 +158,10 @@ part_is_range cs = start_part cs ∙ is_range (between_blanks cs)
 
 -- all parts
 
--- the characters go on from the place to the end of the text behind a range
+-- the characters go on from the place to the end of the text after a range
 abbrev ends_ranges : List ℕ → Place → Bool
 ends_ranges [] place = is_range_end place
-ends_ranges (c ∷ cs) place = follow (behind place (kind_of c)) (ends_ranges cs)
+ends_ranges (c ∷ cs) place = follow (after place (kind_of c)) (ends_ranges cs)
 
 -- the first part goes on from the place, and each later one is a range
 abbrev parts_end : List (List ℕ) → Place → Bool
@@ -187,22 +187,22 @@ ranges_by_parts (c ∷ cs) place =
     go (ranges_by_parts cs) split.0 split.1 split.2 (kind_of c) refl ∙ ap (λ t. parts_end (cond t ([] ∷ parts_of cs) (onto_first c (parts_of cs))) place) (sym (has_kind c).comma)
   where
     go : ((q : Place) → ends_ranges cs q ≡ parts_end (parts_of cs) q) → (part : List ℕ) (parts : List (List ℕ)) → parts_of cs ≡ part ∷ parts → (kind : Kind) → kind_of c ≡ kind →
-        follow (behind place (kind_of c)) (ends_ranges cs) ≡ parts_end (cond (is_comma (kind_of c)) ([] ∷ parts_of cs) (onto_first c (parts_of cs))) place
+        follow (after place (kind_of c)) (ends_ranges cs) ≡ parts_end (cond (is_comma (kind_of c)) ([] ∷ parts_of cs) (onto_first c (parts_of cs))) place
     go h part parts split Comma k =
-        ap (λ t. follow (behind place t) (ends_ranges cs)) k ∙ comma (is_range_end place)
+        ap (λ t. follow (after place t) (ends_ranges cs)) k ∙ comma (is_range_end place)
         ∙ ap (λ t. parts_end (cond (is_comma t) ([] ∷ parts_of cs) (onto_first c (parts_of cs))) place) (sym k)
       where
         comma : (b : Bool) → follow (cond b (Some Start) None) (ends_ranges cs) ≡ (b && list_all (λ p. ends_part p Start) (parts_of cs))
         comma true = h Start ∙ ap (λ ps. parts_end ps Start) split ∙ ap (list_all (λ p. ends_part p Start)) (sym split)
         comma false = refl
     go h part parts split kind k =
-        follow_and (behind place (kind_of c)) (ends_ranges cs) (ends_part part) (list_all (λ p. ends_part p Start) parts)
+        follow_and (after place (kind_of c)) (ends_ranges cs) (ends_part part) (list_all (λ p. ends_part p Start) parts)
         (λ q. h q ∙ ap (λ ps. parts_end ps q) split)
         ∙ ap (λ o. follow o (ends_part part) && list_all (λ p. ends_part p Start) parts) (no_comma (kind_of c) (ap is_comma k))
         ∙ ap (λ ps. parts_end (onto_first c ps) place) (sym split)
         ∙ ap (λ t. parts_end (cond t ([] ∷ parts_of cs) (onto_first c (parts_of cs))) place) (sym (ap is_comma k))
       where
-        no_comma : (kind : Kind) → is_comma kind ≡ false → behind place kind ≡ along place kind
+        no_comma : (kind : Kind) → is_comma kind ≡ false → after place kind ≡ along place kind
         no_comma Comma e = cc
         no_comma Blank e = refl
         no_comma Dot e = refl
@@ -213,7 +213,7 @@ ranges_by_parts (c ∷ cs) place =
 -- the characters go on from the place to the end of a text of ranges
 abbrev pub ends : List ℕ → Place → Bool
 ends [] place = is_end place
-ends (c ∷ cs) place = follow (behind place (kind_of c)) (ends cs)
+ends (c ∷ cs) place = follow (after place (kind_of c)) (ends cs)
 
 -- the place is not at the start of the text
 abbrev is_later : Place → Bool
@@ -224,20 +224,20 @@ abbrev all_later : Option Place → Bool
 all_later None = true
 all_later (Some place) = is_later place
 
-behind_later : (place : Place) (kind : Kind) → is_later place ≡ true → all_later (behind place kind) ≡ true
-behind_later First kind e = cc
-behind_later Start Blank e = refl
-behind_later _ Blank e = refl
-behind_later Start Comma e = refl
-behind_later _ Comma e = refl
-behind_later Start Dot e = refl
-behind_later _ Dot e = refl
-behind_later Start Sign e = refl
-behind_later _ Sign e = refl
-behind_later Start Digit e = refl
-behind_later _ Digit e = refl
-behind_later Start Other e = refl
-behind_later _ Other e = refl
+after_later : (place : Place) (kind : Kind) → is_later place ≡ true → all_later (after place kind) ≡ true
+after_later First kind e = cc
+after_later Start Blank e = refl
+after_later _ Blank e = refl
+after_later Start Comma e = refl
+after_later _ Comma e = refl
+after_later Start Dot e = refl
+after_later _ Dot e = refl
+after_later Start Sign e = refl
+after_later _ Sign e = refl
+after_later Start Digit e = refl
+after_later _ Digit e = refl
+after_later Start Other e = refl
+after_later _ Other e = refl
 
 same_later : (f g : Place → Bool) → ((place : Place) → is_later place ≡ true → f place ≡ g place) → (o : Option Place) → all_later o ≡ true → follow o f ≡ follow o g
 same_later f g h None e = refl
@@ -246,23 +246,23 @@ same_later f g h (Some place) e = h place e
 later_ends : (cs : List ℕ) (place : Place) → is_later place ≡ true → ends cs place ≡ ends_ranges cs place
 later_ends [] First e = cc
 later_ends [] place e = refl
-later_ends (c ∷ cs) place e = same_later (ends cs) (ends_ranges cs) (later_ends cs) (behind place (kind_of c)) (behind_later place (kind_of c) e)
+later_ends (c ∷ cs) place e = same_later (ends cs) (ends_ranges cs) (later_ends cs) (after place (kind_of c)) (after_later place (kind_of c) e)
 
 first_ends : (cs : List ℕ) → ends cs First ≡ ((length (between_blanks cs) == 0) || ends_ranges cs Start)
 first_ends [] = refl
 first_ends (c ∷ cs) = go (first_ends cs) (kind_of c) refl ∙ ap (λ ds. (length (drop_trailing_whitespace ds) == 0) || ends_ranges (c ∷ cs) Start) (sym (leading c cs)) where
-  go : ends cs First ≡ ((length (between_blanks cs) == 0) || ends_ranges cs Start) → (kind : Kind) → kind_of c ≡ kind → follow (behind First (kind_of c)) (ends cs) ≡
-      ((length (drop_trailing_whitespace (cond (is_blank (kind_of c)) (skip_leading_whitespace cs) (c ∷ cs))) == 0) || follow (behind Start (kind_of c)) (ends_ranges cs))
+  go : ends cs First ≡ ((length (between_blanks cs) == 0) || ends_ranges cs Start) → (kind : Kind) → kind_of c ≡ kind → follow (after First (kind_of c)) (ends cs) ≡
+      ((length (drop_trailing_whitespace (cond (is_blank (kind_of c)) (skip_leading_whitespace cs) (c ∷ cs))) == 0) || follow (after Start (kind_of c)) (ends_ranges cs))
   go h Blank k =
-      ap (λ t. follow (behind First t) (ends cs)) k ∙ h
-      ∙ ap (λ t. (length (drop_trailing_whitespace (cond (is_blank t) (skip_leading_whitespace cs) (c ∷ cs))) == 0) || follow (behind Start t) (ends_ranges cs)) (sym k)
+      ap (λ t. follow (after First t) (ends cs)) k ∙ h
+      ∙ ap (λ t. (length (drop_trailing_whitespace (cond (is_blank t) (skip_leading_whitespace cs) (c ∷ cs))) == 0) || follow (after Start t) (ends_ranges cs)) (sym k)
   go h kind k =
       ap (λ o. follow o (ends cs)) (same (kind_of c) (ap is_blank k))
-      ∙ same_later (ends cs) (ends_ranges cs) (later_ends cs) (behind Start (kind_of c)) (behind_later Start (kind_of c) refl)
-      ∙ ap (λ t. t || follow (behind Start (kind_of c)) (ends_ranges cs)) (sym (more_blanks c cs ∙ ap (λ t. t && are_blanks cs) (ap is_blank k)))
-      ∙ ap (λ t. (length (drop_trailing_whitespace (cond t (skip_leading_whitespace cs) (c ∷ cs))) == 0) || follow (behind Start (kind_of c)) (ends_ranges cs)) (sym (ap is_blank k))
+      ∙ same_later (ends cs) (ends_ranges cs) (later_ends cs) (after Start (kind_of c)) (after_later Start (kind_of c) refl)
+      ∙ ap (λ t. t || follow (after Start (kind_of c)) (ends_ranges cs)) (sym (more_blanks c cs ∙ ap (λ t. t && are_blanks cs) (ap is_blank k)))
+      ∙ ap (λ t. (length (drop_trailing_whitespace (cond t (skip_leading_whitespace cs) (c ∷ cs))) == 0) || follow (after Start (kind_of c)) (ends_ranges cs)) (sym (ap is_blank k))
     where
-      same : (kind : Kind) → is_blank kind ≡ false → behind First kind ≡ behind Start kind
+      same : (kind : Kind) → is_blank kind ≡ false → after First kind ≡ after Start kind
       same Blank e = cc
       same Comma e = refl
       same Dot e = refl

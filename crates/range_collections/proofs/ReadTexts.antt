@@ -12,11 +12,11 @@ use Rattle.std.proofs.lemmas.Str.{chars-encodes, encodes-append, encode_ascii, i
 use Rattle.std.proofs.Math.ListN.{length-append}
 use Rattle.range_collections.specs.ParseErrors.{BeginsRanges, MayFollow}
 use Rattle.range_collections.specs.Reading.{any_number, range_of, range_in, is_ranges, parts_of}
-use Rattle.range_collections.specs.Scanning.{kind_of, behind}
-use Rattle.range_collections.specs.declared.range_set.scanning.Kind.{Kind}
-use Rattle.range_collections.specs.declared.range_set.scanning.Kind.TheVariants.{Blank, Comma, Dot, Sign, Digit, Other}
-use Rattle.range_collections.specs.declared.range_set.scanning.Place.{Place}
-use Rattle.range_collections.specs.declared.range_set.scanning.Place.TheVariants.{First, Start, StartSign, InStart, OneDot, EndSign}
+use Rattle.range_collections.specs.Scanning.{kind_of, after}
+use Rattle.range_collections.specs.declared.parse.Kind.{Kind}
+use Rattle.range_collections.specs.declared.parse.Kind.TheVariants.{Blank, Comma, Dot, Sign, Digit, Other}
+use Rattle.range_collections.specs.declared.parse.Place.{Place}
+use Rattle.range_collections.specs.declared.parse.Place.TheVariants.{First, Start, StartSign, InStart, OneDot, EndSign}
 use Rattle.range_collections.proofs.ReadRange.{IsOfKind, has_kind, follow, within, ends_range, is_range}
 use Rattle.range_collections.proofs.ReadRanges.{ends_part, between_blanks, start_part, first_part, ends, ends_by_parts}
 
@@ -176,26 +176,26 @@ text_ends cs h =
 
 -- fronts
 
--- the place behind the characters, if they may stand behind a place
-abbrev pub place_behind : List ℕ → Place → Option Place
-place_behind [] place = Some place
-place_behind (c ∷ cs) place = option_and_then (place_behind cs) (behind place (kind_of c))
+-- the place after the characters, if they may stand after a place
+abbrev pub place_after : List ℕ → Place → Option Place
+place_after [] place = Some place
+place_after (c ∷ cs) place = option_and_then (place_after cs) (after place (kind_of c))
 
 followed_on : (o : Option Place) (f : Place → Option Place) (g h : Place → Bool) → ((place : Place) → g place ≡ follow (f place) h) → follow o g ≡ follow (option_and_then f o) h
 followed_on None f g h e = refl
 followed_on (Some place) f g h e = e place
 
-pub ends_on : (cs ds : List ℕ) (place : Place) → ends (cs ++ ds) place ≡ follow (place_behind cs place) (ends ds)
+pub ends_on : (cs ds : List ℕ) (place : Place) → ends (cs ++ ds) place ≡ follow (place_after cs place) (ends ds)
 ends_on [] ds place = refl
-ends_on (c ∷ cs) ds place = followed_on (behind place (kind_of c)) (place_behind cs) (ends (cs ++ ds)) (ends ds) (ends_on cs ds)
+ends_on (c ∷ cs) ds place = followed_on (after place (kind_of c)) (place_after cs) (ends (cs ++ ds)) (ends ds) (ends_on cs ds)
 
 and_then_on : (o : Option Place) (f g h : Place → Option Place) → ((place : Place) → f place ≡ option_and_then h (g place)) → option_and_then f o ≡ option_and_then h (option_and_then g o)
 and_then_on None f g h e = refl
 and_then_on (Some place) f g h e = e place
 
-pub place_on : (cs ds : List ℕ) (place : Place) → place_behind (cs ++ ds) place ≡ option_and_then (place_behind ds) (place_behind cs place)
+pub place_on : (cs ds : List ℕ) (place : Place) → place_after (cs ++ ds) place ≡ option_and_then (place_after ds) (place_after cs place)
 place_on [] ds place = refl
-place_on (c ∷ cs) ds place = and_then_on (behind place (kind_of c)) (place_behind (cs ++ ds)) (place_behind cs) (place_behind ds) (place_on cs ds)
+place_on (c ∷ cs) ds place = and_then_on (after place (kind_of c)) (place_after (cs ++ ds)) (place_after cs) (place_after ds) (place_on cs ds)
 
 pub more_scalars : (cs ds : List ℕ) → AreScalars cs → AreScalars ds → AreScalars (cs ++ ds)
 more_scalars [] ds h k = k
@@ -219,7 +219,7 @@ rest_scalars : (place : Place) → AreScalars (rest_from place)
 rest_scalars First = refl
 rest_scalars _ = refl
 
-pub begins : (cs : List ℕ) (place : Place) → AreScalars cs → place_behind cs First ≡ Some place → BeginsRanges (encode_utf8_all cs)
+pub begins : (cs : List ℕ) (place : Place) → AreScalars cs → place_after cs First ≡ Some place → BeginsRanges (encode_utf8_all cs)
 begins cs place h e =
     record {
       is_text = (cs, (h, refl));
@@ -230,7 +230,7 @@ begins cs place h e =
           ∙ ends_on cs (rest_from place) First ∙ ap (λ o. follow o (ends (rest_from place))) e ∙ rest_ends place;
     }
 
-pub stops : (cs : List ℕ) → AreScalars cs → place_behind cs First ≡ None → ¬ (BeginsRanges (encode_utf8_all cs))
+pub stops : (cs : List ℕ) → AreScalars cs → place_after cs First ≡ None → ¬ (BeginsRanges (encode_utf8_all cs))
 stops cs h e b =
     let ds : List ℕ = b.rest_is_text.0 in
     let none : is_ranges any_number (encode_utf8_all cs ++ b.rest) ≡ false =
@@ -245,15 +245,15 @@ stops cs h e b =
 front_on : (cs : List ℕ) (c : ℕ) → c < 128 → encode_utf8_all (cs ++ c ∷ []) ≡ encode_utf8_all cs ++ c ∷ []
 front_on cs c low = encodes-append cs (c ∷ []) ∙ ap (λ w. encode_utf8_all cs ++ w) (append-nil (encode_utf8 c) ∙ encode_ascii c low)
 
-one_more : (cs : List ℕ) (c : ℕ) (place : Place) → place_behind cs First ≡ Some place → place_behind (cs ++ c ∷ []) First ≡ option_and_then (λ q. Some q) (behind place (kind_of c))
-one_more cs c place e = place_on cs (c ∷ []) First ∙ ap (option_and_then (place_behind (c ∷ []))) e
+one_more : (cs : List ℕ) (c : ℕ) (place : Place) → place_after cs First ≡ Some place → place_after (cs ++ c ∷ []) First ≡ option_and_then (λ q. Some q) (after place (kind_of c))
+one_more cs c place e = place_on cs (c ∷ []) First ∙ ap (option_and_then (place_after (c ∷ []))) e
 
-pub may : (cs : List ℕ) (c : ℕ) (place next : Place) → AreScalars cs → place_behind cs First ≡ Some place → c < 128 → IsScalar c → behind place (kind_of c) ≡ Some next → MayFollow (encode_utf8_all cs) c
+pub may : (cs : List ℕ) (c : ℕ) (place next : Place) → AreScalars cs → place_after cs First ≡ Some place → c < 128 → IsScalar c → after place (kind_of c) ≡ Some next → MayFollow (encode_utf8_all cs) c
 may cs c place next h e low scalar k =
     subst BeginsRanges (front_on cs c low)
     (begins (cs ++ c ∷ []) next (more_scalars cs (c ∷ []) h (ap (λ t. t && true) scalar)) (one_more cs c place e ∙ ap (option_and_then (λ q. Some q)) k))
 
-pub may_not : (cs : List ℕ) (c : ℕ) (place : Place) → AreScalars cs → place_behind cs First ≡ Some place → c < 128 → IsScalar c → behind place (kind_of c) ≡ None → ¬ (MayFollow (encode_utf8_all cs) c)
+pub may_not : (cs : List ℕ) (c : ℕ) (place : Place) → AreScalars cs → place_after cs First ≡ Some place → c < 128 → IsScalar c → after place (kind_of c) ≡ None → ¬ (MayFollow (encode_utf8_all cs) c)
 may_not cs c place h e low scalar k b =
     stops (cs ++ c ∷ []) (more_scalars cs (c ∷ []) h (ap (λ t. t && true) scalar)) (one_more cs c place e ∙ ap (option_and_then (λ q. Some q)) k)
     (subst BeginsRanges (sym (front_on cs c low)) b)

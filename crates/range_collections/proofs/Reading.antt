@@ -12,7 +12,7 @@ use Rattle.std.proofs.lemmas.List.Elements.{All-nil, All-cons}
 use Rattle.std.proofs.lemmas.List.Splits.{slice_split_none, length-slice_split}
 use Rattle.std.proofs.lemmas.List.Sums.{count_by_more_yes, sum_by-take-drop}
 use Rattle.std.proofs.lemmas.Str.Parse.{numerals_by_value, tells_all_ascii_digits}
-use Rattle.range_collections.specs.Reading.{is_numeral, is_within, unsigned_number, signed_number, range_up_to, range_behind_dot, range_of, range_in, parts_of, ranges_in}
+use Rattle.range_collections.specs.Reading.{is_numeral, is_within, unsigned_number, signed_number, range_up_to, range_after_dot, range_of, range_in, parts_of, ranges_in}
 use Rattle.range_collections.specs.declared.range_set_range.RangeSetRange.{RangeSetRange}
 use mir.Syntax.{Width, w8, w16, w32, w64, w128}
 use mir.Val.{SFits}
@@ -94,10 +94,10 @@ and_then_none f None h = refl
 and_then_none f (Some a) h = h a
 
 module _ {K : Type 0} (number : List ℕ → Option K) where
-  behind_no_dot : (start : K) (behind : List ℕ) → ((rest : List ℕ) → behind ≢ 46 ∷ rest) → range_behind_dot number start behind ≡ None
-  behind_no_dot start [] h = refl
-  behind_no_dot start (c ∷ cs) h =
-      elim (eqb_tells c 46) as (λ _. range_behind_dot number start (c ∷ cs) ≡ None) [
+  after_no_dot : (start : K) (after : List ℕ) → ((rest : List ℕ) → after ≢ 46 ∷ rest) → range_after_dot number start after ≡ None
+  after_no_dot start [] h = refl
+  after_no_dot start (c ∷ cs) h =
+      elim (eqb_tells c 46) as (λ _. range_after_dot number start (c ∷ cs) ≡ None) [
         | inl same ↦ absurd (h cs (ap (λ d. d ∷ cs) same.1))
         | inr other ↦ ap (λ b. cond b (range_up_to number start cs) None) other.0
       ]
@@ -105,34 +105,34 @@ module _ {K : Type 0} (number : List ℕ → Option K) where
   pub range_in-no_dot : (part word : List ℕ) (r : Option (RangeSetRange K)) → r ≡ None → word ≡ trim part → position_or_len (λ b. b == 46) word ≡ length word → r ≡ range_in number part
   unfolding range_in
   range_in-no_dot part word r e is none =
-      let behind : after_first (λ b. b == 46) word ≡ [] = ap (λ n. drop (n + 1) word) none ∙ drop_all (length word + 1) word (omega arith) in
-      e ∙ sym (ap (range_of number) (sym is) ∙ and_then_none (λ start. range_behind_dot number start (after_first (λ b. b == 46) word)) (number (before_first (λ b. b == 46) word))
-      (λ start. ap (range_behind_dot number start) behind))
+      let after : after_first (λ b. b == 46) word ≡ [] = ap (λ n. drop (n + 1) word) none ∙ drop_all (length word + 1) word (omega arith) in
+      e ∙ sym (ap (range_of number) (sym is) ∙ and_then_none (λ start. range_after_dot number start (after_first (λ b. b == 46) word)) (number (before_first (λ b. b == 46) word))
+      (λ start. ap (range_after_dot number start) after))
 
   pub range_in-no_start : (part word before : List ℕ) (r : Option (RangeSetRange K)) → r ≡ None → word ≡ trim part → before ≡ before_first (λ b. b == 46) word → None ≡ number before →
       r ≡ range_in number part
   unfolding range_in
   range_in-no_start part word before r e is first none =
       e ∙ sym (ap (range_of number) (sym is)
-      ∙ ap (option_and_then (λ start. range_behind_dot number start (after_first (λ b. b == 46) word))) (ap number (sym first) ∙ sym none))
+      ∙ ap (option_and_then (λ start. range_after_dot number start (after_first (λ b. b == 46) word))) (ap number (sym first) ∙ sym none))
 
-  with_start : (part word before behind : List ℕ) (start : K) → word ≡ trim part → before ≡ before_first (λ b. b == 46) word → behind ≡ after_first (λ b. b == 46) word →
-      Some start ≡ number before → range_behind_dot number start behind ≡ range_in number part
+  with_start : (part word before after : List ℕ) (start : K) → word ≡ trim part → before ≡ before_first (λ b. b == 46) word → after ≡ after_first (λ b. b == 46) word →
+      Some start ≡ number before → range_after_dot number start after ≡ range_in number part
   unfolding range_in
-  with_start part word before behind start is first second known =
-      ap (range_behind_dot number start) second
+  with_start part word before after start is first second known =
+      ap (range_after_dot number start) second
       ∙ sym (ap (range_of number) (sym is)
-      ∙ ap (option_and_then (λ start. range_behind_dot number start (after_first (λ b. b == 46) word))) (ap number (sym first) ∙ sym known))
+      ∙ ap (option_and_then (λ start. range_after_dot number start (after_first (λ b. b == 46) word))) (ap number (sym first) ∙ sym known))
 
-  pub range_in-one_dot : (part word before behind : List ℕ) (start : K) (r : Option (RangeSetRange K)) → r ≡ None → word ≡ trim part → before ≡ before_first (λ b. b == 46) word →
-      behind ≡ after_first (λ b. b == 46) word → Some start ≡ number before → ((rest : List ℕ) → behind ≢ 46 ∷ rest) → r ≡ range_in number part
-  range_in-one_dot part word before behind start r e is first second known off =
-      e ∙ sym (behind_no_dot start behind off) ∙ with_start part word before behind start is first second known
+  pub range_in-one_dot : (part word before after : List ℕ) (start : K) (r : Option (RangeSetRange K)) → r ≡ None → word ≡ trim part → before ≡ before_first (λ b. b == 46) word →
+      after ≡ after_first (λ b. b == 46) word → Some start ≡ number before → ((rest : List ℕ) → after ≢ 46 ∷ rest) → r ≡ range_in number part
+  range_in-one_dot part word before after start r e is first second known off =
+      e ∙ sym (after_no_dot start after off) ∙ with_start part word before after start is first second known
 
-  pub range_in-both : (part word before behind rest : List ℕ) (start : K) → word ≡ trim part → before ≡ before_first (λ b. b == 46) word →
-      behind ≡ after_first (λ b. b == 46) word → Some start ≡ number before → behind ≡ 46 ∷ rest → range_up_to number start rest ≡ range_in number part
-  range_in-both part word before behind rest start is first second known dot =
-      sym (ap (range_behind_dot number start) dot) ∙ with_start part word before behind start is first second known
+  pub range_in-both : (part word before after rest : List ℕ) (start : K) → word ≡ trim part → before ≡ before_first (λ b. b == 46) word →
+      after ≡ after_first (λ b. b == 46) word → Some start ≡ number before → after ≡ 46 ∷ rest → range_up_to number start rest ≡ range_in number part
+  range_in-both part word before after rest start is first second known dot =
+      sym (ap (range_after_dot number start) dot) ∙ with_start part word before after start is first second known
 
   pub one_range : (text : List ℕ) (o : Option (RangeSetRange K)) → parts_of text ≡ text ∷ [] → o ≡ range_in number text → ranges_in number text ≡ cons_option o []
   unfolding ranges_in

@@ -7,7 +7,7 @@ use Rattle.std.proofs.lemmas.Slice.{drop-append-drop}
 use Rattle.range_collections.specs.Splicing.{spliced}
 
 module _ {K : Type 0} where
-  -- an item replaced, by what stands before it and behind it
+  -- an item replaced, by what stands before it and after it
   pub set-parts : (xs : List K) (i : ℕ) (x : K) → i < length xs → set xs i x ≡ take i xs ++ (x ∷ drop (i + 1) xs)
   set-parts xs i x within =
       sym (take-append-drop (i + 1) (set xs i x))
@@ -35,41 +35,41 @@ module _ {K : Type 0} where
       ∙ sym (append_assoc (take from xs) (option_to_list start ++ option_to_list end) (drop to xs))
 
   -- the items that a splice leaves in the way, removed
-  pub remove_range-spliced : (xs : List K) (from to behind : ℕ) (start end : Option K) → from ≤ length xs →
-      behind ≡ from + length (option_to_list start) + length (option_to_list end) → behind ≤ to →
-      remove_range (spliced xs from behind start end) behind to ≡ spliced xs from to start end
-  remove_range-spliced xs from to behind start end within e more =
+  pub remove_range-spliced : (xs : List K) (from to after : ℕ) (start end : Option K) → from ≤ length xs →
+      after ≡ from + length (option_to_list start) + length (option_to_list end) → after ≤ to →
+      remove_range (spliced xs from after start end) after to ≡ spliced xs from to start end
+  remove_range-spliced xs from to after start end within e more =
       let front : List K = spliced_front xs from start end in
-      let n : length front ≡ behind = length-spliced_front xs from start end within ∙ sym e in
-      ap (λ ys. remove_range ys behind to) (spliced-front xs from behind start end)
-      ∙ ap (λ ys. ys ++ drop to (front ++ drop behind xs)) (take_at front (drop behind xs) behind n)
-      ∙ ap (λ ys. front ++ ys) (drop-append-drop behind xs front to more n)
+      let n : length front ≡ after = length-spliced_front xs from start end within ∙ sym e in
+      ap (λ ys. remove_range ys after to) (spliced-front xs from after start end)
+      ∙ ap (λ ys. ys ++ drop to (front ++ drop after xs)) (take_at front (drop after xs) after n)
+      ∙ ap (λ ys. front ++ ys) (drop-append-drop after xs front to more n)
       ∙ sym (spliced-front xs from to start end)
 
   -- one item put, and then another
-  pub spliced-twice : (xs ys : List K) (from mid behind : ℕ) (start end : Option K) → from + length (option_to_list start) ≤ length xs →
-      mid ≡ from + length (option_to_list start) → behind ≡ mid + length (option_to_list end) →
+  pub spliced-twice : (xs ys : List K) (from mid after : ℕ) (start end : Option K) → from + length (option_to_list start) ≤ length xs →
+      mid ≡ from + length (option_to_list start) → after ≡ mid + length (option_to_list end) →
       ys ≡ take from xs ++ (option_to_list start ++ drop mid xs) →
-      take mid ys ++ (option_to_list end ++ drop behind ys) ≡ spliced xs from behind start end
-  spliced-twice xs ys from mid behind start end within m b e =
+      take mid ys ++ (option_to_list end ++ drop after ys) ≡ spliced xs from after start end
+  spliced-twice xs ys from mid after start end within m b e =
       let front : List K = take from xs ++ option_to_list start in
       let n : length front ≡ mid = omega (arith, length-append (take from xs) (option_to_list start), length-take-le from xs (omega arith), m) in
       let whole : ys ≡ front ++ drop mid xs = e ∙ sym (append_assoc (take from xs) (option_to_list start) (drop mid xs)) in
-      ap (λ zs. take mid zs ++ (option_to_list end ++ drop behind zs)) whole
-      ∙ ap (λ zs. zs ++ (option_to_list end ++ drop behind (front ++ drop mid xs))) (take_at front (drop mid xs) mid n)
-      ∙ ap (λ zs. front ++ (option_to_list end ++ zs)) (drop-append-drop mid xs front behind (omega (arith, b)) n)
-      ∙ append_assoc (take from xs) (option_to_list start) (option_to_list end ++ drop behind xs)
+      ap (λ zs. take mid zs ++ (option_to_list end ++ drop after zs)) whole
+      ∙ ap (λ zs. zs ++ (option_to_list end ++ drop after (front ++ drop mid xs))) (take_at front (drop mid xs) mid n)
+      ∙ ap (λ zs. front ++ (option_to_list end ++ zs)) (drop-append-drop mid xs front after (omega (arith, b)) n)
+      ∙ append_assoc (take from xs) (option_to_list start) (option_to_list end ++ drop after xs)
 
   -- a list whose items are replaced one for one keeps its length
-  pub length-spliced_same : (xs : List K) (from behind : ℕ) (start end : Option K) → from ≤ length xs →
-      behind ≡ from + length (option_to_list start) + length (option_to_list end) → behind ≤ length xs →
-      length (spliced xs from behind start end) ≡ length xs
-  length-spliced_same xs from behind start end within e more =
+  pub length-spliced_same : (xs : List K) (from after : ℕ) (start end : Option K) → from ≤ length xs →
+      after ≡ from + length (option_to_list start) + length (option_to_list end) → after ≤ length xs →
+      length (spliced xs from after start end) ≡ length xs
+  length-spliced_same xs from after start end within e more =
       omega (
         arith,
-        ap length (spliced-front xs from behind start end),
-        length-append (spliced_front xs from start end) (drop behind xs),
+        ap length (spliced-front xs from after start end),
+        length-append (spliced_front xs from start end) (drop after xs),
         length-spliced_front xs from start end within,
-        length-drop behind xs,
+        length-drop after xs,
         e,
       )

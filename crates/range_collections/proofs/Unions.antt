@@ -129,10 +129,10 @@ module _ {K : Type 0} {order : K → K → Ordering} (o : IsTotalOrder order) wh
       first_own_item = tt;
       at_most = tt;
       succeeds = λ few infallible.
-          let behind = All-back is_infallible (flat_map boundaries front) (flat_map boundaries (half ++ back)) (rw (e, flat_map-append boundaries front (half ++ back)) at infallible) in
+          let after = All-back is_infallible (flat_map boundaries front) (flat_map boundaries (half ++ back)) (rw (e, flat_map-append boundaries front (half ++ back)) at infallible) in
           absurd (true≢false (sym (given.succeeds
           (omega (arith, few, length-halves boundaries parts front (half ++ back) e, length-halves boundaries (half ++ back) half back refl))
-          (All-front is_infallible (flat_map boundaries half) (flat_map boundaries back) (rw (flat_map-append boundaries half back) at behind)))));
+          (All-front is_infallible (flat_map boundaries half) (flat_map boundaries back) (rw (flat_map-append boundaries half back) at after)))));
     }
 
     pub GivesUnion-joined : ((part : P) → IsAscending order (boundaries part)) → (parts front back : List P) (a b : List K) (r : Result (List K) AllocError) → parts ≡ front ++ back →

@@ -1,4 +1,4 @@
--- Sets among values: the least value in front, negation, and lists of values with the same members among them.
+-- Sets among values: the least value first, negation, and lists of values with the same members among them.
 use Rattle.std.proofs.Common.{◌≡◌, ◌≢◌, ◌↔◌, IsTrue, refl, sym, ap, ap₂, ◌∙◌, Ok, rules, Bool, true, false, not, ◌&&◌, List, [], ◌∷◌, ◌<◌, length, get_or, drop, arith, All, subst, ◌≤◌, true≢false}
 use Rattle.std.specs.List.{AllZip, HoldsAt, insert, remove}
 use Rattle.std.specs.Cmp.{IsTotalOrder}
@@ -40,6 +40,12 @@ Greater-from_neither Greater l e = refl
 
 -- lists equal item by item
 
+-- a range that has no element: its start isn't below its end
+pub not_less-from_none : (r : Bool) (v : Ordering) → IsTrue r ↔ (v ≡ Less) → r ≡ false → is_lt v ≡ false
+not_less-from_none r Less h off = absurd (true≢false (sym (h.1 refl) ∙ off))
+not_less-from_none r Equal h off = refl
+not_less-from_none r Greater h off = refl
+
 module _ {K : Type 0} {order : K → K → Ordering} (o : IsTotalOrder order) where
   pub IsAscending-equal : (a b : List K) → AllZip (λ x y. order x y ≡ Equal) a b → IsAscending order a → IsAscending order b
   IsAscending-equal a b h up i j d below within =
@@ -51,7 +57,7 @@ module _ {K : Type 0} {order : K → K → Ordering} (o : IsTotalOrder order) wh
       ∙ sym (same_right o (get_or a j d) (get_or b j d) (get_or a i d) there)
       ∙ up i j d below (omega arith)
 
-  -- the first item removed, and an item put in front
+  -- the first item removed, and an item put first
   remove-first : (a : List K) → remove a 0 ≡ drop 1 a
   remove-first [] = refl
   remove-first (x ∷ xs) = refl
@@ -82,7 +88,7 @@ module _ {K : Type 0} {order : K → K → Ordering} (o : IsTotalOrder order) wh
     All-rest [] v = All-nil is_value
     All-rest (x ∷ xs) v = All-tail is_value x xs v
 
-    -- with the least value in front or removed it is one of values still
+    -- with the least value put first or removed it is one of values still
     pub All-flipped : (least : K) → is_value least → (a i : List K) → All is_value a → IsFlipped order least a i → All is_value i
     All-flipped least value a i v w =
         by_BeginsAt least a
@@ -242,7 +248,7 @@ module _ {K : Type 0} {order : K → K → Ordering} (o : IsTotalOrder order) (i
   Negates-inserted y [] e up v n = Negates-front y [] e up v n
   Negates-inserted y (x ∷ xs) e up v n = Negates-front y (x ∷ xs) e up v n
 
-  -- a is the set, l its list, b the list lent, and r the list that is made
+  -- a is the set, l its list, b the list that is borrowed, and r the list that is made
   pub GivesOwnNegation-removed : (infallible : Type 0) (a l b r : List K) (t : Bool) → l ≡ a → b ≡ l → IsAscending order l → IsTrue t ↔ BeginsAt order least b →
       t ≡ true → r ≡ remove l 0 → GivesOwnNegation order is_value least infallible a (Ok r)
   GivesOwnNegation-removed infallible a l b r t la bl up says begins is =
@@ -395,8 +401,3 @@ module _ {K : Type 0} {order : K → K → Ordering} (o : IsTotalOrder order) (i
           (λ g.
           let out : member order a x ≡ false = member-below_least a x u (Less-from_greater o least x g) in
           ap (λ t. t && not (member order b x)) out ∙ sym (ap (λ t. t && member order n x) out))
-
--- what a test of two elements says: v is what `cmp` gave and t what was asked of it
-
-pub not_less-from_is_lt : (v : Ordering) (t : Bool) (w : Ordering) → v ≡ w → t ≡ is_lt v → t ≡ false → is_lt w ≡ false
-not_less-from_is_lt v t w e is h = ap is_lt (sym e) ∙ sym is ∙ h

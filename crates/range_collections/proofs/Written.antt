@@ -20,9 +20,9 @@ module _ {K : Type 0} (order : K → K → Ordering) (f : Table) (a b old new : 
         means = rw front means;
         left_own_item = front;
         written = many;
-        behind = ap (drop n) written ∙ drop_at (taken_items ts) (drop n old) n long;
+        after = ap (drop n) written ∙ drop_at (taken_items ts) (drop n old) n long;
         no_room = no_room;
         needed = tt;
       }
   WritesOperation-written (Err refused) means written many no_room needed =
-      record { means = tt; left_own_item = tt; written = tt; behind = tt; no_room = no_room; needed = needed }
+      record { means = tt; left_own_item = tt; written = tt; after = tt; no_room = no_room; needed = needed }

@@ -1,7 +1,8 @@
 -- Where a set begins and ends, and the elements of a range that are members.
 --     IsSpan ranges s                             s starts as the first of the ranges does, and ends as the last one
 --     HasAllWithin order items start end          every element at or above start and below end is a member
-use Rattle.std.specs.Prelude.{◌≡◌, true, List, Some, None, slice_get}
+--     IsNext order inside items from next         next is the least element at or above `from` that is a member exactly if `inside`
+use Rattle.std.specs.Prelude.{◌≡◌, Bool, true, not, List, Some, None, slice_get}
 use Rattle.std.specs.List.{last_or}
 use Rattle.std.specs.declared.cmp.Ordering.{Ordering}
 use Rattle.std.specs.declared.cmp.Ordering.TheVariants.{Less}
@@ -24,3 +25,11 @@ pub record IsSpan {K : Type 0} (ranges : List (RangeSetRange K))
 abbrev pub HasAllWithin : {K : Type 0} → (K → K → Ordering) → List K → K → K → Type 0
 HasAllWithin {K} order items start end =
     (x : K) → is_le (order start x) ≡ true → order x end ≡ Less → member order items x ≡ true
+
+-- next is the least element at or above `from` that is a member exactly if `inside`
+pub record IsNext {K : Type 0} (order : K → K → Ordering) (inside : Bool) (items : List K)
+    (from next : K) : Type 0 where
+  pub at_or_above : is_le (order from next) ≡ true
+  pub is_there : member order items next ≡ inside
+  pub least : (x : K) → is_le (order from x) ≡ true → order x next ≡ Less →
+      member order items x ≡ not inside

@@ -1,7 +1,6 @@
 -- Where a stretch of elements fits into what is not in a set, for elements that stand for numbers.
 --     Fits order number items start end len x     the len elements from x on lie between start and end, and none is a member
---     IsPlaceBelow place items i past             there is an item at place i, whose number is below `past`; a private contract uses it
-use Rattle.std.specs.Prelude.{◌≡◌, ℕ, ◌+◌, ◌<◌, ◌≤◌, false, List, length, slice_index_or}
+use Rattle.std.specs.Prelude.{◌≡◌, ℕ, ◌+◌, ◌<◌, ◌≤◌, false, List}
 use Rattle.std.specs.declared.cmp.Ordering.{Ordering}
 use Rattle.range_merge.specs.Boundaries.{member}
 
@@ -12,8 +11,3 @@ module _ {K : Type 0} (order : K → K → Ordering) (number : K → ℕ) where
     pub up_to : number x + number len ≤ number end
     pub free : (y : K) → number x ≤ number y → number y < number x + number len →
         member order items y ≡ false
-
--- there is an item at place i, and its number is below `past`
-abbrev pub IsPlaceBelow : {K : Type 0} → (K → ℕ) → List K → ℕ → ℕ → Type 0
-IsPlaceBelow {K} number items i past =
-    (i < length items) × ((d : K) → number (slice_index_or items i d) < past)

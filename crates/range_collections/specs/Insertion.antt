@@ -1,5 +1,5 @@
 -- A range put into a set or taken out of it.
---     IsChangedByRange order f room a b new r     the list behind a call that puts a range in or takes it out
+--     IsChangedByRange order f room a b new r     the list after a call that puts a range in or takes it out
 use Rattle.std.specs.Prelude.{◌≡◌, ◌⊎◌, ℕ, ◌≤◌, List, [], length, Result, IsOk, OnOk, OnErr}
 use Rattle.std.specs.declared.alloc.AllocError.{AllocError}
 use Rattle.std.specs.declared.cmp.Ordering.{Ordering}
@@ -7,7 +7,7 @@ use Rattle.range_merge.specs.Connective.{Table, Means}
 use Rattle.range_collections.specs.InPlace.{AreOwnElseOf}
 
 module _ {K : Type 0} (order : K → K → Ordering) where
-  -- a list that a call with a range changed from a to new, where b are the range's boundaries: where it went well it means the connective, with its own items where both have one; where memory was refused it is as it was; it goes well where the one list that means the connective is no longer than a, or has room; and a range of nothing changes nothing
+  -- a list that a call with a range changed from a to new, where b are the range's boundaries: an Ok means the connective, with a's own items where both have one; an Err leaves a as it was; an Ok comes where the one list that means the connective is no longer than a, or has room; and an empty range changes nothing
   pub record IsChangedByRange (f : Table) (room : ℕ) (a b new : List K)
       (r : Result (Unit {0}) AllocError) : Type 0 where
     pub means : OnOk r (Means order f new a b)

@@ -1,7 +1,7 @@
 -- What is written of why a JSON value is not read as a set.
 use Rattle.std.specs.Prelude.{ℕ, List, ◌++◌, codes, decimal}
-use Rattle.range_collections.specs.declared.range_set.json.JsonError.{JsonError}
-use Rattle.range_collections.specs.declared.range_set.json.JsonError.TheVariants.{NotArray, NotInteger, OutOfMemory}
+use Rattle.range_collections.specs.declared.json.JsonError.{JsonError}
+use Rattle.range_collections.specs.declared.json.JsonError.TheVariants.{NotArray, NotInteger, OutOfMemory}
 
 -- one sentence, with the item's place where there is one
 abbrev pub json_error_text : JsonError → List ℕ

@@ -1,5 +1,5 @@
 -- What the operations on two sets answer, each with its connective.
---     GivesOperation order is_copy is_infallible f room a b r   the set that f makes of a and b, or want of memory unless there is room and each item is infallible
+--     GivesOperation order is_copy is_infallible f room a b r   the set that f makes of a and b, or out of memory unless there is room and each item is infallible
 use Rattle.std.specs.Prelude.{ℕ, ◌+◌, ◌≤◌, All, List, length, Result, IsOk, IfOk}
 use Rattle.std.specs.declared.alloc.AllocError.{AllocError}
 use Rattle.std.specs.declared.cmp.Ordering.{Ordering}

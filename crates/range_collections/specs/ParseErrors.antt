@@ -1,16 +1,16 @@
 -- Why a text is not read as a set, and what is written of it.
 --     BeginsRanges front          some text of ranges, with numbers of any size, begins with the front
---     MayFollow front c           a character may stand behind the front
+--     MayFollow front c           a character may follow the front
 --     IsLongestFront text at      the longest front of the text with which some text of ranges begins
---     IsExpected front expected   it is what may stand behind the front
+--     IsExpected front expected   it is what may follow the front
 --     IsFaultIn text error        a fault of the text itself, at its place
 use Rattle.std.specs.Prelude.{◌≡◌, ℕ, ◌<◌, ◌≤◌, true, false, List, [], ◌∷◌, length, take, ◌++◌, codes, decimal}
 use Rattle.std.specs.Str.{IsUtf8, byte}
 use Rattle.range_collections.specs.Reading.{any_number, is_ranges}
-use Rattle.range_collections.specs.declared.range_set.parse_errors.Expected.{Expected}
-use Rattle.range_collections.specs.declared.range_set.parse_errors.Expected.TheVariants.{Number, Dot, Comma}
-use Rattle.range_collections.specs.declared.range_set.parse_errors.ParseError.{ParseError}
-use Rattle.range_collections.specs.declared.range_set.parse_errors.ParseError.TheVariants.{Malformed, OutOfRange, OutOfMemory}
+use Rattle.range_collections.specs.declared.parse.Expected.{Expected}
+use Rattle.range_collections.specs.declared.parse.Expected.TheVariants.{Number, Dot, Comma}
+use Rattle.range_collections.specs.declared.parse.ParseError.{ParseError}
+use Rattle.range_collections.specs.declared.parse.ParseError.TheVariants.{Malformed, OutOfRange, OutOfMemory}
 
 -- some text of ranges, with numbers of any size, begins with the front, which is a text itself
 pub record BeginsRanges (front : List ℕ) : Type 0 where
@@ -19,7 +19,7 @@ pub record BeginsRanges (front : List ℕ) : Type 0 where
   pub rest_is_text : IsUtf8 rest
   pub are_ranges : is_ranges any_number (front ++ rest) ≡ true
 
--- some text of ranges goes on with the character behind the front
+-- some text of ranges goes on with the character after the front
 abbrev pub MayFollow : List ℕ → ℕ → Type 0
 MayFollow front c = BeginsRanges (front ++ c ∷ [])
 
@@ -29,7 +29,7 @@ pub record IsLongestFront (text : List ℕ) (at : ℕ) : Type 0 where
   pub begins : BeginsRanges (take at text)
   pub longest : (n : ℕ) → at < n → n ≤ length text → ¬ (BeginsRanges (take n text))
 
--- what may stand behind a front. Number: a digit, no dot, and a comma only where a number may begin. Dot: a dot. Comma: a comma or the end, where no number may begin
+-- what may follow a front. Number: a digit, no dot, and a comma only where a number may begin. Dot: a dot. Comma: a comma or the end, where no number may begin
 abbrev pub IsExpected : List ℕ → Expected → Type 0
 IsExpected front Number = MayFollow front (byte "0") × ¬ (MayFollow front (byte ".")) × (MayFollow front (byte ",") → MayFollow front (byte "+"))
 IsExpected front Dot = MayFollow front (byte ".")

@@ -65,6 +65,11 @@ abbrev pub range_boundaries : {K : Type 0} → (K → K → Ordering) → RangeS
 range_boundaries order (Range r) = range_items order r.start r.end
 range_boundaries order (RangeFrom r) = r.start ∷ []
 
+-- the ends of a range
+abbrev pub range_ends : {K : Type 0} → RangeSetRange K → List K
+range_ends (Range r) = r.start ∷ r.end ∷ []
+range_ends (RangeFrom r) = r.start ∷ []
+
 -- the element lies in the range
 abbrev pub IsInRange : {K : Type 0} → (K → K → Ordering) → RangeSetRange K → K → Type 0
 IsInRange order (Range r) x = (is_le (order r.start x) ≡ true) × (order x r.end ≡ Less)

@@ -53,19 +53,19 @@ abbrev pub parts_of : List ℕ → List (List ℕ)
 parts_of text = slice_split (λ b. b == 44) text
 
 module _ {K : Type 0} (number : List ℕ → Option K) where
-  -- the range from a start on, where this is written behind its two dots: nothing, or an end
+  -- the range from a start on, where this is written after its two dots: nothing, or an end
   abbrev pub range_up_to : K → List ℕ → Option (RangeSetRange K)
   range_up_to start [] = Some (RangeFrom (record { start = start }))
   range_up_to start (c ∷ cs) = option_map (λ end. Range (record { start = start; end = end })) (number (c ∷ cs))
 
-  -- the same, where this is written behind the first of them
-  abbrev pub range_behind_dot : K → List ℕ → Option (RangeSetRange K)
-  range_behind_dot start [] = None
-  range_behind_dot start (c ∷ cs) = cond (c == 46) (range_up_to start cs) None
+  -- the same, where this is written after the first of them
+  abbrev pub range_after_dot : K → List ℕ → Option (RangeSetRange K)
+  range_after_dot start [] = None
+  range_after_dot start (c ∷ cs) = cond (c == 46) (range_up_to start cs) None
 
   -- the range that is written: a start, two dots, and an end or nothing
   abbrev pub range_of : List ℕ → Option (RangeSetRange K)
-  range_of word = option_and_then (λ start. range_behind_dot start (after_first (λ b. b == 46) word)) (number (before_first (λ b. b == 46) word))
+  range_of word = option_and_then (λ start. range_after_dot start (after_first (λ b. b == 46) word)) (number (before_first (λ b. b == 46) word))
 
   -- the range that is written between blanks
   unfoldable pub range_in : List ℕ → Option (RangeSetRange K)

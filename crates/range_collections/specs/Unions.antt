@@ -4,8 +4,9 @@
 --     AreCopiesOfFirst order is_copy list items   each is a copy of the first item of the list that equals it
 --     GivesUnion order is_copy is_infallible boundaries room parts r    what a union of parts answers
 --     IsJoined order room a b r                   what is answered where a list b is added to a list a
-use Rattle.std.specs.Prelude.{◌≡◌, refl, ℕ, ◌+◌, ◌≤◌, Bool, cond, [], ◌∷◌, All, List, Some, filter, slice_get, length, Result, IsOk, IfOk}
-use Rattle.std.specs.List.{flat_map, list_any}
+--     IsAdded order is_copy is_infallible room a b new r    what is answered where copies of a list b are added to a list a
+use Rattle.std.specs.Prelude.{◌≡◌, refl, ℕ, ◌+◌, ◌≤◌, Bool, cond, [], ◌∷◌, All, List, Some, filter, slice_get, length, Result, IsOk, IfOk, OnOk}
+use Rattle.std.specs.List.{AllZip, flat_map, list_any}
 use Rattle.std.specs.Ordering.{is_eq, is_lt}
 use Rattle.std.proofs.Common.{arith}
 use Rattle.std.proofs.lemmas.List.Elements.{All-nil, All-cons}
@@ -32,6 +33,13 @@ module _ {K : Type 0} (order : K → K → Ordering) where
     pub means : IfOk r (λ items. Means order union_table items a b)
     pub left_own_item : IfOk r (λ items. AreOwnElseOf order a b items)
     pub succeeds : length a + length b ≤ room → IsOk r
+
+  -- a list that was changed from a to new by adding copies of the items of b: it means the union with the copies, with a's own items where both have them; and it is an Ok where the items of both have room and no copy is refused
+  pub record IsAdded (is_copy : K → K → Type 0) (is_infallible : K → Type 0) (room : ℕ)
+      (a b new : List K) (r : Result (Unit {0}) AllocError) : Type 0 where
+    pub added : OnOk r ((copies : List K) × AllZip is_copy b copies
+        × Means order union_table new a copies × AreOwnElseOf order a copies new)
+    pub succeeds : length a + length b ≤ room → All is_infallible b → IsOk r
 
   module _ {P : Type 0} (boundaries : P → List K) (parts : List P) where
     -- x is a member of one of the parts at least

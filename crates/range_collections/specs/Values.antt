@@ -6,10 +6,10 @@
 --     IsFlipped order least xs items              the items are xs with the least value removed from the front, or put there
 --     AreFlipped order least IsList items         the same of a list of which IsList holds
 --     MeansAmong order is_value f items a b       the members of items are f of the members of a and b, among values where f is on while both sides are off
---     HasLeastInFront order least rest items      the items are `rest` with an item in front that equals the least value
+--     HasLeastInFront order least rest items      the items are `rest` after an item that equals the least value
 --     EqualsAreValues order is_value              whatever equals a value is a value
---     GivesNegation order is_value is_copy least infallible a r what `!` answers of a set by reference: the negation and its list, or want of memory unless it is infallible
---     GivesOwnNegation ..                         what `!` answers of a set that is handed over: the same, with the set's own items
+--     GivesNegation order is_value is_copy least infallible a r what `!` answers of a set by reference: the negation and its list, or out of memory unless it is infallible
+--     GivesOwnNegation ..                         what `!` answers of an owned set: the same, with the set's own items
 use Rattle.std.specs.Prelude.{◌≡◌, true, false, not, List, [], ◌∷◌, drop, All, Result, IsOk, IfOk}
 use Rattle.std.specs.List.{AllZip}
 use Rattle.std.specs.declared.alloc.AllocError.{AllocError}
@@ -24,11 +24,11 @@ module _ {K : Type 0} (order : K → K → Ordering) where
   BeginsAt least [] = ⊥
   BeginsAt least (x ∷ xs) = order x least ≡ Equal
 
-  -- the items are `rest` itself, and in front of it an item that equals the least value
+  -- the items are `rest` itself, after an item that equals the least value
   abbrev pub HasLeastInFront : K → List K → List K → Type 0
   HasLeastInFront least rest items = (x : K) × (order x least ≡ Equal) × (items ≡ x ∷ rest)
 
-  -- the items are xs itself with a first item that equals the least value removed, or else with such an item in front
+  -- the items are xs itself without a first item that equals the least value, or else after such an item
   pub record IsFlipped (least : K) (xs items : List K) : Type 0 where
     pub removed : BeginsAt least xs → items ≡ drop 1 xs
     pub put : ¬ (BeginsAt least xs) → HasLeastInFront least xs items
@@ -66,7 +66,7 @@ module _ {K : Type 0} (order : K → K → Ordering) where
     abbrev pub IsEverything : List K → Type 0
     IsEverything items = (x : K) → is_value x → member order items x ≡ true
 
-    -- an answer to `!` of a: an Ok is the negation, copies of the items of a with a first one that is the least value removed, or else with the least value in front; of values it holds values alone, if what equals a value is one; and where it is infallible it is an Ok
+    -- an answer to `!` of a: an Ok is the negation, copies of the items of a without a first one that is the least value, or else after the least value; of values it holds values alone, if what equals a value is one; and where it is infallible it is an Ok
     pub record GivesNegation (is_copy : K → K → Type 0) (least : K) (infallible : Type 0) (a : List K)
         (r : Result (List K) AllocError) : Type 0 where
       pub negates : IfOk r (λ items. Negates items a)
@@ -74,7 +74,7 @@ module _ {K : Type 0} (order : K → K → Ordering) where
       pub values : EqualsAreValues → All is_value a → IfOk r (λ items. All is_value items)
       pub succeeds : infallible → IsOk r
 
-    -- the same of a set that is handed over: the items of a are its own
+    -- the same of an owned set: the items of a are its own
     pub record GivesOwnNegation (least : K) (infallible : Type 0) (a : List K)
         (r : Result (List K) AllocError) : Type 0 where
       pub negates : IfOk r (λ items. Negates items a)

@@ -1,6 +1,6 @@
 -- The parts of a range that are in a set, and those that are not.
 --     with_end range              a range of references that has an end, as the range of what they point to
---     lent_items start between end    the items that lie between the two ends, with an end that is there
+--     borrowed_items start between end    the items that lie between the two ends, with an end that is there
 --     within_table inside         in the range, and in the set exactly if `inside`
 --     GivesParts order f within items parts     the parts of a range that a connective keeps
 use Rattle.std.specs.Prelude.{Bool, cond, List, ◌++◌, Option}
@@ -19,8 +19,8 @@ abbrev pub with_end : {K : Type 0} → Ends (Bor K) → RangeSetRange K
 with_end r = Range (record { start = r.start.now; end = r.end.now })
 
 -- the first item, where it is given, the items between, and the last one, where it is given
-abbrev pub lent_items : {K : Type 0} → Option (Bor K) → List K → Option (Bor K) → List K
-lent_items first between last =
+abbrev pub borrowed_items : {K : Type 0} → Option (Bor K) → List K → Option (Bor K) → List K
+borrowed_items first between last =
     option_to_list (option_copied first) ++ (between ++ option_to_list (option_copied last))
 
 -- in the range, and in the set if `inside`, or else not in the set

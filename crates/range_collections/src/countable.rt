@@ -5,8 +5,7 @@ ghost use Rattle.std.specs.Prelude.{◌≡◌, ◌<◌, ◌≤◌, ◌^◌, ℕ}
 ghost use Rattle.std.specs.Ordering.{nat_cmp};
 
 mod chars;
-mod integers;
-mod naturals;
+mod numbers;
 
 use range_entry::RangeSetEntry;
 

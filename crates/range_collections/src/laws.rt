@@ -1,36 +1,27 @@
 //! Laws: functions that do nothing, and whose contracts are theorems on the words of the other contracts.
-mod counting;
-mod extent;
-mod fitting;
-mod gaps;
 mod operations;
 mod parts;
 mod ranges;
-mod texts;
-mod unions;
 mod values;
 
-pub use counting::values_are_counted;
-pub use extent::spans_go_from_the_first_boundary_to_the_last;
-pub use fitting::as_many_fit_as_lie_in_a_range_of_no_members;
-pub use gaps::{
-    a_range_is_contained_where_nothing_is_left, gaps_are_the_ranges_of_the_difference,
-    gaps_have_what_is_not_in_the_set,
-};
 pub use operations::{
     disjoint_is_an_empty_intersection, operations_associate, operations_commute,
     operations_give_their_members, results_are_pinned, same_members_are_equal_items,
-    subset_is_an_empty_difference, subset_is_an_order,
+    subset_is_an_empty_difference, subset_is_an_order, unions_are_pinned,
 };
-pub use parts::parts_are_the_shortest;
+pub use parts::{
+    a_range_is_contained_where_nothing_is_left, gaps_are_the_ranges_of_the_difference,
+    gaps_have_what_is_not_in_the_set, parts_are_the_shortest,
+};
 pub use range_merge::laws::{
     changes_are_at_most_the_lengths, changes_are_marked_truly, changes_mean_the_connective,
     changes_mean_the_opposite, copies_stand_behind_what_was_there, operations_are_connectives,
     owners_are_pinned, the_test_alone_stops, weight_is_at_most_the_lengths,
 };
-pub use ranges::{arrays_read_back, ranges_make_the_set};
-pub use texts::texts_read_back;
-pub use unions::unions_are_pinned;
+pub use ranges::{
+    arrays_read_back, as_many_fit_as_lie_in_a_range_of_no_members, ranges_make_the_set,
+    spans_go_from_the_first_boundary_to_the_last, texts_read_back, values_are_counted,
+};
 pub use values::{
     a_set_and_what_is_not_in_it_are_everything, combined_sets_are_pinned,
     difference_is_an_intersection_with_the_negation, negating_twice_gives_the_same,

@@ -3,20 +3,22 @@
 
 mod comparisons;
 mod countable;
-mod gaps;
 mod iter;
+mod json;
 pub mod laws;
-mod least;
+mod lists;
+mod parse;
 mod range_set;
 mod range_set_range;
-mod sortedness;
+mod text;
 mod view;
 mod whole_number;
 
 pub use comparisons::{Comparisons, EntryCopier};
 pub use countable::{Countable, Unsigned};
-pub use gaps::{Gaps, RangesWithin};
-pub use iter::Iter;
+pub use iter::{Gaps, Iter, RangesWithin};
+pub use json::JsonError;
+pub use parse::{Expected, ParseError, check_ranges};
 pub use range_entry::{
     EntryClone, NonZeroU8, NonZeroU16, NonZeroU32, NonZeroU64, NonZeroU128, NonZeroUsize,
     RangeSetEntry,
@@ -25,9 +27,9 @@ pub use range_merge::{
     BoolOpMergeState, Buffer, BufferMergeState, Compare, Connective, Copier, CountMergeState,
     DiffOp, InPlaceBuilder, InPlaceMergeState, InPlaceMergeStateRef, IntersectionOp,
     MergeOperation, MergeState, MergeStateMut, NoRoom, Run, SliceIterator, SmallVecMergeState,
-    UnionOp, XorOp, merge, run_length, search,
+    UnionOp, XorOp, count_up_to, merge, run_length, search,
 };
-pub use range_set::{Expected, JsonError, ParseError, RangeSet, RangeSet2};
+pub use range_set::{RangeSet, RangeSet2};
 pub use range_set_range::RangeSetRange;
 pub use view::RangeSetRef;
 pub use whole_number::WholeNumber;

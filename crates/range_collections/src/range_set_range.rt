@@ -1,15 +1,20 @@
 //! One range of a set: with an end, or without one.
-ghost use Rattle.std.specs.Prelude.{◌≡◌, IsOk, IfOk};
+//!
+//! Two are equal if both have an end or neither has, the starts are equal, and so are the ends. Two ranges of nothing differ where their ends do.
+ghost use Rattle.std.specs.Prelude.{◌≡◌, ℕ, List, IsOk, IfOk, ◌↔◌, ◌+◌, ◌<◌, ◌^◌, IsTrue};
+ghost use Rattle.std.specs.Fmt.{WritesOnOk};
 ghost use Rattle.range_collections.specs.Ranges.{range_now, bound_now, range_start, range_end, IsEqualRange, AllEnds, AllEndsZip};
+ghost use Rattle.range_collections.specs.EqualRanges.{eq_range, eq_range-per, eq_range-equiv};
+ghost use Rattle.range_collections.specs.Text.{IsText, range_text};
+ghost use Rattle.std.specs.declared.cmp.Ordering.TheVariants.{Less};
 
-mod copies;
-mod equality;
-mod text;
-
+use crate::comparisons::Comparisons;
+use crate::whole_number::WholeNumber;
 use range_entry::EntryClone;
+use range_merge::Compare;
 use std::alloc::AllocError;
+use std::fmt;
 use std::ops::{Bound, Range, RangeFrom};
-pub(crate) use text::write_range;
 
 /// The elements from a start on, up to an end or without one.
 #[derive(Drop)]
@@ -18,6 +23,16 @@ pub enum RangeSetRange<T> {
     Range(Range<T>),
     /// From the start on.
     RangeFrom(RangeFrom<T>),
+}
+
+// Whether the range has an element: its start is below its end. Every call that takes a range asks this. An empty or reversed range stands for the empty set.
+#[inline(always)]
+pub(crate) fn has_elements<T: Ord>(start: &T, end: &T, count: &mut Comparisons) -> bool
+    requires { count.old < 2 ^ 127 }
+    ensures answer { IsTrue result ↔ (T.cmp start.now end.now ≡ Less) }
+    ensures counted { count.new ≡ count.old + 1 }
+{
+    count.compare(start, end).is_lt()
 }
 
 impl<'a, T: EntryClone + Drop> RangeSetRange<&'a T> {
@@ -42,26 +57,13 @@ impl<'a, T: EntryClone + Drop> RangeSetRange<&'a T> {
 }
 
 impl<T: EntryClone + Drop> RangeSetRange<T> {
-    /// A copy of the range, or an error where there is no memory for it.
+    /// A copy of the range, or an error if memory runs out.
     pub fn clone(&self) -> Result<RangeSetRange<T>, AllocError>
         ensures same { IfOk result (λ copied. IsEqualRange T.cmp self.now copied) }
         ensures copies { IfOk result (λ copied. AllEndsZip T.is_copy self.now copied) }
         ensures succeeds { AllEnds T.is_infallible self.now → IsOk result }
     {
-        match self {
-            RangeSetRange::Range(range) => {
-                let low = range.start.entry_clone()?;
-                let high = range.end.entry_clone()?;
-                Ok(RangeSetRange::Range(Range {
-                    start: low,
-                    end: high,
-                }))
-            }
-            RangeSetRange::RangeFrom(range) => {
-                let start = range.start.entry_clone()?;
-                Ok(RangeSetRange::RangeFrom(RangeFrom { start }))
-            }
-        }
+        self.as_ref().cloned()
     }
 }
 
@@ -91,7 +93,7 @@ impl<T> RangeSetRange<T> {
         }
     }
 
-    /// The end, which is not part of the range, or no bound where there is none.
+    /// The end, which isn't part of the range, or no bound if there is none.
     pub fn end_bound(&self) -> Bound<&T>
         ensures { bound_now result ≡ range_end self.now }
     {
@@ -119,5 +121,71 @@ impl<T> From<RangeFrom<T>> for RangeSetRange<T> {
 
     fn from(range: RangeFrom<T>) -> Self {
         RangeSetRange::RangeFrom(range)
+    }
+}
+
+impl<T: EntryClone + Drop> Clone for RangeSetRange<T> {
+    ghost is_clone = { IsEqualRange T.cmp };
+
+    ghost is_infallible = { AllEnds T.is_infallible };
+
+    /// A copy of the range, or an error if memory runs out.
+    fn clone(&self) -> Result<Self, AllocError> {
+        RangeSetRange::clone(self)
+    }
+}
+
+impl<T: PartialEq> PartialEq for RangeSetRange<T> {
+    ghost eq = { eq_range T.eq };
+
+    ghost laws = { eq_range-per T.eq T.PartialEq.laws };
+
+    /// Whether both have equal starts, and equal ends or none.
+    fn eq(&self, other: &Self) -> bool
+        ensures { result ≡ eq_range T.eq self.now other.now }
+    {
+        match (self, other) {
+            (RangeSetRange::Range(one), RangeSetRange::Range(two)) => one == two,
+            (RangeSetRange::RangeFrom(one), RangeSetRange::RangeFrom(two)) => {
+                one.start == two.start
+            }
+            _ => false,
+        }
+    }
+}
+
+impl<T: Eq> Eq for RangeSetRange<T> {
+    ghost laws = { eq_range-equiv T.eq T.Eq.laws };
+}
+
+impl<T: WholeNumber> fmt::Debug for RangeSetRange<T> {
+    ghost use Rattle.std.specs.Prelude.{Some};
+    ghost use Rattle.range_collections.specs.Text.{range_text};
+
+    ghost debug_output = { λ range. Some (range_text T.digits range) };
+
+    fn fmt<W: fmt::Write>(&self, f: &mut fmt::Formatter<W>) -> fmt::Result {
+        write_range(&self.as_ref(), f)
+    }
+}
+
+// The text of a range of references, each end as its own Debug text.
+pub(crate) fn write_range<T: fmt::Debug, W: fmt::Write>(
+    range: &RangeSetRange<&T>,
+    f: &mut fmt::Formatter<W>,
+) -> fmt::Result
+    ensures { (text : T → List ℕ) → AllEnds (IsText T.debug_output text) (range_now range.now) →
+        WritesOnOk W.write_str_gives f.old result (range_text text (range_now range.now)) f.new }
+{
+    match range {
+        RangeSetRange::Range(range) => {
+            fmt::Debug::fmt(range.start, f)?;
+            f.write_str("..")?;
+            fmt::Debug::fmt(range.end, f)
+        }
+        RangeSetRange::RangeFrom(range) => {
+            fmt::Debug::fmt(range.start, f)?;
+            f.write_str("..")
+        }
     }
 }

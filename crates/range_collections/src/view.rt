@@ -1,29 +1,33 @@
 //! A view of a set: a strictly sorted slice of boundaries.
-ghost use Rattle.std.specs.Prelude.{◌≡◌, ◌↔◌, [], ◌∷◌, IsSome, IfSome};
+ghost use Rattle.std.specs.Prelude.{◌≡◌, ◌↔◌, [], ◌∷◌, IsSome, IfSome, false};
 ghost use Rattle.std.specs.Mem.{FitsInMemory};
 ghost use Rattle.std.specs.Ordering.{is_le};
 ghost use Rattle.std.proofs.Props.{props};
 ghost use Rattle.range_merge.specs.Boundaries.{IsAscending, member};
 
-mod buffers;
-mod connectives;
 mod counting;
 mod equality;
-mod extent;
-mod fitting;
-mod gaps;
 mod operations;
-mod points;
+mod parts;
 mod predicates;
 mod ranges;
-mod split;
-mod values;
 
-use crate::sortedness::is_ascending;
+use crate::lists::is_ascending;
 use std::alloc::AllocError;
 use std::slice;
 
-/// The set of the elements with an odd number of these boundaries at or below them.
+/// A borrowed set: a strictly sorted slice of boundaries.
+///
+/// It answers what a set answers, and makes new sets. It is `Copy`, and the parts that it is split into are slices of the same list. The costs are those of `RangeSet`.
+///
+/// ```text
+/// let hours = RangeSetRef::new(&[9, 13, 15, 20])?;     // None if they aren't strictly sorted
+/// hours.contains(&12)                                  // true
+/// hours.contains_range(10..16)                         // false
+/// hours.union::<4>(alloc, busy.as_ref())?              // a new set
+/// ```
+///
+/// Calls that take another set take it as a view: `set.union(other.as_ref())`.
 pub struct RangeSetRef<'a, T: Ord> {
     /// The boundaries, strictly sorted.
     pub boundaries: &'a [T],
@@ -47,7 +51,7 @@ impl<'a, T: Ord> Copy for RangeSetRef<'a, T> {}
 impl<'a, T: Ord> Default for RangeSetRef<'a, T> {
     ghost is_default = { λ set. set.boundaries.now ≡ [] };
 
-    /// The set of nothing.
+    /// The empty set.
     #[inline]
     fn default() -> Self {
         Self::empty()
@@ -55,15 +59,16 @@ impl<'a, T: Ord> Default for RangeSetRef<'a, T> {
 }
 
 impl<'a, T: Ord> RangeSetRef<'a, T> {
-    /// The set of nothing.
+    /// The empty set.
     #[inline]
     pub fn empty() -> Self
-        ensures { result.boundaries.now ≡ [] }
+        ensures boundaries { result.boundaries.now ≡ [] }
+        ensures members { (x : T) → member T.cmp result.boundaries.now x ≡ false }
     {
         RangeSetRef { boundaries: &[] }
     }
 
-    /// The set of the elements at or above `value`.
+    /// The elements at or above `value`.
     #[inline]
     pub fn single(value: &'a T) -> Self
         requires { FitsInMemory T.row }
@@ -76,7 +81,7 @@ impl<'a, T: Ord> RangeSetRef<'a, T> {
         }
     }
 
-    /// The set with these boundaries, or nothing where they are not strictly sorted.
+    /// The set with these boundaries, or `None` if they aren't strictly sorted.
     #[inline]
     pub fn new(boundaries: &'a [T]) -> Option<Self>
         ensures variant { IsSome result ↔ IsAscending T.cmp boundaries.now }
@@ -89,7 +94,7 @@ impl<'a, T: Ord> RangeSetRef<'a, T> {
         }
     }
 
-    /// The set with these boundaries, which have to be strictly sorted.
+    /// The set with these boundaries, which must be strictly sorted.
     #[inline(always)]
     pub fn new_unchecked(boundaries: &'a [T]) -> Self
         requires { IsAscending T.cmp boundaries.now }

@@ -1,4 +1,4 @@
-//! Characters in a row. Behind U+D7FF stands U+E000: the surrogates between them are no characters.
+//! Characters in a row. After U+D7FF comes U+E000: the surrogates between them are no characters.
 ghost use Rattle.std.specs.Char.{scalar_index};
 ghost use Rattle.std.proofs.Common.{rules};
 ghost use Rattle.range_collections.specs.Countable.{char_value, scalar_index-fits, char_value-scalar, scalar_index-char_value, scalar_index-order};

@@ -1,6 +1,6 @@
-//! Operations that change a set in place. Of two boundaries that are equal, this set's own stays.
+//! Operations that change a set in place. Of two equal boundaries, this set's own stays.
 //!
-//! Each asks for all its memory before it changes a boundary: room in this set for the boundaries of the other; with a view also a copy of each of its boundaries, even of those that are not kept. Where it is refused, the boundaries of this set are as they were, and a set that was handed over comes back as it was.
+//! Each asks for all its memory before it changes a boundary: room in this set for the boundaries of the other, and with a borrowed set a copy of each of these, even of those that aren't kept, unless copies of the element type never fail. If an allocation or a copy fails, this set is as it was, and an owned right side comes back as it was.
 ghost use Rattle.std.specs.Prelude.{◌≡◌, ◌*◌, ◌^◌, ◌<◌, false};
 ghost use Rattle.range_merge.specs.Connective.{union_table, intersection_table, difference_table, symmetric_difference_table};
 ghost use Rattle.range_merge.specs.Counting.{AddsAtMost};
@@ -19,7 +19,7 @@ use std::alloc::{AllocError, Global};
 use std::default::MadeWith;
 
 impl<T: EntryClone + MadeWith<Global> + Drop, const N: usize> RangeSet<T, N> {
-    /// Leaves the members that the operation tells from the members of both, and counts at most twice the weight of the two lists in comparisons.
+    /// Changes this set to the operation's result. It counts its comparisons, at most twice the weight of the two lists.
     pub fn merge_ref<O: MergeOperation>(
         &mut self,
         that: RangeSetRef<T>,
@@ -44,7 +44,7 @@ impl<T: EntryClone + MadeWith<Global> + Drop, const N: usize> RangeSet<T, N> {
         )
     }
 
-    /// Keeps the members that are members of both.
+    /// Keeps the elements that are members of both sets.
     pub fn intersection_with(&mut self, that: RangeSetRef<T>) -> Result<(), AllocError>
         ensures changed { IsChangedByView T.cmp T.is_copy T.is_infallible intersection_table N
             self.old that.entry.boundaries.now self.new result }
@@ -60,7 +60,7 @@ impl<T: EntryClone + MadeWith<Global> + Drop, const N: usize> RangeSet<T, N> {
         self.merge_ref(that, &UnionOp, &mut Comparisons::new())
     }
 
-    /// Takes out the members of `that`.
+    /// Removes the members of `that`.
     pub fn difference_with(&mut self, that: RangeSetRef<T>) -> Result<(), AllocError>
         ensures changed { IsChangedByView T.cmp T.is_copy T.is_infallible difference_table N
             self.old that.entry.boundaries.now self.new result }
@@ -68,7 +68,7 @@ impl<T: EntryClone + MadeWith<Global> + Drop, const N: usize> RangeSet<T, N> {
         self.merge_ref(that, &DiffOp, &mut Comparisons::new())
     }
 
-    /// Leaves the members of one of the two that are not members of the other.
+    /// Leaves the elements that are members of exactly one of the sets.
     pub fn symmetric_difference_with(&mut self, that: RangeSetRef<T>) -> Result<(), AllocError>
         ensures changed { IsChangedByView T.cmp T.is_copy T.is_infallible
             symmetric_difference_table N self.old that.entry.boundaries.now self.new result }
@@ -78,7 +78,7 @@ impl<T: EntryClone + MadeWith<Global> + Drop, const N: usize> RangeSet<T, N> {
 }
 
 impl<T: Ord + MadeWith<Global> + Drop, const N: usize> RangeSet<T, N> {
-    /// Leaves the members that the operation tells from the members of both, and counts at most twice the weight of the two lists in comparisons.
+    /// Changes this set to the operation's result. It counts its comparisons, at most twice the weight of the two lists.
     pub fn merge_owned<O: MergeOperation>(
         &mut self,
         that: Self,
@@ -99,7 +99,7 @@ impl<T: Ord + MadeWith<Global> + Drop, const N: usize> RangeSet<T, N> {
         }
     }
 
-    /// Keeps the members that are members of both.
+    /// Keeps the elements that are members of both sets.
     pub fn bitand_assign(&mut self, that: Self) -> Result<(), (AllocError, Self)>
         ensures changed { IsChangedByOwned T.cmp intersection_table N
             self.old that self.new result }
@@ -114,14 +114,14 @@ impl<T: Ord + MadeWith<Global> + Drop, const N: usize> RangeSet<T, N> {
         self.merge_owned(that, &UnionOp, &mut Comparisons::new())
     }
 
-    /// Takes out the members of `that`.
+    /// Removes the members of `that`.
     pub fn sub_assign(&mut self, that: Self) -> Result<(), (AllocError, Self)>
         ensures changed { IsChangedByOwned T.cmp difference_table N self.old that self.new result }
     {
         self.merge_owned(that, &DiffOp, &mut Comparisons::new())
     }
 
-    /// Leaves the members of one of the two that are not members of the other.
+    /// Leaves the elements that are members of exactly one of the sets.
     pub fn bitxor_assign(&mut self, that: Self) -> Result<(), (AllocError, Self)>
         ensures changed { IsChangedByOwned T.cmp symmetric_difference_table N
             self.old that self.new result }

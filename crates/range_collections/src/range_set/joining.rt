@@ -1,47 +1,38 @@
-//! The union of many parts, by halves: each part is copied once, and then sets are joined in place.
-ghost use Rattle.std.specs.Prelude.{◌≡◌, ◌+◌, ◌-◌, ◌*◌, ◌<◌, ◌≤◌, List, All, length, slice_index_or, IsOk, IfOk};
+//! The union of many sets, by halves: each set is copied once, and then sets are joined in place.
+ghost use Rattle.std.specs.Prelude.{◌≡◌, ◌+◌, ◌-◌, ◌*◌, ◌≤◌, All, length, IsOk, IfOk};
 ghost use Rattle.std.specs.List.{AllZip, flat_map};
 ghost use Rattle.range_merge.specs.Boundaries.{IsAscending};
 ghost use Rattle.range_merge.specs.Counting.{AddsAtMost};
 ghost use Rattle.range_merge.specs.Runs.{digits};
 ghost use Rattle.range_collections.specs.Unions.{GivesUnion, IsJoined};
+ghost use Rattle.range_collections.specs.Ranges.{range_boundaries};
 
 use crate::comparisons::Comparisons;
 use crate::range_set::RangeSet;
+use crate::range_set_range::{RangeSetRange, has_elements};
+use crate::view::RangeSetRef;
 use range_entry::EntryClone;
-use range_merge::UnionOp;
 use range_merge::laws::weight_is_at_most_the_lengths;
+use range_merge::{Indexed, UnionOp};
 use smallvec::SmallVec;
 use std::alloc::{AllocError, Global};
 use std::default::MadeWith;
 
-// What a union is made of, as a set or a range: boundaries by their places.
-pub(super) trait Part<T: Ord> {
-    // The boundaries.
-    ghost boundaries: { Self → List T };
-
-    // How many there are.
-    fn len(&self) -> usize
-        ensures { result ≡ length (boundaries self.now) };
-
-    // The one at place `i`.
-    fn at(&self, i: usize) -> &T
-        requires { i < length (boundaries self.now) }
-        ensures { result.now ≡ slice_index_or (boundaries self.now) i result.now };
-
-    // They are strictly sorted.
-    ghost ascending: { (part : Self) → IsAscending T.cmp (boundaries part) };
+// What a union is made of, as a set or a range: its boundaries by index.
+pub(super) trait Part<T: Ord>: Indexed<T> {
+    // The boundaries are strictly sorted.
+    ghost ascending: { (part : Self) → IsAscending T.cmp (Self.items part) };
 }
 
-// The set of the elements that are members of one part at least.
+// The elements that are members of at least one part.
 pub(super) fn union_of<T: EntryClone + MadeWith<Global> + Drop, P: Part<T>, const N: usize>(
     alloc: Global,
     parts: &[P],
     count: &mut Comparisons,
 ) -> Result<RangeSet<T, N>, AllocError>
-    ensures gives { GivesUnion T.cmp T.is_copy T.is_infallible P.boundaries N parts.now result }
+    ensures gives { GivesUnion T.cmp T.is_copy T.is_infallible P.items N parts.now result }
     ensures comparisons { AddsAtMost count.old count.new
-        (2 * length (flat_map P.boundaries parts.now) * digits (length parts.now - 1)) }
+        (2 * length (flat_map P.items parts.now) * digits (length parts.now - 1)) }
 {
     match parts.len() {
         0 => Ok(RangeSet::empty(alloc)),
@@ -56,7 +47,7 @@ pub(super) fn union_of<T: EntryClone + MadeWith<Global> + Drop, P: Part<T>, cons
 }
 
 // The set, with the members of `that` added in place.
-fn joined<T: Ord + MadeWith<Global> + Drop, const N: usize>(
+pub(super) fn joined<T: Ord + MadeWith<Global> + Drop, const N: usize>(
     set: RangeSet<T, N>,
     that: RangeSet<T, N>,
     count: &mut Comparisons,
@@ -76,13 +67,13 @@ fn joined<T: Ord + MadeWith<Global> + Drop, const N: usize>(
 }
 
 // The set of the part's elements, with a copy of each boundary.
-fn copied<T: EntryClone + MadeWith<Global> + Drop, P: Part<T>, const N: usize>(
+pub(super) fn copied<T: EntryClone + MadeWith<Global> + Drop, P: Part<T>, const N: usize>(
     alloc: Global,
     part: &P,
 ) -> Result<RangeSet<T, N>, AllocError>
-    ensures copies { IfOk result (λ set. AllZip T.is_copy (P.boundaries part.now) set) }
-    ensures succeeds { length (P.boundaries part.now) ≤ N →
-        All T.is_infallible (P.boundaries part.now) → IsOk result }
+    ensures copies { IfOk result (λ set. AllZip T.is_copy (P.items part.now) set) }
+    ensures succeeds { length (P.items part.now) ≤ N →
+        All T.is_infallible (P.items part.now) → IsOk result }
 {
     Ok(RangeSet::new_unchecked(copies(alloc, part)?))
 }
@@ -92,9 +83,9 @@ fn copies<T: EntryClone + MadeWith<Global> + Drop, P: Part<T>, const N: usize>(
     alloc: Global,
     part: &P,
 ) -> Result<SmallVec<T, N>, AllocError>
-    ensures copies { IfOk result (λ list. AllZip T.is_copy (P.boundaries part.now) list.items) }
-    ensures succeeds { length (P.boundaries part.now) ≤ N →
-        All T.is_infallible (P.boundaries part.now) → IsOk result }
+    ensures copies { IfOk result (λ list. AllZip T.is_copy (P.items part.now) list.items) }
+    ensures succeeds { length (P.items part.now) ≤ N →
+        All T.is_infallible (P.items part.now) → IsOk result }
 {
     let len = part.len();
     let mut list = SmallVec::with_capacity(alloc, len)?;
@@ -102,4 +93,52 @@ fn copies<T: EntryClone + MadeWith<Global> + Drop, P: Part<T>, const N: usize>(
         list.push_reserved(part.at(i).entry_clone()?);
     }
     Ok(list)
+}
+
+impl<'a, T: Ord> Indexed<T> for RangeSetRef<'a, T> {
+    ghost items = { λ set. set.boundaries.now };
+
+    fn len(&self) -> usize {
+        self.boundaries.len()
+    }
+
+    fn at(&self, i: usize) -> &T {
+        &self.boundaries[i]
+    }
+}
+
+impl<'a, T: Ord> Part<T> for RangeSetRef<'a, T> {
+    ghost ascending = { λ set. set.sorted };
+}
+
+impl<T: Ord> Indexed<T> for RangeSetRange<T> {
+    ghost use Rattle.range_collections.specs.Ranges.{range_boundaries};
+
+    ghost items = { range_boundaries T.cmp };
+
+    fn len(&self) -> usize {
+        match self {
+            RangeSetRange::Range(range) => {
+                if has_elements(&range.start, &range.end, &mut Comparisons::new()) {
+                    2
+                } else {
+                    0
+                }
+            }
+            RangeSetRange::RangeFrom(_) => 1,
+        }
+    }
+
+    fn at(&self, i: usize) -> &T {
+        match self {
+            RangeSetRange::Range(range) => { if i == 0 { &range.start } else { &range.end } }
+            RangeSetRange::RangeFrom(range) => &range.start,
+        }
+    }
+}
+
+impl<T: Ord> Part<T> for RangeSetRange<T> {
+    ghost use Rattle.range_collections.specs.Unions.{IsAscending-range};
+
+    ghost ascending = { IsAscending-range T.cmp };
 }

@@ -1,14 +1,21 @@
-//! `&`, `|`, `^` and `-` on sets and references to them, each into a new set.
+//! `&`, `|`, `^` and `-` on sets and references to them, and `!`, each into a new set.
 //!
-//! The form with two references does the work, and the others call it; what was handed over is dropped, also where memory is refused.
+//! The form with two references does the work, and the others call it; what was owned is dropped, also where memory is refused.
+ghost use Rattle.std.specs.Prelude.{◌<◌, ◌⊎◌, All, length};
 ghost use Rattle.range_merge.specs.Connective.{intersection_table, union_table, symmetric_difference_table, difference_table};
 ghost use Rattle.range_collections.specs.Operators.{GivesOperation};
+ghost use Rattle.range_collections.specs.Values.{GivesNegation, GivesOwnNegation, BeginsAt};
 
+use crate::comparisons::Comparisons;
+use crate::lists::{begins_at_least, give_back_room};
 use crate::range_set::RangeSet;
-use range_entry::EntryClone;
+use crate::view::RangeSetRef;
+use range_entry::{EntryClone, RangeSetEntry};
+use range_merge::Connective;
+use range_merge::laws::{changes_are_marked_truly, changes_mean_the_opposite};
 use std::alloc::{AllocError, Global};
 use std::default::MadeWith;
-use std::ops::{BitAnd, BitOr, BitXor, Sub};
+use std::ops::{BitAnd, BitOr, BitXor, Not, Sub};
 
 impl<T: EntryClone + MadeWith<Global> + Drop, const N: usize> BitAnd<&RangeSet<T, N>>
     for &RangeSet<T, N> {
@@ -17,7 +24,7 @@ impl<T: EntryClone + MadeWith<Global> + Drop, const N: usize> BitAnd<&RangeSet<T
     ghost bitand_gives = { λ a b r.
         GivesOperation T.cmp T.is_copy T.is_infallible intersection_table N a.now b.now r };
 
-    /// The set of the elements that are members of both. It is what `intersection` gives; the one error is want of memory.
+    /// The intersection, as `intersection` gives it. It fails only if an allocation or a copy does.
     fn bitand(self, that: &RangeSet<T, N>) -> Result<RangeSet<T, N>, AllocError> {
         self.intersection(that.as_ref())
     }
@@ -30,7 +37,7 @@ impl<T: EntryClone + MadeWith<Global> + Drop, const N: usize> BitAnd<RangeSet<T,
     ghost bitand_gives = { λ a b r.
         GivesOperation T.cmp T.is_copy T.is_infallible intersection_table N a.now b r };
 
-    /// The same of a reference and a set, which is dropped, also on an error.
+    /// The same of a reference and a set, which is dropped even if it fails.
     fn bitand(self, that: RangeSet<T, N>) -> Result<RangeSet<T, N>, AllocError> {
         self & &that
     }
@@ -43,7 +50,7 @@ impl<T: EntryClone + MadeWith<Global> + Drop, const N: usize> BitAnd<&RangeSet<T
     ghost bitand_gives = { λ a b r.
         GivesOperation T.cmp T.is_copy T.is_infallible intersection_table N a b.now r };
 
-    /// The same of a set, which is dropped, also on an error, and a reference.
+    /// The same of a set, which is dropped even if it fails, and a reference.
     fn bitand(self, that: &RangeSet<T, N>) -> Result<RangeSet<T, N>, AllocError> {
         &self & that
     }
@@ -55,7 +62,7 @@ impl<T: EntryClone + MadeWith<Global> + Drop, const N: usize> BitAnd for RangeSe
     ghost bitand_gives = { λ a b r.
         GivesOperation T.cmp T.is_copy T.is_infallible intersection_table N a b r };
 
-    /// The same of two sets. Both are dropped, also on an error.
+    /// The same of two sets, which are dropped even if it fails.
     fn bitand(self, that: RangeSet<T, N>) -> Result<RangeSet<T, N>, AllocError> {
         &self & &that
     }
@@ -68,7 +75,7 @@ impl<T: EntryClone + MadeWith<Global> + Drop, const N: usize> BitOr<&RangeSet<T,
     ghost bitor_gives = { λ a b r.
         GivesOperation T.cmp T.is_copy T.is_infallible union_table N a.now b.now r };
 
-    /// The set of the elements that are members of one of the two, or of both. It is what `union` gives; the one error is want of memory.
+    /// The union, as `union` gives it. It fails only if an allocation or a copy does.
     fn bitor(self, that: &RangeSet<T, N>) -> Result<RangeSet<T, N>, AllocError> {
         self.union(that.as_ref())
     }
@@ -81,7 +88,7 @@ impl<T: EntryClone + MadeWith<Global> + Drop, const N: usize> BitOr<RangeSet<T, 
     ghost bitor_gives = { λ a b r.
         GivesOperation T.cmp T.is_copy T.is_infallible union_table N a.now b r };
 
-    /// The same of a reference and a set, which is dropped, also on an error.
+    /// The same of a reference and a set, which is dropped even if it fails.
     fn bitor(self, that: RangeSet<T, N>) -> Result<RangeSet<T, N>, AllocError> {
         self | &that
     }
@@ -94,7 +101,7 @@ impl<T: EntryClone + MadeWith<Global> + Drop, const N: usize> BitOr<&RangeSet<T,
     ghost bitor_gives = { λ a b r.
         GivesOperation T.cmp T.is_copy T.is_infallible union_table N a b.now r };
 
-    /// The same of a set, which is dropped, also on an error, and a reference.
+    /// The same of a set, which is dropped even if it fails, and a reference.
     fn bitor(self, that: &RangeSet<T, N>) -> Result<RangeSet<T, N>, AllocError> {
         &self | that
     }
@@ -106,7 +113,7 @@ impl<T: EntryClone + MadeWith<Global> + Drop, const N: usize> BitOr for RangeSet
     ghost bitor_gives = { λ a b r.
         GivesOperation T.cmp T.is_copy T.is_infallible union_table N a b r };
 
-    /// The same of two sets. Both are dropped, also on an error.
+    /// The same of two sets, which are dropped even if it fails.
     fn bitor(self, that: RangeSet<T, N>) -> Result<RangeSet<T, N>, AllocError> {
         &self | &that
     }
@@ -119,7 +126,7 @@ impl<T: EntryClone + MadeWith<Global> + Drop, const N: usize> BitXor<&RangeSet<T
     ghost bitxor_gives = { λ a b r.
         GivesOperation T.cmp T.is_copy T.is_infallible symmetric_difference_table N a.now b.now r };
 
-    /// The set of the elements that are members of one of the two and not of the other. It is what `symmetric_difference` gives; the one error is want of memory.
+    /// The symmetric difference, as `symmetric_difference` gives it. It fails only if an allocation or a copy does.
     fn bitxor(self, that: &RangeSet<T, N>) -> Result<RangeSet<T, N>, AllocError> {
         self.symmetric_difference(that.as_ref())
     }
@@ -132,7 +139,7 @@ impl<T: EntryClone + MadeWith<Global> + Drop, const N: usize> BitXor<RangeSet<T,
     ghost bitxor_gives = { λ a b r.
         GivesOperation T.cmp T.is_copy T.is_infallible symmetric_difference_table N a.now b r };
 
-    /// The same of a reference and a set, which is dropped, also on an error.
+    /// The same of a reference and a set, which is dropped even if it fails.
     fn bitxor(self, that: RangeSet<T, N>) -> Result<RangeSet<T, N>, AllocError> {
         self ^ &that
     }
@@ -145,7 +152,7 @@ impl<T: EntryClone + MadeWith<Global> + Drop, const N: usize> BitXor<&RangeSet<T
     ghost bitxor_gives = { λ a b r.
         GivesOperation T.cmp T.is_copy T.is_infallible symmetric_difference_table N a b.now r };
 
-    /// The same of a set, which is dropped, also on an error, and a reference.
+    /// The same of a set, which is dropped even if it fails, and a reference.
     fn bitxor(self, that: &RangeSet<T, N>) -> Result<RangeSet<T, N>, AllocError> {
         &self ^ that
     }
@@ -157,7 +164,7 @@ impl<T: EntryClone + MadeWith<Global> + Drop, const N: usize> BitXor for RangeSe
     ghost bitxor_gives = { λ a b r.
         GivesOperation T.cmp T.is_copy T.is_infallible symmetric_difference_table N a b r };
 
-    /// The same of two sets. Both are dropped, also on an error.
+    /// The same of two sets, which are dropped even if it fails.
     fn bitxor(self, that: RangeSet<T, N>) -> Result<RangeSet<T, N>, AllocError> {
         &self ^ &that
     }
@@ -170,7 +177,7 @@ impl<T: EntryClone + MadeWith<Global> + Drop, const N: usize> Sub<&RangeSet<T, N
     ghost sub_gives = { λ a b r.
         GivesOperation T.cmp T.is_copy T.is_infallible difference_table N a.now b.now r };
 
-    /// The set of the members of the left that are not members of the right. It is what `difference` gives; the one error is want of memory.
+    /// The difference, as `difference` gives it. It fails only if an allocation or a copy does.
     fn sub(self, that: &RangeSet<T, N>) -> Result<RangeSet<T, N>, AllocError> {
         self.difference(that.as_ref())
     }
@@ -183,7 +190,7 @@ impl<T: EntryClone + MadeWith<Global> + Drop, const N: usize> Sub<RangeSet<T, N>
     ghost sub_gives = { λ a b r.
         GivesOperation T.cmp T.is_copy T.is_infallible difference_table N a.now b r };
 
-    /// The same of a reference and a set, which is dropped, also on an error.
+    /// The same of a reference and a set, which is dropped even if it fails.
     fn sub(self, that: RangeSet<T, N>) -> Result<RangeSet<T, N>, AllocError> {
         self - &that
     }
@@ -196,7 +203,7 @@ impl<T: EntryClone + MadeWith<Global> + Drop, const N: usize> Sub<&RangeSet<T, N
     ghost sub_gives = { λ a b r.
         GivesOperation T.cmp T.is_copy T.is_infallible difference_table N a b.now r };
 
-    /// The same of a set, which is dropped, also on an error, and a reference.
+    /// The same of a set, which is dropped even if it fails, and a reference.
     fn sub(self, that: &RangeSet<T, N>) -> Result<RangeSet<T, N>, AllocError> {
         &self - that
     }
@@ -208,8 +215,59 @@ impl<T: EntryClone + MadeWith<Global> + Drop, const N: usize> Sub for RangeSet<T
     ghost sub_gives = { λ a b r.
         GivesOperation T.cmp T.is_copy T.is_infallible difference_table N a b r };
 
-    /// The same of two sets. Both are dropped, also on an error.
+    /// The same of two sets, which are dropped even if it fails.
     fn sub(self, that: RangeSet<T, N>) -> Result<RangeSet<T, N>, AllocError> {
         &self - &that
+    }
+}
+
+impl<T: RangeSetEntry + MadeWith<Global> + Drop, const N: usize> Not for RangeSet<T, N> {
+    type Output = Result<RangeSet<T, N>, AllocError>;
+
+    ghost not_gives = { λ a r.
+        GivesOwnNegation T.cmp T.is_value T.least
+        (BeginsAt T.cmp T.least a ⊎ ((length a < N) × T.is_min_infallible)) a r };
+
+    /// The complement. It removes a first boundary that is the least value, or else puts the least value before the others, which are the set's own. The clause says the members among values, and the list, item by item.
+    fn not(self) -> Result<RangeSet<T, N>, AllocError> {
+        let alloc = self.allocator();
+        let mut list = self.into_inner();
+        if begins_at_least(list.as_slice()) {
+            let _least = list.remove(0);
+            give_back_room(&mut list);
+            return Ok(RangeSet::new_unchecked(list));
+        }
+        let least = T::min_value(alloc)?;
+        // Brings that the capacity is at least N.
+        let _inline = list.capacity();
+        list.insert(0, least)?;
+        Ok(RangeSet::new_unchecked(list))
+    }
+}
+
+impl<T: RangeSetEntry + EntryClone + MadeWith<Global> + Drop, const N: usize> Not
+    for &RangeSet<T, N> {
+    type Output = Result<RangeSet<T, N>, AllocError>;
+
+    ghost not_gives = { λ a r.
+        GivesNegation T.cmp T.is_value T.is_copy T.least
+        ((length a.now < N) × All T.is_infallible a.now × T.is_min_infallible) a.now r };
+
+    /// The complement, as the connective "not left" of this set and the empty one. It copies the boundaries, and removes a first one that is the least value, or else puts the least value before the others. It makes at most twice the weight of the two lists in comparisons.
+    fn not(self) -> Result<RangeSet<T, N>, AllocError> {
+        changes_are_marked_truly::<T, Comparisons>();
+        changes_mean_the_opposite::<T, Comparisons>();
+        let not_left = Connective {
+            neither: true,
+            left: false,
+            right: true,
+            both: false,
+        };
+        self.as_ref().combine(
+            self.allocator(),
+            RangeSetRef::empty(),
+            &not_left,
+            &mut Comparisons::new(),
+        )
     }
 }

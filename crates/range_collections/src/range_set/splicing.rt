@@ -11,7 +11,9 @@ ghost use Rattle.range_collections.specs.Splicing.{IsCut, range_table, spliced};
 ghost use Rattle.range_collections.specs.Ranges.{range_items};
 
 use crate::comparisons::Comparisons;
-use range_merge::{Compare, search};
+use crate::lists::is_odd;
+use crate::range_set_range::has_elements;
+use range_merge::search;
 use smallvec::SmallVec;
 use std::alloc::{AllocError, Global};
 use std::default::MadeWith;
@@ -41,7 +43,7 @@ pub(crate) fn set_range<T: Ord + MadeWith<Global> + Drop, const N: usize>(
     ensures comparisons { AddsAtMost count.old count.new (2 * digits (length list.old.items) + 1) }
 {
     let Range { start, end } = range;
-    if !count.compare(&start, &end).is_lt() {
+    if !has_elements(&start, &end, count) {
         return Ok(());
     }
     let (from, start) = cut_at(list.as_slice(), start, inside, count);
@@ -49,9 +51,9 @@ pub(crate) fn set_range<T: Ord + MadeWith<Global> + Drop, const N: usize>(
     splice(list, from, to, start, end)
 }
 
-// Where the items are cut around an element, so that an odd number stands before exactly if `inside`, and the element where it has to be put there for that. An item that is equal to it stands before the cut or behind it, as the number asks.
+// Where the items are cut around an element, so that an odd number stands before exactly if `inside`, and the element where it has to be put there for that. An item that is equal to it stands before the cut or after it, as the number asks.
 #[inline]
-fn cut_at<T: Ord + Drop>(
+pub(super) fn cut_at<T: Ord + Drop>(
     items: &[T],
     at: T,
     inside: bool,
@@ -70,15 +72,8 @@ fn cut_at<T: Ord + Drop>(
     }
 }
 
-#[inline(always)]
-fn is_odd(n: usize) -> bool
-    ensures { result ≡ odd n }
-{
-    n % 2 == 1
-}
-
-// Puts the start and the end, where they are given, in the place of the items between `from` and `to`. It asks for memory only where both are put and nothing gives way.
-fn splice<T: MadeWith<Global> + Drop, const N: usize>(
+// Replaces the items between `from` and `to` by the start and the end, where they are given. It asks for memory only if both are put and nothing gives way.
+pub(super) fn splice<T: MadeWith<Global> + Drop, const N: usize>(
     list: &mut SmallVec<T, N>,
     from: usize,
     to: usize,
@@ -116,29 +111,29 @@ fn replace_between<T: MadeWith<Global> + Drop, const N: usize>(
     requires within { to ≤ length list.old.items }
     ensures items { list.new.items ≡ spliced list.old.items from to start end }
 {
-    let behind = overwrite_both(list.as_mut_slice(), from, start, end);
-    list.drain(behind..to);
+    let after = overwrite_both(list.as_mut_slice(), from, start, end);
+    list.drain(after..to);
 }
 
-// Puts the start and the end, where they are given, in the place of as many items from index `from` on. Answers the index behind them.
+// Replaces as many items from index `from` on by the start and the end, where they are given. Returns the index after them.
 #[inline(always)]
 fn overwrite_both<T: Drop>(items: &mut [T], from: usize, start: Option<T>, end: Option<T>) -> usize
     requires { from + length (option_to_list start) + length (option_to_list end) ≤
         length items.old }
     ensures items { items.new ≡ spliced items.old from result start end }
-    ensures behind { result ≡ from + length (option_to_list start) + length (option_to_list end) }
+    ensures after { result ≡ from + length (option_to_list start) + length (option_to_list end) }
 {
-    let behind = overwrite(items, from, start);
-    overwrite(items, behind, end)
+    let after = overwrite(items, from, start);
+    overwrite(items, after, end)
 }
 
-// Puts the item, if there is one, in the place of the one at index `at`. Answers the index behind it.
+// Replaces the item at index `at` by this one, if there is one. Returns the index after it.
 #[inline(always)]
 fn overwrite<T: Drop>(items: &mut [T], at: usize, item: Option<T>) -> usize
     requires { at + length (option_to_list item) ≤ length items.old }
     ensures items { items.new ≡
         take at items.old ++ (option_to_list item ++ drop result items.old) }
-    ensures behind { result ≡ at + length (option_to_list item) }
+    ensures after { result ≡ at + length (option_to_list item) }
 {
     match item {
         Some(item) => {
@@ -178,5 +173,22 @@ fn move_last_two<T>(items: &mut [T], at: usize)
     ensures { (front : List T) (a b : T) →
         items.old ≡ front ++ a ∷ b ∷ [] → items.new ≡ take at front ++ (a ∷ b ∷ drop at front) }
 {
-    items[at..].rotate_right(2);
+    last_two_to_front(&mut items[at..]);
+}
+
+// So many items are turned by two places at once, which first clears a buffer of 4 KB. Fewer are turned twice by one place, which takes none.
+const MANY: usize = 512;
+
+// Moves the last two items to the front.
+fn last_two_to_front<T>(items: &mut [T])
+    requires { 2 ≤ length items.old }
+    ensures { (front : List T) (a b : T) →
+        items.old ≡ front ++ a ∷ b ∷ [] → items.new ≡ a ∷ b ∷ front }
+{
+    if items.len() < MANY {
+        items.rotate_right(1);
+        items.rotate_right(1);
+    } else {
+        items.rotate_right(2);
+    }
 }

@@ -1,26 +1,32 @@
-//! Operations on two views, each into a new set, whose boundaries are copies of theirs. Of two boundaries that are equal, this set's is copied.
-ghost use Rattle.std.specs.Prelude.{◌≡◌, ◌+◌, ◌*◌, ◌^◌, ◌<◌, ◌≤◌, false, length, All, IsOk, IfOk};
-ghost use Rattle.range_merge.specs.Changes.{changes, taken_items};
-ghost use Rattle.range_merge.specs.Connective.{union_table, intersection_table, difference_table, symmetric_difference_table};
+//! Operations on two views: into a new set with copies of their boundaries, or into a borrowed slice, which takes no memory. Of two equal boundaries, this set's is taken.
+ghost use Rattle.std.specs.Prelude.{◌≡◌, ◌+◌, ◌*◌, ◌^◌, ◌<◌, ◌≤◌, false, length, All, IsOk, IfOk, true};
+ghost use Rattle.range_merge.specs.Changes.{changes};
+ghost use Rattle.range_merge.specs.Connective.{Means, opposite, union_table, intersection_table, difference_table, symmetric_difference_table};
 ghost use Rattle.range_merge.specs.Copies.{AreCopies};
 ghost use Rattle.range_merge.specs.Counting.{AddsAtMost};
 ghost use Rattle.range_merge.specs.Runs.{weight};
 ghost use Rattle.range_collections.specs.Operators.{GivesOperation};
-ghost use Rattle.range_collections.specs.Sets.{AreEqual};
+ghost use Rattle.range_collections.specs.Values.{MeansAmong, AreFlipped};
+ghost use Rattle.range_collections.specs.Buffers.{WritesOperation};
 
 use crate::comparisons::{Comparisons, EntryCopier};
+use crate::lists::give_back_room;
 use crate::range_set::RangeSet;
-use crate::range_set::room::give_back_room;
 use crate::view::RangeSetRef;
-use range_entry::EntryClone;
-use range_merge::laws::{changes_mean_the_connective, changes_mean_the_opposite};
-use range_merge::{DiffOp, IntersectionOp, MergeOperation, SmallVecMergeState, UnionOp, XorOp};
+use range_entry::{EntryClone, RangeSetEntry};
+use range_merge::laws::{
+    changes_are_at_most_the_lengths, changes_mean_the_connective, changes_mean_the_opposite,
+};
+use range_merge::{
+    BufferMergeState, DiffOp, IntersectionOp, MergeOperation, NoRoom, SmallVecMergeState, UnionOp,
+    XorOp,
+};
 use smallvec::SmallVec;
 use std::alloc::{AllocError, Global};
 use std::default::MadeWith;
 
 impl<'a, T: EntryClone + MadeWith<Global> + Drop> RangeSetRef<'a, T> {
-    /// The set whose members the operation tells from the members of both, with its comparisons counted.
+    /// The operation's result, counting the comparisons.
     pub fn merge_new<O: MergeOperation, const M: usize>(
         &self,
         alloc: Global,
@@ -35,11 +41,10 @@ impl<'a, T: EntryClone + MadeWith<Global> + Drop> RangeSetRef<'a, T> {
         ensures comparisons { AddsAtMost count.old count.new
             (2 * weight T.cmp self.now.boundaries.now that.entry.boundaries.now) }
     {
-        changes_mean_the_connective::<T, Comparisons>();
         self.merged(alloc, that, op, count)
     }
 
-    // The set of copies of the boundaries at which the connective changes.
+    // The set of copies of the boundaries at which the connective changes. Its members are what the operation says, or where the connective is on while both sides are off, the others.
     pub(super) fn merged<O: MergeOperation, const M: usize>(
         &self,
         alloc: Global,
@@ -48,10 +53,16 @@ impl<'a, T: EntryClone + MadeWith<Global> + Drop> RangeSetRef<'a, T> {
         count: &mut Comparisons,
     ) -> Result<RangeSet<T, M>, AllocError>
         requires made { count.old < 2 ^ 64 }
+        ensures gives { O.connective op.now false false ≡ false →
+            GivesOperation T.cmp T.is_copy T.is_infallible (O.connective op.now) M
+            self.now.boundaries.now that.entry.boundaries.now result }
+        ensures opposite { O.connective op.now false false ≡ true → IfOk result (λ set.
+            Means T.cmp (opposite (O.connective op.now)) set
+            self.now.boundaries.now that.entry.boundaries.now) }
         ensures copies { IfOk result (λ set. AreCopies T.is_copy (changes T.cmp
             (O.connective op.now) self.now.boundaries.now that.entry.boundaries.now) set) }
-        ensures equal { IfOk result (λ set. AreEqual T.cmp (taken_items (changes T.cmp
-            (O.connective op.now) self.now.boundaries.now that.entry.boundaries.now)) set) }
+        ensures len { IfOk result (λ set. length set ≡ length (changes T.cmp
+            (O.connective op.now) self.now.boundaries.now that.entry.boundaries.now)) }
         ensures succeeds { length self.now.boundaries.now + length that.entry.boundaries.now ≤ M →
             All T.is_infallible self.now.boundaries.now →
             All T.is_infallible that.entry.boundaries.now → IsOk result }
@@ -72,7 +83,7 @@ impl<'a, T: EntryClone + MadeWith<Global> + Drop> RangeSetRef<'a, T> {
         Ok(RangeSet::new_unchecked(list))
     }
 
-    /// The set of the elements that are members of one of the two, or of both.
+    /// The union: the elements that are members of either set.
     pub fn union<const M: usize>(
         &self,
         alloc: Global,
@@ -81,10 +92,10 @@ impl<'a, T: EntryClone + MadeWith<Global> + Drop> RangeSetRef<'a, T> {
         ensures gives { GivesOperation T.cmp T.is_copy T.is_infallible union_table M
             self.now.boundaries.now that.entry.boundaries.now result }
     {
-        self.merge_new(alloc, that, &UnionOp, &mut Comparisons::new())
+        self.merged(alloc, that, &UnionOp, &mut Comparisons::new())
     }
 
-    /// The set of the elements that are members of both.
+    /// The intersection: the elements that are members of both sets.
     pub fn intersection<const M: usize>(
         &self,
         alloc: Global,
@@ -93,10 +104,10 @@ impl<'a, T: EntryClone + MadeWith<Global> + Drop> RangeSetRef<'a, T> {
         ensures gives { GivesOperation T.cmp T.is_copy T.is_infallible intersection_table M
             self.now.boundaries.now that.entry.boundaries.now result }
     {
-        self.merge_new(alloc, that, &IntersectionOp, &mut Comparisons::new())
+        self.merged(alloc, that, &IntersectionOp, &mut Comparisons::new())
     }
 
-    /// The set of the members of this set that are not members of `that`.
+    /// The difference: the members of this set that aren't members of `that`.
     pub fn difference<const M: usize>(
         &self,
         alloc: Global,
@@ -105,10 +116,10 @@ impl<'a, T: EntryClone + MadeWith<Global> + Drop> RangeSetRef<'a, T> {
         ensures gives { GivesOperation T.cmp T.is_copy T.is_infallible difference_table M
             self.now.boundaries.now that.entry.boundaries.now result }
     {
-        self.merge_new(alloc, that, &DiffOp, &mut Comparisons::new())
+        self.merged(alloc, that, &DiffOp, &mut Comparisons::new())
     }
 
-    /// The set of the elements that are members of one of the two and not of the other.
+    /// The symmetric difference: the elements that are members of exactly one of the sets.
     pub fn symmetric_difference<const M: usize>(
         &self,
         alloc: Global,
@@ -117,6 +128,72 @@ impl<'a, T: EntryClone + MadeWith<Global> + Drop> RangeSetRef<'a, T> {
         ensures gives { GivesOperation T.cmp T.is_copy T.is_infallible symmetric_difference_table M
             self.now.boundaries.now that.entry.boundaries.now result }
     {
-        self.merge_new(alloc, that, &XorOp, &mut Comparisons::new())
+        self.merged(alloc, that, &XorOp, &mut Comparisons::new())
+    }
+}
+
+impl<'a, T: RangeSetEntry + EntryClone + MadeWith<Global> + Drop> RangeSetRef<'a, T> {
+    /// The result of any boolean operation (a connective), counting the comparisons. If the connective is on while both sides are off, the result is that among values.
+    ///
+    /// It copies the boundaries at which the connective changes, of two equal ones this set's. If the connective is on while both sides are off, it then removes a first boundary that is the least value, or else puts the least value before the others. It makes at most twice the weight of the two lists in comparisons, even if it fails.
+    pub fn combine<O: MergeOperation, const M: usize>(
+        &self,
+        alloc: Global,
+        that: RangeSetRef<T>,
+        op: &O,
+        count: &mut Comparisons,
+    ) -> Result<RangeSet<T, M>, AllocError>
+        requires made { count.old < 2 ^ 64 }
+        ensures means { IfOk result (λ set. MeansAmong T.cmp T.is_value (O.connective op.now) set
+            self.now.boundaries.now that.entry.boundaries.now) }
+        ensures left_own_item { O.connective op.now false false ≡ false → IfOk result (λ set.
+            AreCopies T.is_copy (changes T.cmp (O.connective op.now)
+            self.now.boundaries.now that.entry.boundaries.now) set) }
+
+        // On while both sides are off: the copies, with the least value removed from the start or put there.
+        ensures flipped { O.connective op.now false false ≡ true → IfOk result (λ set.
+            AreFlipped T.cmp T.least (AreCopies T.is_copy (changes T.cmp (O.connective op.now)
+            self.now.boundaries.now that.entry.boundaries.now)) set) }
+        ensures succeeds { O.connective op.now false false ≡ false →
+            length self.now.boundaries.now + length that.entry.boundaries.now ≤ M →
+            All T.is_infallible self.now.boundaries.now →
+            All T.is_infallible that.entry.boundaries.now → IsOk result }
+        ensures succeeds_flipped { O.connective op.now false false ≡ true →
+            length self.now.boundaries.now + length that.entry.boundaries.now < M →
+            All T.is_infallible self.now.boundaries.now →
+            All T.is_infallible that.entry.boundaries.now → T.is_min_infallible → IsOk result }
+        ensures comparisons { AddsAtMost count.old count.new
+            (2 * weight T.cmp self.now.boundaries.now that.entry.boundaries.now) }
+    {
+        changes_are_at_most_the_lengths::<T, Comparisons>();
+        let merged = self.merged(alloc, that, op, count)?;
+        let flips = op.when_off();
+        if flips { !merged } else { Ok(merged) }
+    }
+}
+
+impl<'a, T: Ord> RangeSetRef<'a, T> {
+    /// Writes the boundaries of the operation's result to the start of `out`, and returns how many there are. Both lengths together must fit a `usize`.
+    ///
+    /// Of two equal boundaries this set's is written, and the rest of `out` stays as it was. It is an error exactly if `out` is too short: the error says how long it must be, and nothing is said of what `out` then holds. It takes no memory, and counts its comparisons, at most twice the weight of the two lists.
+    pub fn merge_into<O: MergeOperation>(
+        &self,
+        that: RangeSetRef<T>,
+        op: &O,
+        out: &mut [T],
+        count: &mut Comparisons,
+    ) -> Result<usize, NoRoom>
+    where
+        T: Copy,
+        requires off { O.connective op.now false false ≡ false }
+        requires fits { length self.now.boundaries.now + length that.boundaries.now < 2 ^ 64 }
+        requires made { count.old < 2 ^ 64 }
+        ensures writes { WritesOperation T.cmp (O.connective op.now)
+            self.now.boundaries.now that.entry.boundaries.now out.old out.new result }
+        ensures comparisons { AddsAtMost count.old count.new
+            (2 * weight T.cmp self.now.boundaries.now that.entry.boundaries.now) }
+    {
+        changes_mean_the_connective::<T, Comparisons>();
+        BufferMergeState::merge(self.boundaries, that.boundaries, out, op, count)
     }
 }

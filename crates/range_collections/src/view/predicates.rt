@@ -1,4 +1,4 @@
-//! What can be asked of a set and of two, each answered by the members, at every element. Nothing here takes memory.
+//! What can be asked of a set and of two, each answered by the members, at every element, and whether a set has every value. Nothing here takes memory.
 ghost use Rattle.std.specs.Prelude.{◌≡◌, ◌↔◌, ◌+◌, ◌*◌, ◌<◌, ◌^◌, List, length, false, IsTrue};
 ghost use Rattle.range_merge.specs.Boundaries.{member};
 ghost use Rattle.range_merge.specs.Changes.{changes};
@@ -6,16 +6,19 @@ ghost use Rattle.range_merge.specs.Connective.{Means};
 ghost use Rattle.range_merge.specs.Counting.{AddsAtMost};
 ghost use Rattle.range_merge.specs.Runs.{digits, weight};
 ghost use Rattle.range_collections.specs.Sets.{IsSubset, Intersects, IsDisjoint, HasMember};
+ghost use Rattle.range_collections.specs.Values.{IsEverything};
 
 use crate::comparisons::Comparisons;
+use crate::lists::{begins_at_least, is_odd};
 use crate::view::RangeSetRef;
+use range_entry::RangeSetEntry;
 use range_merge::laws::changes_mean_the_connective;
 use range_merge::{
-    BoolOpMergeState, CountMergeState, DiffOp, IntersectionOp, MergeOperation, search,
+    BoolOpMergeState, CountMergeState, DiffOp, IntersectionOp, MergeOperation, count_up_to,
 };
 
 impl<'a, T: Ord> RangeSetRef<'a, T> {
-    /// Whether an odd number of boundaries is at or below `value`.
+    /// Whether `value` is a member: an odd number of boundaries is at or below it.
     #[inline]
     pub fn contains(&self, value: &T) -> bool
         ensures { result ≡ member T.cmp self.now.boundaries.now value.now }
@@ -23,7 +26,7 @@ impl<'a, T: Ord> RangeSetRef<'a, T> {
         self.contains_counted(value, &mut Comparisons::new())
     }
 
-    /// The same, with its comparisons counted: at most as many as the number of boundaries has binary digits.
+    /// The same, counted: at most as many comparisons as the number of boundaries has binary digits.
     #[inline]
     pub fn contains_counted(&self, value: &T, count: &mut Comparisons) -> bool
         requires { count.old < 2 ^ 64 }
@@ -31,13 +34,10 @@ impl<'a, T: Ord> RangeSetRef<'a, T> {
         ensures comparisons { AddsAtMost count.old count.new
             (digits (length self.now.boundaries.now)) }
     {
-        match search(self.boundaries, value, count) {
-            Ok(i) => i % 2 == 0,
-            Err(i) => i % 2 == 1,
-        }
+        is_odd(count_up_to(self.boundaries, value, count))
     }
 
-    /// Whether no element is a member.
+    /// Whether the set is empty.
     #[inline]
     pub fn is_empty(&self) -> bool
         ensures { IsTrue result ↔ ((x : T) → member T.cmp self.now.boundaries.now x ≡ false) }
@@ -45,7 +45,7 @@ impl<'a, T: Ord> RangeSetRef<'a, T> {
         self.boundaries.is_empty()
     }
 
-    /// Whether some element is a member of what the operation makes of both, with its comparisons counted. It stops at the first one (no clause says so), and makes at most twice the weight of the two lists in comparisons.
+    /// Whether the operation's result has a member. It counts its comparisons, at most twice the weight of the two lists, and stops at the first change (no clause says so).
     pub fn merge_test<O: MergeOperation>(
         &self,
         that: RangeSetRef<T>,
@@ -63,7 +63,7 @@ impl<'a, T: Ord> RangeSetRef<'a, T> {
         BoolOpMergeState::merge(self.boundaries, that.boundaries, op, count)
     }
 
-    /// How many boundaries the operation's result has, without making it, with its comparisons counted. Both lengths together have to fit a usize. It makes at most twice the weight of the two lists in comparisons.
+    /// How many boundaries the operation's result has, without making it. Both lengths together must fit a `usize`. It counts its comparisons, at most twice the weight of the two lists.
     pub fn merge_len<O: MergeOperation>(
         &self,
         that: RangeSetRef<T>,
@@ -103,17 +103,32 @@ impl<'a, T: Ord> RangeSetRef<'a, T> {
         !self.merge_test(that, &IntersectionOp, &mut Comparisons::new())
     }
 
-    /// Whether every member of this set is one of `that`.
+    /// Whether every member of this set is a member of `that`.
     pub fn is_subset(&self, that: RangeSetRef<T>) -> bool
         ensures { IsTrue result ↔ IsSubset T.cmp self.now.boundaries.now that.entry.boundaries.now }
     {
         !self.merge_test(that, &DiffOp, &mut Comparisons::new())
     }
 
-    /// Whether every member of `that` is one of this set.
+    /// Whether every member of `that` is a member of this set.
     pub fn is_superset(&self, that: RangeSetRef<T>) -> bool
         ensures { IsTrue result ↔ IsSubset T.cmp that.entry.boundaries.now self.now.boundaries.now }
     {
         that.is_subset(*self)
+    }
+}
+
+impl<'a, T: RangeSetEntry> RangeSetRef<'a, T> {
+    /// Whether every value is a member.
+    pub fn is_all(&self) -> bool
+        ensures { IsTrue result ↔ IsEverything T.cmp T.is_value self.now.boundaries.now }
+    {
+        match self.boundaries.get(1) {
+            Some(second) => {
+                second.known();
+                false
+            }
+            None => begins_at_least(self.boundaries),
+        }
     }
 }

@@ -15,13 +15,13 @@ pub returns-then-everything-clause-succeeds : goal.returns-then-everything-claus
 returns-then-everything-clause-succeeds g c = c.all.ensures.succeeds
 
 pub returns-else-everything-clause-members : goal.returns-else-everything-clause-members
-returns-else-everything-clause-members g c = λ x v. rw c.empty.ensures (member-nil g.T.Ord.cmp x ∙ sym c.if-everything.false)
+returns-else-everything-clause-members g c = λ x v. rw c.empty.ensures.boundaries (member-nil g.T.Ord.cmp x ∙ sym c.if-everything.false)
 
 pub returns-else-everything-clause-boundaries : goal.returns-else-everything-clause-boundaries
 returns-else-everything-clause-boundaries g c = λ on. absurd (true≢false (sym on ∙ c.if-everything.false))
 
 pub returns-else-everything-clause-nothing : goal.returns-else-everything-clause-nothing
-returns-else-everything-clause-nothing g c = λ _. ap Ok c.empty.ensures
+returns-else-everything-clause-nothing g c = λ _. ap Ok c.empty.ensures.boundaries
 
 pub returns-else-everything-clause-succeeds : goal.returns-else-everything-clause-succeeds
 returns-else-everything-clause-succeeds g c = λ _ _. refl

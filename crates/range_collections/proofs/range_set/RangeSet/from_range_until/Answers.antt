@@ -6,12 +6,12 @@ use Rattle.range_collections.proofs.range_set.RangeSet.from_range_until.Goals as
 pub returns-then-is_min_value-clause-members : goal.returns-then-is_min_value-clause-members
 returns-then-is_min_value-clause-members g c =
     λ x v.
-    rw c.empty.ensures
+    rw c.empty.ensures.boundaries
     (nothing_below g.met.T.Ord.total g.T.RangeSetEntry.is_value g.T.RangeSetEntry.least g.met.T.RangeSetEntry.least_is_value
     g.met.T.RangeSetEntry.least_is_least c.args.range.end x (c.is_min_value.ensures.0 c.if-is_min_value.true) v)
 
 pub returns-then-is_min_value-clause-nothing : goal.returns-then-is_min_value-clause-nothing
-returns-then-is_min_value-clause-nothing g c = λ _. ap Ok c.empty.ensures
+returns-then-is_min_value-clause-nothing g c = λ _. ap Ok c.empty.ensures.boundaries
 
 pub returns-then-is_min_value-clause-boundaries : goal.returns-then-is_min_value-clause-boundaries
 returns-then-is_min_value-clause-boundaries g c = λ other. absurd (other (c.is_min_value.ensures.0 c.if-is_min_value.true))

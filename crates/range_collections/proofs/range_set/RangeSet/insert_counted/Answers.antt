@@ -3,6 +3,7 @@ use Rattle.std.proofs.lemmas.Result.{on_ok_weaker}
 use Rattle.range_merge.specs.Connective.{union_table}
 use Rattle.range_collections.specs.Splicing.{range_table}
 use Rattle.range_collections.proofs.Insertion.{Means-alike, not_less-from_no_items, union-alike}
+use Rattle.range_collections.proofs.RangeMembers.{members-put}
 use Rattle.range_collections.proofs.range_set.RangeSet.insert_counted.Goals as goal
 
 pub set_range-requires : goal.set_range-requires
@@ -24,3 +25,8 @@ returns-clause-changed g c =
 
 pub returns-clause-comparisons : goal.returns-clause-comparisons
 returns-clause-comparisons g c = rw (← c.self.view_is) c.set_range.ensures.comparisons
+
+pub returns-clause-members : goal.returns-clause-members
+returns-clause-members g c =
+    rw (← c.self.view_is)
+    (on_ok_weaker c.set_range.result (members-put g.met.T.Ord.total c.args.range.start c.args.range.end c.set_range.new.list.items c.self.inside.list.items) c.set_range.ensures.means)

@@ -8,8 +8,8 @@ new_unchecked-requires g c = (
   search rules,
   (
     search rules,
-    IsAscending-equal g.met.T.Ord.total (g.P.Part.boundaries c.args.part.now) c.in_ok-copies.field-0.items
-        (copies_are_equal g.met.T.Ord.total g.met.T.EntryClone.copy_is_equal (g.P.Part.boundaries c.args.part.now) c.in_ok-copies.field-0.items
+    IsAscending-equal g.met.T.Ord.total (g.P.Indexed.items c.args.part.now) c.in_ok-copies.field-0.items
+        (copies_are_equal g.met.T.Ord.total g.met.T.EntryClone.copy_is_equal (g.P.Indexed.items c.args.part.now) c.in_ok-copies.field-0.items
         c.in_ok-copies.ensures.copies)
         (g.met.P.Part.ascending c.args.part.now),
   ),

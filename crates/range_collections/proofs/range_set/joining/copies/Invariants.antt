@@ -4,6 +4,6 @@ use Rattle.range_collections.proofs.range_set.joining.copies.Given as goal
 
 abbrev pub invariant-loop-i : goal.invariant-loop-i
 invariant-loop-i g l = record {
-  copied : AllZip g.T.EntryClone.is_copy (take l.i (g.P.Part.boundaries l.part)) l.list.items;
-  room : length (g.P.Part.boundaries l.part) ≤ l.list.capacity;
+  copied : AllZip g.T.EntryClone.is_copy (take l.i (g.P.Indexed.items l.part)) l.list.items;
+  room : length (g.P.Indexed.items l.part) ≤ l.list.capacity;
 }

@@ -1,5 +1,5 @@
 use Rattle.std.proofs.Common.{sym, ◌∙◌}
-use Rattle.range_collections.proofs.Insertion.{IsCut-before_found, IsCut-behind_found, same_from_beq, other_from_beq}
+use Rattle.range_collections.proofs.Insertion.{IsCut-before_found, IsCut-after_found, same_from_beq, other_from_beq}
 use Rattle.range_collections.proofs.range_set.splicing.cut_at.Goals as goal
 
 pub returns-in-Ok-clause-cut : goal.returns-in-Ok-clause-cut
@@ -10,6 +10,6 @@ returns-in-Ok-clause-cut g c =
 
 pub returns-in-Ok-2-clause-cut : goal.returns-in-Ok-2-clause-cut
 returns-in-Ok-2-clause-cut g c =
-    IsCut-behind_found g.met.T.Ord.total c.args.inside c.args.items.now c.args.at c.in-Ok.i c.requires.sorted
+    IsCut-after_found g.met.T.Ord.total c.args.inside c.args.items.now c.args.at c.in-Ok.i c.requires.sorted
     c.in-Ok.ensures.found_within c.in-Ok.ensures.found
     (λ same. other_from_beq c.is_odd.result c.args.inside c.if-is_odd-inside.false (c.is_odd.ensures ∙ same))

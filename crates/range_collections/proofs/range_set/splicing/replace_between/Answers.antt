@@ -8,15 +8,15 @@ use Rattle.range_collections.proofs.range_set.splicing.replace_between.Goals as 
 pub returns : goal.returns
 returns g c =
     let items = c.args.list.now.items in
-    let behind = c.overwrite_both-behind.result in
-    let new = c.overwrite_both-behind.new.items in
-    let put : new ≡ spliced items c.args.from behind c.args.start c.args.end = rw c.as_mut_slice.ensures.value at c.overwrite_both-behind.ensures.items in
-    let few = c.overwrite_both-behind.ensures.behind in
+    let after = c.overwrite_both-after.result in
+    let new = c.overwrite_both-after.new.items in
+    let put : new ≡ spliced items c.args.from after c.args.start c.args.end = rw c.as_mut_slice.ensures.value at c.overwrite_both-after.ensures.items in
+    let few = c.overwrite_both-after.ensures.after in
     let same : length new ≡ length items =
-    ap length put ∙ length-spliced_same items c.args.from behind c.args.start c.args.end (omega (arith, c.requires.room, c.requires.within)) few (omega (arith, few, c.requires.room, c.requires.within)) in
+    ap length put ∙ length-spliced_same items c.args.from after c.args.start c.args.end (omega (arith, c.requires.room, c.requires.within)) few (omega (arith, few, c.requires.room, c.requires.within)) in
     let done : c.drop-drain.new.self.0.items ≡ spliced items c.args.from c.args.to c.args.start c.args.end =
     c.drop-drain.ensures.items (search rules)
     ∙ c.drain.ensures.kept
-    ∙ ap (λ ys. remove_range ys behind c.args.to) (refill_all items new same ∙ put)
-    ∙ remove_range-spliced items c.args.from c.args.to behind c.args.start c.args.end (omega (arith, c.requires.room, c.requires.within)) few (omega (arith, few, c.requires.room)) in
+    ∙ ap (λ ys. remove_range ys after c.args.to) (refill_all items new same ∙ put)
+    ∙ remove_range-spliced items c.args.from c.args.to after c.args.start c.args.end (omega (arith, c.requires.room, c.requires.within)) few (omega (arith, few, c.requires.room)) in
     search (rules, done)

@@ -2,30 +2,29 @@ use Rattle.std.proofs.Common.{◌≡◌, ◌⊎◌, ◌≤◌, subst, arith, rul
 use Rattle.std.specs.declared.cmp.Ordering.TheVariants.{Less}
 use Rattle.std.proofs.lemmas.Result.{on_ok_weaker}
 use Rattle.range_merge.proofs.Digits.{digits-le}
-use Rattle.range_merge.proofs.Gallops.{Less-from_test}
 use Rattle.range_collections.specs.Splicing.{IsCut}
-use Rattle.range_collections.proofs.Values.{not_less-from_is_lt}
+use Rattle.range_collections.proofs.Values.{not_less-from_none}
 use Rattle.range_collections.proofs.Insertion.{cuts_ordered, same_parity, IsAscending-spliced, Means-spliced, length-meant, AreOwnElseOf-spliced, Means-no_range, AreOwnElseOf-unchanged, IsAscending-answer}
 use Rattle.range_collections.proofs.range_set.splicing.set_range.Goals as goal
 
-pub returns-then-not-is_lt-clause-means : goal.returns-then-not-is_lt-clause-means
-returns-then-not-is_lt-clause-means g c =
+pub returns-then-not-has_elements-clause-means : goal.returns-then-not-has_elements-clause-means
+returns-then-not-has_elements-clause-means g c =
     Means-no_range g.met.T.Ord.total c.args.inside c.args.list.now.items c.args.range.start c.args.range.end c.requires.sorted
-    (not_less-from_is_lt c.compare.result c.is_lt.result _ c.compare.ensures.answer c.is_lt.ensures c.if-not-is_lt.true)
+    (not_less-from_none c.has_elements.result _ c.has_elements.ensures.answer c.if-not-has_elements.true)
 
-pub returns-then-not-is_lt-clause-left_own_item : goal.returns-then-not-is_lt-clause-left_own_item
-returns-then-not-is_lt-clause-left_own_item g c = AreOwnElseOf-unchanged g.met.T.Ord.total c.args.list.now.items _
+pub returns-then-not-has_elements-clause-left_own_item : goal.returns-then-not-has_elements-clause-left_own_item
+returns-then-not-has_elements-clause-left_own_item g c = AreOwnElseOf-unchanged g.met.T.Ord.total c.args.list.now.items _
 
 pub cut_at-to-requires-clause-made : goal.cut_at-to-requires-clause-made
 cut_at-to-requires-clause-made g c =
-    omega (arith, digits-le (length c.as_slice.result.now), c.cut_at-from.ensures.comparisons.at_most, c.compare.ensures.counted, c.requires.made)
+    omega (arith, digits-le (length c.as_slice.result.now), c.cut_at-from.ensures.comparisons.at_most, c.has_elements.ensures.counted, c.requires.made)
 
 pub splice-requires : goal.splice-requires
 splice-requires g c =
     let order = g.T.Ord.cmp in
     let a = c.args.list.now.items in
     let less : order c.args.range.start c.args.range.end ≡ Less =
-    Less-from_test c.is_lt.result c.compare.result _ c.compare.ensures.answer c.is_lt.ensures c.if-not-is_lt.false in
+    c.has_elements.ensures.answer.0 c.if-not-has_elements.false in
     let p : IsCut order c.args.inside a c.args.range.start c.cut_at-from.result.0 c.cut_at-from.result.1 = rw c.as_slice.ensures at c.cut_at-from.ensures.cut in
     let q : IsCut order c.args.inside a c.args.range.end c.cut_at-to.result.0 c.cut_at-to.result.1 = rw c.as_slice-2.ensures at c.cut_at-to.ensures.cut in (
       search rules,
@@ -40,7 +39,7 @@ returns-clause-sorted g c =
     let order = g.T.Ord.cmp in
     let a = c.args.list.now.items in
     let less : order c.args.range.start c.args.range.end ≡ Less =
-    Less-from_test c.is_lt.result c.compare.result _ c.compare.ensures.answer c.is_lt.ensures c.if-not-is_lt.false in
+    c.has_elements.ensures.answer.0 c.if-not-has_elements.false in
     let p : IsCut order c.args.inside a c.args.range.start c.cut_at-from.result.0 c.cut_at-from.result.1 = rw c.as_slice.ensures at c.cut_at-from.ensures.cut in
     let q : IsCut order c.args.inside a c.args.range.end c.cut_at-to.result.0 c.cut_at-to.result.1 = rw c.as_slice-2.ensures at c.cut_at-to.ensures.cut in
     IsAscending-answer order c.splice.result c.splice.new.list.items _ a c.splice.ensures.items c.splice.ensures.unchanged
@@ -51,7 +50,7 @@ returns-clause-means g c =
     let order = g.T.Ord.cmp in
     let a = c.args.list.now.items in
     let less : order c.args.range.start c.args.range.end ≡ Less =
-    Less-from_test c.is_lt.result c.compare.result _ c.compare.ensures.answer c.is_lt.ensures c.if-not-is_lt.false in
+    c.has_elements.ensures.answer.0 c.if-not-has_elements.false in
     let p : IsCut order c.args.inside a c.args.range.start c.cut_at-from.result.0 c.cut_at-from.result.1 = rw c.as_slice.ensures at c.cut_at-from.ensures.cut in
     let q : IsCut order c.args.inside a c.args.range.end c.cut_at-to.result.0 c.cut_at-to.result.1 = rw c.as_slice-2.ensures at c.cut_at-to.ensures.cut in
     on_ok_weaker c.splice.result
@@ -63,7 +62,7 @@ returns-clause-left_own_item g c =
     let order = g.T.Ord.cmp in
     let a = c.args.list.now.items in
     let less : order c.args.range.start c.args.range.end ≡ Less =
-    Less-from_test c.is_lt.result c.compare.result _ c.compare.ensures.answer c.is_lt.ensures c.if-not-is_lt.false in
+    c.has_elements.ensures.answer.0 c.if-not-has_elements.false in
     let p : IsCut order c.args.inside a c.args.range.start c.cut_at-from.result.0 c.cut_at-from.result.1 = rw c.as_slice.ensures at c.cut_at-from.ensures.cut in
     let q : IsCut order c.args.inside a c.args.range.end c.cut_at-to.result.0 c.cut_at-to.result.1 = rw c.as_slice-2.ensures at c.cut_at-to.ensures.cut in
     on_ok_weaker c.splice.result
@@ -78,7 +77,7 @@ returns-clause-succeeds g c =
     let order = g.T.Ord.cmp in
     let a = c.args.list.now.items in
     let less : order c.args.range.start c.args.range.end ≡ Less =
-    Less-from_test c.is_lt.result c.compare.result _ c.compare.ensures.answer c.is_lt.ensures c.if-not-is_lt.false in
+    c.has_elements.ensures.answer.0 c.if-not-has_elements.false in
     let p : IsCut order c.args.inside a c.args.range.start c.cut_at-from.result.0 c.cut_at-from.result.1 = rw c.as_slice.ensures at c.cut_at-from.ensures.cut in
     let q : IsCut order c.args.inside a c.args.range.end c.cut_at-to.result.0 c.cut_at-to.result.1 = rw c.as_slice-2.ensures at c.cut_at-to.ensures.cut in
     λ items m few.

@@ -1,9 +1,8 @@
 use Rattle.std.proofs.Common.{inr, refl, sym, ◌∙◌, arith, true≢false}
 use Rattle.std.proofs.lemmas.Bool.{false≢true}
 use Rattle.std.proofs.lemmas.Result.{IfOk-from_err, IfOk-weaker}
-use Rattle.range_merge.specs.Changes.{changes, taken_items}
 use Rattle.range_collections.specs.Values.{IsFlipped}
-use Rattle.range_collections.proofs.Combined.{MeansAmong-merged, IfOk-negated, length-merged}
+use Rattle.range_collections.proofs.Combined.{MeansAmong-from_means, IfOk-negated}
 use Rattle.range_collections.proofs.view.RangeSetRef.combine.Goals as goal
 
 pub returns-then-flips-clause-means : goal.returns-then-flips-clause-means
@@ -12,8 +11,8 @@ returns-then-flips-clause-means g c =
     let a = c.args.self.now.boundaries.now in
     let b = c.args.that.boundaries.now in
     let on = sym c.when_off-flips.ensures ∙ c.if-flips.true in
-    IfOk-negated g.met.T.Ord.total g.T.RangeSetEntry.is_value f (taken_items (changes g.T.Ord.cmp f a b)) c.in_ok-merged.merged a b c.not.result on
-    c.in_ok-merged.ensures.equal (c.changes_mean_the_opposite.ensures.means f a b on c.args.self.now.sorted c.args.that.sorted) c.not.ensures.negates
+    IfOk-negated g.T.Ord.cmp g.T.RangeSetEntry.is_value f c.in_ok-merged.merged a b c.not.result on
+    (c.in_ok-merged.ensures.opposite on) c.not.ensures.negates
 
 pub returns-then-flips-clause-flipped : goal.returns-then-flips-clause-flipped
 returns-then-flips-clause-flipped g c = λ _.
@@ -25,7 +24,7 @@ returns-then-flips-clause-succeeds_flipped g c = λ _ room _ _ infallible.
     let f = g.O.MergeOperation.connective c.args.op.now in
     let a = c.args.self.now.boundaries.now in
     let b = c.args.that.boundaries.now in
-    c.not.ensures.succeeds (inr (omega (arith, room, c.changes_are_at_most_the_lengths.ensures.at_most f a b, length-merged g.T.Ord.cmp (changes g.T.Ord.cmp f a b) c.in_ok-merged.merged c.in_ok-merged.ensures.equal), infallible))
+    c.not.ensures.succeeds (inr (omega (arith, room, c.changes_are_at_most_the_lengths.ensures.at_most f a b, c.in_ok-merged.ensures.len), infallible))
 
 pub returns-else-flips-clause-means : goal.returns-else-flips-clause-means
 returns-else-flips-clause-means g c =
@@ -33,8 +32,7 @@ returns-else-flips-clause-means g c =
     let a = c.args.self.now.boundaries.now in
     let b = c.args.that.boundaries.now in
     let off = sym c.when_off-flips.ensures ∙ c.if-flips.false in
-    MeansAmong-merged g.met.T.Ord.total g.T.RangeSetEntry.is_value f (taken_items (changes g.T.Ord.cmp f a b)) c.in_ok-merged.merged a b
-    c.in_ok-merged.ensures.equal (c.changes_mean_the_connective.ensures.means f a b off c.args.self.now.sorted c.args.that.sorted)
+    MeansAmong-from_means g.T.Ord.cmp g.T.RangeSetEntry.is_value f c.in_ok-merged.merged a b (c.in_ok-merged.ensures.gives off).means
 
 pub returns-then-flips-clause-left_own_item : goal.returns-then-flips-clause-left_own_item
 returns-then-flips-clause-left_own_item g c = λ off. absurd (true≢false (sym (sym c.when_off-flips.ensures ∙ c.if-flips.true) ∙ off))

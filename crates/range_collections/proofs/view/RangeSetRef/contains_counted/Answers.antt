@@ -1,15 +1,10 @@
-use Rattle.std.proofs.Common.{sym}
-use Rattle.range_collections.proofs.CountUpTo.{count_up_to-found, count_up_to-missing, member-found, member-missing}
+use Rattle.std.proofs.Common.{sym, ◌∙◌}
+use Rattle.range_collections.proofs.CountUpTo.{count_up_to-split, member-at}
 use Rattle.range_collections.proofs.view.RangeSetRef.contains_counted.Goals as goal
 
-pub returns-in-Ok-clause-member : goal.returns-in-Ok-clause-member
-returns-in-Ok-clause-member g c =
-    sym (member-found g.T.Ord.cmp c.args.value.now c.args.self.now.boundaries.now c.in-Ok.i
-    (count_up_to-found g.T.Ord.cmp g.met.T.Ord.total c.args.value.now c.args.self.now.boundaries.now c.in-Ok.i
-    c.args.self.now.sorted c.in-Ok.ensures.found_within c.in-Ok.ensures.found))
-
-pub returns-in-Err-clause-member : goal.returns-in-Err-clause-member
-returns-in-Err-clause-member g c =
-    sym (member-missing g.T.Ord.cmp c.args.value.now c.args.self.now.boundaries.now c.in-Err.i
-    (count_up_to-missing g.T.Ord.cmp c.args.value.now c.args.self.now.boundaries.now c.in-Err.i
-    c.in-Err.ensures.missing_within c.in-Err.ensures.missing_before c.in-Err.ensures.missing_from))
+pub returns-clause-member : goal.returns-clause-member
+returns-clause-member g c =
+    c.is_odd.ensures
+    ∙ sym (member-at g.T.Ord.cmp c.args.value.now c.args.self.now.boundaries.now c.count_up_to.result
+    (count_up_to-split g.T.Ord.cmp c.args.value.now c.args.self.now.boundaries.now c.count_up_to.result
+    c.count_up_to.ensures.within c.count_up_to.ensures.before c.count_up_to.ensures.from))

@@ -1,24 +1,22 @@
-use Rattle.std.proofs.Common.{◌≡◌, true, refl, arith, ◌↔◌, ◌%◌}
-use Rattle.std.specs.Ordering.{is_lt}
+use Rattle.std.proofs.Common.{◌≡◌, refl, arith, ◌↔◌, ◌%◌}
 use Rattle.range_collections.specs.Intersects.{IsItemBelow, HasMemberWithin}
-use Rattle.range_collections.proofs.Ascending.{Less-from_is_lt}
+use Rattle.range_collections.proofs.Points.{even-from_test, odd-from_test}
 use Rattle.range_collections.proofs.Within.{HasMemberWithin-start, HasMemberWithin-next}
 use Rattle.range_collections.proofs.view.RangeSetRef.intersects_range.Goals as goal
 
-pub returns-then-count-eq1 : goal.returns-then-count-eq1
-returns-then-count-eq1 g c =
-    let t : is_lt (g.T.Ord.cmp c.args.range.start c.args.range.end) ≡ true =
-    rw (← c.cmp.ensures, ← c.is_lt.ensures) c.if-not-is_lt.false in (
+pub returns-then-is_odd : goal.returns-then-is_odd
+returns-then-is_odd g c =
+    let odd : c.count_up_to-count.result % 2 ≡ 1 = omega (arith, odd-from_test c.is_odd.result c.count_up_to-count.result c.is_odd.ensures c.if-is_odd.true) in (
       λ _.
           HasMemberWithin-start g.met.T.Ord.total c.args.self.now.boundaries.now c.args.range.start c.args.range.end c.count_up_to-count.result
           c.args.self.now.sorted c.count_up_to-count.ensures.within c.count_up_to-count.ensures.before c.count_up_to-count.ensures.from
-          (Less-from_is_lt (g.T.Ord.cmp c.args.range.start c.args.range.end) t) c.if-count-eq1.true,
+          (c.has_elements.ensures.answer.0 c.if-not-has_elements.false) odd,
       λ _. refl,
     )
 
 pub returns : goal.returns
 returns g c =
-    let even : c.count_up_to-count.result % 2 ≡ 0 = omega (arith, c.if-count-eq1.false) in
+    let even : c.count_up_to-count.result % 2 ≡ 0 = even-from_test c.is_odd.result c.count_up_to-count.result c.is_odd.ensures c.if-is_odd.false in
     let next : IsItemBelow g.T.Ord.cmp c.args.self.now.boundaries.now c.count_up_to-count.result c.args.range.end
     ↔ HasMemberWithin g.T.Ord.cmp c.args.self.now.boundaries.now c.args.range.start c.args.range.end =
     HasMemberWithin-next g.met.T.Ord.total c.args.self.now.boundaries.now c.args.range.start c.args.range.end c.count_up_to-count.result

@@ -1,4 +1,0 @@
-use Rattle.range_collections.proofs.range_set.RangeSet.bitand_assign.Goals as goal
-
-pub returns : goal.returns
-returns g c = record { changed = c.merge_owned.ensures.changed }

@@ -1,9 +1,0 @@
-use Rattle.std.proofs.Common.{◌≤◌, length, take}
-use Rattle.std.specs.List.{AllZip}
-use Rattle.range_collections.proofs.range_set.copies.clones_inline.Given as goal
-
-abbrev pub invariant-loop-item : goal.invariant-loop-item
-invariant-loop-item g l = record {
-  copies : AllZip g.T.EntryClone.is_copy (take l.item-index l.items) l.list.items;
-  room : length l.items ≤ l.list.capacity;
-}

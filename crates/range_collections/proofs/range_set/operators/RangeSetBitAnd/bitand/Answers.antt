@@ -1,4 +1,0 @@
-use Rattle.range_collections.proofs.range_set.operators.RangeSetBitAnd.bitand.Goals as goal
-
-pub returns : goal.returns
-returns g c = c.bitand.ensures

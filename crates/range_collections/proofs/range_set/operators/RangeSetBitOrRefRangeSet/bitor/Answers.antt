@@ -1,4 +1,0 @@
-use Rattle.range_collections.proofs.range_set.operators.RangeSetBitOrRefRangeSet.bitor.Goals as goal
-
-pub returns : goal.returns
-returns g c = c.bitor.ensures

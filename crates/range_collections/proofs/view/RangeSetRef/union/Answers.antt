@@ -1,4 +1,0 @@
-use Rattle.range_collections.proofs.view.RangeSetRef.union.Goals as goal
-
-pub returns : goal.returns
-returns g c = record { gives = c.merge_new.ensures.gives }
