@@ -9,8 +9,8 @@ use Rattle.serde_json.specs.Read.{read}
 use Rattle.serde_json.specs.declared.error.Error.{Error}
 use Rattle.serde_json.specs.Find.{as_array}
 use Rattle.range_collections.specs.Json.{items_in, whole_number, is_bad, first_bad}
-use Rattle.range_collections.specs.declared.range_set.json.JsonError.{JsonError}
-use Rattle.range_collections.specs.declared.range_set.json.JsonError.TheVariants.{NotArray, NotInteger, OutOfMemory}
+use Rattle.range_collections.specs.declared.json.JsonError.{JsonError}
+use Rattle.range_collections.specs.declared.json.JsonError.TheVariants.{NotArray, NotInteger, OutOfMemory}
 use Rattle.range_answer.specs.Words.{of_json}
 use Rattle.range_answer.specs.Replies.{IsReadable}
 use Rattle.range_answer.specs.Outcome.{IsReplyTo}

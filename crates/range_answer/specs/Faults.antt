@@ -4,17 +4,17 @@
 use Rattle.std.specs.Prelude.{◌≡◌}
 use Rattle.serde_json.specs.Errors.{IsMemory}
 use Rattle.serde_json.specs.declared.error.Error.{Error}
-use Rattle.range_collections.specs.declared.range_set.json.JsonError.{JsonError}
-use Rattle.range_collections.specs.declared.range_set.json.JsonError.TheVariants.{NotArray, NotInteger, OutOfMemory}
+use Rattle.range_collections.specs.declared.json.JsonError.{JsonError}
+use Rattle.range_collections.specs.declared.json.JsonError.TheVariants.{NotArray, NotInteger, OutOfMemory}
 use Rattle.range_answer.specs.declared.fault.Fault.{Fault}
 use Rattle.range_answer.specs.declared.fault.Fault.TheVariants.{NoMemory, BadJson}
 
--- want of memory stays that; every other error is the text's
+-- out of memory stays that; every other error is the text's
 abbrev pub IsFaultOfText : Error → Fault → Type 0
 IsFaultOfText error fault =
     (IsMemory error → fault ≡ NoMemory) × (¬ (IsMemory error) → fault ≡ BadJson)
 
--- want of memory stays that; every other error is the value's
+-- out of memory stays that; every other error is the value's
 abbrev pub fault_of_value : JsonError → Fault
 fault_of_value NotArray = BadJson
 fault_of_value (NotInteger index) = BadJson

@@ -13,7 +13,7 @@ use std::io::{self, Write};
 
 /// Answers the words with exactly one line and a status.
 ///
-/// All words are read before memory is asked for, and the line is made whole before its first byte is written. Where `out` fails or takes no byte, the answer is that error, and nothing is said of how much was written.
+/// All words are read before memory is asked for, and the line is made whole before its first byte is written. If `out` fails or takes no byte, it returns that error, and nothing is said of how much was written.
 pub fn answer<W: Write>(alloc: Global, words: &[String], out: &mut W) -> io::Result<Status>
     // The status and the line are an outcome of what the words ask, and the line with its newline is all that is written.
     ensures answers { IfOk result (λ status. (line : List ℕ) ×

@@ -6,7 +6,7 @@ use std::alloc::AllocError;
 /// Why a request has no line of its own.
 #[derive(Clone, Copy, Drop)]
 pub enum Fault {
-    /// A growth of memory was refused.
+    /// Memory ran out.
     NoMemory,
     /// A list isn't strictly sorted.
     NotSorted,

@@ -12,7 +12,10 @@ use std::fmt::Write;
 pub fn set_line(alloc: Global, set: RangeSet2<i64>) -> Result<String, AllocError>
     ensures { IfOk result (λ line. string_bytes line ≡ list_text set ++ 10 ∷ []) }
 {
-    list_line(alloc, set.boundaries())
+    let mut line = String::new(alloc);
+    push_list(&mut line, set.boundaries())?;
+    line.push('\n')?;
+    Ok(line)
 }
 
 /// Two lists with a space between them.
@@ -49,16 +52,6 @@ pub fn array_line(alloc: Global, set: &RangeSet2<i64>) -> Result<String, AllocEr
     ensures { IfOk result (λ line. string_bytes line ≡ array_text set.now ++ 10 ∷ []) }
 {
     let mut line = set.to_json()?.to_string(alloc)?;
-    line.push('\n')?;
-    Ok(line)
-}
-
-/// A list.
-fn list_line(alloc: Global, items: &[i64]) -> Result<String, AllocError>
-    ensures { IfOk result (λ line. string_bytes line ≡ list_text items.now ++ 10 ∷ []) }
-{
-    let mut line = String::new(alloc);
-    push_list(&mut line, items)?;
     line.push('\n')?;
     Ok(line)
 }

@@ -12,7 +12,7 @@ const OUTPUT_FAILED: u8 = 5;
 pub enum Status {
     /// The words were answered.
     Answered,
-    /// A growth of memory was refused.
+    /// Memory ran out.
     NoMemory,
     /// The words are no command with what it takes.
     BadWords,

@@ -23,7 +23,7 @@ pub data Answer : Type 0 where
   truth : Bool → Answer
   -- the boundaries of what is missing
   list : List ℕ → Answer
-  -- memory was wanting for them
+  -- memory ran out for them
   no_memory : Answer
   -- the boundaries of what is there
   ranges : List ℕ → Answer
@@ -88,7 +88,7 @@ answer_text bad_line = codes "bad line"
 abbrev pub answers_text : List Answer → List ℕ
 answers_text answers = flat_map (λ answer. answer_text answer ++ 10 ∷ []) answers
 
--- a request was answered: with one that it may have, which stands with its newline behind what was written before
+-- a request was answered: with one that it may have, which stands with its newline after what was written before
 pub record IsAnswered (limit : ℕ) (old new : Offsets) (request : Option Request)
     (before after : Option (List ℕ)) : Type 0 where
   pub answer : Answer

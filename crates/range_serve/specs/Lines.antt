@@ -5,12 +5,12 @@ use Rattle.std.specs.Prelude.{◌≡◌, ◌≢◌, ℕ, ◌==◌, if◌then◌e
 use Rattle.range_serve.specs.declared.line.Ending.{Ending}
 use Rattle.range_serve.specs.declared.line.Ending.TheVariants.{Newline, Input}
 
--- the byte in front of the first line
+-- the byte before the first line
 abbrev pub onto_first_line : ℕ → List (List ℕ) → List (List ℕ)
 onto_first_line b [] = (b ∷ []) ∷ []
 onto_first_line b (line ∷ lines) = (b ∷ line) ∷ lines
 
--- what stands before each newline, and what stands behind the last one if that isn't empty
+-- what stands before each newline, and what stands after the last one if that isn't empty
 unfoldable pub lines_of : List ℕ → List (List ℕ)
 lines_of [] = []
 lines_of (b ∷ bs) = if b == 10 then [] ∷ lines_of bs else onto_first_line b (lines_of bs)

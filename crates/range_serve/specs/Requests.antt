@@ -28,7 +28,7 @@ number_of word =
 abbrev pub words_of : List ℕ → List (List ℕ)
 words_of line = slice_split (λ b. b == 32) line
 
--- the words behind a blank, if there is one
+-- the words after a blank, if there is one
 abbrev pub words_behind : Option (Bor (List ℕ)) → List (List ℕ)
 words_behind None = []
 words_behind (Some rest) = words_of rest.now

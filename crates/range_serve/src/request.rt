@@ -48,7 +48,7 @@ fn of_text(text: &str) -> Option<Request>
     }
 }
 
-/// The first word of the text, and what stands behind its blank, if there is one.
+/// The first word of the text, and what comes after its blank, if there is one.
 fn cut(text: &str) -> (&str, Option<&str>)
     ensures { words_of text.now ≡ result.0.now ∷ words_behind result.1 }
 {
@@ -68,7 +68,7 @@ fn of_word(word: &str) -> Option<Request>
     }
 }
 
-/// What a word asks with those behind it, if it asks something.
+/// What a word asks with those after it, if it asks something.
 fn of_words(word: &str, rest: &str) -> Option<Request>
     ensures { result ≡ asked_by (word.now ∷ words_of rest.now) }
 {
@@ -78,7 +78,7 @@ fn of_words(word: &str, rest: &str) -> Option<Request>
     }
 }
 
-/// What two words ask with those behind them, if they ask something.
+/// What two words ask with those after them, if they ask something.
 fn of_two_words(word: &str, start: &str, rest: &str) -> Option<Request>
     ensures { result ≡ asked_by (word.now ∷ start.now ∷ words_of rest.now) }
 {

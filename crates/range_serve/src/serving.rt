@@ -40,7 +40,7 @@ pub fn serve<R: Read + Drop, W: Write>(
     Err(io::Error::from(ErrorKind::Other))
 }
 
-/// Answers what stands behind the last newline, if that isn't empty.
+/// Answers what comes after the last newline, if that isn't empty.
 fn answer_last<W: Write>(tracker: &mut Tracker, line: &[u8], out: &mut W) -> io::Result<()>
     requires { IsLine line.now }
     ensures { OnOk result ((answers : List Answer) × AreAnswers tracker.old.limit

@@ -25,7 +25,7 @@ pub record MayAnswer (limit : ℕ) (had : Offsets) (command : Command) (reply : 
   -- too many, with their number, exactly where the list of boundaries after the command is longer than the limit
   pub too_many : (n : ℕ) →
       (reply ≡ Err (TooMany n)) ↔ (HasBoundaries (after_command command had) n × (limit < n))
-  -- memory isn't wanting where that list is no longer than the one before
+  -- memory doesn't run out where that list is no longer than the one before
   pub no_growth : (m n : ℕ) → HasBoundaries had m → HasBoundaries (after_command command had) n →
       n ≤ m → reply ≢ Err OutOfMemory
   -- nor where nothing was there

@@ -11,7 +11,7 @@ pub enum TrackError {
         /// How many it would leave.
         boundaries: usize,
     },
-    /// A growth of memory was refused.
+    /// Memory ran out.
     OutOfMemory,
 }
 

@@ -1,6 +1,6 @@
 //! A tracker of offsets: the strictly sorted list of their boundaries, which never has more of them than a limit.
 //!
-//! A command is first measured, without memory, and refused where it would leave too many boundaries. Then it changes the list where it lies.
+//! A command is first measured, without memory, and refused if it would leave too many boundaries. Then it changes the list in place.
 ghost use Rattle.std.specs.Prelude.{◌≡◌, ◌≢◌, ◌↔◌, ◌-◌, ◌^◌, ◌<◌, ◌≤◌, ◌&&◌, ℕ, true, false, not, nat_lt, [], ◌∷◌, length, IsTrue, IsSome, IsOk, IfOk, OnOk, OnErr, Err};
 ghost use Rattle.std.specs.Ordering.{nat_cmp};
 ghost use Rattle.range_merge.specs.Boundaries.{IsAscending, is_odd};
@@ -57,7 +57,7 @@ impl Tracker {
 
     /// The offsets of the range are there from now on. An empty or reversed range changes nothing.
     ///
-    /// The answer is `TooMany` exactly where the list would have more boundaries than the limit; this is known before memory is asked for. Where the list doesn't grow, and where nothing was there, it isn't `OutOfMemory`. An error leaves the tracker as it was.
+    /// It returns `TooMany` exactly if the list would have more boundaries than the limit, which is known before memory is asked for. If the list doesn't grow, or if nothing was there, it isn't `OutOfMemory`. An error leaves the tracker as it was.
     pub fn record(&mut self, range: Range<u64>) -> Result<(), TrackError>
         ensures answer { MayAnswer self.old.limit (recorded self.old) (Command.Add range) result }
         ensures ok { OnOk result ((n : ℕ) →
@@ -72,7 +72,7 @@ impl Tracker {
 
     /// The offsets of the range aren't there from now on. An empty or reversed range changes nothing.
     ///
-    /// The answer is `TooMany` exactly where the list would have more boundaries than the limit; this is known before memory is asked for. Where the list doesn't grow, and where nothing was there, it isn't `OutOfMemory`. An error leaves the tracker as it was.
+    /// It returns `TooMany` exactly if the list would have more boundaries than the limit, which is known before memory is asked for. If the list doesn't grow, or if nothing was there, it isn't `OutOfMemory`. An error leaves the tracker as it was.
     pub fn forget(&mut self, range: Range<u64>) -> Result<(), TrackError>
         ensures answer { MayAnswer self.old.limit (recorded self.old)
             (Command.Forget range) result }
@@ -86,7 +86,7 @@ impl Tracker {
         Ok(())
     }
 
-    /// Takes each command in turn, goes on after a refusal, and puts each answer at its command's place.
+    /// Does each command in turn, goes on after an error, and puts each reply at its command's index.
     pub fn run(&mut self, commands: &[Command], replies: &mut [Result<(), TrackError>])
         requires { length commands.now ≡ length replies.old }
         ensures replies { AreReplies self.old.limit (recorded self.old) commands.now replies.new }
@@ -104,11 +104,10 @@ impl Tracker {
         ensures { IsTrue result ↔ ((n : ℕ) →
             is_within range n ≡ true → recorded self.now n ≡ true) }
     {
-        let ends = [range.start, range.end];
-        offsets_between(&ends).is_subset(self.set.as_ref())
+        self.set.contains_range(range)
     }
 
-    /// The offsets below `len` that aren't there. The one error is want of memory, and it doesn't come where nothing is there.
+    /// The offsets below `len` that aren't there. It fails only if memory runs out, and never if nothing is there.
     pub fn missing(&self, len: u64) -> Result<RangeSet2<u64>, AllocError>
         ensures missing { IfOk result (λ set.
             IsListOf set (λ n. nat_lt n len && not (recorded self.now n))) }
