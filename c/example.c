@@ -1,37 +1,28 @@
-/* The hours at which two people are free, of the hours 9 to 17. */
+/* The ranges of a download as they come: how much is there, and what to ask for next. */
 #include "range_set.h"
 
 #include <inttypes.h>
 #include <stdio.h>
 
-#define LEN(list) (sizeof (list) / sizeof *(list))
-
-static void print(const char *who, const int64_t *set, size_t len)
-{
-    printf("%s:", who);
-    for (size_t i = 0; i < len; i += 2) {
-        if (i + 1 < len) printf(" %" PRId64 "..%" PRId64, set[i], set[i + 1]);
-        else printf(" %" PRId64 "..", set[i]);
-    }
-    printf("\n");
-}
+enum { SIZE = 1000, ROOM = 64 };
 
 int main(void)
 {
-    const int64_t day[] = {9, 17};
-    const int64_t anna[] = {9, 10, 12, 14};
-    const int64_t ben[] = {10, 11, 13, 15};
-    int64_t busy[LEN(anna) + LEN(ben)], both_free[LEN(busy) + LEN(day)];
-    size_t busy_len, free_len;
+    static const uint64_t came[][2] = {{0, 100}, {300, 450}, {100, 200}, {440, 500}, {900, 1000}, {200, 900}};
+    uint64_t items[ROOM], gap_items[ROOM + 2], there;
+    range_set_u64_buffer got = range_set_u64_buffer_of(items, ROOM);
+    range_set_u64 gaps;
+    range_set_u64_range next;
+    range_set_status status = RANGE_SET_DONE;
 
-    if (range_set_i64_union(anna, LEN(anna), ben, LEN(ben), busy, LEN(busy), &busy_len) != RANGE_SET_DONE) return 1;
-    print("busy", busy, busy_len);
-    if (range_set_i64_difference(day, LEN(day), busy, busy_len, both_free, LEN(both_free), &free_len) != RANGE_SET_DONE)
-        return 1;
-    print("free", both_free, free_len);
-
-    /* Too little room: the length that is needed is told. */
-    if (range_set_i64_difference(day, LEN(day), busy, busy_len, NULL, 0, &free_len) != RANGE_SET_NO_ROOM) return 1;
-    printf("needs: %zu\n", free_len);
-    return 0;
+    for (size_t i = 0; status == RANGE_SET_DONE && i < sizeof came / sizeof *came; i++) {
+        status = range_set_u64_insert(&got, came[i][0], came[i][1]);
+        if (status == RANGE_SET_DONE) status = range_set_u64_gaps(got.set, 0, SIZE, gap_items, ROOM + 2, &gaps);
+        if (status != RANGE_SET_DONE || !range_set_u64_covered(got.set, &there)) continue;
+        printf("%3" PRIu64 "%%", 100 * there / SIZE);
+        if (range_set_u64_first(gaps, &next)) printf(", next: %" PRIu64 " to %" PRIu64, next.start, next.end);
+        printf("\n");
+    }
+    if (status != RANGE_SET_DONE) fprintf(stderr, "example: %s\n", range_set_status_text(status));
+    return status != RANGE_SET_DONE;
 }

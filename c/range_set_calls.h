@@ -1,226 +1,490 @@
-/* The layer for one type of numbers. Before each include NUMBER is the type, NAME(call) the name of a call of the header,
- * and PROVED(call) the name of the proved call that it stands before. */
+/* The layer for one type of numbers. Before each include NUMBER is the type, and COUNT the unsigned one of its width;
+ * SET, RANGE, BUFFER and OWNED are the header's structs for it, NAME(call) is the name of a call of the header, and PROVED(call) the
+ * name of the proved call that it stands before. */
 
+/* The proved calls: a list is a pointer and a length. Those that write a list answer its length, and have written it where
+ * that is at most the buffer's, and else, where they change a set in place, nothing. But `parse` may be called only with a text of
+ * which `check_text` answered 0, and with room for as many numbers as that told. */
 bool PROVED(is_sorted)(const NUMBER *a, size_t a_len);
 bool PROVED(contains)(const NUMBER *a, size_t a_len, NUMBER value);
-bool PROVED(is_empty)(const NUMBER *a, size_t a_len);
-void PROVED(split)(const NUMBER *a, size_t a_len, NUMBER at, size_t *left_len, size_t *right_start);
 bool PROVED(contains_range)(const NUMBER *a, size_t a_len, NUMBER start, NUMBER end);
+bool PROVED(is_empty)(const NUMBER *a, size_t a_len);
+bool PROVED(is_all)(const NUMBER *a, size_t a_len);
+bool PROVED(is_disjoint)(const NUMBER *a, size_t a_len, const NUMBER *b, size_t b_len);
+bool PROVED(intersects)(const NUMBER *a, size_t a_len, const NUMBER *b, size_t b_len);
+bool PROVED(is_subset)(const NUMBER *a, size_t a_len, const NUMBER *b, size_t b_len);
+bool PROVED(equal)(const NUMBER *a, size_t a_len, const NUMBER *b, size_t b_len);
 bool PROVED(range_at)(const NUMBER *a, size_t a_len, NUMBER value, NUMBER *start, NUMBER *end, bool *has_end);
-range_set_status PROVED(covered)(const NUMBER *a, size_t a_len, uint64_t *count);
-range_set_status PROVED(gaps)(const NUMBER *a, size_t a_len, NUMBER start, NUMBER end, NUMBER *out, size_t out_len, size_t *written);
+bool PROVED(range)(const NUMBER *a, size_t a_len, size_t index, NUMBER *start, NUMBER *end, bool *has_end);
+bool PROVED(first)(const NUMBER *a, size_t a_len, NUMBER *start, NUMBER *end, bool *has_end);
+bool PROVED(last)(const NUMBER *a, size_t a_len, NUMBER *start, NUMBER *end, bool *has_end);
+size_t PROVED(ranges_len)(const NUMBER *a, size_t a_len);
+bool PROVED(covered)(const NUMBER *a, size_t a_len, uint64_t *count);
+void PROVED(split)(const NUMBER *a, size_t a_len, NUMBER at, size_t *left_len, size_t *right_start);
+size_t PROVED(combine)(const NUMBER *a, size_t a_len, const NUMBER *b, size_t b_len, uint32_t keep, NUMBER *out, size_t room);
+size_t PROVED(combine_from)(const NUMBER *a, size_t a_len, const NUMBER *b, size_t b_len, uint32_t keep, NUMBER *out, size_t room);
+size_t PROVED(negation)(const NUMBER *a, size_t a_len, NUMBER *out, size_t room);
+size_t PROVED(gaps)(const NUMBER *a, size_t a_len, NUMBER start, NUMBER end, NUMBER *out, size_t room);
+size_t PROVED(insert)(NUMBER *buffer, size_t room, size_t len, NUMBER start, NUMBER end);
+size_t PROVED(remove)(NUMBER *buffer, size_t room, size_t len, NUMBER start, NUMBER end);
+size_t PROVED(combine_within)(NUMBER *buffer, size_t room, size_t len, const NUMBER *other, size_t other_len, uint32_t keep);
+bool PROVED(first_fit)(const NUMBER *a, size_t a_len, NUMBER start, NUMBER end, COUNT count, NUMBER *first);
+size_t PROVED(print)(const NUMBER *a, size_t a_len, char *text, size_t room);
+uint32_t PROVED(check_text)(const char *text, size_t text_len, size_t *told);
+size_t PROVED(parse)(const char *text, size_t text_len, NUMBER *out, size_t room);
 size_t PROVED(from_unsorted)(NUMBER *items, size_t len);
 size_t PROVED(from_ranges)(NUMBER *ranges, size_t count);
-range_set_status PROVED(union)(const NUMBER *a, size_t a_len, const NUMBER *b, size_t b_len, NUMBER *out, size_t out_len, size_t *written);
-range_set_status PROVED(union_len)(const NUMBER *a, size_t a_len, const NUMBER *b, size_t b_len, size_t *len);
-range_set_status PROVED(intersection)(const NUMBER *a, size_t a_len, const NUMBER *b, size_t b_len, NUMBER *out, size_t out_len, size_t *written);
-range_set_status PROVED(intersection_len)(const NUMBER *a, size_t a_len, const NUMBER *b, size_t b_len, size_t *len);
-range_set_status PROVED(difference)(const NUMBER *a, size_t a_len, const NUMBER *b, size_t b_len, NUMBER *out, size_t out_len, size_t *written);
-range_set_status PROVED(difference_len)(const NUMBER *a, size_t a_len, const NUMBER *b, size_t b_len, size_t *len);
-range_set_status PROVED(symmetric_difference)(const NUMBER *a, size_t a_len, const NUMBER *b, size_t b_len, NUMBER *out, size_t out_len, size_t *written);
-range_set_status PROVED(symmetric_difference_len)(const NUMBER *a, size_t a_len, const NUMBER *b, size_t b_len, size_t *len);
-range_set_status PROVED(negation)(const NUMBER *a, size_t a_len, NUMBER *out, size_t out_len, size_t *written);
-range_set_status PROVED(insert)(const NUMBER *a, size_t a_len, NUMBER start, NUMBER end, NUMBER *out, size_t out_len, size_t *written);
-range_set_status PROVED(remove)(const NUMBER *a, size_t a_len, NUMBER start, NUMBER end, NUMBER *out, size_t out_len, size_t *written);
-range_set_status PROVED(is_disjoint)(const NUMBER *a, size_t a_len, const NUMBER *b, size_t b_len, bool *answer);
-range_set_status PROVED(intersects)(const NUMBER *a, size_t a_len, const NUMBER *b, size_t b_len, bool *answer);
-range_set_status PROVED(is_subset)(const NUMBER *a, size_t a_len, const NUMBER *b, size_t b_len, bool *answer);
-range_set_status PROVED(equal)(const NUMBER *a, size_t a_len, const NUMBER *b, size_t b_len, bool *answer);
 
-/* A null pointer with length 0 is this address, of which nothing is read or written. */
+/* A null pointer is this address, of which nothing is read or written. */
 static NUMBER NAME(nothing);
 
-range_set_status NAME(is_sorted)(const NUMBER *a, size_t a_len, bool *answer)
+/* The list of a set, and a buffer, as a pointer and a length. */
+#define LIST(set) (set).boundaries ? (set).boundaries : &NAME(nothing), (set).boundaries ? (set).len : 0
+#define ROOM(out, room) (out) ? (out) : &NAME(nothing), (room)
+
+/* ---- Sets of lists ---- */
+
+static inline SET NAME(set_of)(const NUMBER *boundaries, size_t len)
 {
-    if (!is_list(a, a_len) || !is_result(answer, sizeof *answer, a, a_len)) return RANGE_SET_BAD_POINTER;
-    *answer = PROVED(is_sorted)(a ? a : &NAME(nothing), a_len);
+    SET set;
+    set.boundaries = boundaries;
+    set.len = len;
+    return set;
+}
+
+/* Whether it is a place for a set beside a list. */
+static inline bool NAME(is_result)(const SET *result, const NUMBER *list, size_t len)
+{
+    return result != NULL && !overlap(result, sizeof *result, list, len * sizeof *list);
+}
+
+range_set_status NAME(view)(const NUMBER *list, size_t len, SET *set)
+{
+    if (!is_array(list, len, sizeof *list) || !NAME(is_result)(set, list, len)) return RANGE_SET_BAD_ARGUMENT;
+    if (!PROVED(is_sorted)(list ? list : &NAME(nothing), len)) return RANGE_SET_NOT_SORTED;
+    *set = NAME(set_of)(list, len);
     return RANGE_SET_DONE;
 }
 
-range_set_status NAME(contains)(const NUMBER *a, size_t a_len, NUMBER value, bool *answer)
+range_set_status NAME(from_unsorted)(NUMBER *items, size_t len, SET *set)
 {
-    if (!is_list(a, a_len) || !is_result(answer, sizeof *answer, a, a_len)) return RANGE_SET_BAD_POINTER;
-    *answer = PROVED(contains)(a ? a : &NAME(nothing), a_len, value);
+    if (!is_array(items, len, sizeof *items) || !NAME(is_result)(set, items, len)) return RANGE_SET_BAD_ARGUMENT;
+    *set = NAME(set_of)(items, PROVED(from_unsorted)(ROOM(items, len)));
     return RANGE_SET_DONE;
 }
 
-range_set_status NAME(contains_range)(const NUMBER *a, size_t a_len, NUMBER start, NUMBER end, bool *answer)
+range_set_status NAME(from_ranges)(NUMBER *ranges, size_t count, SET *set)
 {
-    if (!is_list(a, a_len) || !is_result(answer, sizeof *answer, a, a_len)) return RANGE_SET_BAD_POINTER;
-    *answer = PROVED(contains_range)(a ? a : &NAME(nothing), a_len, start, end);
+    if (!is_array(ranges, count, 2 * sizeof *ranges) || !NAME(is_result)(set, ranges, 2 * count)) return RANGE_SET_BAD_ARGUMENT;
+    *set = NAME(set_of)(ranges, 2 * PROVED(from_ranges)(ROOM(ranges, count)));
     return RANGE_SET_DONE;
 }
 
-range_set_status NAME(range_at)(const NUMBER *a, size_t a_len, NUMBER value, bool *found, NUMBER *start, NUMBER *end, bool *has_end)
+/* ---- Questions ---- */
+
+bool NAME(contains)(SET set, NUMBER value)
 {
-    if (!is_list(a, a_len) || !is_result(found, sizeof *found, a, a_len) || !is_result(start, sizeof *start, a, a_len)
-        || !is_result(end, sizeof *end, a, a_len) || !is_result(has_end, sizeof *has_end, a, a_len)
-        || overlap(found, sizeof *found, has_end, sizeof *has_end) || overlap(found, sizeof *found, start, sizeof *start)
-        || overlap(found, sizeof *found, end, sizeof *end) || overlap(has_end, sizeof *has_end, start, sizeof *start)
-        || overlap(has_end, sizeof *has_end, end, sizeof *end) || overlap(start, sizeof *start, end, sizeof *end))
-        return RANGE_SET_BAD_POINTER;
-    *found = PROVED(range_at)(a ? a : &NAME(nothing), a_len, value, start, end, has_end);
+    return PROVED(contains)(LIST(set), value);
+}
+
+bool NAME(contains_range)(SET set, NUMBER start, NUMBER end)
+{
+    return PROVED(contains_range)(LIST(set), start, end);
+}
+
+bool NAME(is_empty)(SET set)
+{
+    return PROVED(is_empty)(LIST(set));
+}
+
+bool NAME(is_all)(SET set)
+{
+    return PROVED(is_all)(LIST(set));
+}
+
+bool NAME(is_disjoint)(SET a, SET b)
+{
+    return PROVED(is_disjoint)(LIST(a), LIST(b));
+}
+
+bool NAME(intersects)(SET a, SET b)
+{
+    return PROVED(intersects)(LIST(a), LIST(b));
+}
+
+bool NAME(is_subset)(SET a, SET b)
+{
+    return PROVED(is_subset)(LIST(a), LIST(b));
+}
+
+bool NAME(equal)(SET a, SET b)
+{
+    return PROVED(equal)(LIST(a), LIST(b));
+}
+
+size_t NAME(ranges_len)(SET set)
+{
+    return PROVED(ranges_len)(LIST(set));
+}
+
+/* The calls that tell a range or a number are given places of their own, and where there is one the caller's is written. */
+static bool NAME(told)(bool found, RANGE it, RANGE *range)
+{
+    if (!found || range == NULL) return found;
+    range->start = it.start;
+    range->has_end = it.has_end;
+    if (it.has_end) range->end = it.end;
+    return true;
+}
+
+bool NAME(range_at)(SET set, NUMBER value, RANGE *range)
+{
+    RANGE it = {0, 0, false};
+    bool found = PROVED(range_at)(LIST(set), value, &it.start, &it.end, &it.has_end);
+    return NAME(told)(found, it, range);
+}
+
+bool NAME(get)(SET set, size_t index, RANGE *range)
+{
+    RANGE it = {0, 0, false};
+    bool found = PROVED(range)(LIST(set), index, &it.start, &it.end, &it.has_end);
+    return NAME(told)(found, it, range);
+}
+
+bool NAME(first)(SET set, RANGE *range)
+{
+    RANGE it = {0, 0, false};
+    bool found = PROVED(first)(LIST(set), &it.start, &it.end, &it.has_end);
+    return NAME(told)(found, it, range);
+}
+
+bool NAME(last)(SET set, RANGE *range)
+{
+    RANGE it = {0, 0, false};
+    bool found = PROVED(last)(LIST(set), &it.start, &it.end, &it.has_end);
+    return NAME(told)(found, it, range);
+}
+
+bool NAME(covered)(SET set, uint64_t *count)
+{
+    uint64_t n = 0;
+    bool has_end = PROVED(covered)(LIST(set), &n);
+    if (has_end && count != NULL) *count = n;
+    return has_end;
+}
+
+bool NAME(first_fit)(SET set, NUMBER start, NUMBER end, COUNT count, NUMBER *first)
+{
+    NUMBER at = 0;
+    bool fits = PROVED(first_fit)(LIST(set), start, end, count, &at);
+    if (fits && first != NULL) *first = at;
+    return fits;
+}
+
+void NAME(split)(SET set, NUMBER at, SET *below, SET *from)
+{
+    size_t left_len = 0, right_start = 0;
+    PROVED(split)(LIST(set), at, &left_len, &right_start);
+    if (below != NULL) *below = NAME(set_of)(set.boundaries, left_len);
+    if (from != NULL) *from = set.boundaries ? NAME(set_of)(set.boundaries + right_start, set.len - right_start) : set;
+}
+
+/* ---- Operations ---- */
+
+/* Whether the buffer has no byte in common with the set's list or the result, and the result has none with that list. */
+static inline bool NAME(is_apart)(SET set, const NUMBER *out, size_t room, const SET *result)
+{
+    size_t size = set.boundaries ? set.len * sizeof *set.boundaries : 0;
+    return is_array(out, room, sizeof *out) && NAME(is_result)(result, out, room)
+           && !overlap(out, room * sizeof *out, set.boundaries, size) && !overlap(result, sizeof *result, set.boundaries, size);
+}
+
+/* The set that stands in the buffer where that has room for its `len` boundaries, and the length that it needs where not. */
+static inline range_set_status NAME(written)(size_t len, const NUMBER *out, size_t room, SET *result)
+{
+    *result = NAME(set_of)(len <= room ? out : NULL, len);
+    return len <= room ? RANGE_SET_DONE : RANGE_SET_NO_ROOM;
+}
+
+/* A connective that is on where neither side is, is told from the least number on. */
+static inline size_t NAME(combined)(SET a, SET b, unsigned keep, NUMBER *out, size_t room)
+{
+    if (keep & RANGE_SET_NEITHER) return PROVED(combine_from)(LIST(a), LIST(b), keep & 15u, ROOM(out, room));
+    return PROVED(combine)(LIST(a), LIST(b), keep & 7u, ROOM(out, room));
+}
+
+range_set_status NAME(combine)(SET a, SET b, unsigned keep, NUMBER *out, size_t room, SET *result)
+{
+    if (!NAME(is_apart)(a, out, room, result) || !NAME(is_apart)(b, out, room, result)) return RANGE_SET_BAD_ARGUMENT;
+    return NAME(written)(NAME(combined)(a, b, keep, out, room), out, room, result);
+}
+
+size_t NAME(combine_len)(SET a, SET b, unsigned keep)
+{
+    return NAME(combined)(a, b, keep, NULL, 0);
+}
+
+range_set_status NAME(negation)(SET set, NUMBER *out, size_t room, SET *result)
+{
+    if (!NAME(is_apart)(set, out, room, result)) return RANGE_SET_BAD_ARGUMENT;
+    return NAME(written)(PROVED(negation)(LIST(set), ROOM(out, room)), out, room, result);
+}
+
+range_set_status NAME(gaps)(SET set, NUMBER start, NUMBER end, NUMBER *out, size_t room, SET *result)
+{
+    if (!NAME(is_apart)(set, out, room, result)) return RANGE_SET_BAD_ARGUMENT;
+    return NAME(written)(PROVED(gaps)(LIST(set), start, end, ROOM(out, room)), out, room, result);
+}
+
+/* The length, with a set's boundaries more: SIZE_MAX where that is too much for a length. */
+static size_t NAME(longer)(size_t len, SET set)
+{
+    size_t more = set.boundaries ? set.len : 0;
+    return more <= SIZE_MAX - len ? len + more : SIZE_MAX;
+}
+
+/* The ranges with an end are copied and joined. Of those without, the one that starts first stays: what lies below it is kept,
+ * and where that has no member right below it its start. */
+range_set_status NAME(union_all)(const SET *sets, size_t count, NUMBER *out, size_t room, SET *result)
+{
+    size_t needed = 0, len = 0, left_len, right_start, i;
+    bool is_open = false;
+    NUMBER open = 0;
+    if (!is_array(sets, count, sizeof *sets) || !is_array(out, room, sizeof *out) || !NAME(is_result)(result, out, room)
+        || overlap(sets, count * sizeof *sets, out, room * sizeof *out)
+        || overlap(sets, count * sizeof *sets, result, sizeof *result))
+        return RANGE_SET_BAD_ARGUMENT;
+    for (i = 0; i < count; i++) {
+        if (!NAME(is_apart)(sets[i], out, room, result)) return RANGE_SET_BAD_ARGUMENT;
+        needed = NAME(longer)(needed, sets[i]);
+    }
+    if (needed > room) return NAME(written)(needed, out, room, result);
+    for (i = 0; i < count; i++) {
+        const NUMBER *list = sets[i].boundaries;
+        size_t closed = list ? sets[i].len / 2 * 2 : 0;
+        if (closed > 0) memcpy(out + len, list, closed * sizeof *list);
+        len += closed;
+        if (list == NULL || closed == sets[i].len) continue;
+        open = is_open && open < list[closed] ? open : list[closed];
+        is_open = true;
+    }
+    len = 2 * PROVED(from_ranges)(ROOM(out, len / 2));
+    if (is_open) {
+        PROVED(split)(out, len, open, &left_len, &right_start);
+        len = left_len;
+        if (left_len % 2 == 0) out[len++] = open;
+    }
+    return NAME(written)(len, out, room, result);
+}
+
+/* ---- Texts ---- */
+
+/* Whether a text has no byte in common with the set's list or the result, nor the result with that list. No text is so long that its
+ * length doesn't fit: each boundary takes fewer than 32 bytes. */
+static inline bool NAME(is_apart_from_text)(SET set, const char *text, size_t room, const size_t *len)
+{
+    size_t size = set.boundaries ? set.len * sizeof *set.boundaries : 0;
+    return (set.boundaries == NULL || set.len <= SIZE_MAX / 32) && is_array(text, room, 1) && len != NULL
+           && !overlap(len, sizeof *len, text, room) && !overlap(text, room, set.boundaries, size)
+           && !overlap(len, sizeof *len, set.boundaries, size);
+}
+
+range_set_status NAME(print)(SET set, char *text, size_t room, size_t *len)
+{
+    static char no_text;
+    if (!NAME(is_apart_from_text)(set, text, room, len)) return RANGE_SET_BAD_ARGUMENT;
+    *len = PROVED(print)(LIST(set), text ? text : &no_text, room);
+    return *len <= room ? RANGE_SET_DONE : RANGE_SET_NO_ROOM;
+}
+
+/* Whether the text, the buffer, and the places for the result and for the fault have no byte in common. */
+static inline bool NAME(are_apart)(const char *text, size_t text_len, const NUMBER *out, size_t room, const SET *result, const size_t *fault)
+{
+    size_t size = room * sizeof *out, fault_size = fault != NULL ? sizeof *fault : 0;
+    return is_array(text, text_len, 1) && is_array(out, room, sizeof *out) && NAME(is_result)(result, out, room)
+           && !overlap(text, text_len, out, size) && !overlap(text, text_len, result, sizeof *result)
+           && !overlap(fault, fault_size, text, text_len) && !overlap(fault, fault_size, out, size)
+           && !overlap(fault, fault_size, result, sizeof *result);
+}
+
+range_set_status NAME(parse)(const char *text, size_t text_len, NUMBER *out, size_t room, SET *result, size_t *fault)
+{
+    static const char no_text;
+    size_t told = 0;
+    if (!NAME(are_apart)(text, text_len, out, room, result, fault)) return RANGE_SET_BAD_ARGUMENT;
+    if (text == NULL) text = &no_text;
+    switch (PROVED(check_text)(text, text_len, &told)) {
+    case 0: return NAME(written)(told <= room ? PROVED(parse)(text, text_len, ROOM(out, room)) : told, out, room, result);
+    case 2: return RANGE_SET_OUT_OF_RANGE;
+    default:
+        if (fault != NULL) *fault = told;
+        return RANGE_SET_MALFORMED;
+    }
+}
+
+/* ---- Sets in a buffer ---- */
+
+range_set_status NAME(buffer_view)(NUMBER *items, size_t len, size_t room, BUFFER *buffer)
+{
+    if (len > room || !is_array(items, room, sizeof *items) || buffer == NULL
+        || overlap(buffer, sizeof *buffer, items, room * sizeof *items))
+        return RANGE_SET_BAD_ARGUMENT;
+    if (!PROVED(is_sorted)(ROOM(items, len))) return RANGE_SET_NOT_SORTED;
+    *buffer = NAME(buffer_of)(items, room);
+    buffer->set.len = len;
     return RANGE_SET_DONE;
 }
 
-range_set_status NAME(covered)(const NUMBER *a, size_t a_len, uint64_t *count)
+/* Whether it is a buffer with a set at its front. */
+static bool NAME(is_buffer)(const BUFFER *buffer)
 {
-    if (!is_list(a, a_len) || !is_result(count, sizeof *count, a, a_len)) return RANGE_SET_BAD_POINTER;
-    return PROVED(covered)(a ? a : &NAME(nothing), a_len, count);
+    return buffer != NULL && is_array(buffer->items, buffer->room, sizeof *buffer->items) && buffer->set.boundaries == buffer->items
+           && buffer->set.len <= buffer->room && !overlap(buffer, sizeof *buffer, buffer->items, buffer->room * sizeof *buffer->items);
 }
 
-range_set_status NAME(from_unsorted)(NUMBER *items, size_t len, size_t *written)
+/* The set has `len` boundaries now, where the buffer has room for them; where not, nothing has changed. */
+static range_set_status NAME(changed)(BUFFER *buffer, size_t len)
 {
-    if (!is_list(items, len) || !is_result(written, sizeof *written, items, len)) return RANGE_SET_BAD_POINTER;
-    *written = PROVED(from_unsorted)(items ? items : &NAME(nothing), len);
+    if (len > buffer->room) {
+        buffer->needed = len;
+        return RANGE_SET_NO_ROOM;
+    }
+    buffer->set.len = len;
     return RANGE_SET_DONE;
 }
 
-range_set_status NAME(from_ranges)(NUMBER *ranges, size_t count, size_t *written)
+range_set_status NAME(insert)(BUFFER *buffer, NUMBER start, NUMBER end)
 {
-    if (count > PTRDIFF_MAX / 16 || !is_list(ranges, 2 * count) || !is_result(written, sizeof *written, ranges, 2 * count))
-        return RANGE_SET_BAD_POINTER;
-    *written = 2 * PROVED(from_ranges)(ranges ? ranges : &NAME(nothing), count);
+    if (!NAME(is_buffer)(buffer)) return RANGE_SET_BAD_ARGUMENT;
+    return NAME(changed)(buffer, PROVED(insert)(ROOM(buffer->items, buffer->room), buffer->set.len, start, end));
+}
+
+range_set_status NAME(remove)(BUFFER *buffer, NUMBER start, NUMBER end)
+{
+    if (!NAME(is_buffer)(buffer)) return RANGE_SET_BAD_ARGUMENT;
+    return NAME(changed)(buffer, PROVED(remove)(ROOM(buffer->items, buffer->room), buffer->set.len, start, end));
+}
+
+range_set_status NAME(combine_with)(BUFFER *buffer, SET other, unsigned keep)
+{
+    size_t size = other.boundaries ? other.len * sizeof *other.boundaries : 0;
+    if (!NAME(is_buffer)(buffer) || (keep & RANGE_SET_NEITHER) != 0 || overlap(buffer, sizeof *buffer, other.boundaries, size)
+        || overlap(buffer->items, buffer->room * sizeof *buffer->items, other.boundaries, size))
+        return RANGE_SET_BAD_ARGUMENT;
+    return NAME(changed)(buffer, PROVED(combine_within)(ROOM(buffer->items, buffer->room), buffer->set.len, LIST(other), keep & 7u));
+}
+
+/* ---- Owned sets ---- */
+
+void NAME(owned_init)(OWNED *owned, const range_set_allocator *allocator)
+{
+    static const range_set_allocator by_malloc = {allocate, resize, release, NULL};
+    owned->in = NAME(buffer_of)(NULL, 0);
+    owned->allocator = allocator != NULL ? *allocator : by_malloc;
+}
+
+static void NAME(release)(const OWNED *owned, NUMBER *items, size_t room)
+{
+    if (items != NULL) owned->allocator.release(owned->allocator.context, items, room * sizeof *items);
+}
+
+void NAME(owned_free)(OWNED *owned)
+{
+    NAME(release)(owned, owned->in.items, owned->in.room);
+    owned->in = NAME(buffer_of)(NULL, 0);
+}
+
+/* Puts the buffer of the owned set in the place of its own, with a set of so many boundaries at its front. */
+static void NAME(replace)(OWNED *owned, NUMBER *items, size_t room, size_t len)
+{
+    owned->in = NAME(buffer_of)(items, room);
+    owned->in.set.len = len;
+}
+
+range_set_status NAME(owned_reserve)(OWNED *owned, size_t room)
+{
+    const range_set_allocator *by = &owned->allocator;
+    NUMBER *items = owned->in.items;
+    if (room <= owned->in.room) return RANGE_SET_DONE;
+    if (room > PTRDIFF_MAX / sizeof *items) return RANGE_SET_NO_MEMORY;
+    items = items == NULL ? by->allocate(by->context, room * sizeof *items)
+                          : by->resize(by->context, items, owned->in.room * sizeof *items, room * sizeof *items);
+    if (items == NULL) return RANGE_SET_NO_MEMORY;
+    NAME(replace)(owned, items, room, owned->in.set.len);
     return RANGE_SET_DONE;
 }
 
-range_set_status NAME(is_empty)(const NUMBER *a, size_t a_len, bool *answer)
+/* Sees that there is room for two more boundaries. A set that grows doubles its room. */
+static range_set_status NAME(grow)(OWNED *owned)
 {
-    if (!is_list(a, a_len) || !is_result(answer, sizeof *answer, a, a_len)) return RANGE_SET_BAD_POINTER;
-    *answer = PROVED(is_empty)(a ? a : &NAME(nothing), a_len);
+    size_t len = owned->in.set.len, room = owned->in.room;
+    if (len + 2 <= room) return RANGE_SET_DONE;
+    return NAME(owned_reserve)(owned, room < 4 ? 8 : room > SIZE_MAX / 2 ? SIZE_MAX : 2 * room);
+}
+
+range_set_status NAME(owned_insert)(OWNED *owned, NUMBER start, NUMBER end)
+{
+    range_set_status status = NAME(insert)(&owned->in, start, end);
+    if (status != RANGE_SET_NO_ROOM) return status;
+    status = NAME(grow)(owned);
+    return status == RANGE_SET_DONE ? NAME(insert)(&owned->in, start, end) : status;
+}
+
+range_set_status NAME(owned_remove)(OWNED *owned, NUMBER start, NUMBER end)
+{
+    range_set_status status = NAME(remove)(&owned->in, start, end);
+    if (status != RANGE_SET_NO_ROOM) return status;
+    status = NAME(grow)(owned);
+    return status == RANGE_SET_DONE ? NAME(remove)(&owned->in, start, end) : status;
+}
+
+/* A buffer of its own for so many boundaries: null for none, and null where memory is refused. */
+static NUMBER *NAME(allocated)(const OWNED *owned, size_t room)
+{
+    if (room == 0 || room > PTRDIFF_MAX / sizeof(NUMBER)) return NULL;
+    return owned->allocator.allocate(owned->allocator.context, room * sizeof(NUMBER));
+}
+
+range_set_status NAME(owned_assign)(OWNED *owned, SET set)
+{
+    size_t len = set.boundaries ? set.len : 0;
+    if (len <= owned->in.room) {
+        if (len > 0) memmove(owned->in.items, set.boundaries, len * sizeof *set.boundaries);
+        owned->in.set.len = len;
+        return RANGE_SET_DONE;
+    }
+    NUMBER *items = NAME(allocated)(owned, len);
+    if (items == NULL) return RANGE_SET_NO_MEMORY;
+    memcpy(items, set.boundaries, len * sizeof *items);
+    NAME(release)(owned, owned->in.items, owned->in.room);
+    NAME(replace)(owned, items, len, len);
     return RANGE_SET_DONE;
 }
 
-range_set_status NAME(split)(const NUMBER *a, size_t a_len, NUMBER at, size_t *left_len, size_t *right_start)
+range_set_status NAME(owned_combine)(OWNED *owned, SET other, unsigned keep)
 {
-    if (!is_list(a, a_len) || !is_result(left_len, sizeof *left_len, a, a_len)
-        || !is_result(right_start, sizeof *right_start, a, a_len)
-        || overlap(left_len, sizeof *left_len, right_start, sizeof *right_start))
-        return RANGE_SET_BAD_POINTER;
-    PROVED(split)(a ? a : &NAME(nothing), a_len, at, left_len, right_start);
+    size_t room = owned->in.set.len + (other.boundaries ? other.len : 0) + (keep & RANGE_SET_NEITHER ? 1 : 0);
+    NUMBER *items = NAME(allocated)(owned, room);
+    SET result;
+    range_set_status status;
+    if (items == NULL && room > 0) return RANGE_SET_NO_MEMORY;
+    status = NAME(combine)(owned->in.set, other, keep, items, room, &result);
+    if (status != RANGE_SET_DONE) {
+        NAME(release)(owned, items, room);
+        return status;
+    }
+    NAME(release)(owned, owned->in.items, owned->in.room);
+    NAME(replace)(owned, items, room, result.len);
     return RANGE_SET_DONE;
 }
 
-range_set_status NAME(union)(const NUMBER *a, size_t a_len, const NUMBER *b, size_t b_len, NUMBER *out, size_t out_len, size_t *written)
-{
-    if (!is_list(a, a_len) || !is_buffer(out, out_len, a, a_len) || !is_result(written, sizeof *written, a, a_len)
-        || !is_result(written, sizeof *written, out, out_len)
-        || !is_list(b, b_len) || !is_buffer(out, out_len, b, b_len) || !is_result(written, sizeof *written, b, b_len)) return RANGE_SET_BAD_POINTER;
-    return PROVED(union)(a ? a : &NAME(nothing), a_len, b ? b : &NAME(nothing), b_len, out ? out : &NAME(nothing), out_len, written);
-}
-
-range_set_status NAME(union_len)(const NUMBER *a, size_t a_len, const NUMBER *b, size_t b_len, size_t *len)
-{
-    if (!is_list(a, a_len) || !is_list(b, b_len) || !is_result(len, sizeof *len, a, a_len)
-        || !is_result(len, sizeof *len, b, b_len))
-        return RANGE_SET_BAD_POINTER;
-    return PROVED(union_len)(a ? a : &NAME(nothing), a_len, b ? b : &NAME(nothing), b_len, len);
-}
-
-range_set_status NAME(intersection)(const NUMBER *a, size_t a_len, const NUMBER *b, size_t b_len, NUMBER *out, size_t out_len, size_t *written)
-{
-    if (!is_list(a, a_len) || !is_buffer(out, out_len, a, a_len) || !is_result(written, sizeof *written, a, a_len)
-        || !is_result(written, sizeof *written, out, out_len)
-        || !is_list(b, b_len) || !is_buffer(out, out_len, b, b_len) || !is_result(written, sizeof *written, b, b_len)) return RANGE_SET_BAD_POINTER;
-    return PROVED(intersection)(a ? a : &NAME(nothing), a_len, b ? b : &NAME(nothing), b_len, out ? out : &NAME(nothing), out_len, written);
-}
-
-range_set_status NAME(intersection_len)(const NUMBER *a, size_t a_len, const NUMBER *b, size_t b_len, size_t *len)
-{
-    if (!is_list(a, a_len) || !is_list(b, b_len) || !is_result(len, sizeof *len, a, a_len)
-        || !is_result(len, sizeof *len, b, b_len))
-        return RANGE_SET_BAD_POINTER;
-    return PROVED(intersection_len)(a ? a : &NAME(nothing), a_len, b ? b : &NAME(nothing), b_len, len);
-}
-
-range_set_status NAME(difference)(const NUMBER *a, size_t a_len, const NUMBER *b, size_t b_len, NUMBER *out, size_t out_len, size_t *written)
-{
-    if (!is_list(a, a_len) || !is_buffer(out, out_len, a, a_len) || !is_result(written, sizeof *written, a, a_len)
-        || !is_result(written, sizeof *written, out, out_len)
-        || !is_list(b, b_len) || !is_buffer(out, out_len, b, b_len) || !is_result(written, sizeof *written, b, b_len)) return RANGE_SET_BAD_POINTER;
-    return PROVED(difference)(a ? a : &NAME(nothing), a_len, b ? b : &NAME(nothing), b_len, out ? out : &NAME(nothing), out_len, written);
-}
-
-range_set_status NAME(difference_len)(const NUMBER *a, size_t a_len, const NUMBER *b, size_t b_len, size_t *len)
-{
-    if (!is_list(a, a_len) || !is_list(b, b_len) || !is_result(len, sizeof *len, a, a_len)
-        || !is_result(len, sizeof *len, b, b_len))
-        return RANGE_SET_BAD_POINTER;
-    return PROVED(difference_len)(a ? a : &NAME(nothing), a_len, b ? b : &NAME(nothing), b_len, len);
-}
-
-range_set_status NAME(symmetric_difference)(const NUMBER *a, size_t a_len, const NUMBER *b, size_t b_len, NUMBER *out, size_t out_len, size_t *written)
-{
-    if (!is_list(a, a_len) || !is_buffer(out, out_len, a, a_len) || !is_result(written, sizeof *written, a, a_len)
-        || !is_result(written, sizeof *written, out, out_len)
-        || !is_list(b, b_len) || !is_buffer(out, out_len, b, b_len) || !is_result(written, sizeof *written, b, b_len)) return RANGE_SET_BAD_POINTER;
-    return PROVED(symmetric_difference)(a ? a : &NAME(nothing), a_len, b ? b : &NAME(nothing), b_len, out ? out : &NAME(nothing), out_len, written);
-}
-
-range_set_status NAME(symmetric_difference_len)(const NUMBER *a, size_t a_len, const NUMBER *b, size_t b_len, size_t *len)
-{
-    if (!is_list(a, a_len) || !is_list(b, b_len) || !is_result(len, sizeof *len, a, a_len)
-        || !is_result(len, sizeof *len, b, b_len))
-        return RANGE_SET_BAD_POINTER;
-    return PROVED(symmetric_difference_len)(a ? a : &NAME(nothing), a_len, b ? b : &NAME(nothing), b_len, len);
-}
-
-range_set_status NAME(negation)(const NUMBER *a, size_t a_len, NUMBER *out, size_t out_len, size_t *written)
-{
-    if (!is_list(a, a_len) || !is_buffer(out, out_len, a, a_len) || !is_result(written, sizeof *written, a, a_len)
-        || !is_result(written, sizeof *written, out, out_len)) return RANGE_SET_BAD_POINTER;
-    return PROVED(negation)(a ? a : &NAME(nothing), a_len, out ? out : &NAME(nothing), out_len, written);
-}
-
-range_set_status NAME(insert)(const NUMBER *a, size_t a_len, NUMBER start, NUMBER end, NUMBER *out, size_t out_len, size_t *written)
-{
-    if (!is_list(a, a_len) || !is_buffer(out, out_len, a, a_len) || !is_result(written, sizeof *written, a, a_len)
-        || !is_result(written, sizeof *written, out, out_len)) return RANGE_SET_BAD_POINTER;
-    return PROVED(insert)(a ? a : &NAME(nothing), a_len, start, end, out ? out : &NAME(nothing), out_len, written);
-}
-
-range_set_status NAME(remove)(const NUMBER *a, size_t a_len, NUMBER start, NUMBER end, NUMBER *out, size_t out_len, size_t *written)
-{
-    if (!is_list(a, a_len) || !is_buffer(out, out_len, a, a_len) || !is_result(written, sizeof *written, a, a_len)
-        || !is_result(written, sizeof *written, out, out_len)) return RANGE_SET_BAD_POINTER;
-    return PROVED(remove)(a ? a : &NAME(nothing), a_len, start, end, out ? out : &NAME(nothing), out_len, written);
-}
-
-range_set_status NAME(gaps)(const NUMBER *a, size_t a_len, NUMBER start, NUMBER end, NUMBER *out, size_t out_len, size_t *written)
-{
-    if (!is_list(a, a_len) || !is_buffer(out, out_len, a, a_len) || !is_result(written, sizeof *written, a, a_len)
-        || !is_result(written, sizeof *written, out, out_len)) return RANGE_SET_BAD_POINTER;
-    return PROVED(gaps)(a ? a : &NAME(nothing), a_len, start, end, out ? out : &NAME(nothing), out_len, written);
-}
-
-range_set_status NAME(is_disjoint)(const NUMBER *a, size_t a_len, const NUMBER *b, size_t b_len, bool *answer)
-{
-    if (!is_list(a, a_len) || !is_list(b, b_len) || !is_result(answer, sizeof *answer, a, a_len)
-        || !is_result(answer, sizeof *answer, b, b_len))
-        return RANGE_SET_BAD_POINTER;
-    return PROVED(is_disjoint)(a ? a : &NAME(nothing), a_len, b ? b : &NAME(nothing), b_len, answer);
-}
-
-range_set_status NAME(intersects)(const NUMBER *a, size_t a_len, const NUMBER *b, size_t b_len, bool *answer)
-{
-    if (!is_list(a, a_len) || !is_list(b, b_len) || !is_result(answer, sizeof *answer, a, a_len)
-        || !is_result(answer, sizeof *answer, b, b_len))
-        return RANGE_SET_BAD_POINTER;
-    return PROVED(intersects)(a ? a : &NAME(nothing), a_len, b ? b : &NAME(nothing), b_len, answer);
-}
-
-range_set_status NAME(is_subset)(const NUMBER *a, size_t a_len, const NUMBER *b, size_t b_len, bool *answer)
-{
-    if (!is_list(a, a_len) || !is_list(b, b_len) || !is_result(answer, sizeof *answer, a, a_len)
-        || !is_result(answer, sizeof *answer, b, b_len))
-        return RANGE_SET_BAD_POINTER;
-    return PROVED(is_subset)(a ? a : &NAME(nothing), a_len, b ? b : &NAME(nothing), b_len, answer);
-}
-
-range_set_status NAME(equal)(const NUMBER *a, size_t a_len, const NUMBER *b, size_t b_len, bool *answer)
-{
-    if (!is_list(a, a_len) || !is_list(b, b_len) || !is_result(answer, sizeof *answer, a, a_len)
-        || !is_result(answer, sizeof *answer, b, b_len))
-        return RANGE_SET_BAD_POINTER;
-    return PROVED(equal)(a ? a : &NAME(nothing), a_len, b ? b : &NAME(nothing), b_len, answer);
-}
+#undef LIST
+#undef ROOM
+#undef NUMBER
+#undef COUNT
+#undef SET
+#undef RANGE
+#undef BUFFER
+#undef OWNED
+#undef NAME
+#undef PROVED

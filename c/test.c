@@ -1,7 +1,7 @@
 /* Tests of every call: rows, bad input, and made-up cases against a bitmap, each with the exact room, one too little, none
  * and more, and with guard words around the buffer.
  *
- *   test [CASES]   so many made-up cases for each type of numbers; 100000 if left out
+ *   test [CASES]   so many made-up cases for each type of numbers; 50000 if left out
  */
 #include "range_set.h"
 
@@ -36,28 +36,112 @@ static unsigned random_below(unsigned n)
     return (unsigned)((state >> 11) % n);
 }
 
+/* An allocator that counts what is out, and refuses once `left` requests were met. */
+struct memory {
+    size_t out;
+    long left;
+};
+
+static void *take(void *context, size_t size)
+{
+    struct memory *memory = context;
+    if (memory->left-- <= 0) return NULL;
+    memory->out += size;
+    return malloc(size);
+}
+
+static void *take_more(void *context, void *items, size_t old_size, size_t size)
+{
+    struct memory *memory = context;
+    if (memory->left-- <= 0) return NULL;
+    memory->out += size - old_size;
+    return realloc(items, size);
+}
+
+static void give_back(void *context, void *items, size_t size)
+{
+    ((struct memory *)context)->out -= size;
+    free(items);
+}
+
+#define NUMBER int32_t
+#define COUNT uint32_t
+#define LEAST INT32_MIN
+#define TEXT_ROOM 13
+#define MOST INT32_MAX
+#define SET range_set_i32
+#define RANGE range_set_i32_range
+#define BUFFER range_set_i32_buffer
+#define OWNED range_set_i32_owned
+#define CALL(call) range_set_i32_##call
+#define TEST(name) i32_##name
+#include "test_calls.h"
+
+#define NUMBER uint32_t
+#define COUNT uint32_t
+#define LEAST ((uint32_t)0)
+#define TEXT_ROOM 12
+#define MOST UINT32_MAX
+#define SET range_set_u32
+#define RANGE range_set_u32_range
+#define BUFFER range_set_u32_buffer
+#define OWNED range_set_u32_owned
+#define CALL(call) range_set_u32_##call
+#define TEST(name) u32_##name
+#define IS_UNSIGNED
+#include "test_calls.h"
+
 #define NUMBER int64_t
+#define COUNT uint64_t
 #define LEAST INT64_MIN
+#define TEXT_ROOM 22
 #define MOST INT64_MAX
+#define SET range_set_i64
+#define RANGE range_set_i64_range
+#define BUFFER range_set_i64_buffer
+#define OWNED range_set_i64_owned
 #define CALL(call) range_set_i64_##call
 #define TEST(name) i64_##name
 #include "test_calls.h"
-#undef NUMBER
-#undef LEAST
-#undef MOST
-#undef CALL
-#undef TEST
 
 #define NUMBER uint64_t
+#define COUNT uint64_t
 #define LEAST ((uint64_t)0)
+#define TEXT_ROOM 22
 #define MOST UINT64_MAX
+#define SET range_set_u64
+#define RANGE range_set_u64_range
+#define BUFFER range_set_u64_buffer
+#define OWNED range_set_u64_owned
 #define CALL(call) range_set_u64_##call
 #define TEST(name) u64_##name
+#define IS_UNSIGNED
 #include "test_calls.h"
+
+/* Each status has a sentence of its own, and what is no status has one. */
+static void status_texts(void)
+{
+    int s, t;
+    for (s = RANGE_SET_DONE; s <= RANGE_SET_OUT_OF_RANGE + 1; s++)
+        for (t = RANGE_SET_DONE; t <= RANGE_SET_OUT_OF_RANGE + 1; t++)
+            check((strcmp(range_set_status_text((range_set_status)s), range_set_status_text((range_set_status)t)) == 0) == (s == t),
+                  "two statuses have one text");
+}
+
+static void version(void)
+{
+    char text[32];
+    snprintf(text, sizeof text, "%d.%d.%d", RANGE_SET_VERSION_MAJOR, RANGE_SET_VERSION_MINOR, RANGE_SET_VERSION_PATCH);
+    check(strcmp(text, RANGE_SET_VERSION) == 0 && strcmp(text, range_set_version()) == 0, "the version");
+}
 
 int main(int argc, char **argv)
 {
-    long cases = argc > 1 ? strtol(argv[1], NULL, 10) : 100000;
+    long cases = argc > 1 ? strtol(argv[1], NULL, 10) : 50000;
+    status_texts();
+    version();
+    i32_all(cases);
+    u32_all(cases);
     i64_all(cases);
     u64_all(cases);
     printf("test: %ld checks of %ld made-up cases for each type\n", checks, cases);

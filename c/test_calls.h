@@ -1,5 +1,6 @@
-/* The tests for one type of numbers. Before each include NUMBER is the type, LEAST its least number, MOST its greatest,
- * CALL(call) the name of a call of the header, and TEST(name) the name of a function here. */
+/* The tests for one type of numbers. Before each include NUMBER is the type, which is unsigned where IS_UNSIGNED is defined;
+ * COUNT is the unsigned type of its width, LEAST its least number, MOST its greatest, SET, RANGE, BUFFER and OWNED the header's
+ * structs for it, CALL(call) the name of a call of the header, and TEST(name) the name of a function here. */
 
 /* A list that lies in memory of its own, so that valgrind sees each read beside it. */
 static NUMBER *TEST(copy)(const NUMBER *items, size_t len)
@@ -10,35 +11,39 @@ static NUMBER *TEST(copy)(const NUMBER *items, size_t len)
     return list;
 }
 
+/* The set of a list that is strictly sorted. */
+static SET TEST(set)(const NUMBER *list, size_t len)
+{
+    SET set = {NULL, 77};
+    check(CALL(view)(list, len, &set) == RANGE_SET_DONE, "view of a sorted list");
+    check(set.boundaries == list && set.len == len, "view: the set");
+    return set;
+}
+
+static bool TEST(is)(SET set, const NUMBER *wanted, size_t len)
+{
+    return set.len == len && (len == 0 || memcmp(set.boundaries, wanted, len * sizeof *wanted) == 0);
+}
+
 /* One call that writes a set, by number, so that each is tried with several rooms. */
 struct TEST(operation) {
-    int which; /* 0 to 3: the operations; 4: negation; 5: insert; 6: remove; 7: gaps */
-    const NUMBER *a, *b;
-    size_t a_len, b_len;
+    int which; /* 0 to 15: what combine keeps; 16: negation; 17: gaps; 18: insert and 19: remove, which change a set in its buffer */
+    SET a, b;
     NUMBER start, end;
 };
 
-static range_set_status TEST(run)(const struct TEST(operation) *o, NUMBER *out, size_t out_len, size_t *written)
-{
-    switch (o->which) {
-    case 0: return CALL(union)(o->a, o->a_len, o->b, o->b_len, out, out_len, written);
-    case 1: return CALL(intersection)(o->a, o->a_len, o->b, o->b_len, out, out_len, written);
-    case 2: return CALL(difference)(o->a, o->a_len, o->b, o->b_len, out, out_len, written);
-    case 3: return CALL(symmetric_difference)(o->a, o->a_len, o->b, o->b_len, out, out_len, written);
-    case 4: return CALL(negation)(o->a, o->a_len, out, out_len, written);
-    case 5: return CALL(insert)(o->a, o->a_len, o->start, o->end, out, out_len, written);
-    case 6: return CALL(remove)(o->a, o->a_len, o->start, o->end, out, out_len, written);
-    default: return CALL(gaps)(o->a, o->a_len, o->start, o->end, out, out_len, written);
-    }
-}
+enum { TEST(operations) = 20, TEST(first_in_place) = 18 };
 
-static range_set_status TEST(run_len)(const struct TEST(operation) *o, size_t *len)
+static range_set_status TEST(run)(const struct TEST(operation) *o, NUMBER *out, size_t room, SET *result)
 {
     switch (o->which) {
-    case 0: return CALL(union_len)(o->a, o->a_len, o->b, o->b_len, len);
-    case 1: return CALL(intersection_len)(o->a, o->a_len, o->b, o->b_len, len);
-    case 2: return CALL(difference_len)(o->a, o->a_len, o->b, o->b_len, len);
-    default: return CALL(symmetric_difference_len)(o->a, o->a_len, o->b, o->b_len, len);
+    case RANGE_SET_UNION: return CALL(union)(o->a, o->b, out, room, result);
+    case RANGE_SET_INTERSECTION: return CALL(intersection)(o->a, o->b, out, room, result);
+    case RANGE_SET_DIFFERENCE: return CALL(difference)(o->a, o->b, out, room, result);
+    case RANGE_SET_SYMMETRIC_DIFFERENCE: return CALL(symmetric_difference)(o->a, o->b, out, room, result);
+    case 16: return CALL(negation)(o->a, out, room, result);
+    case 17: return CALL(gaps)(o->a, o->start, o->end, out, room, result);
+    default: return CALL(combine)(o->a, o->b, (unsigned)o->which, out, room, result);
     }
 }
 
@@ -48,34 +53,117 @@ static void TEST(with_room)(const struct TEST(operation) *o, const NUMBER *wante
     enum { GUARD = 4 };
     const NUMBER guard = (NUMBER)0x5a5a5a5a5a5a5a5a;
     NUMBER buffer[GUARD + 2 * POINTS + 8 + GUARD];
-    size_t written = 77, all = GUARD + room + GUARD, i;
+    size_t all = GUARD + room + GUARD, i;
+    SET result = {buffer, 77};
     range_set_status status;
 
     check(all <= sizeof buffer / sizeof *buffer, "the buffer of the test is too short");
     for (i = 0; i < all; i++) buffer[i] = guard;
-    status = TEST(run)(o, buffer + GUARD, room, &written);
+    status = TEST(run)(o, buffer + GUARD, room, &result);
     check(status == (room < wanted_len ? RANGE_SET_NO_ROOM : RANGE_SET_DONE), "status");
-    check(written == wanted_len, "length");
+    check(result.len == wanted_len, "length");
+    check(result.boundaries == (status == RANGE_SET_DONE ? buffer + GUARD : NULL), "where the set lies");
     for (i = 0; i < GUARD; i++)
         check(buffer[i] == guard && buffer[GUARD + room + i] == guard, "a word beside the buffer");
-    if (status != RANGE_SET_DONE) return;
-    check(wanted_len == 0 || memcmp(buffer + GUARD, wanted, wanted_len * sizeof *wanted) == 0, "the list");
-    for (i = wanted_len; i < room; i++) check(buffer[GUARD + i] == guard, "a word behind the list");
+    if (status != RANGE_SET_DONE) {
+        check(CALL(is_empty)(result), "what is told where there is no room isn't the empty set");
+        return;
+    }
+    check(TEST(is)(result, wanted, wanted_len), "the list");
+    for (i = wanted_len; i < room; i++) check(buffer[GUARD + i] == guard, "a word after the list");
+}
+
+/* A call that changes a set in its buffer, with so much room and guard words on both sides, against the list that it has to leave. */
+static void TEST(changed_with_room)(const struct TEST(operation) *o, const NUMBER *wanted, size_t wanted_len, size_t room)
+{
+    enum { GUARD = 4 };
+    const NUMBER guard = (NUMBER)0x5a5a5a5a5a5a5a5a;
+    NUMBER memory[GUARD + POINTS + 8 + GUARD], before[sizeof memory / sizeof *memory];
+    size_t i;
+    BUFFER buffer;
+    range_set_status status;
+
+    if (room < o->a.len) return;
+    check(GUARD + room + GUARD <= sizeof memory / sizeof *memory, "the buffer of the test is too short");
+    for (i = 0; i < sizeof memory / sizeof *memory; i++) memory[i] = guard;
+    for (i = 0; i < o->a.len; i++) memory[GUARD + i] = o->a.boundaries[i];
+    memcpy(before, memory, sizeof memory);
+    check(CALL(buffer_view)(memory + GUARD, o->a.len, room, &buffer) == RANGE_SET_DONE, "buffer_view");
+    buffer.needed = 77;
+    status = o->which == 18 ? CALL(insert)(&buffer, o->start, o->end) : CALL(remove)(&buffer, o->start, o->end);
+    check(status == (room < wanted_len ? RANGE_SET_NO_ROOM : RANGE_SET_DONE), "in place: status");
+    check(buffer.needed == (room < wanted_len ? wanted_len : 77), "in place: the room that is needed");
+    check(buffer.set.boundaries == memory + GUARD && buffer.items == memory + GUARD && buffer.room == room, "in place: the buffer");
+    if (status == RANGE_SET_DONE) check(TEST(is)(buffer.set, wanted, wanted_len), "in place: the list");
+    else check(buffer.set.len == o->a.len && memcmp(memory, before, sizeof memory) == 0, "in place: what is refused changes");
+    for (i = 0; i < GUARD; i++)
+        check(memory[i] == guard && memory[GUARD + room + i] == guard, "in place: a word beside the buffer");
+}
+
+static void TEST(in_place)(const struct TEST(operation) *o, const NUMBER *wanted, size_t wanted_len)
+{
+    TEST(changed_with_room)(o, wanted, wanted_len, wanted_len);
+    if (wanted_len > 0) TEST(changed_with_room)(o, wanted, wanted_len, wanted_len - 1);
+    if (wanted_len != o->a.len) TEST(changed_with_room)(o, wanted, wanted_len, o->a.len);
+    TEST(changed_with_room)(o, wanted, wanted_len, o->a.len + 3);
+}
+
+/* The same of two sets, which needs room for the set and for what is left. */
+static void TEST(combined_with_room)(const struct TEST(operation) *o, const NUMBER *wanted, size_t wanted_len, size_t room)
+{
+    enum { GUARD = 4 };
+    const NUMBER guard = (NUMBER)0x5a5a5a5a5a5a5a5a;
+    NUMBER memory[GUARD + 4 * POINTS + GUARD], before[sizeof memory / sizeof *memory];
+    size_t i, needed = o->a.len + wanted_len;
+    BUFFER buffer;
+    range_set_status status;
+
+    if (room < o->a.len) return;
+    check(GUARD + room + GUARD <= sizeof memory / sizeof *memory, "the buffer of the test is too short");
+    for (i = 0; i < sizeof memory / sizeof *memory; i++) memory[i] = guard;
+    for (i = 0; o->a.boundaries != NULL && i < o->a.len; i++) memory[GUARD + i] = o->a.boundaries[i];
+    memcpy(before, memory, sizeof memory);
+    check(CALL(buffer_view)(memory + GUARD, o->a.boundaries ? o->a.len : 0, room, &buffer) == RANGE_SET_DONE, "buffer_view");
+    buffer.needed = 77;
+    switch (o->which) {
+    case RANGE_SET_UNION: status = CALL(union_with)(&buffer, o->b); break;
+    case RANGE_SET_INTERSECTION: status = CALL(intersection_with)(&buffer, o->b); break;
+    case RANGE_SET_DIFFERENCE: status = CALL(difference_with)(&buffer, o->b); break;
+    case RANGE_SET_SYMMETRIC_DIFFERENCE: status = CALL(symmetric_difference_with)(&buffer, o->b); break;
+    default: status = CALL(combine_with)(&buffer, o->b, (unsigned)o->which);
+    }
+    check(status == (room < needed ? RANGE_SET_NO_ROOM : RANGE_SET_DONE), "combine_with: status");
+    check(buffer.needed == (room < needed ? needed : 77), "combine_with: the room that is needed");
+    if (status == RANGE_SET_DONE) check(TEST(is)(buffer.set, wanted, wanted_len), "combine_with: the list");
+    else check(memcmp(memory, before, sizeof memory) == 0, "combine_with: what is refused changes");
+    for (i = 0; i < GUARD; i++)
+        check(memory[i] == guard && memory[GUARD + room + i] == guard, "combine_with: a word beside the buffer");
+}
+
+static void TEST(combined)(const struct TEST(operation) *o, const NUMBER *wanted, size_t wanted_len)
+{
+    size_t needed = o->a.len + wanted_len;
+    TEST(combined_with_room)(o, wanted, wanted_len, needed);
+    if (needed > 0) TEST(combined_with_room)(o, wanted, wanted_len, needed - 1);
+    TEST(combined_with_room)(o, wanted, wanted_len, o->a.len);
+    TEST(combined_with_room)(o, wanted, wanted_len, needed + 3);
 }
 
 static void TEST(with_rooms)(const struct TEST(operation) *o, const NUMBER *wanted, size_t wanted_len)
 {
-    size_t written = 77;
+    SET result = {wanted, 77};
+    if (o->which >= TEST(first_in_place)) {
+        TEST(in_place)(o, wanted, wanted_len);
+        return;
+    }
+    if (o->which < 8 && (o->a.boundaries != NULL || o->a.len == 0)) TEST(combined)(o, wanted, wanted_len);
     TEST(with_room)(o, wanted, wanted_len, wanted_len);
     if (wanted_len > 0) TEST(with_room)(o, wanted, wanted_len, wanted_len - 1);
     TEST(with_room)(o, wanted, wanted_len, 0);
     TEST(with_room)(o, wanted, wanted_len, wanted_len + 3);
-    check(TEST(run)(o, NULL, 0, &written) == (wanted_len > 0 ? RANGE_SET_NO_ROOM : RANGE_SET_DONE), "status at no buffer");
-    check(written == wanted_len, "length at no buffer");
-    if (o->which < 4) {
-        written = 77;
-        check(TEST(run_len)(o, &written) == RANGE_SET_DONE && written == wanted_len, "the length alone");
-    }
+    check(TEST(run)(o, NULL, 0, &result) == (wanted_len > 0 ? RANGE_SET_NO_ROOM : RANGE_SET_DONE), "status at no buffer");
+    check(result.len == wanted_len && result.boundaries == NULL, "length at no buffer");
+    if (o->which < 16) check(CALL(combine_len)(o->a, o->b, (unsigned)o->which) == wanted_len, "the length alone");
 }
 
 /* The boundaries of a bitmap over the points. */
@@ -87,50 +175,70 @@ static size_t TEST(boundaries)(const NUMBER *points, const bool *on, size_t n, N
     return len;
 }
 
-static void TEST(split_at)(const NUMBER *a, size_t a_len, const NUMBER *points, const bool *on, size_t n)
+static void TEST(split_at)(SET a, const NUMBER *points, const bool *on, size_t n)
 {
-    size_t p, i, left_len = 77, right_start = 77, below, up_to;
+    size_t p, i, less, up_to;
     for (p = 0; p < n; p++) {
-        check(CALL(split)(a, a_len, points[p], &left_len, &right_start) == RANGE_SET_DONE, "split: status");
-        for (below = up_to = i = 0; i < a_len; i++) {
-            below += a[i] < points[p];
-            up_to += a[i] <= points[p];
+        SET below = {NULL, 77}, from = {NULL, 77};
+        CALL(split)(a, points[p], &below, &from);
+        for (less = up_to = i = 0; i < a.len; i++) {
+            less += a.boundaries[i] < points[p];
+            up_to += a.boundaries[i] <= points[p];
         }
-        check(left_len == below, "split: the left part");
-        check(right_start == (on[p] ? up_to - 1 : up_to), "split: the right part");
+        check(below.boundaries == a.boundaries && below.len == less, "split: the part below");
+        if (on[p]) up_to--;
+        check(from.boundaries == a.boundaries + up_to && from.len == a.len - up_to, "split: the part from the number on");
     }
+    CALL(split)(a, points[0], NULL, NULL);
 }
 
-/* The range at each point, and how many numbers are members, told from the bitmap. */
-static void TEST(points_of)(const NUMBER *a, size_t a_len, const NUMBER *points, const bool *on, size_t n)
+/* The range at each point, the ranges in order, and how many numbers are members, told from the bitmap. */
+static void TEST(parts_of)(SET a, const NUMBER *points, const bool *on, size_t n)
 {
-    size_t p, first, next;
+    size_t p, first, next, ranges = 0, last = n;
     uint64_t count = 0, told = 77;
     for (p = 0; p < n; p++) {
-        NUMBER start = 77, end = 78;
-        bool found = !on[p], has_end = (p % 2) == 1, had_end = has_end;
-        check(CALL(range_at)(a, a_len, points[p], &found, &start, &end, &has_end) == RANGE_SET_DONE, "range_at: status");
-        check(found == on[p], "range_at: found");
+        RANGE it = {77, 78, (p % 2) == 1};
+        check(CALL(range_at)(a, points[p], &it) == on[p], "range_at: whether it is a member");
+        check(CALL(range_at)(a, points[p], NULL) == on[p], "range_at without a place for the range");
         for (first = p; on[p] && first > 0 && on[first - 1]; first--) continue;
         for (next = p; next < n && on[next]; next++) continue;
-        if (!on[p]) check(start == 77 && end == 78 && has_end == had_end, "range_at of no member writes");
-        else check(start == points[first] && has_end == (next < n) && end == (next < n ? points[next] : 78), "range_at: the range");
-        if (on[p] && p + 1 < n) count += (uint64_t)points[p + 1] - (uint64_t)points[p];
+        if (!on[p]) {
+            check(it.start == 77 && it.end == 78 && it.has_end == ((p % 2) == 1), "range_at of no member writes");
+            continue;
+        }
+        check(it.start == points[first] && it.has_end == (next < n) && it.end == (next < n ? points[next] : 78), "range_at: the range");
+        if (p + 1 < n) count += (uint64_t)points[p + 1] - (uint64_t)points[p];
+        if (first == p) {
+            RANGE by_index = {77, 78, false}, lowest = {77, 78, false};
+            check(CALL(get)(a, ranges, &by_index) && CALL(get)(a, ranges, NULL), "get");
+            check(by_index.start == it.start && by_index.end == it.end && by_index.has_end == it.has_end, "get: the range");
+            if (ranges++ == 0)
+                check(CALL(first)(a, &lowest) && lowest.start == it.start && lowest.end == it.end && lowest.has_end == it.has_end, "first");
+            last = p;
+        }
     }
-    if (n > 0 && on[n - 1]) check(CALL(covered)(a, a_len, &told) == RANGE_SET_NO_END && told == 77, "covered of a set without an end");
-    else check(CALL(covered)(a, a_len, &told) == RANGE_SET_DONE && told == count, "covered");
+    check(CALL(ranges_len)(a) == ranges, "ranges_len");
+    check(!CALL(get)(a, ranges, NULL) && !CALL(get)(a, SIZE_MAX, NULL) && !CALL(get)(a, SIZE_MAX / 2 + 1, NULL), "get past the last range");
+    check(CALL(first)(a, NULL) == (ranges > 0) && CALL(last)(a, NULL) == (ranges > 0), "first and last without a place for the range");
+    if (ranges > 0) {
+        RANGE highest = {77, 78, false}, it = {77, 78, false};
+        check(CALL(last)(a, &highest) && CALL(range_at)(a, points[last], &it), "last");
+        check(highest.start == it.start && highest.end == it.end && highest.has_end == it.has_end, "last: the range");
+    }
+    if (n > 0 && on[n - 1]) check(!CALL(covered)(a, &told) && told == 77, "covered of a set without an end");
+    else check(CALL(covered)(a, &told) && told == count && CALL(covered)(a, NULL), "covered");
 }
 
 /* Whether all numbers from one point on, up to another, are members. */
-static void TEST(whole_ranges)(const NUMBER *a, size_t a_len, const NUMBER *points, const bool *on, size_t n)
+static void TEST(whole_ranges)(SET a, const NUMBER *points, const bool *on, size_t n)
 {
     size_t i, from, to, p;
     for (i = 0; i < 8; i++) {
-        bool all = true, answer = false;
+        bool all = true;
         from = random_below((unsigned)n), to = random_below((unsigned)n);
         for (p = from; p < to; p++) all = all && on[p];
-        check(CALL(contains_range)(a, a_len, points[from], points[to], &answer) == RANGE_SET_DONE, "contains_range: status");
-        check(answer == all, "contains_range");
+        check(CALL(contains_range)(a, points[from], points[to]) == all, "contains_range");
     }
 }
 
@@ -141,7 +249,8 @@ static void TEST(shuffled)(const NUMBER *points, size_t n)
     const NUMBER guard = (NUMBER)0x5a5a5a5a5a5a5a5a;
     NUMBER buffer[GUARD + MOST_ITEMS + GUARD], *items = buffer + GUARD;
     bool is_there[POINTS + 1] = {false};
-    size_t len = random_below(MOST_ITEMS + 1), written = 77, wanted = 0, i;
+    size_t len = random_below(MOST_ITEMS + 1), wanted = 0, i;
+    SET set = {NULL, 77};
 
     for (i = 0; i < GUARD; i++) buffer[i] = buffer[GUARD + len + i] = guard;
     for (i = 0; i < len; i++) {
@@ -149,10 +258,10 @@ static void TEST(shuffled)(const NUMBER *points, size_t n)
         items[i] = points[p];
         is_there[p] = true;
     }
-    check(CALL(from_unsorted)(items, len, &written) == RANGE_SET_DONE, "from_unsorted: status");
+    check(CALL(from_unsorted)(items, len, &set) == RANGE_SET_DONE && set.boundaries == items, "from_unsorted: status");
     for (i = 0; i < n; i++)
-        if (is_there[i]) check(wanted < written && items[wanted++] == points[i], "from_unsorted: the list");
-    check(written == wanted, "from_unsorted: length");
+        if (is_there[i]) check(wanted < set.len && items[wanted++] == points[i], "from_unsorted: the list");
+    check(set.len == wanted, "from_unsorted: length");
     for (i = 0; i < GUARD; i++)
         check(buffer[i] == guard && buffer[GUARD + len + i] == guard, "from_unsorted: a word beside the buffer");
 }
@@ -164,7 +273,8 @@ static void TEST(ranges_shuffled)(const NUMBER *points, size_t n)
     const NUMBER guard = (NUMBER)0x5a5a5a5a5a5a5a5a;
     NUMBER buffer[GUARD + 2 * MOST_RANGES + GUARD], *ranges = buffer + GUARD, wanted[POINTS + 1];
     bool on[POINTS + 1] = {false};
-    size_t count = random_below(MOST_RANGES + 1), written = 77, wanted_len, i, p;
+    size_t count = random_below(MOST_RANGES + 1), i, p;
+    SET set = {NULL, 77};
 
     for (i = 0; i < GUARD; i++) buffer[i] = buffer[GUARD + 2 * count + i] = guard;
     for (i = 0; i < count; i++) {
@@ -173,11 +283,212 @@ static void TEST(ranges_shuffled)(const NUMBER *points, size_t n)
         ranges[2 * i] = points[from], ranges[2 * i + 1] = points[to];
         for (p = from; p < to; p++) on[p] = true;
     }
-    wanted_len = TEST(boundaries)(points, on, n, wanted);
-    check(CALL(from_ranges)(ranges, count, &written) == RANGE_SET_DONE && written == wanted_len, "from_ranges: length");
-    check(written == 0 || memcmp(ranges, wanted, written * sizeof *wanted) == 0, "from_ranges: the list");
+    check(CALL(from_ranges)(ranges, count, &set) == RANGE_SET_DONE && set.boundaries == ranges, "from_ranges: status");
+    check(TEST(is)(set, wanted, TEST(boundaries)(points, on, n, wanted)), "from_ranges: the list");
     for (i = 0; i < GUARD; i++)
         check(buffer[i] == guard && buffer[GUARD + 2 * count + i] == guard, "from_ranges: a word beside the buffer");
+}
+
+/* Where so many numbers fit, against trying each point. */
+static void TEST(fits)(SET a, const NUMBER *points, const bool *on, size_t n)
+{
+    size_t i, p, q, from, to;
+    for (i = 0; i < 8; i++) {
+        COUNT count = (COUNT)random_below(5);
+        NUMBER at = 77, least = 0;
+        bool fits = false;
+        from = random_below((unsigned)n), to = random_below((unsigned)n);
+        /* The first point is the least number, and may stand far below the second, so the search starts at the second. */
+        if (from == 0 && n > 1) from = 1;
+        if (count == 0 && points[from] <= points[to]) fits = true, least = points[from];
+        for (p = from; count > 0 && p < to && !fits; p++) {
+            fits = (uint64_t)points[to] - (uint64_t)points[p] >= count;
+            for (q = p; fits && q < to && (uint64_t)points[q] - (uint64_t)points[p] < count; q++) fits = !on[q];
+            least = points[p];
+        }
+        check(CALL(first_fit)(a, points[from], points[to], count, &at) == fits && at == (fits ? least : 77), "first_fit");
+        check(CALL(first_fit)(a, points[from], points[to], count, NULL) == fits, "first_fit without a place for the number");
+    }
+}
+
+/* Where many numbers fit, and numbers on both sides of zero. */
+static void TEST(fits_far)(void)
+{
+    static const NUMBER both[] = {LEAST, LEAST + 2, MOST - 5, MOST - 3};
+    const COUNT all = (COUNT)((COUNT)MOST - (COUNT)LEAST), between = (COUNT)(all - 7);
+    const SET nothing = {NULL, 0};
+    SET set = TEST(set)(both, 4);
+    NUMBER at = 77;
+    check(CALL(first_fit)(nothing, LEAST, MOST, all, &at) && at == LEAST, "first_fit of all numbers but one");
+    check(!CALL(first_fit)(nothing, LEAST, MOST - 1, all, &at) && !CALL(first_fit)(nothing, LEAST + 1, MOST, all, &at), "first_fit of one too many");
+    check(CALL(first_fit)(set, LEAST, MOST, between, &at) && at == LEAST + 2, "first_fit of as many as the gap has");
+    check(!CALL(first_fit)(set, LEAST, MOST, (COUNT)(between + 1), NULL), "first_fit of one more than the gap has");
+    check(CALL(first_fit)(set, MOST - 5, MOST, 3, &at) && at == MOST - 3, "first_fit at the end");
+    check(CALL(first_fit)(set, LEAST, LEAST, 0, &at) && at == LEAST, "first_fit of no number");
+    check(!CALL(first_fit)(set, MOST, LEAST, 0, &at) && !CALL(first_fit)(set, MOST, LEAST, 1, &at) && at == LEAST, "first_fit in a reversed range");
+}
+
+/* Whether the operation holds of a point that is in the sets and in the range, or not. */
+static bool TEST(holds)(int which, bool in_a, bool in_b, bool in_range)
+{
+    switch (which) {
+    case 16: return !in_a;
+    case 17: return !in_a && in_range;
+    case 18: return in_a || in_range;
+    case 19: return in_a && !in_range;
+    default: return (which & (int)(in_a ? in_b ? RANGE_SET_BOTH : RANGE_SET_LEFT : in_b ? RANGE_SET_RIGHT : RANGE_SET_NEITHER)) != 0;
+    }
+}
+
+/* The text of a set in a room of so many bytes, between guard bytes, against the text that it has to be. */
+static void TEST(printed_with_room)(SET a, const char *wanted, size_t room)
+{
+    enum { GUARD = 8 };
+    char buffer[GUARD + 24 * (POINTS + 2) + GUARD], before[sizeof buffer];
+    size_t wanted_len = strlen(wanted), len = 77;
+    check(GUARD + room + GUARD <= sizeof buffer, "the text buffer of the test is too short");
+    memset(buffer, 'x', sizeof buffer);
+    memset(before, 'x', sizeof before);
+    if (room >= wanted_len) memcpy(before + GUARD, wanted, wanted_len);
+    check(CALL(print)(a, buffer + GUARD, room, &len) == (room < wanted_len ? RANGE_SET_NO_ROOM : RANGE_SET_DONE), "print: status");
+    check(len == wanted_len && len <= TEXT_ROOM * a.len, "print: length");
+    check(memcmp(buffer, before, sizeof buffer) == 0, "print: the text, and what stands beside it");
+}
+
+static void TEST(printed)(SET a, const char *wanted)
+{
+    size_t wanted_len = strlen(wanted), len = 77;
+    TEST(printed_with_room)(a, wanted, wanted_len);
+    TEST(printed_with_room)(a, wanted, wanted_len + 9);
+    TEST(printed_with_room)(a, wanted, 0);
+    if (wanted_len > 0) TEST(printed_with_room)(a, wanted, wanted_len - 1);
+    check(CALL(print)(a, NULL, 0, &len) == (wanted_len > 0 ? RANGE_SET_NO_ROOM : RANGE_SET_DONE) && len == wanted_len, "print into null");
+}
+
+/* A number as C prints it, put after a text. */
+static void TEST(put_number)(char *text, NUMBER n)
+{
+#ifdef IS_UNSIGNED
+    sprintf(text + strlen(text), "%ju", (uintmax_t)n);
+#else
+    sprintf(text + strlen(text), "%jd", (intmax_t)n);
+#endif
+}
+
+/* What a text is read as, with so much room, between guard words. */
+static void TEST(parsed_with_room)(const char *text, size_t numbers, const NUMBER *wanted, size_t wanted_len, size_t room)
+{
+    enum { GUARD = 4 };
+    const NUMBER guard = (NUMBER)0x5a5a5a5a5a5a5a5a;
+    NUMBER buffer[GUARD + 2 * POINTS + 8 + GUARD], before[sizeof buffer / sizeof *buffer];
+    size_t all = GUARD + room + GUARD, fault = 77, i;
+    SET set = {buffer, 77};
+    range_set_status status;
+    check(all <= sizeof buffer / sizeof *buffer, "the buffer of the test is too short");
+    for (i = 0; i < sizeof buffer / sizeof *buffer; i++) buffer[i] = before[i] = guard;
+    status = CALL(parse)(text, strlen(text), buffer + GUARD, room, &set, &fault);
+    check(status == (room < numbers ? RANGE_SET_NO_ROOM : RANGE_SET_DONE) && fault == 77, "parse: status");
+    if (status == RANGE_SET_DONE) {
+        check(set.boundaries == buffer + GUARD && TEST(is)(set, wanted, wanted_len), "parse: the set");
+    } else {
+        check(set.boundaries == NULL && set.len == numbers, "parse: the room that is needed");
+        check(memcmp(buffer, before, sizeof buffer) == 0, "parse: what has no room is written");
+    }
+    for (i = 0; i < GUARD; i++) check(buffer[i] == guard && buffer[GUARD + room + i] == guard, "parse: a word beside the buffer");
+}
+
+static void TEST(parsed)(const char *text, size_t numbers, const NUMBER *wanted, size_t wanted_len)
+{
+    SET set = {NULL, 77};
+    TEST(parsed_with_room)(text, numbers, wanted, wanted_len, numbers);
+    TEST(parsed_with_room)(text, numbers, wanted, wanted_len, numbers + 3);
+    if (numbers > 0) TEST(parsed_with_room)(text, numbers, wanted, wanted_len, numbers - 1);
+    check(CALL(parse)(text, strlen(text), NULL, 0, &set, NULL) == (numbers > 0 ? RANGE_SET_NO_ROOM : RANGE_SET_DONE) && set.len == numbers,
+          "parse into null");
+}
+
+/* A text that isn't read, and the byte at which it stops being one of ranges. */
+static void TEST(not_parsed)(const char *text, range_set_status wanted, size_t at)
+{
+    NUMBER out[8] = {1, 2, 3, 4, 5, 6, 7, 8};
+    static const NUMBER as_was[8] = {1, 2, 3, 4, 5, 6, 7, 8};
+    SET set = {out, 77};
+    size_t fault = 99;
+    check(CALL(parse)(text, strlen(text), out, 8, &set, &fault) == wanted, "parse: a status");
+    check(fault == (wanted == RANGE_SET_MALFORMED ? at : 99), "parse: where the text stops being one of ranges");
+    check(CALL(parse)(text, strlen(text), out, 8, &set, NULL) == wanted, "parse with null for the fault");
+    check(set.boundaries == out && set.len == 77 && memcmp(out, as_was, sizeof out) == 0, "parse: what is refused writes");
+}
+
+/* The text of a set, against what C prints of its boundaries, and read back. */
+static void TEST(printed_by_c)(SET a)
+{
+    char wanted[24 * (POINTS + 2)] = "";
+    size_t i;
+    for (i = 0; i < a.len; i++) {
+        if (i > 0 && i % 2 == 0) strcat(wanted, ", ");
+        TEST(put_number)(wanted, a.boundaries[i]);
+        if (i % 2 == 0) strcat(wanted, "..");
+    }
+    TEST(printed)(a, wanted);
+    TEST(parsed)(wanted, a.len, a.boundaries, a.len);
+}
+
+/* Ranges in any order, empty, reversed and without an end, as a text with blanks, against a bitmap. */
+static void TEST(ranges_parsed)(const NUMBER *points, size_t n)
+{
+    char text[POINTS / 2 * 48] = "";
+    NUMBER wanted[POINTS + 1];
+    bool on[POINTS + 1] = {false};
+    size_t count = random_below(POINTS / 2), numbers = 0, i, p;
+    for (i = 0; i < count; i++) {
+        size_t from = random_below((unsigned)n), to = random_below((unsigned)n);
+        if (random_below(6) == 0) to = n;
+        if (i > 0) strcat(text, ",");
+        strcat(text, random_below(2) ? " " : "\t");
+        TEST(put_number)(text, points[from]);
+        strcat(text, "..");
+        if (to < n) TEST(put_number)(text, points[to]);
+        if (random_below(2)) strcat(text, "\xc2\xa0");
+        numbers += to < n ? 2 : 1;
+        for (p = from; p < to; p++) on[p] = true;
+    }
+    TEST(parsed)(text, numbers, wanted, TEST(boundaries)(points, on, n, wanted));
+}
+
+/* The union of some sets, against the bitmaps, with room and with one number too little, between guard words. */
+static void TEST(unions)(const NUMBER *points, size_t n)
+{
+    enum { MOST_SETS = 5, GUARD = 4 };
+    const NUMBER guard = (NUMBER)0x5a5a5a5a5a5a5a5a;
+    NUMBER lists[MOST_SETS][POINTS + 1], wanted[POINTS + 1], buffer[GUARD + MOST_SETS * (POINTS + 1) + GUARD], *out = buffer + GUARD;
+    bool on[POINTS + 1] = {false};
+    SET sets[MOST_SETS], result = {NULL, 77};
+    size_t count = random_below(MOST_SETS + 1), all = 0, i, p;
+
+    for (i = 0; i < count; i++) {
+        bool of_set[POINTS + 1];
+        unsigned sparse = 1 + random_below(9);
+        for (p = 0; p < n; p++) {
+            of_set[p] = (p > 0 && of_set[p - 1]) != (random_below(sparse) == 0);
+            on[p] = on[p] || of_set[p];
+        }
+        sets[i] = TEST(set)(lists[i], TEST(boundaries)(points, of_set, n, lists[i]));
+        if (sets[i].len == 0 && random_below(2) == 0) sets[i].boundaries = NULL, sets[i].len = 3;
+        else all += sets[i].len;
+    }
+    for (i = 0; i < sizeof buffer / sizeof *buffer; i++) buffer[i] = guard;
+    check(CALL(union_all)(sets, count, out, all, &result) == RANGE_SET_DONE, "union_all: status");
+    check(TEST(is)(result, wanted, TEST(boundaries)(points, on, n, wanted)) && result.boundaries == out, "union_all: the list");
+    for (i = 0; i < GUARD; i++) check(buffer[i] == guard && out[all + i] == guard, "union_all: a word beside the buffer");
+    if (all == 0) return;
+    for (i = 0; i < sizeof buffer / sizeof *buffer; i++) buffer[i] = guard;
+    check(CALL(union_all)(sets, count, out, all - 1, &result) == RANGE_SET_NO_ROOM, "union_all with too little room: status");
+    check(result.boundaries == NULL && result.len == all && out[0] == guard, "union_all with too little room: the length");
+    check(CALL(union_all)(sets, count, lists[0], all, &result) == RANGE_SET_BAD_ARGUMENT || CALL(is_empty)(sets[0]), "union_all over a list");
+    check(CALL(union_all)(NULL, count, out, all, &result) == RANGE_SET_BAD_ARGUMENT, "union_all of null");
+    check(CALL(union_all)(sets, SIZE_MAX, out, all, &result) == RANGE_SET_BAD_ARGUMENT, "union_all of too many");
+    check(CALL(union_all)(sets, count, out, all, sets) == RANGE_SET_BAD_ARGUMENT, "union_all into the sets");
 }
 
 /* A made-up case: two bitmaps, all calls. */
@@ -185,7 +496,7 @@ static void TEST(made_up)(void)
 {
     static const NUMBER bases[] = {LEAST, LEAST + 1, LEAST + 1000, MOST - POINTS + 1};
     NUMBER points[POINTS + 1], a[POINTS + 1], b[POINTS + 1], wanted[POINTS + 1], *list, *other;
-    bool on_a[POINTS + 1], on_b[POINTS + 1], on[POINTS + 1], any = false, only = false, same = true, answer;
+    bool on_a[POINTS + 1], on_b[POINTS + 1], on[POINTS + 1], any = false, only = false, more = false, same = true;
     NUMBER base = bases[random_below(4)];
     size_t n = 0, p, a_len, b_len;
     size_t wide = 1 + random_below(POINTS);
@@ -200,263 +511,340 @@ static void TEST(made_up)(void)
         on_b[p] = (p > 0 && on_b[p - 1]) != (random_below(sparse_b) == 0);
         any = any || (on_a[p] && on_b[p]);
         only = only || (on_a[p] && !on_b[p]);
+        more = more || (!on_a[p] && on_b[p]);
         same = same && on_a[p] == on_b[p];
     }
     a_len = TEST(boundaries)(points, on_a, n, a);
     b_len = TEST(boundaries)(points, on_b, n, b);
     list = TEST(copy)(a, a_len);
     other = TEST(copy)(b, b_len);
-    o.a = list, o.a_len = a_len, o.b = other, o.b_len = b_len;
+    o.a = TEST(set)(list, a_len), o.b = TEST(set)(other, b_len);
     o.start = points[random_below((unsigned)n)], o.end = points[random_below((unsigned)n)];
-    for (o.which = 0; o.which < 8; o.which++) {
-        for (p = 0; p < n; p++) {
-            bool in_range = o.start <= points[p] && points[p] < o.end;
-            switch (o.which) {
-            case 0: on[p] = on_a[p] || on_b[p]; break;
-            case 1: on[p] = on_a[p] && on_b[p]; break;
-            case 2: on[p] = on_a[p] && !on_b[p]; break;
-            case 3: on[p] = on_a[p] != on_b[p]; break;
-            case 4: on[p] = !on_a[p]; break;
-            case 5: on[p] = on_a[p] || in_range; break;
-            case 6: on[p] = on_a[p] && !in_range; break;
-            default: on[p] = !on_a[p] && in_range; break;
-            }
-        }
+    for (o.which = 0; o.which < TEST(operations); o.which++) {
+        for (p = 0; p < n; p++) on[p] = TEST(holds)(o.which, on_a[p], on_b[p], o.start <= points[p] && points[p] < o.end);
         TEST(with_rooms)(&o, wanted, TEST(boundaries)(points, on, n, wanted));
     }
-    check(CALL(is_sorted)(list, a_len, &answer) == RANGE_SET_DONE && answer, "is_sorted");
-    check(CALL(is_empty)(list, a_len, &answer) == RANGE_SET_DONE && answer == (a_len == 0), "is_empty");
-    check(CALL(intersects)(list, a_len, other, b_len, &answer) == RANGE_SET_DONE && answer == any, "intersects");
-    check(CALL(is_disjoint)(list, a_len, other, b_len, &answer) == RANGE_SET_DONE && answer == !any, "is_disjoint");
-    check(CALL(is_subset)(list, a_len, other, b_len, &answer) == RANGE_SET_DONE && answer == !only, "is_subset");
-    check(CALL(equal)(list, a_len, other, b_len, &answer) == RANGE_SET_DONE && answer == same, "equal");
-    for (p = 0; p < n; p++)
-        check(CALL(contains)(list, a_len, points[p], &answer) == RANGE_SET_DONE && answer == on_a[p], "contains");
-    TEST(split_at)(list, a_len, points, on_a, n);
-    TEST(points_of)(list, a_len, points, on_a, n);
-    TEST(whole_ranges)(list, a_len, points, on_a, n);
+    check(CALL(is_empty)(o.a) == (a_len == 0), "is_empty");
+    check(CALL(is_all)(o.a) == (a_len == 1 && a[0] == LEAST), "is_all");
+    check(CALL(intersects)(o.a, o.b) == any, "intersects");
+    check(CALL(is_disjoint)(o.a, o.b) == !any, "is_disjoint");
+    check(CALL(is_subset)(o.a, o.b) == !only, "is_subset");
+    check(CALL(is_superset)(o.a, o.b) == !more, "is_superset");
+    check(CALL(equal)(o.a, o.b) == same, "equal");
+    for (p = 0; p < n; p++) check(CALL(contains)(o.a, points[p]) == on_a[p], "contains");
+    TEST(split_at)(o.a, points, on_a, n);
+    TEST(parts_of)(o.a, points, on_a, n);
+    TEST(whole_ranges)(o.a, points, on_a, n);
+    TEST(fits)(o.a, points, on_a, n);
+    TEST(unions)(points, n);
+    TEST(printed_by_c)(o.a);
+    TEST(ranges_parsed)(points, n);
     TEST(shuffled)(points, n);
     TEST(ranges_shuffled)(points, n);
     free(list);
     free(other);
 }
 
+/* An owned set through some changes, against a bitmap, where each request for memory may be refused: then it is as it was. */
+static void TEST(owned)(void)
+{
+    struct memory memory = {0, 0};
+    const range_set_allocator allocator = {take, take_more, give_back, &memory};
+    NUMBER points[POINTS], list[POINTS], wanted[POINTS];
+    bool on[POINTS] = {false}, next[POINTS];
+    size_t p, from, to, steps;
+    OWNED owned;
+
+    for (p = 0; p < POINTS; p++) points[p] = LEAST + (NUMBER)p;
+    CALL(owned_init)(&owned, &allocator);
+    check(CALL(is_empty)(owned.in.set) && memory.out == 0, "an owned set begins without members and memory");
+    for (steps = 0; steps < 20; steps++) {
+        unsigned which = random_below(7);
+        range_set_status status;
+        SET other;
+        memory.left = (long)random_below(3);
+        from = random_below(POINTS), to = random_below(POINTS);
+        for (p = 0; p < POINTS; p++) next[p] = p >= from && p < to && (p % 3) != 0;
+        other = TEST(set)(list, TEST(boundaries)(points, next, POINTS, list));
+        for (p = 0; p < POINTS; p++) {
+            bool in_range = from <= p && p < to;
+            next[p] = which == 0 ? on[p] || in_range : which == 1 ? on[p] && !in_range : which == 2 ? next[p] : which == 3 ? on[p]
+                      : TEST(holds)(which == 4 ? RANGE_SET_UNION : which == 5 ? RANGE_SET_DIFFERENCE : RANGE_SET_SYMMETRIC_DIFFERENCE,
+                                    on[p], next[p], false);
+        }
+        switch (which) {
+        case 0: status = CALL(owned_insert)(&owned, points[from], points[to]); break;
+        case 1: status = CALL(owned_remove)(&owned, points[from], points[to]); break;
+        case 2: status = CALL(owned_assign)(&owned, other); break;
+        case 3: status = CALL(owned_reserve)(&owned, from); break;
+        case 4: status = CALL(owned_combine)(&owned, other, RANGE_SET_UNION); break;
+        case 5: status = CALL(owned_combine)(&owned, other, RANGE_SET_DIFFERENCE); break;
+        default: status = CALL(owned_combine)(&owned, other, RANGE_SET_SYMMETRIC_DIFFERENCE); break;
+        }
+        check(status == RANGE_SET_DONE || (status == RANGE_SET_NO_MEMORY && memory.left < 0), "owned: status");
+        if (status == RANGE_SET_DONE) memcpy(on, next, sizeof on);
+        check(TEST(is)(owned.in.set, wanted, TEST(boundaries)(points, on, POINTS, wanted)), "owned: the set");
+        check(memory.out == owned.in.room * sizeof(NUMBER), "owned: the memory that it has");
+        check(which != 3 || status != RANGE_SET_DONE || owned.in.room >= from, "owned: the room");
+    }
+    memory.left = 1;
+    check(CALL(owned_combine)(&owned, owned.in.set, RANGE_SET_SYMMETRIC_DIFFERENCE) == RANGE_SET_DONE, "owned: with itself");
+    check(owned.in.set.len == 0, "owned: a set without itself has no member");
+    CALL(owned_free)(&owned);
+    check(memory.out == 0 && CALL(is_empty)(owned.in.set), "owned: what is freed has no memory");
+    check(CALL(owned_reserve)(&owned, SIZE_MAX) == RANGE_SET_NO_MEMORY, "owned: more room than there is");
+    CALL(owned_free)(&owned);
+}
+
+/* An owned set by malloc, with many ranges. */
+static void TEST(owned_many)(void)
+{
+    OWNED owned;
+    size_t p;
+    CALL(owned_init)(&owned, NULL);
+    for (p = 0; p < 1000; p++)
+        check(CALL(owned_insert)(&owned, (NUMBER)(3 * p), (NUMBER)(3 * p + 1)) == RANGE_SET_DONE, "owned: by malloc");
+    check(CALL(ranges_len)(owned.in.set) == 1000, "owned: many ranges");
+    check(CALL(owned_insert)(&owned, 0, 3000) == RANGE_SET_DONE && CALL(ranges_len)(owned.in.set) == 1, "owned: all joined");
+    CALL(owned_free)(&owned);
+}
+
 /* Rows with their answers written out. */
 static void TEST(rows)(void)
 {
-    static const NUMBER a[] = {0, 10}, b[] = {5, 20}, open[] = {20}, least[] = {LEAST}, in_two[] = {10, 10};
+    static const NUMBER a[] = {0, 10}, b[] = {5, 20}, open[] = {20}, least[] = {LEAST};
     static const NUMBER unions[] = {0, 20}, both[] = {5, 10}, left[] = {0, 5}, one_of[] = {0, 5, 10, 20}, with_open[] = {0, 10, 20};
     static const NUMBER not_open[] = {LEAST, 20}, put_in[] = {0, 10, 12, 14}, cut[] = {0, 3, 7, 10};
-    static const NUMBER both_ways[] = {LEAST, MOST}, gap[] = {10, 20}, around[] = {3, 5, 20, 25};
-    NUMBER start = 77, end = 78, mixed[] = {7, 5, 7, MOST, LEAST, 5};
-    NUMBER ranges[] = {20, 30, 9, 9, 0, 10, 8, 4, 10, 12, 25, MOST};
+    static const NUMBER both_ways[] = {LEAST, MOST}, gap[] = {10, 20}, around[] = {3, 5, 20, 25}, below[] = {LEAST, 0, 20}, *neither = LEAST == 0 ? below + 2 : below;
+    NUMBER mixed[] = {7, 5, 7, MOST, LEAST, 5}, ranges[] = {20, 30, 9, 9, 0, 10, 8, 4, 10, 12, 25, MOST};
+    const NUMBER mixed_set[] = {LEAST, 5, 7, MOST}, ranges_set[] = {0, 12, 20, MOST};
+    const SET nothing = {NULL, 0}, null_and_long = {NULL, 5};
+    SET in_a = TEST(set)(a, 2), in_b = TEST(set)(b, 2), in_open = TEST(set)(open, 1), set = {NULL, 77}, part = {NULL, 77};
+    RANGE it = {77, 78, true};
     struct TEST(operation) o;
     uint64_t count = 77;
-    size_t written = 77;
-    bool answer = true, has_end = true;
 
-    o.a = a, o.a_len = 2, o.b = b, o.b_len = 2, o.start = 0, o.end = 0;
-    o.which = 0, TEST(with_rooms)(&o, unions, 2);
-    o.which = 1, TEST(with_rooms)(&o, both, 2);
-    o.which = 2, TEST(with_rooms)(&o, left, 2);
-    o.which = 3, TEST(with_rooms)(&o, one_of, 4);
-    o.b = open, o.b_len = 1, o.which = 0, TEST(with_rooms)(&o, with_open, 3);
-    o.b = NULL, o.b_len = 0, o.which = 0, TEST(with_rooms)(&o, a, 2);
-    o.b = a, o.b_len = 2, o.which = 3, TEST(with_rooms)(&o, NULL, 0);
-    o.start = 12, o.end = 14, o.which = 5, TEST(with_rooms)(&o, put_in, 4);
-    o.start = 14, o.end = 12, o.which = 5, TEST(with_rooms)(&o, a, 2);
-    o.start = 3, o.end = 7, o.which = 6, TEST(with_rooms)(&o, cut, 4);
-    o.start = LEAST, o.end = MOST, o.which = 6, TEST(with_rooms)(&o, NULL, 0);
-    o.start = 5, o.end = 20, o.which = 7, TEST(with_rooms)(&o, gap, 2);
-    o.start = 20, o.end = 5, o.which = 7, TEST(with_rooms)(&o, NULL, 0);
-    o.a = b, o.start = 3, o.end = 25, o.which = 7, TEST(with_rooms)(&o, around, 4);
-    o.a = open, o.a_len = 1, o.which = 4, TEST(with_rooms)(&o, not_open, 2);
-    o.a = NULL, o.a_len = 0, o.which = 4, TEST(with_rooms)(&o, least, 1);
-    o.a = least, o.a_len = 1, o.which = 4, TEST(with_rooms)(&o, NULL, 0);
-    check(CALL(is_sorted)(in_two, 2, &answer) == RANGE_SET_DONE && !answer, "is_sorted of a repeated number");
-    check(CALL(is_empty)(NULL, 0, &answer) == RANGE_SET_DONE && answer, "is_empty of a null pointer with length 0");
-    check(CALL(contains)(NULL, 0, 1, &answer) == RANGE_SET_DONE && !answer, "contains of a null pointer with length 0");
-    check(CALL(contains_range)(a, 2, 3, 10, &answer) == RANGE_SET_DONE && answer, "contains_range up to the end");
-    check(CALL(contains_range)(a, 2, 3, 11, &answer) == RANGE_SET_DONE && !answer, "contains_range past the end");
-    check(CALL(contains_range)(NULL, 0, 3, 3, &answer) == RANGE_SET_DONE && answer, "contains_range of no number");
-    check(CALL(range_at)(a, 2, 9, &answer, &start, &end, &has_end) == RANGE_SET_DONE && answer && has_end && start == 0 && end == 10, "range_at");
-    end = 78;
-    check(CALL(range_at)(open, 1, MOST, &answer, &start, &end, &has_end) == RANGE_SET_DONE && answer && !has_end && start == 20 && end == 78, "range_at without an end");
-    check(CALL(range_at)(a, 2, 10, &answer, &start, &end, &has_end) == RANGE_SET_DONE && !answer && start == 20, "range_at of no member");
-    check(CALL(covered)(a, 2, &count) == RANGE_SET_DONE && count == 10, "covered");
-    check(CALL(covered)(both_ways, 2, &count) == RANGE_SET_DONE && count == UINT64_MAX, "covered of all but the greatest number");
-    check(CALL(covered)(NULL, 0, &count) == RANGE_SET_DONE && count == 0, "covered of a null pointer with length 0");
-    check(CALL(covered)(open, 1, &count) == RANGE_SET_NO_END && count == 0, "covered without an end");
-    check(CALL(covered)(in_two, 2, &count) == RANGE_SET_NOT_SORTED && count == 0, "covered of a repeated number");
-    check(CALL(from_unsorted)(mixed, 6, &written) == RANGE_SET_DONE && written == 4, "from_unsorted: length");
-    check(mixed[0] == LEAST && mixed[1] == 5 && mixed[2] == 7 && mixed[3] == MOST, "from_unsorted: the list");
-    check(CALL(from_unsorted)(NULL, 0, &written) == RANGE_SET_DONE && written == 0, "from_unsorted of a null pointer with length 0");
-    check(CALL(from_ranges)(ranges, 6, &written) == RANGE_SET_DONE && written == 4, "from_ranges: length");
-    check(ranges[0] == 0 && ranges[1] == 12 && ranges[2] == 20 && ranges[3] == MOST, "from_ranges: the list");
-    check(CALL(from_ranges)(NULL, 0, &written) == RANGE_SET_DONE && written == 0, "from_ranges of a null pointer with length 0");
+    o.a = in_a, o.b = in_b, o.start = 0, o.end = 0;
+    o.which = RANGE_SET_UNION, TEST(with_rooms)(&o, unions, 2);
+    o.which = RANGE_SET_INTERSECTION, TEST(with_rooms)(&o, both, 2);
+    o.which = RANGE_SET_DIFFERENCE, TEST(with_rooms)(&o, left, 2);
+    o.which = RANGE_SET_SYMMETRIC_DIFFERENCE, TEST(with_rooms)(&o, one_of, 4);
+    o.which = RANGE_SET_RIGHT, TEST(with_rooms)(&o, gap, 2);
+    o.which = 0, TEST(with_rooms)(&o, NULL, 0);
+    o.which = RANGE_SET_NEITHER, TEST(with_rooms)(&o, neither, LEAST == 0 ? 1 : 3);
+    o.which = RANGE_SET_NEITHER | RANGE_SET_UNION, TEST(with_rooms)(&o, least, 1);
+    o.b = in_open, o.which = RANGE_SET_UNION, TEST(with_rooms)(&o, with_open, 3);
+    o.b = nothing, TEST(with_rooms)(&o, a, 2);
+    o.b = null_and_long, TEST(with_rooms)(&o, a, 2);
+    o.b = in_a, o.which = RANGE_SET_SYMMETRIC_DIFFERENCE, TEST(with_rooms)(&o, NULL, 0);
+    o.start = 5, o.end = 20, o.which = 17, TEST(with_rooms)(&o, gap, 2);
+    o.start = 20, o.end = 5, o.which = 17, TEST(with_rooms)(&o, NULL, 0);
+    o.start = 12, o.end = 14, o.which = 18, TEST(with_rooms)(&o, put_in, 4);
+    o.start = 14, o.end = 12, o.which = 18, TEST(with_rooms)(&o, a, 2);
+    o.start = 3, o.end = 7, o.which = 19, TEST(with_rooms)(&o, cut, 4);
+    o.start = LEAST, o.end = MOST, o.which = 19, TEST(with_rooms)(&o, NULL, 0);
+    o.a = in_b, o.start = 3, o.end = 25, o.which = 17, TEST(with_rooms)(&o, around, 4);
+    o.a = in_open, o.which = 16, TEST(with_rooms)(&o, not_open, 2);
+    o.a = nothing, o.which = 16, TEST(with_rooms)(&o, least, 1);
+    o.a = null_and_long, o.which = 16, TEST(with_rooms)(&o, least, 1);
+    o.a = TEST(set)(least, 1), o.which = 16, TEST(with_rooms)(&o, NULL, 0);
+    check(CALL(view)(NULL, 0, &set) == RANGE_SET_DONE && set.len == 0, "view of a null pointer with length 0");
+    check(CALL(is_empty)(nothing) && CALL(is_empty)(null_and_long) && !CALL(is_empty)(in_a), "is_empty");
+    check(CALL(is_all)(o.a) && !CALL(is_all)(nothing) && !CALL(is_all)(TEST(set)(both_ways, 2)), "is_all");
+    check(!CALL(contains)(nothing, 1) && !CALL(contains)(null_and_long, 1), "contains of the empty set");
+    check(CALL(contains)(in_a, 9) && !CALL(contains)(in_a, 10) && CALL(contains)(in_open, MOST), "contains");
+    check(CALL(contains_range)(in_a, 3, 10) && !CALL(contains_range)(in_a, 3, 11), "contains_range at the end");
+    check(CALL(contains_range)(nothing, 3, 3) && !CALL(contains_range)(nothing, 3, 4), "contains_range of the empty set");
+    check(CALL(range_at)(in_a, 9, &it) && it.has_end && it.start == 0 && it.end == 10, "range_at");
+    it.end = 78;
+    check(CALL(range_at)(in_open, MOST, &it) && !it.has_end && it.start == 20 && it.end == 78, "range_at without an end");
+    check(!CALL(range_at)(in_a, 10, &it) && it.start == 20, "range_at of no member");
+    check(CALL(ranges_len)(in_a) == 1 && CALL(ranges_len)(in_open) == 1 && CALL(ranges_len)(nothing) == 0, "ranges_len");
+    check(CALL(covered)(in_a, &count) && count == 10, "covered");
+    check(CALL(covered)(TEST(set)(both_ways, 2), &count) && count == (uint64_t)MOST - (uint64_t)LEAST, "covered of all but the greatest number");
+    check(CALL(covered)(null_and_long, &count) && count == 0, "covered of the empty set");
+    check(!CALL(covered)(in_open, &count) && count == 0, "covered without an end");
+    CALL(split)(null_and_long, 5, &set, &part);
+    check(CALL(is_empty)(set) && CALL(is_empty)(part), "split of the empty set");
+    check(CALL(is_superset)(in_a, nothing) && !CALL(is_superset)(nothing, in_a), "is_superset of the empty set");
+    check(CALL(union_len)(in_a, in_b) == 2 && CALL(intersection_len)(in_a, in_b) == 2, "the lengths of union and intersection");
+    check(CALL(difference_len)(in_a, in_b) == 2 && CALL(symmetric_difference_len)(in_a, in_b) == 4, "the lengths of the differences");
+    check(CALL(from_unsorted)(mixed, 6, &set) == RANGE_SET_DONE && TEST(is)(set, mixed_set, 4), "from_unsorted");
+    check(CALL(from_unsorted)(NULL, 0, &set) == RANGE_SET_DONE && set.len == 0, "from_unsorted of a null pointer with length 0");
+    check(CALL(from_ranges)(ranges, 6, &set) == RANGE_SET_DONE && TEST(is)(set, ranges_set, 4), "from_ranges");
+    check(CALL(from_ranges)(NULL, 0, &set) == RANGE_SET_DONE && set.len == 0, "from_ranges of a null pointer with length 0");
 }
 
-/* With a list that is none, each call that goes over it leaves all as it was. */
-static void TEST(refuses)(const NUMBER *a, size_t a_len, const NUMBER *b, size_t b_len, bool left_is_bad, range_set_status wanted)
+/* Each call that makes a set of a list leaves all as it was where the list is none, or isn't sorted. */
+static void TEST(bad_lists)(void)
 {
-    NUMBER out[8] = {1, 2, 3, 4, 5, 6, 7, 8};
-    static const NUMBER as_was[8] = {1, 2, 3, 4, 5, 6, 7, 8};
-    size_t written = 77;
-    bool answer = true;
-    struct TEST(operation) o;
-    o.a = a, o.a_len = a_len, o.b = b, o.b_len = b_len, o.start = 1, o.end = 2;
-    for (o.which = 0; o.which < (left_is_bad ? 8 : 4); o.which++) {
-        check(TEST(run)(&o, out, 8, &written) == wanted, "status of a bad list");
-        check(written == 77 && memcmp(out, as_was, sizeof out) == 0, "a bad list writes");
-        if (o.which < 4) check(TEST(run_len)(&o, &written) == wanted && written == 77, "length of a bad list");
-    }
-    check(CALL(is_disjoint)(a, a_len, b, b_len, &answer) == wanted && answer, "is_disjoint of a bad list");
-    check(CALL(intersects)(a, a_len, b, b_len, &answer) == wanted && answer, "intersects of a bad list");
-    check(CALL(is_subset)(a, a_len, b, b_len, &answer) == wanted && answer, "is_subset of a bad list");
-    check(CALL(equal)(a, a_len, b, b_len, &answer) == wanted && answer, "equal of a bad list");
+    static const NUMBER good[] = {1, 2}, turned[] = {3, 2}, repeated[] = {3, 3};
+    NUMBER list[] = {1, 2, 3, 4};
+    SET set = {good, 77}, *in_list = (SET *)(void *)list;
+    check(CALL(view)(turned, 2, &set) == RANGE_SET_NOT_SORTED, "view of a list in the other order");
+    check(CALL(view)(repeated, 2, &set) == RANGE_SET_NOT_SORTED, "view of a repeated number");
+    check(CALL(view)(NULL, 1, &set) == RANGE_SET_BAD_ARGUMENT, "view of null");
+    check(CALL(view)(good, SIZE_MAX, &set) == RANGE_SET_BAD_ARGUMENT, "view of too many");
+    check(CALL(view)(good, SIZE_MAX / sizeof *good + 3, &set) == RANGE_SET_BAD_ARGUMENT, "view of a length that wraps");
+    check(CALL(view)(good, 2, NULL) == RANGE_SET_BAD_ARGUMENT, "view into null");
+    check(CALL(view)(list, 4, in_list) == RANGE_SET_BAD_ARGUMENT, "view into the list");
+    check(CALL(from_unsorted)(NULL, 1, &set) == RANGE_SET_BAD_ARGUMENT, "from_unsorted of null");
+    check(CALL(from_unsorted)(list, 4, NULL) == RANGE_SET_BAD_ARGUMENT, "from_unsorted into null");
+    check(CALL(from_unsorted)(list, SIZE_MAX, &set) == RANGE_SET_BAD_ARGUMENT, "from_unsorted of too many");
+    check(CALL(from_unsorted)(list, 4, in_list) == RANGE_SET_BAD_ARGUMENT, "from_unsorted into the list");
+    check(CALL(from_ranges)(NULL, 1, &set) == RANGE_SET_BAD_ARGUMENT, "from_ranges of null");
+    check(CALL(from_ranges)(list, 2, NULL) == RANGE_SET_BAD_ARGUMENT, "from_ranges into null");
+    check(CALL(from_ranges)(list, SIZE_MAX, &set) == RANGE_SET_BAD_ARGUMENT, "from_ranges of too many");
+    check(CALL(from_ranges)(list, SIZE_MAX / 2 + 3, &set) == RANGE_SET_BAD_ARGUMENT, "from_ranges of twice too many");
+    check(CALL(from_ranges)(list, 2, in_list) == RANGE_SET_BAD_ARGUMENT, "from_ranges into the list");
+    check(set.boundaries == good && set.len == 77, "what is refused writes a set");
+    check(list[0] == 1 && list[1] == 2 && list[2] == 3 && list[3] == 4, "what is refused changes the list");
 }
 
-/* One question of two sets, by number. */
-static range_set_status TEST(ask)(const struct TEST(operation) *o, bool *answer)
-{
-    switch (o->which) {
-    case 0: return CALL(is_disjoint)(o->a, o->a_len, o->b, o->b_len, answer);
-    case 1: return CALL(intersects)(o->a, o->a_len, o->b, o->b_len, answer);
-    case 2: return CALL(is_subset)(o->a, o->a_len, o->b, o->b_len, answer);
-    default: return CALL(equal)(o->a, o->a_len, o->b, o->b_len, answer);
-    }
-}
-
-/* A call of two lists whose result lies nowhere, or in a list or in the buffer. */
-static void TEST(bad_places_of_two)(const struct TEST(operation) *o, NUMBER *left, NUMBER *right, NUMBER *out)
-{
-    size_t n = 77;
-    check(TEST(run)(o, right, 2, &n) == RANGE_SET_BAD_POINTER && n == 77, "the buffer over the right list");
-    check(TEST(run)(o, out, 8, (size_t *)(right + 1)) == RANGE_SET_BAD_POINTER, "the length in the right list");
-    check(TEST(run_len)(o, NULL) == RANGE_SET_BAD_POINTER, "a length into null");
-    check(TEST(run_len)(o, (size_t *)left) == RANGE_SET_BAD_POINTER, "a length into the left list");
-    check(TEST(run_len)(o, (size_t *)(right + 1)) == RANGE_SET_BAD_POINTER, "a length into the right list");
-    check(TEST(ask)(o, NULL) == RANGE_SET_BAD_POINTER, "a question into null");
-    check(TEST(ask)(o, (bool *)(left + 1)) == RANGE_SET_BAD_POINTER, "a question into the left list");
-    check(TEST(ask)(o, (bool *)right) == RANGE_SET_BAD_POINTER, "a question into the right list");
-}
-
-/* A call of one list whose result lies nowhere or in the list. */
-static void TEST(bad_places_of_one)(NUMBER *a)
-{
-    NUMBER start = 77, end = 77;
-    bool *in_list = (bool *)(a + 1), answer = true, has_end = true;
-    size_t n = 77;
-    check(CALL(is_sorted)(a, 2, in_list) == RANGE_SET_BAD_POINTER, "is_sorted into the list");
-    check(CALL(is_empty)(a, 2, NULL) == RANGE_SET_BAD_POINTER, "is_empty into null");
-    check(CALL(is_empty)(a, 2, in_list) == RANGE_SET_BAD_POINTER, "is_empty into the list");
-    check(CALL(contains)(a, 2, 1, NULL) == RANGE_SET_BAD_POINTER, "contains into null");
-    check(CALL(contains)(a, 2, 1, in_list) == RANGE_SET_BAD_POINTER, "contains into the list");
-    check(CALL(contains_range)(a, 2, 1, 2, in_list) == RANGE_SET_BAD_POINTER, "contains_range into the list");
-    check(CALL(covered)(a, 2, (uint64_t *)a) == RANGE_SET_BAD_POINTER, "covered into the list");
-    check(CALL(split)(a, 2, 1, NULL, &n) == RANGE_SET_BAD_POINTER && n == 77, "split into null on the left");
-    check(CALL(split)(a, 2, 1, &n, NULL) == RANGE_SET_BAD_POINTER && n == 77, "split into null on the right");
-    check(CALL(split)(a, 2, 1, (size_t *)a, &n) == RANGE_SET_BAD_POINTER && n == 77, "split into the list on the left");
-    check(CALL(split)(a, 2, 1, &n, (size_t *)a) == RANGE_SET_BAD_POINTER && n == 77, "split into the list on the right");
-    check(CALL(range_at)(a, 2, 1, NULL, &start, &end, &has_end) == RANGE_SET_BAD_POINTER, "range_at: null for the answer");
-    check(CALL(range_at)(a, 2, 1, &answer, &start, NULL, &has_end) == RANGE_SET_BAD_POINTER, "range_at: null for the end");
-    check(CALL(range_at)(a, 2, 1, &answer, &start, &end, NULL) == RANGE_SET_BAD_POINTER, "range_at: null for whether it has one");
-    check(CALL(range_at)(a, 2, 1, in_list, &start, &end, &has_end) == RANGE_SET_BAD_POINTER, "range_at: the answer in the list");
-    check(CALL(range_at)(a, 2, 1, &answer, &start, a, &has_end) == RANGE_SET_BAD_POINTER, "range_at: the end in the list");
-    check(CALL(range_at)(a, 2, 1, &answer, &start, &end, in_list) == RANGE_SET_BAD_POINTER, "range_at: whether it has one in the list");
-    check(start == 77 && end == 77 && answer && has_end, "range_at writes what it refuses");
-}
-
-/* With a result that lies nowhere, or in what a call reads or writes beside it, each call leaves all as it was. */
+/* With a buffer or a result that lies nowhere, or in what a call reads or writes beside it, each call leaves all as it was. */
 static void TEST(bad_places)(void)
 {
-    NUMBER left[] = {1, 2}, right[] = {1, 2}, out[8] = {1, 2, 3, 4, 5, 6, 7, 8};
+    NUMBER lists[2][8] = {{1, 2}, {1, 2}}, out[8] = {1, 2, 3, 4, 5, 6, 7, 8}, *left = lists[0], *right = lists[1];
     static const NUMBER as_was[8] = {1, 2, 3, 4, 5, 6, 7, 8};
-    size_t n = 77;
+    SET result = {NULL, 77};
     struct TEST(operation) o;
-    o.a = left, o.a_len = 2, o.b = right, o.b_len = 2, o.start = 1, o.end = 2;
-    for (o.which = 0; o.which < 8; o.which++) {
-        check(TEST(run)(&o, NULL, 1, &n) == RANGE_SET_BAD_POINTER && n == 77, "null for the buffer");
-        check(TEST(run)(&o, out, 8, NULL) == RANGE_SET_BAD_POINTER, "null for the length");
-        check(TEST(run)(&o, left, 2, &n) == RANGE_SET_BAD_POINTER && n == 77, "the buffer over the left list");
-        check(TEST(run)(&o, out, 8, (size_t *)(left + 1)) == RANGE_SET_BAD_POINTER, "the length in the left list");
-        check(TEST(run)(&o, out, 8, (size_t *)(out + 7)) == RANGE_SET_BAD_POINTER, "the length in the buffer");
-        if (o.which < 4) TEST(bad_places_of_two)(&o, left, right, out);
+    o.a = TEST(set)(left, 2), o.b = TEST(set)(right, 2), o.start = 1, o.end = 2;
+    for (o.which = 0; o.which < TEST(first_in_place); o.which++) {
+        check(TEST(run)(&o, NULL, 1, &result) == RANGE_SET_BAD_ARGUMENT, "null for the buffer");
+        check(TEST(run)(&o, out, SIZE_MAX, &result) == RANGE_SET_BAD_ARGUMENT, "a buffer that is too long");
+        check(TEST(run)(&o, out, 8, NULL) == RANGE_SET_BAD_ARGUMENT, "null for the result");
+        check(TEST(run)(&o, left, 2, &result) == RANGE_SET_BAD_ARGUMENT, "the buffer over the left list");
+        check(TEST(run)(&o, left + 1, 1, &result) == RANGE_SET_BAD_ARGUMENT, "the buffer over half of the left list");
+        check(TEST(run)(&o, out, 8, (SET *)(void *)left) == RANGE_SET_BAD_ARGUMENT, "the result in the left list");
+        check(TEST(run)(&o, out, 8, (SET *)(void *)(out + 4)) == RANGE_SET_BAD_ARGUMENT, "the result in the buffer");
+        if (o.which >= 16) continue;
+        check(TEST(run)(&o, right + 1, 2, &result) == RANGE_SET_BAD_ARGUMENT, "the buffer over the right list");
+        check(TEST(run)(&o, out, 8, (SET *)(void *)right) == RANGE_SET_BAD_ARGUMENT, "the result in the right list");
     }
-    TEST(bad_places_of_one)(left);
-    check(memcmp(out, as_was, sizeof out) == 0 && memcmp(left, as_was, sizeof left) == 0 && memcmp(right, as_was, sizeof right) == 0,
+    check(CALL(union)(o.a, o.b, left + 6, 3, &result) == RANGE_SET_BAD_ARGUMENT, "the buffer begins before the right list");
+    check(result.boundaries == NULL && result.len == 77, "what is refused writes the result");
+    check(memcmp(out, as_was, sizeof out) == 0 && memcmp(left, as_was, 2 * sizeof *left) == 0 && memcmp(right, as_was, 2 * sizeof *right) == 0,
           "what is refused is written");
+    check(CALL(union)(o.a, o.b, left + 2, 2, &result) == RANGE_SET_DONE && TEST(is)(result, as_was, 2), "the buffer beside a list");
+    check(CALL(union)(o.a, o.b, left + 2, 2, &o.a) == RANGE_SET_DONE && TEST(is)(o.a, as_was, 2), "the result in the place of a set");
 }
 
-static void TEST(bad_input)(void)
+/* What is no buffer, or none with a set at its front, is refused by each call in place, and left as it was. */
+static void TEST(bad_buffers)(void)
 {
-    const NUMBER good[] = {1, 2}, turned[] = {3, 2}, repeated[] = {3, 3};
-    NUMBER list[] = {1, 2, 3, 4}, start = 77, end = 77;
-    size_t n = 77, m = 77;
-    uint64_t count = 77;
-    bool answer = true, has_end = true;
+    NUMBER items[16] = {1, 2, 9, 9}, *last = items + 14;
+    const BUFFER good = CALL(buffer_of)(items, 4);
+    BUFFER it = good, *inside = (BUFFER *)(void *)items;
+    int which;
 
-    TEST(refuses)(turned, 2, good, 2, true, RANGE_SET_NOT_SORTED);
-    TEST(refuses)(good, 2, turned, 2, false, RANGE_SET_NOT_SORTED);
-    TEST(refuses)(repeated, 2, good, 2, true, RANGE_SET_NOT_SORTED);
-    TEST(refuses)(good, 2, repeated, 2, false, RANGE_SET_NOT_SORTED);
-    TEST(refuses)(NULL, 1, NULL, 0, true, RANGE_SET_BAD_POINTER);
-    TEST(refuses)(good, 2, NULL, 1, false, RANGE_SET_BAD_POINTER);
-    TEST(refuses)(good, 2, good, SIZE_MAX, false, RANGE_SET_BAD_POINTER);
-    TEST(refuses)(NULL, (size_t)1 << 60, NULL, 0, true, RANGE_SET_BAD_POINTER);
-    TEST(refuses)(NULL, SIZE_MAX, NULL, SIZE_MAX, true, RANGE_SET_BAD_POINTER);
-    TEST(refuses)(good, SIZE_MAX, good, 2, true, RANGE_SET_BAD_POINTER);
-    check(CALL(union)(NULL, 0, NULL, (size_t)1 << 60, list, 4, &n) == RANGE_SET_BAD_POINTER, "null on the right");
-    check(CALL(union)(good, 2, good, 2, NULL, 1, &n) == RANGE_SET_BAD_POINTER, "null for the buffer");
-    check(CALL(union)(good, 2, good, 2, list, 4, NULL) == RANGE_SET_BAD_POINTER, "null for the length");
-    check(CALL(union)(list, 2, good, 2, list, 4, &n) == RANGE_SET_BAD_POINTER, "the buffer over the left list");
-    check(CALL(union)(good, 2, list + 3, 1, list, 4, &n) == RANGE_SET_BAD_POINTER, "the buffer over the right list");
-    check(CALL(union)(list, 2, good, 2, list + 1, 2, &n) == RANGE_SET_BAD_POINTER, "the buffer over half of a list");
-    check(CALL(union)(list, 2, good, 2, list + 2, 2, &n) == RANGE_SET_DONE && n == 2, "the buffer beside a list");
-    check(CALL(is_sorted)(NULL, 1, &answer) == RANGE_SET_BAD_POINTER && answer, "is_sorted of null");
-    check(CALL(is_sorted)(good, 2, NULL) == RANGE_SET_BAD_POINTER, "is_sorted into null");
-    check(CALL(contains)(NULL, 1, 1, &answer) == RANGE_SET_BAD_POINTER && answer, "contains of null");
-    check(CALL(is_empty)(NULL, 1, &answer) == RANGE_SET_BAD_POINTER && answer, "is_empty of null");
-    n = 77;
-    check(CALL(split)(NULL, 1, 1, &n, &m) == RANGE_SET_BAD_POINTER && n == 77 && m == 77, "split of null");
-    check(CALL(split)(good, 2, 1, &n, &n) == RANGE_SET_BAD_POINTER && n == 77, "split into one place");
-    check(CALL(contains_range)(NULL, 1, 1, 2, &answer) == RANGE_SET_BAD_POINTER && answer, "contains_range of null");
-    check(CALL(contains_range)(good, 2, 1, 2, NULL) == RANGE_SET_BAD_POINTER, "contains_range into null");
-    check(CALL(range_at)(NULL, 1, 1, &answer, &start, &end, &has_end) == RANGE_SET_BAD_POINTER && answer, "range_at of null");
-    check(CALL(range_at)(good, 2, 1, &answer, NULL, &end, &has_end) == RANGE_SET_BAD_POINTER && answer, "range_at into null");
-    check(CALL(range_at)(good, 2, 1, &answer, &start, &start, &has_end) == RANGE_SET_BAD_POINTER && start == 77, "range_at into one number");
-    check(CALL(range_at)(good, 2, 1, &answer, &start, &end, &answer) == RANGE_SET_BAD_POINTER && start == 77, "range_at into one truth");
-    check(CALL(range_at)(list, 2, 1, &answer, list + 1, &end, &has_end) == RANGE_SET_BAD_POINTER && list[1] == 2, "range_at into the list");
-    check(CALL(covered)(NULL, 1, &count) == RANGE_SET_BAD_POINTER && count == 77, "covered of null");
-    check(CALL(covered)(good, 2, NULL) == RANGE_SET_BAD_POINTER, "covered into null");
-    check(CALL(from_unsorted)(NULL, 1, &n) == RANGE_SET_BAD_POINTER && n == 77, "from_unsorted of null");
-    check(CALL(from_unsorted)(list, 4, NULL) == RANGE_SET_BAD_POINTER, "from_unsorted into null");
-    check(CALL(from_unsorted)(list, SIZE_MAX, &n) == RANGE_SET_BAD_POINTER && n == 77, "from_unsorted of too many");
-    check(CALL(from_ranges)(NULL, 1, &n) == RANGE_SET_BAD_POINTER && n == 77, "from_ranges of null");
-    check(CALL(from_ranges)(list, 2, NULL) == RANGE_SET_BAD_POINTER, "from_ranges into null");
-    check(CALL(from_ranges)(list, SIZE_MAX, &n) == RANGE_SET_BAD_POINTER && n == 77, "from_ranges of too many");
-    check(CALL(from_ranges)(list, ((size_t)1 << 63) + 2, &n) == RANGE_SET_BAD_POINTER && n == 77, "from_ranges of twice too many");
-    check(CALL(from_ranges)(list, 2, (size_t *)(list + 3)) == RANGE_SET_BAD_POINTER && list[3] == 2, "from_ranges into the list");
-    check(CALL(from_unsorted)(list, 4, (size_t *)(list + 1)) == RANGE_SET_BAD_POINTER && list[1] == 2, "from_unsorted into the list");
+    check(CALL(buffer_view)(items, 2, 1, &it) == RANGE_SET_BAD_ARGUMENT, "buffer_view of more than the room");
+    check(CALL(buffer_view)(items, 4, 4, &it) == RANGE_SET_NOT_SORTED, "buffer_view of a repeated number");
+    check(CALL(buffer_view)(NULL, 0, 1, &it) == RANGE_SET_BAD_ARGUMENT, "buffer_view of null");
+    check(CALL(buffer_view)(items, 2, SIZE_MAX, &it) == RANGE_SET_BAD_ARGUMENT, "buffer_view of too much room");
+    check(CALL(buffer_view)(items, 2, 4, NULL) == RANGE_SET_BAD_ARGUMENT, "buffer_view into null");
+    check(CALL(buffer_view)(items, 2, 16, inside) == RANGE_SET_BAD_ARGUMENT, "buffer_view into the items");
+    check(memcmp(&it, &good, sizeof it) == 0, "what is refused writes a buffer");
+    check(CALL(buffer_view)(items, 2, 3, &it) == RANGE_SET_DONE && TEST(is)(it.set, items, 2) && it.room == 3, "buffer_view");
+    check(CALL(buffer_view)(NULL, 0, 0, &it) == RANGE_SET_DONE && it.set.len == 0, "buffer_view of a null pointer with no room");
+    for (which = 0; which < 2; which++) {
+        range_set_status (*change)(BUFFER *, NUMBER, NUMBER) = which ? CALL(remove) : CALL(insert);
+        check(change(NULL, 1, 2) == RANGE_SET_BAD_ARGUMENT, "a null buffer");
+        it = good, it.items = NULL;
+        check(change(&it, 1, 2) == RANGE_SET_BAD_ARGUMENT, "a buffer without items");
+        it = good, it.room = SIZE_MAX;
+        check(change(&it, 1, 2) == RANGE_SET_BAD_ARGUMENT, "a buffer with too much room");
+        it = good, it.set.len = 5;
+        check(change(&it, 1, 2) == RANGE_SET_BAD_ARGUMENT, "a buffer with a set longer than its room");
+        it = good, it.set.boundaries = last;
+        check(change(&it, 1, 2) == RANGE_SET_BAD_ARGUMENT, "a buffer with a set elsewhere");
+    }
+    check(items[0] == 1 && items[1] == 2 && items[2] == 9, "what is refused changes the items");
+    check(CALL(buffer_view)(items, 2, 16, &it) == RANGE_SET_DONE, "buffer_view");
+    check(CALL(union_with)(&it, it.set) == RANGE_SET_BAD_ARGUMENT && it.set.len == 2, "a set with itself in its buffer");
+    check(CALL(combine_with)(&it, CALL(buffer_of)(NULL, 0).set, RANGE_SET_NEITHER) == RANGE_SET_BAD_ARGUMENT, "neither in a buffer");
+    check(CALL(union_with)(NULL, it.set) == RANGE_SET_BAD_ARGUMENT, "union_with a null buffer");
+    it = CALL(buffer_of)(NULL, 0);
+    check(CALL(insert)(&it, 1, 2) == RANGE_SET_NO_ROOM && it.needed == 2, "insert with no room at all");
+    check(CALL(insert)(&it, 2, 2) == RANGE_SET_DONE && CALL(remove)(&it, 1, 2) == RANGE_SET_DONE && it.set.len == 0, "no room is needed");
 }
 
-/* Searches in lists that aren't sorted answer something, and stay within the list. */
+/* Searches in a set that was made otherwise, and isn't sorted, answer something, and stay within the list. */
 static void TEST(unsorted_searches)(void)
 {
     NUMBER items[POINTS], *list;
-    size_t len = random_below(POINTS), i, left_len = 77, right_start = 77;
-    NUMBER start = 77, end = 77;
-    bool answer, has_end = false;
+    size_t len = random_below(POINTS), i;
+    SET set, below = {NULL, 77}, from = {NULL, 77};
     for (i = 0; i < len; i++) items[i] = (NUMBER)random_below(9);
     list = TEST(copy)(items, len);
+    set.boundaries = list, set.len = len;
     for (i = 0; i < 10; i++) {
-        check(CALL(contains)(list, len, (NUMBER)i, &answer) == RANGE_SET_DONE, "contains of an unsorted list");
-        check(CALL(split)(list, len, (NUMBER)i, &left_len, &right_start) == RANGE_SET_DONE, "split of an unsorted list");
-        check(left_len <= len && right_start <= len, "split of an unsorted list: places");
-        check(CALL(contains_range)(list, len, (NUMBER)i, (NUMBER)(i + 2), &answer) == RANGE_SET_DONE, "contains_range of an unsorted list");
-        check(CALL(range_at)(list, len, (NUMBER)i, &answer, &start, &end, &has_end) == RANGE_SET_DONE, "range_at of an unsorted list");
+        RANGE it = {77, 77, false};
+        CALL(split)(set, (NUMBER)i, &below, &from);
+        check(below.len <= len && from.len <= len && from.boundaries + from.len == list + len, "split of an unsorted list");
+        check(CALL(contains)(set, (NUMBER)i) == CALL(range_at)(set, (NUMBER)i, &it), "contains of an unsorted list");
+        check(!CALL(contains_range)(set, (NUMBER)(i + 2), (NUMBER)(i + 3)) || len > 0, "contains_range of an unsorted list");
     }
     free(list);
+}
+
+/* Texts of known sets, and what print refuses. */
+static void TEST(texts)(void)
+{
+    static const NUMBER items[] = {0, 10, 20}, ends[] = {LEAST, 7, MOST - 1, MOST}, all[] = {LEAST};
+    NUMBER list[] = {1, 2, 3, 4, 5, 6, 7, 8};
+    const SET nothing = {NULL, 0}, null_and_long = {NULL, SIZE_MAX}, set = {items, 3}, too_long = {items, SIZE_MAX / 16}, of_list = {list, 8};
+    SET none = {NULL, 77};
+    size_t len = 77;
+    char text[32] = "as it was";
+    TEST(printed)(TEST(set)(items, 3), "0..10, 20..");
+    TEST(printed)(TEST(set)(items, 2), "0..10");
+    TEST(printed)(nothing, "");
+    TEST(printed)(null_and_long, "");
+    TEST(printed_by_c)(TEST(set)(ends, 4));
+    TEST(printed_by_c)(TEST(set)(all, 1));
+    check(CALL(print)(set, text, 32, NULL) == RANGE_SET_BAD_ARGUMENT, "print with null for the length");
+    check(CALL(print)(set, NULL, 1, &len) == RANGE_SET_BAD_ARGUMENT, "print into null with room");
+    check(CALL(print)(set, text, SIZE_MAX, &len) == RANGE_SET_BAD_ARGUMENT, "print into too much room");
+    check(CALL(print)(too_long, text, 32, &len) == RANGE_SET_BAD_ARGUMENT, "print of a length that no array has");
+    check(CALL(print)(of_list, (char *)list, 4, &len) == RANGE_SET_BAD_ARGUMENT, "print over the list");
+    check(CALL(print)(of_list, (char *)(list + 7), 1, &len) == RANGE_SET_BAD_ARGUMENT, "print over the last boundary");
+    check(CALL(print)(of_list, text, 32, (size_t *)(void *)list) == RANGE_SET_BAD_ARGUMENT, "the length of a text in the list");
+    check(CALL(print)(set, (char *)&len, sizeof len, &len) == RANGE_SET_BAD_ARGUMENT, "the length of a text in the text");
+    TEST(parsed)("", 0, NULL, 0);
+    TEST(parsed)(" \t\n", 0, NULL, 0);
+    TEST(parsed)("0..10, 20..", 3, items, 3);
+    TEST(parsed)("20.. ,\n+4..10,0..5", 5, items, 3);
+    TEST(parsed)("0..2,3..10,1..9,20..,30..", 8, items, 3);
+    TEST(parsed)("0..010, 7..7, 9..3,20..", 7, items, 3);
+    TEST(not_parsed)("x", RANGE_SET_MALFORMED, 0);
+    TEST(not_parsed)("..5", RANGE_SET_MALFORMED, 0);
+    TEST(not_parsed)("5", RANGE_SET_MALFORMED, 1);
+    TEST(not_parsed)("0.5", RANGE_SET_MALFORMED, 2);
+    TEST(not_parsed)("1..-", RANGE_SET_MALFORMED, 4);
+    TEST(not_parsed)("0..5 6", RANGE_SET_MALFORMED, 5);
+    TEST(not_parsed)("1..2,", RANGE_SET_MALFORMED, 5);
+    TEST(not_parsed)("1..2,,3..4", RANGE_SET_MALFORMED, 5);
+    TEST(not_parsed)("1 ..2", RANGE_SET_MALFORMED, 1);
+    TEST(not_parsed)("1..\xff", RANGE_SET_MALFORMED, 3);
+    TEST(not_parsed)("x\xff", RANGE_SET_MALFORMED, 1);
+    TEST(not_parsed)("1..2\xe2\x80", RANGE_SET_MALFORMED, 4);
+    TEST(not_parsed)("1..99999999999999999999", RANGE_SET_OUT_OF_RANGE, 0);
+    TEST(not_parsed)("99999999999999999999..1,x", RANGE_SET_MALFORMED, 24);
+    if (LEAST == 0) TEST(not_parsed)("-1..5", RANGE_SET_OUT_OF_RANGE, 0);
+    check(CALL(parse)(NULL, 1, list, 8, &none, &len) == RANGE_SET_BAD_ARGUMENT, "parse of null");
+    check(CALL(parse)(text, SIZE_MAX, list, 8, &none, &len) == RANGE_SET_BAD_ARGUMENT, "parse of too much text");
+    check(CALL(parse)(text, 9, NULL, 1, &none, &len) == RANGE_SET_BAD_ARGUMENT, "parse into null with room");
+    check(CALL(parse)(text, 9, list, SIZE_MAX, &none, &len) == RANGE_SET_BAD_ARGUMENT, "parse into too much room");
+    check(CALL(parse)(text, 9, list, 8, NULL, &len) == RANGE_SET_BAD_ARGUMENT, "parse with null for the result");
+    check(CALL(parse)((char *)list, 4, list, 8, &none, &len) == RANGE_SET_BAD_ARGUMENT, "parse of a text in the buffer");
+    check(CALL(parse)(text, 9, list, 8, (SET *)(void *)list, &len) == RANGE_SET_BAD_ARGUMENT, "parse with the result in the buffer");
+    check(CALL(parse)((char *)&none, 4, list, 8, &none, &len) == RANGE_SET_BAD_ARGUMENT, "parse with the result in the text");
+    check(CALL(parse)(text, 9, list, 8, &none, (size_t *)(void *)list) == RANGE_SET_BAD_ARGUMENT, "parse with the fault in the buffer");
+    check(CALL(parse)((char *)&len, 4, list, 8, &none, &len) == RANGE_SET_BAD_ARGUMENT, "parse with the fault in the text");
+    check(CALL(parse)(text, 9, list, 8, &none, &none.len) == RANGE_SET_BAD_ARGUMENT, "parse with the fault in the result");
+    check(none.boundaries == NULL && none.len == 77, "parse: what is refused writes a set");
+    check(CALL(parse)(NULL, 0, NULL, 0, &none, NULL) == RANGE_SET_DONE && none.len == 0, "parse of a null pointer with length 0");
+    check(len == 77 && strcmp(text, "as it was") == 0 && list[0] == 1 && list[7] == 8, "print: what is refused is written");
 }
 
 /* Many numbers and many ranges, in an order made up. */
@@ -464,17 +852,18 @@ static void TEST(many)(void)
 {
     enum { MANY = 5000 };
     NUMBER *items = malloc(4 * MANY * sizeof *items);
-    size_t i, step, written = 77;
+    size_t i, step;
+    SET set = {NULL, 77};
     if (items == NULL) fail("no memory");
     for (step = 1; step <= 7919; step += 7918) {
         for (i = 0; i < 4 * MANY; i++) items[i] = (NUMBER)(i * step % MANY);
-        check(CALL(from_unsorted)(items, 4 * MANY, &written) == RANGE_SET_DONE && written == MANY, "from_unsorted of many");
+        check(CALL(from_unsorted)(items, 4 * MANY, &set) == RANGE_SET_DONE && set.len == MANY, "from_unsorted of many");
         for (i = 0; i < MANY; i++) check(items[i] == (NUMBER)i, "from_unsorted of many: the list");
         for (i = 0; i < 2 * MANY; i++) {
             items[2 * i] = (NUMBER)(4 * (i * step % MANY));
             items[2 * i + 1] = items[2 * i] + (NUMBER)(i < MANY ? 1 : 2);
         }
-        check(CALL(from_ranges)(items, 2 * MANY, &written) == RANGE_SET_DONE && written == 2 * MANY, "from_ranges of many");
+        check(CALL(from_ranges)(items, 2 * MANY, &set) == RANGE_SET_DONE && set.len == 2 * MANY, "from_ranges of many");
         for (i = 0; i < 2 * MANY; i++) check(items[i] == (NUMBER)(2 * i), "from_ranges of many: the list");
     }
     free(items);
@@ -484,9 +873,27 @@ static void TEST(all)(long cases)
 {
     long i;
     TEST(rows)();
+    TEST(texts)();
+    TEST(fits_far)();
     TEST(many)();
-    TEST(bad_input)();
+    TEST(owned_many)();
+    TEST(bad_lists)();
     TEST(bad_places)();
+    TEST(bad_buffers)();
     for (i = 0; i < cases; i++) TEST(made_up)();
+    for (i = 0; i < cases / 10; i++) TEST(owned)();
     for (i = 0; i < cases / 10; i++) TEST(unsorted_searches)();
 }
+
+#undef NUMBER
+#undef COUNT
+#undef TEXT_ROOM
+#undef LEAST
+#undef MOST
+#undef SET
+#undef RANGE
+#undef BUFFER
+#undef OWNED
+#undef CALL
+#undef TEST
+#undef IS_UNSIGNED

@@ -1,55 +1,25 @@
--- What an export answers: a status, and a list, a number or a truth that it writes.
---     done, not_sorted, no_room                the statuses
---     AnswersList order f a b old new m n s    the list that the operation f makes of a and b, written to the front of a buffer; what told its length before was m
---     AnswersLength order f a b m n s          the length of that list
---     AnswersQuestion order a b P old truth s  whether P holds of two sets
-use Rattle.std.specs.Prelude.{◌≡◌, ◌↔◌, ℕ, ◌<◌, ◌≤◌, Bool, List, length, take, drop, IsTrue}
+-- What an export answers of two sets: a list that it writes, by any of the sixteen connectives.
+--     connective_of n                       the connective with the answers that the number n tells
+--     AreAscending order a b                both lists are strictly sorted
+--     AnswersList order f a b old new n     the list that the operation f makes of a and b has n items, and stands in the buffer where that has room
+use Rattle.std.specs.Prelude.{◌≡◌, ℕ, ◌≤◌, ◌/◌, List, length, take, drop}
 use Rattle.std.specs.declared.cmp.Ordering.{Ordering}
-use Rattle.range_collections.specs.Boundaries.{IsAscending}
+use Rattle.range_collections.specs.Boundaries.{IsAscending, is_odd}
 use Rattle.range_collections.specs.Changes.{changes, taken_items}
-use Rattle.range_collections.specs.Connective.{Table, Means}
+use Rattle.range_collections.specs.Connective.{Table, Means, table_of}
 
--- the call was answered
-abbrev pub done : ℕ
-done = 0
-
--- a list isn't strictly sorted
-abbrev pub not_sorted : ℕ
-not_sorted = 1
-
--- the buffer is too short
-abbrev pub no_room : ℕ
-no_room = 2
+-- 1 stands for the left side alone, 2 for the right alone, 4 for both and 8 for neither: the connective is on where the number has its summand
+abbrev pub connective_of : ℕ → Table
+connective_of n = table_of (is_odd (n / 8)) (is_odd n) (is_odd (n / 2)) (is_odd (n / 4))
 
 module _ {K : Type 0} (order : K → K → Ordering) where
   -- both lists are strictly sorted
   abbrev pub AreAscending : List K → List K → Type 0
   AreAscending a b = IsAscending order a × IsAscending order b
 
-  -- done where both lists are strictly sorted and the buffer is long enough: then it begins with the n boundaries of the one list that the operation gives, of two equal boundaries the left's, and behind them it is as it was. Where a list isn't sorted nothing was written, and where there is no room n is the length of the list
-  pub record AnswersList (f : Table) (a b old new : List K) (before n status : ℕ) : Type 0 where
-    pub is_done : (status ≡ done) ↔ (AreAscending a b × (length (changes order f a b) ≤ length old))
-    pub is_not_sorted : (status ≡ not_sorted) ↔ (¬ (AreAscending a b))
-    pub is_no_room : (status ≡ no_room) ↔
-        (AreAscending a b × (length old < length (changes order f a b)))
-    pub means : status ≡ done → Means order f (take n new) a b
-    pub left_own_item : status ≡ done → take n new ≡ taken_items (changes order f a b)
-    pub behind : status ≡ done → drop n new ≡ drop n old
-    pub unchanged : status ≡ not_sorted → new ≡ old
-    pub not_written : status ≡ not_sorted → n ≡ before
-    pub counted : AreAscending a b → n ≡ length (changes order f a b)
-
-  -- done where both lists are strictly sorted: then n is the length of the list that the operation gives. Else it is as it was
-  pub record AnswersLength (f : Table) (a b : List K) (before n status : ℕ) : Type 0 where
-    pub is_done : (status ≡ done) ↔ AreAscending a b
-    pub is_not_sorted : (status ≡ not_sorted) ↔ (¬ (AreAscending a b))
-    pub counted : status ≡ done → n ≡ length (changes order f a b)
-    pub not_written : status ≡ not_sorted → n ≡ before
-
-  -- done where both lists are strictly sorted: then the truth is whether P. Else it is as it was
-  pub record AnswersQuestion (a b : List K) (P : Type 0) (before truth : Bool)
-      (status : ℕ) : Type 0 where
-    pub is_done : (status ≡ done) ↔ AreAscending a b
-    pub is_not_sorted : (status ≡ not_sorted) ↔ (¬ (AreAscending a b))
-    pub tells : status ≡ done → IsTrue truth ↔ P
-    pub not_written : status ≡ not_sorted → truth ≡ before
+  -- n is the length of the one list that the operation gives. Where the buffer is long enough it begins with that list, of two equal boundaries with the left's, and after the list it is as it was
+  pub record AnswersList (f : Table) (a b old new : List K) (n : ℕ) : Type 0 where
+    pub counted : n ≡ length (changes order f a b)
+    pub means : n ≤ length old → Means order f (take n new) a b
+    pub left_own_item : n ≤ length old → take n new ≡ taken_items (changes order f a b)
+    pub behind : n ≤ length old → drop n new ≡ drop n old

@@ -1,4 +1,4 @@
--- One more range behind others, of which none starts above it.
+-- One more range after others, of which none starts above it.
 --     IsPut order first last before range after    the ranges with one more
 use Rattle.std.specs.Prelude.{◌≡◌, ◌||◌, true, List, All}
 use Rattle.std.specs.List.{list_any}

@@ -1,4 +1,9 @@
 pub mod Answers
-pub mod Points
+pub mod Parts
+pub mod InPlace
+pub mod FromLeast
 pub mod Ranges
 pub mod Joining
+pub mod Text
+pub mod Reading
+pub mod Fitting

@@ -1,120 +1,76 @@
-//! What the exports do, for numbers of any type.
-ghost use Rattle.std.specs.Prelude.{◌≡◌, ◌↔◌, ◌+◌, ◌<◌, ◌≤◌, ◌^◌, [], ◌∷◌, length, take, drop, false, IsTrue, IsSome, IfSome};
-ghost use Rattle.range_collections.specs.Boundaries.{IsAscending, IsSameSet};
-ghost use Rattle.range_collections.specs.Sets.{IsSubset, Intersects, IsDisjoint};
+//! What the exports make of two sets, for numbers of any type.
+ghost use Rattle.std.specs.Prelude.{◌≡◌, ◌+◌, ◌<◌, ◌≤◌, ◌^◌, ◌/◌, length, take, drop, false, [], ◌∷◌};
+ghost use Rattle.range_collections.specs.Boundaries.{IsAscending, is_odd};
 ghost use Rattle.range_collections.specs.Split.{split_left, split_right};
 ghost use Rattle.range_collections.specs.Ranges.{range_items};
-ghost use Rattle.range_c.specs.Answers.{AreAscending, AnswersList, AnswersLength, AnswersQuestion};
+ghost use Rattle.range_c.specs.Answers.{AreAscending, AnswersList, connective_of};
 
-use range_collections::{Comparisons, MergeOperation, RangeSetRef};
+use range_collections::{
+    Comparisons, Connective, DiffOp, IntersectionOp, MergeOperation, RangeSetRef, UnionOp, XorOp,
+};
 
-/// The call was answered.
-pub(crate) const DONE: u32 = 0;
-/// A list isn't strictly sorted.
-pub(crate) const NOT_SORTED: u32 = 1;
-/// The buffer is too short.
-pub(crate) const NO_ROOM: u32 = 2;
-/// The set has no end.
-pub(crate) const NO_END: u32 = 4;
+/// In the left set alone; what a connective is on for is summed up.
+const LEFT: u32 = 1;
+/// In the right set alone.
+const RIGHT: u32 = 2;
+/// In both sets.
+const BOTH: u32 = 4;
 
-// Both sets, where both lists are strictly sorted.
-fn both<'a, T: Ord>(a: &'a [T], b: &'a [T]) -> Option<(RangeSetRef<'a, T>, RangeSetRef<'a, T>)>
-    ensures variant { IsSome result ↔ AreAscending T.cmp a.now b.now }
-    ensures boundaries { IfSome result (λ sets.
-        (sets.0.boundaries.now ≡ a.now) × (sets.1.boundaries.now ≡ b.now)) }
-{
-    let left = RangeSetRef::new(a)?;
-    let right = RangeSetRef::new(b)?;
-    Some((left, right))
-}
-
-// Writes the operation's result to the front of `out`, and its length to `written`.
+// Writes the operation's result to the front of `out`, where it has room, and answers how many boundaries that is.
 pub(crate) fn merge<T: Ord + Copy, O: MergeOperation>(
     a: &[T],
     b: &[T],
     op: &O,
     out: &mut [T],
-    written: &mut usize,
-) -> u32
+) -> usize
+    requires sorted { AreAscending T.cmp a.now b.now }
     requires off { O.connective op.now false false ≡ false }
     requires fits { length a.now + length b.now < 2 ^ 64 }
-    ensures { AnswersList T.cmp (O.connective op.now) a.now b.now
-        out.old out.new written.old written.new result }
+    ensures { AnswersList T.cmp (O.connective op.now) a.now b.now out.old out.new result }
 {
-    let Some((left, right)) = both(a, b) else {
-        return NOT_SORTED;
-    };
+    let left = RangeSetRef::new_unchecked(a);
+    let right = RangeSetRef::new_unchecked(b);
     match left.merge_into(right, op, out, &mut Comparisons::new()) {
-        Ok(n) => {
-            *written = n;
-            DONE
-        }
-        Err(refused) => {
-            *written = refused.needed;
-            NO_ROOM
-        }
+        Ok(len) => len,
+        Err(refused) => refused.needed,
     }
 }
 
-// Writes the length of the operation's result to `len`.
-pub(crate) fn merge_len<T: Ord, O: MergeOperation>(a: &[T], b: &[T], op: &O, len: &mut usize) -> u32
-    requires off { O.connective op.now false false ≡ false }
+// The same, by the connective that a number tells. The four operations have a merge of their own, which is faster.
+pub(crate) fn combine<T: Ord + Copy>(a: &[T], b: &[T], connective: u32, out: &mut [T]) -> usize
+    requires sorted { AreAscending T.cmp a.now b.now }
+    requires off { connective < 8 }
     requires fits { length a.now + length b.now < 2 ^ 64 }
-    ensures { AnswersLength T.cmp (O.connective op.now) a.now b.now len.old len.new result }
+    ensures { AnswersList T.cmp (connective_of connective) a.now b.now out.old out.new result }
 {
-    let Some((left, right)) = both(a, b) else {
-        return NOT_SORTED;
-    };
-    *len = left.merge_len(right, op, &mut Comparisons::new());
-    DONE
+    if connective == LEFT + RIGHT + BOTH {
+        return merge(a, b, &UnionOp, out);
+    }
+    if connective == BOTH {
+        return merge(a, b, &IntersectionOp, out);
+    }
+    if connective == LEFT {
+        return merge(a, b, &DiffOp, out);
+    }
+    if connective == LEFT + RIGHT {
+        return merge(a, b, &XorOp, out);
+    }
+    merge(a, b, &told_by(connective), out)
 }
 
-// Whether no number is a member of both.
-pub(crate) fn is_disjoint<T: Ord>(a: &[T], b: &[T], answer: &mut bool) -> u32
-    ensures { AnswersQuestion T.cmp a.now b.now (IsDisjoint T.cmp a.now b.now)
-        answer.old answer.new result }
+// The connective that a number tells.
+pub(crate) fn told_by(connective: u32) -> Connective
+    ensures neither { result.neither ≡ is_odd (connective / 8) }
+    ensures left { result.left ≡ is_odd connective }
+    ensures right { result.right ≡ is_odd (connective / 2) }
+    ensures both { result.both ≡ is_odd (connective / 4) }
 {
-    let Some((left, right)) = both(a, b) else {
-        return NOT_SORTED;
-    };
-    *answer = left.is_disjoint(right);
-    DONE
-}
-
-// Whether some number is a member of both.
-pub(crate) fn intersects<T: Ord>(a: &[T], b: &[T], answer: &mut bool) -> u32
-    ensures { AnswersQuestion T.cmp a.now b.now (Intersects T.cmp a.now b.now)
-        answer.old answer.new result }
-{
-    let Some((left, right)) = both(a, b) else {
-        return NOT_SORTED;
-    };
-    *answer = left.intersects(right);
-    DONE
-}
-
-// Whether every member of the left is one of the right.
-pub(crate) fn is_subset<T: Ord>(a: &[T], b: &[T], answer: &mut bool) -> u32
-    ensures { AnswersQuestion T.cmp a.now b.now (IsSubset T.cmp a.now b.now)
-        answer.old answer.new result }
-{
-    let Some((left, right)) = both(a, b) else {
-        return NOT_SORTED;
-    };
-    *answer = left.is_subset(right);
-    DONE
-}
-
-// Whether both have the same members.
-pub(crate) fn equal<T: Ord>(a: &[T], b: &[T], answer: &mut bool) -> u32
-    ensures { AnswersQuestion T.cmp a.now b.now (IsSameSet T.cmp a.now b.now)
-        answer.old answer.new result }
-{
-    let Some((left, right)) = both(a, b) else {
-        return NOT_SORTED;
-    };
-    *answer = left == right;
-    DONE
+    Connective {
+        neither: connective / 8 % 2 == 1,
+        left: connective % 2 == 1,
+        right: connective / 2 % 2 == 1,
+        both: connective / 4 % 2 == 1,
+    }
 }
 
 // The boundaries of the range from the first number to below the second.
@@ -122,6 +78,7 @@ pub(crate) fn range_of<'a, T: Ord>(ends: &'a [T; 2]) -> &'a [T]
     ensures boundaries { (start end : T) →
         ends.now ≡ start ∷ end ∷ [] → result.now ≡ range_items T.cmp start end }
     ensures len { length result.now ≤ 2 }
+    ensures sorted { IsAscending T.cmp result.now }
 {
     let [start, end] = ends;
     if start.cmp(end).is_lt() { ends } else { &[] }

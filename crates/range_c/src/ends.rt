@@ -1,4 +1,4 @@
-//! Ranges of two numbers, as C lends them.
+//! Ranges of two numbers, as C passes them.
 ghost use Rattle.std.specs.Prelude.{◌≡◌};
 
 /// A range of numbers, from the first to below the second.

@@ -1,13 +1,23 @@
-//! Sets of whole numbers for C: each call takes lists of boundaries as slices, answers a status, and writes what it gives through references. No call takes memory or keeps state.
+//! Sets of whole numbers for C: each call takes strictly sorted lists of boundaries as slices. No call takes memory or keeps state.
 //!
-//! A thin layer in C stands before these calls: it refuses null pointers with a length and a buffer that overlaps a list, which can't be told here.
+//! A thin layer in C stands before these calls. It makes sets of lists that are strictly sorted, refuses null pointers with a length and a buffer that overlaps a list, which can't be told here, and answers statuses.
+//!
+//! The four files `sets_..` are written by tools/c-types from one text, since an export can't be generic.
 #![tactic(auto)]
 
 mod calls;
+mod combining;
 mod ends;
+mod fitting;
+mod from_least;
+mod in_place;
 pub mod laws;
-mod points;
+mod parts;
 mod ranges;
-mod signed;
-mod unsigned;
+mod reading;
+mod sets_i32;
+mod sets_i64;
+mod sets_u32;
+mod sets_u64;
+mod text;
 mod unsorted;

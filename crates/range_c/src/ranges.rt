@@ -31,7 +31,7 @@ fn join<E: Ends>(ranges: &mut [E]) -> usize
     kept
 }
 
-// Puts a range behind the first `kept`, none of which starts above it, or joins it to the last of them.
+// Puts a range after the first `kept`, none of which starts above it, or joins it to the last of them.
 fn put<E: Ends>(ranges: &mut [E], kept: usize, range: E) -> usize
     requires room { kept < length ranges.old }
     requires sorted { IsAscending E.Number.cmp (ends_of E.first E.last (take kept ranges.old)) }

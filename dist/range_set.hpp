@@ -1,0 +1,398 @@
+// Sets of whole numbers for C++17, over the calls of range_set.h: int32_t, uint32_t, int64_t and uint64_t.
+//
+//     using range_sets::range_set;
+//     const range_set<int64_t> day = {{9, 17}}, busy = {{9, 11}, {12, 15}};
+//     auto free = day - busy;                              // 11 to 12, and 15 to 17
+//     for (auto [start, end, has_end] : free) std::cout << start << ".." << end << '\n';
+//     if (free.contains(16)) std::cout << "free at four\n";
+//
+// range_set owns its boundaries. range_set_view borrows them: it is cheap to copy, and takes any range_set of its type; what it
+// borrows from has to outlive it. Where memory is refused std::bad_alloc is thrown, and a set that was to change is as it was.
+// No other call throws.
+#ifndef RANGE_SET_HPP
+#define RANGE_SET_HPP
+
+#include "range_set.h"
+
+#include <algorithm>
+#include <cstddef>
+#include <cstdint>
+#include <initializer_list>
+#include <iterator>
+#include <memory>
+#include <new>
+#include <optional>
+#include <string>
+#include <string_view>
+#include <type_traits>
+#include <utility>
+
+namespace range_sets {
+
+template <class T> class range_set;
+template <class T> class range_set_view;
+
+// One range of a set: the numbers from `start` on, up to below `end` where it has an end.
+template <class T> struct range {
+    T start;
+    T end;
+    bool has_end;
+
+    friend bool operator==(const range &a, const range &b) noexcept
+    {
+        return a.start == b.start && a.has_end == b.has_end && (!a.has_end || a.end == b.end);
+    }
+    friend bool operator!=(const range &a, const range &b) noexcept { return !(a == b); }
+};
+
+namespace detail {
+
+// The calls of the header for a type of numbers.
+template <class T> struct calls;
+
+#define RANGE_SET_CALLS(number, T) \
+    template <> struct calls<T> { \
+        using set = range_set_##number; \
+        using part = range_set_##number##_range; \
+        using buffer = range_set_##number##_buffer; \
+        static constexpr auto view = range_set_##number##_view; \
+        static constexpr auto from_unsorted = range_set_##number##_from_unsorted; \
+        static constexpr auto from_ranges = range_set_##number##_from_ranges; \
+        static constexpr auto contains = range_set_##number##_contains; \
+        static constexpr auto contains_range = range_set_##number##_contains_range; \
+        static constexpr auto is_empty = range_set_##number##_is_empty; \
+        static constexpr auto is_all = range_set_##number##_is_all; \
+        static constexpr auto range_at = range_set_##number##_range_at; \
+        static constexpr auto get = range_set_##number##_get; \
+        static constexpr auto last = range_set_##number##_last; \
+        static constexpr auto ranges_len = range_set_##number##_ranges_len; \
+        static constexpr auto covered = range_set_##number##_covered; \
+        static constexpr auto is_disjoint = range_set_##number##_is_disjoint; \
+        static constexpr auto is_subset = range_set_##number##_is_subset; \
+        static constexpr auto equal = range_set_##number##_equal; \
+        static constexpr auto combine = range_set_##number##_combine; \
+        static constexpr auto union_all = range_set_##number##_union_all; \
+        static constexpr auto negation = range_set_##number##_negation; \
+        static constexpr auto gaps = range_set_##number##_gaps; \
+        static constexpr auto first_fit = range_set_##number##_first_fit; \
+        static constexpr auto print = range_set_##number##_print; \
+        static constexpr auto parse = range_set_##number##_parse; \
+        static constexpr auto insert = range_set_##number##_insert; \
+        static constexpr auto remove = range_set_##number##_remove; \
+        static constexpr auto buffer_of = range_set_##number##_buffer_of; \
+    };
+RANGE_SET_CALLS(i32, std::int32_t)
+RANGE_SET_CALLS(u32, std::uint32_t)
+RANGE_SET_CALLS(i64, std::int64_t)
+RANGE_SET_CALLS(u64, std::uint64_t)
+#undef RANGE_SET_CALLS
+
+// The operators, which both kinds of sets have: two of them may be of either kind.
+template <class T> struct operators {
+    friend range_set<T> operator|(range_set_view<T> a, range_set_view<T> b) { return range_set<T>::combine(a, b, RANGE_SET_UNION); }
+    friend range_set<T> operator&(range_set_view<T> a, range_set_view<T> b) { return range_set<T>::combine(a, b, RANGE_SET_INTERSECTION); }
+    friend range_set<T> operator-(range_set_view<T> a, range_set_view<T> b) { return range_set<T>::combine(a, b, RANGE_SET_DIFFERENCE); }
+    friend range_set<T> operator^(range_set_view<T> a, range_set_view<T> b) { return range_set<T>::combine(a, b, RANGE_SET_SYMMETRIC_DIFFERENCE); }
+    friend range_set<T> operator~(range_set_view<T> a) { return a.negation(); }
+    friend bool operator==(range_set_view<T> a, range_set_view<T> b) noexcept { return calls<T>::equal(a.set(), b.set()); }
+    friend bool operator!=(range_set_view<T> a, range_set_view<T> b) noexcept { return !(a == b); }
+};
+
+} // namespace detail
+
+// A set that is borrowed.
+template <class T> class range_set_view : detail::operators<T> {
+    using calls = detail::calls<T>;
+
+public:
+    using value_type = range<T>;
+
+    // Goes over the ranges of a set, from the lowest on, by index.
+    class iterator {
+    public:
+        using iterator_category = std::input_iterator_tag;
+        using value_type = range<T>;
+        using difference_type = std::ptrdiff_t;
+        using pointer = const range<T> *;
+        using reference = range<T>;
+
+        iterator() noexcept = default;
+        iterator(typename calls::set set, std::size_t index) noexcept : set_(set), index_(index) {}
+
+        reference operator*() const noexcept
+        {
+            typename calls::part part = {};
+            calls::get(set_, index_, &part);
+            return {part.start, part.end, part.has_end};
+        }
+        iterator &operator++() noexcept
+        {
+            ++index_;
+            return *this;
+        }
+        iterator operator++(int) noexcept { return iterator(set_, index_++); }
+        friend bool operator==(const iterator &a, const iterator &b) noexcept { return a.index_ == b.index_; }
+        friend bool operator!=(const iterator &a, const iterator &b) noexcept { return a.index_ != b.index_; }
+
+    private:
+        typename calls::set set_ = {};
+        std::size_t index_ = 0;
+    };
+    using const_iterator = iterator;
+
+    // The set without a member.
+    range_set_view() noexcept = default;
+    // A set that a call of range_set.h made.
+    explicit range_set_view(typename calls::set set) noexcept : set_(set) {}
+    // The set with these boundaries, or nothing where they aren't strictly sorted.
+    static std::optional<range_set_view> of(const T *boundaries, std::size_t len) noexcept
+    {
+        typename calls::set set = {};
+        if (calls::view(boundaries, len, &set) != RANGE_SET_DONE) return std::nullopt;
+        return range_set_view(set);
+    }
+
+    bool contains(T value) const noexcept { return calls::contains(set_, value); }
+    bool contains_range(T start, T end) const noexcept { return calls::contains_range(set_, start, end); }
+    bool empty() const noexcept { return calls::is_empty(set_); }
+    bool is_all() const noexcept { return calls::is_all(set_); }
+    bool is_disjoint(range_set_view other) const noexcept { return calls::is_disjoint(set_, other.set_); }
+    bool intersects(range_set_view other) const noexcept { return !is_disjoint(other); }
+    bool is_subset(range_set_view other) const noexcept { return calls::is_subset(set_, other.set_); }
+    bool is_superset(range_set_view other) const noexcept { return other.is_subset(*this); }
+
+    // How many numbers are members, or nothing where the set has no end.
+    std::optional<std::uint64_t> covered() const noexcept
+    {
+        std::uint64_t count = 0;
+        if (!calls::covered(set_, &count)) return std::nullopt;
+        return count;
+    }
+    // The range that holds the number, or nothing where it is no member.
+    std::optional<range<T>> range_at(T value) const noexcept
+    {
+        typename calls::part part = {};
+        return told(calls::range_at(set_, value, &part), part);
+    }
+    std::optional<range<T>> first() const noexcept
+    {
+        typename calls::part part = {};
+        return told(calls::get(set_, 0, &part), part);
+    }
+    std::optional<range<T>> last() const noexcept
+    {
+        typename calls::part part = {};
+        return told(calls::last(set_, &part), part);
+    }
+
+    // The ranges, and how many there are.
+    iterator begin() const noexcept { return iterator(set_, 0); }
+    iterator end() const noexcept { return iterator(set_, size()); }
+    std::size_t size() const noexcept { return calls::ranges_len(set_); }
+
+    // The numbers from `start` to below `end` that are no members, and all that are none.
+    range_set<T> gaps(T start, T end) const;
+    range_set<T> negation() const;
+
+    // The least number from which on `count` numbers lie in `start` to below `end` and none is a member, or nothing.
+    std::optional<T> first_fit(T start, T end, std::make_unsigned_t<T> count) const noexcept
+    {
+        T first = start;
+        if (!calls::first_fit(set_, start, end, count, &first)) return std::nullopt;
+        return first;
+    }
+
+    // The ranges as a text, "0..10, 20..".
+    std::string text() const
+    {
+        std::size_t len = 0;
+        static_cast<void>(calls::print(set_, nullptr, 0, &len));
+        std::string text(len, ' ');
+        static_cast<void>(calls::print(set_, text.data(), len, &len));
+        return text;
+    }
+
+    // The set of range_set.h, which is borrowed too.
+    typename calls::set set() const noexcept { return set_; }
+
+private:
+    static std::optional<range<T>> told(bool found, const typename calls::part &part) noexcept
+    {
+        if (!found) return std::nullopt;
+        return range<T>{part.start, part.end, part.has_end};
+    }
+
+    typename calls::set set_ = {nullptr, 0};
+};
+
+// A set that owns its boundaries.
+template <class T> class range_set : detail::operators<T> {
+    using calls = detail::calls<T>;
+
+public:
+    using value_type = range<T>;
+    using iterator = typename range_set_view<T>::iterator;
+    using const_iterator = iterator;
+
+    // The set without a member. It takes no memory.
+    range_set() noexcept = default;
+    // The numbers in some of these ranges, each a start and an end, which is out. They may come in any order and overlap; one whose
+    // end isn't above its start holds no number.
+    range_set(std::initializer_list<std::pair<T, T>> ranges) : range_set(ranges.begin(), ranges.end()) {}
+    // The same of any range of pairs, as a std::vector or a std::map.
+    template <class Pairs, class = std::enable_if_t<!std::is_convertible_v<const Pairs &, range_set_view<T>>>,
+              class = decltype(std::declval<const Pairs &>().begin()->first)>
+    explicit range_set(const Pairs &pairs) : range_set(pairs.begin(), pairs.end())
+    {
+    }
+    // The same of what stands between two iterators over pairs. It is gone over twice, so they are forward iterators or better.
+    template <class Iterator, class = decltype(std::declval<Iterator>()->first),
+              class = std::enable_if_t<std::is_base_of_v<std::forward_iterator_tag, typename std::iterator_traits<Iterator>::iterator_category>>>
+    range_set(Iterator first, Iterator last)
+    {
+        const auto count = static_cast<std::size_t>(std::distance(first, last));
+        auto items = room_for(2 * count);
+        T *next = items.get();
+        for (; first != last; ++first) {
+            *next++ = first->first;
+            *next++ = first->second;
+        }
+        typename calls::set set = {};
+        if (calls::from_ranges(items.get(), count, &set) == RANGE_SET_DONE) adopt(std::move(items), 2 * count, set.len);
+    }
+    // A copy of a borrowed set.
+    explicit range_set(range_set_view<T> view) : range_set(combine(view, range_set_view<T>(), RANGE_SET_UNION)) {}
+    range_set(const range_set &other) : range_set(other.view()) {}
+    range_set(range_set &&other) noexcept { swap(other); }
+    range_set &operator=(const range_set &other)
+    {
+        range_set copy(other);
+        swap(copy);
+        return *this;
+    }
+    range_set &operator=(range_set &&other) noexcept
+    {
+        swap(other);
+        return *this;
+    }
+    ~range_set() = default;
+
+    // The numbers in any of these sets, which may be a std::vector of either kind.
+    template <class Sets> static range_set union_all(const Sets &sets)
+    {
+        const auto count = static_cast<std::size_t>(std::distance(sets.begin(), sets.end()));
+        std::unique_ptr<typename calls::set[]> each(count > 0 ? new typename calls::set[count] : nullptr);
+        std::size_t room = 0, i = 0;
+        for (const auto &it : sets) {
+            each[i] = range_set_view<T>(it).set();
+            room += each[i++].len;
+        }
+        return written(room, [&](T *out, std::size_t of, auto *set) { return calls::union_all(each.get(), count, out, of, set); });
+    }
+    // The set of a text of ranges, "0..10, 20..", or nothing where it isn't one or a number doesn't fit the type. `fault`, where it
+    // isn't null, is then the byte at which the text stops being one of ranges; of a number that doesn't fit it is as it was.
+    static std::optional<range_set> parse(std::string_view text, std::size_t *fault = nullptr)
+    {
+        typename calls::set set = {};
+        const auto status = calls::parse(text.data(), text.size(), nullptr, 0, &set, fault);
+        if (status == RANGE_SET_MALFORMED || status == RANGE_SET_OUT_OF_RANGE) return std::nullopt;
+        return written(set.len, [&](T *out, std::size_t room, auto *result) { return calls::parse(text.data(), text.size(), out, room, result, fault); });
+    }
+    // The numbers that `keep` names of two sets, as RANGE_SET_LEFT | RANGE_SET_BOTH.
+    static range_set combine(range_set_view<T> a, range_set_view<T> b, unsigned keep)
+    {
+        return written(a.set().len + b.set().len + (keep & RANGE_SET_NEITHER ? 1 : 0),
+                       [&](T *out, std::size_t room, auto *set) { return calls::combine(a.set(), b.set(), keep, out, room, set); });
+    }
+
+    void swap(range_set &other) noexcept
+    {
+        std::swap(items_, other.items_);
+        std::swap(in_, other.in_);
+    }
+
+    operator range_set_view<T>() const noexcept { return view(); }
+    range_set_view<T> view() const noexcept { return range_set_view<T>(in_.set); }
+
+    bool contains(T value) const noexcept { return view().contains(value); }
+    bool contains_range(T start, T end) const noexcept { return view().contains_range(start, end); }
+    bool empty() const noexcept { return view().empty(); }
+    bool is_all() const noexcept { return view().is_all(); }
+    bool is_disjoint(range_set_view<T> other) const noexcept { return view().is_disjoint(other); }
+    bool intersects(range_set_view<T> other) const noexcept { return view().intersects(other); }
+    bool is_subset(range_set_view<T> other) const noexcept { return view().is_subset(other); }
+    bool is_superset(range_set_view<T> other) const noexcept { return view().is_superset(other); }
+    std::optional<std::uint64_t> covered() const noexcept { return view().covered(); }
+    std::optional<range<T>> range_at(T value) const noexcept { return view().range_at(value); }
+    std::optional<range<T>> first() const noexcept { return view().first(); }
+    std::optional<range<T>> last() const noexcept { return view().last(); }
+    iterator begin() const noexcept { return view().begin(); }
+    iterator end() const noexcept { return view().end(); }
+    std::size_t size() const noexcept { return view().size(); }
+    std::optional<T> first_fit(T start, T end, std::make_unsigned_t<T> count) const noexcept { return view().first_fit(start, end, count); }
+    std::string text() const { return view().text(); }
+    range_set gaps(T start, T end) const { return view().gaps(start, end); }
+    range_set negation() const { return view().negation(); }
+
+    // Puts the numbers from `start` to below `end` in, takes them out, where the set lies.
+    range_set &insert(T start, T end) { return change(calls::insert, start, end); }
+    range_set &remove(T start, T end) { return change(calls::remove, start, end); }
+    void clear() noexcept { in_.set.len = 0; }
+
+    range_set &operator|=(range_set_view<T> other) { return *this = combine(*this, other, RANGE_SET_UNION); }
+    range_set &operator&=(range_set_view<T> other) { return *this = combine(*this, other, RANGE_SET_INTERSECTION); }
+    range_set &operator-=(range_set_view<T> other) { return *this = combine(*this, other, RANGE_SET_DIFFERENCE); }
+    range_set &operator^=(range_set_view<T> other) { return *this = combine(*this, other, RANGE_SET_SYMMETRIC_DIFFERENCE); }
+
+private:
+    friend class range_set_view<T>;
+
+    using items = std::unique_ptr<T[]>;
+
+    static items room_for(std::size_t len) { return items(len > 0 ? new T[len] : nullptr); }
+
+    void adopt(items from, std::size_t room, std::size_t len) noexcept
+    {
+        items_ = std::move(from);
+        in_ = calls::buffer_of(items_.get(), room);
+        in_.set.len = len;
+    }
+
+    // What a call writes into a new buffer with room for so many boundaries, which is enough.
+    template <class Call> static range_set written(std::size_t room, Call call)
+    {
+        auto items = room_for(room);
+        typename calls::set set = {};
+        range_set result;
+        if (call(items.get(), room, &set) == RANGE_SET_DONE) result.adopt(std::move(items), room, set.len);
+        return result;
+    }
+
+    template <class Call> range_set &change(Call call, T start, T end)
+    {
+        if (call(&in_, start, end) != RANGE_SET_NO_ROOM) return *this;
+        const std::size_t len = in_.set.len, room = std::max<std::size_t>(8, 2 * in_.needed);
+        auto more = room_for(room);
+        std::copy_n(in_.set.boundaries, len, more.get());
+        adopt(std::move(more), room, len);
+        static_cast<void>(call(&in_, start, end));
+        return *this;
+    }
+
+    items items_;
+    typename calls::buffer in_ = calls::buffer_of(nullptr, 0);
+};
+
+template <class T> range_set<T> range_set_view<T>::gaps(T start, T end) const
+{
+    return range_set<T>::written(set_.len + 2, [&](T *out, std::size_t room, auto *set) { return calls::gaps(set_, start, end, out, room, set); });
+}
+
+template <class T> range_set<T> range_set_view<T>::negation() const
+{
+    return range_set<T>::written(set_.len + 1, [&](T *out, std::size_t room, auto *set) { return calls::negation(set_, out, room, set); });
+}
+
+} // namespace range_sets
+
+#endif
