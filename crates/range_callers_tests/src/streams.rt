@@ -69,7 +69,7 @@ fn one_byte_at_once_is_enough(rt: HostRuntime) {
     }
 }
 
-/// Whether the error of an input that fails behind these bytes is passed on, and the lines before it are answered.
+/// Whether the error of an input that fails after these bytes is passed on, and the lines before it are answered.
 fn fails_behind(alloc: Global, unread: &[u8]) -> bool {
     let source = Source {
         unread,

@@ -5,7 +5,7 @@ use crate::operations::{Call, Case};
 use range_collections::{Comparisons, NoRoom, RangeSet2, RangeSetRef};
 use range_merge::{
     BoolOpMergeState, Compare, Copier, CountMergeState, DiffOp, IntersectionOp, MergeOperation,
-    Run, SliceIterator, SmallVecMergeState, UnionOp, XorOp, merge, run_length, search,
+    Run, SliceIterator, SmallVecMergeState, UnionOp, XorOp, count_up_to, merge, run_length, search,
 };
 use range_tests_kit::comparers::{Copies, NoCopies, Numbers};
 use range_tests_kit::forms::Operation;
@@ -319,6 +319,24 @@ fn searches_find_the_place(rt: HostRuntime) {
         (9, Err(4)),
     ] {
         assert!(rt; finds(&[0, 2, 4, 8], key, want, 3), "for {key}");
+    }
+}
+
+// Whether so many items of a list are counted at or below a key, in at most so many comparisons.
+fn counts(items: &[i64], key: i64, want: usize, most: u128) -> bool {
+    let mut numbers = Numbers { made: 0 };
+    match RangeSetRef::new(items) {
+        Some(list) => {
+            count_up_to(list.boundaries(), &key, &mut numbers) == want && numbers.made() <= most
+        }
+        None => false,
+    }
+}
+
+#[test]
+fn searches_count_the_items_at_or_below(rt: HostRuntime) {
+    for (key, want) in [(4, 3), (5, 3), (0, 1), (-1, 0), (9, 4)] {
+        assert!(rt; counts(&[0, 2, 4, 8], key, want, 3), "for {key}");
     }
 }
 

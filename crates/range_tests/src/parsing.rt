@@ -1,5 +1,5 @@
 //! Sets read from texts: what is read, and at which byte a text that isn't one is refused.
-use range_collections::{Expected, ParseError, RangeSet, RangeSet2};
+use range_collections::{Expected, ParseError, RangeSet, RangeSet2, RangeSetRange, check_ranges};
 use range_tests_kit::lists::gives;
 
 // Texts that write no ranges, with the byte after the longest front that begins some text of ranges, and what was expected there.
@@ -133,5 +133,37 @@ fn numbers_past_the_type_are_refused(rt: HostRuntime) {
     for text in PAST {
         let found = RangeSet2::<u8>::parse(rt.alloc(), text).err();
         assert_eq!(rt; found, Some(ParseError::OutOfRange), "{text}");
+    }
+}
+
+#[test]
+fn texts_are_checked_without_memory(rt: HostRuntime) {
+    for (text, _) in READ {
+        assert!(rt; check_ranges::<i64>(text).is_ok(), "{text}");
+    }
+    for (text, at, expected) in MALFORMED {
+        let found = check_ranges::<i64>(text).err();
+        assert_eq!(rt;
+            found,
+            Some(ParseError::Malformed { at, expected }),
+            "{text}"
+        );
+    }
+    for text in PAST {
+        let found = check_ranges::<u8>(text).err();
+        assert_eq!(rt; found, Some(ParseError::OutOfRange), "{text}");
+    }
+}
+
+// Texts that aren't one range.
+const NO_RANGE: [&str; 8] = ["", " ", "1..2,3..4", "1", "1.2", "..2", "1..x", "256.."];
+
+#[test]
+fn one_range_is_read(rt: HostRuntime) {
+    assert!(rt; RangeSetRange::<u8>::parse(" 0..10\t") == Some(RangeSetRange::from(0..10)));
+    assert!(rt; RangeSetRange::<u8>::parse("7..3") == Some(RangeSetRange::from(7..3)));
+    assert!(rt; RangeSetRange::<u8>::parse("255..") == Some(RangeSetRange::from(255..)));
+    for text in NO_RANGE {
+        assert!(rt; RangeSetRange::<u8>::parse(text).is_none(), "{text}");
     }
 }

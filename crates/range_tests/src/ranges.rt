@@ -1,4 +1,4 @@
-//! The ranges of a set: one after the other, from both ends, at a value, the first and the last, and how many there are; whether one has a member; their ends.
+//! The ranges of a set: one after the other, from both ends, at a value, the first and the last, and how many there are; the next member and the next gap; whether one has a member; their ends.
 use range_collections::{Comparisons, Iter, RangeSet2, RangeSetRange};
 use range_tests_kit::lists::{is_range, own};
 use std::ops::Bound;
@@ -87,6 +87,44 @@ fn a_value_is_held_by_the_range_around_it(rt: HostRuntime) {
     for row in &HELD {
         let found = hold(own(rt.alloc(), row.0), &row.1, row.2);
         assert!(rt; found == Some(true), "{row:?}");
+    }
+}
+
+// Boundaries, a value, the next member from it on, and the next value from it on that is none.
+type Nexts<'a> = (&'a [i8], i8, Option<i8>, Option<i8>);
+
+const NEXTS: [Nexts; 15] = [
+    (&[], -128, None, Some(-128)),
+    (&[], 127, None, Some(127)),
+    (&[-128], -128, Some(-128), None),
+    (&[-128], 127, Some(127), None),
+    (&[127], -128, Some(127), Some(-128)),
+    (&[127], 127, Some(127), None),
+    (&[-128, 127], 0, Some(0), Some(127)),
+    (&[-128, 127], 127, None, Some(127)),
+    (&[3, 5, 9], 2, Some(3), Some(2)),
+    (&[3, 5, 9], 3, Some(3), Some(5)),
+    (&[3, 5, 9], 4, Some(4), Some(5)),
+    (&[3, 5, 9], 5, Some(9), Some(5)),
+    (&[3, 5, 9], 8, Some(9), Some(8)),
+    (&[3, 5, 9], 9, Some(9), None),
+    (&[3, 5, 9], 100, Some(100), None),
+];
+
+// Whether the set and its view go on like that from the value.
+fn go_on(set: Option<RangeSet2<i8>>, row: &Nexts) -> Option<bool> {
+    let (set, from) = (set?, &row.1);
+    let view = set.as_ref();
+    let members = set.next_member(from).copied() == row.2
+        && view.next_member(from).copied() == row.2;
+    let gaps = set.next_gap(from).copied() == row.3 && view.next_gap(from).copied() == row.3;
+    Some(members && gaps)
+}
+
+#[test]
+fn a_value_is_followed_by_a_member_and_by_a_gap(rt: HostRuntime) {
+    for row in &NEXTS {
+        assert!(rt; go_on(own(rt.alloc(), row.0), row) == Some(true), "{row:?}");
     }
 }
 

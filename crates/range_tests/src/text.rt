@@ -71,6 +71,34 @@ fn sets_are_written_by_their_ranges(rt: HostRuntime) {
     assert!(rt; is_written::<i8>(alloc, own(alloc, &[]), ""));
 }
 
+// Characters, and the text of their set: each stands between quotes, as Rust prints it.
+const CHARACTERS: [(&[char], &str); 5] = [
+    (&[], ""),
+    (&['a'], "'a'.."),
+    (&['a', '{'], "'a'..'{'"),
+    (&['\n', ' ', '\''], "'\\n'..' ', '\\''.."),
+    (&['\0', '\u{7f}', 'é'], "'\\0'..'\\u{7f}', 'é'.."),
+];
+
+// Whether a set of these characters and its view have this text, and the set is printed so, between braces.
+fn characters_are_written(alloc: Global, items: &[char], want: &str) -> Option<bool> {
+    let set: RangeSet2<char> = own(alloc, items)?;
+    let braced = format!(in alloc; "RangeSet{{{want}}}").ok()?;
+    let read = reads(alloc, &set, want) && reads(alloc, &set.as_ref(), want);
+    Some(read && prints(alloc, &set, braced.as_str()))
+}
+
+#[test]
+fn sets_of_characters_are_written_with_quotes(rt: HostRuntime) {
+    let alloc = rt.alloc();
+    for (items, want) in CHARACTERS {
+        let written = characters_are_written(alloc, items, want);
+        assert!(rt; written == Some(true), "{want}");
+    }
+    assert!(rt; prints(alloc, &RangeSetRange::from('a'..'{'), "'a'..'{'"));
+    assert!(rt; prints(alloc, &RangeSetRange::from('\t'..), "'\\t'.."));
+}
+
 // Whether a hundred ranges are written: 0..5, 10..15 and so on.
 fn hundred_are_written(alloc: Global) -> Result<bool, AllocError> {
     let (mut items, mut text) = (Vec::new(alloc), String::new(alloc));
@@ -142,4 +170,10 @@ fn errors_say_why(rt: HostRuntime) {
         )
     );
     assert!(rt; says(alloc, ParseError::OutOfMemory, "memory ran out"));
+}
+
+#[test]
+fn a_refused_allocation_is_an_error_of_each_call(rt: HostRuntime) {
+    assert!(rt; ParseError::from(AllocError) == ParseError::OutOfMemory);
+    assert!(rt; JsonError::from(AllocError) == JsonError::OutOfMemory);
 }

@@ -109,7 +109,7 @@ impl<T: Ord + Drop, const N: usize> Outcome<T, N> {
         }
     }
 
-    // Of one that was handed the right side.
+    // Of one that owned the right side.
     fn of_assignment(left: RangeSet<T, N>, made: Assigned<T, N>) -> Self {
         match made {
             Ok(()) => Outcome::of_change(left, None),

@@ -20,10 +20,10 @@ pub fn lowest_free(free: &Addresses) -> Option<u64>
         lower < at → member nat_cmp free.now lower ≡ false) }
     ensures none { IfNone result ((at : ℕ) → member nat_cmp free.now at ≡ false) }
 {
-    free.boundaries().first().copied()
+    free.next_member(&0).copied()
 }
 
-/// Takes the lowest free address, where there is one. The greatest number of 64 bits is never given out. Where memory is refused, nothing is taken.
+/// Takes the lowest free address, if there is one. The greatest number of 64 bits is never given out. If memory runs out, nothing is taken.
 pub fn take_lowest(free: &mut Addresses) -> Result<Option<u64>, AllocError>
     ensures was_free { IfOk result (λ taken.
         IfSome taken (λ at. member nat_cmp free.old at ≡ true)) }
@@ -45,7 +45,7 @@ pub fn take_lowest(free: &mut Addresses) -> Result<Option<u64>, AllocError>
     }
 }
 
-/// Gives the addresses of the range back. Where memory is refused, the free addresses are as they were.
+/// Gives the addresses of the range back. If memory runs out, the free addresses are as they were.
 pub fn give_back(free: &mut Addresses, given: Range<u64>) -> Result<(), AllocError>
     ensures means { OnOk result
         (Means nat_cmp union_table free.new free.old (range_items nat_cmp given.start given.end)) }
@@ -54,7 +54,15 @@ pub fn give_back(free: &mut Addresses, given: Range<u64>) -> Result<(), AllocErr
     free.insert(given)
 }
 
-/// Takes `len` addresses that lie together, at the lowest place within the bounds where all of them are free, and gives the first of them. Where there is no such place, or memory is refused, nothing is taken.
+/// The lowest place within the bounds where `len` addresses are free.
+pub fn free_run(taken: &Addresses, within: Range<u64>, len: u64) -> Option<u64>
+    ensures free { IfSome result (λ first. (at : ℕ) →
+        first ≤ at → at < first + len → member nat_cmp taken.now at ≡ false) }
+{
+    taken.first_fit(within, len)
+}
+
+/// Takes `len` addresses that lie together, at the lowest place within the bounds where all of them are free, and returns the first. If there is no such place, or memory runs out, nothing is taken.
 pub fn take_run(
     taken: &mut Addresses,
     within: Range<u64>,
