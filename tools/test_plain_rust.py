@@ -127,6 +127,13 @@ impl T for u8 {
         text = "#![tactic(auto)]\n#[derive(Clone, Drop, Debug)]\nstruct A;\n\n#[tactic(a, using(b))]\n#[inline(always)]\nfn f() -> u8 { 1 }"
         self.assertEqual(rust(text), "#[derive(Clone, Debug)]\nstruct A;\n\n#[inline(always)]\nfn f() -> u8 { 1 }")
 
+    def test_exports_are_functions(self):
+        text = '/// Whether.\n#[unsafe(no_mangle)]\npub extern "C" fn proved_range_set_u32_is_all(a: &[u32]) -> bool ensures { p } { f(a) }'
+        found = rust(text)
+        self.assertIn("/// ensures p\n/// ```\npub fn proved_is_all(a: &[u32]) -> bool { f(a) }", found)
+        self.assertNotIn("unsafe", found)
+        self.assertIn("#[repr(C)]\nstruct A;", rust("#[repr(C)]\nstruct A;"))
+
     def test_derive_where_is_written_out(self):
         found = rust("#[derive_where(Clone, Copy)]\nstruct S<'a, T>(&'a T);")
         self.assertIn("struct S<'a, T>(&'a T);", found)
@@ -239,6 +246,12 @@ class Refusals(unittest.TestCase):
         self.refused("#[derive(Clone, Model)]\nstruct A;", 1, "a derive of Model isn't known")
         self.refused("#[derive_where(Debug)]\nstruct A<T>(T);", 1, "a derive_where of others than Clone and Copy")
 
+    def test_exports(self):
+        self.refused('\n#[unsafe(link_section)]\npub extern "C" fn f() {}', 2, "an unsafe attribute other than no_mangle")
+        self.refused("#[unsafe(no_mangle)]\npub fn f() {}", 2, 'no_mangle before something else than pub extern "C" fn')
+        why = "the export range_set_u8_f has a name of another form than proved_range_set_i64_call"
+        self.refused('#[unsafe(no_mangle)]\npub extern "C" fn range_set_u8_f() {}', 2, why)
+
     def test_bounds(self):
         self.refused("\n\nfn f(x: Box<dyn A, Drop>) {}", 3, "Drop as something else than a bound")
 
@@ -306,6 +319,11 @@ class Writing(unittest.TestCase):
         self.assertIn("#![forbid(unsafe_code)]", files["mod.rs"])
         first = files["range_merge/a.rs"].split("\n")[0]
         self.assertEqual(first, "// Written by tools/plain-rust from crates/range_merge/src/a.rt. It isn't edited.")
+
+    def test_a_crate_with_a_feature(self):
+        with mock.patch.multiple(tables, FEATURES={"range_merge": "merging"}):
+            self.assertIn('#[cfg(feature = "merging")]\npub mod range_merge;\n', writing.files_of(self.root / "crates")["mod.rs"])
+        self.assertNotIn("cfg", writing.files_of(self.root / "crates")["mod.rs"])
 
     def test_a_layout_makes_no_difference_without_rustfmt(self):
         folder = self.written()

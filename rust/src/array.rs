@@ -237,7 +237,7 @@ impl<T, const N: usize> List for support::SmallVec<T, N> {
     {
         let count = &mut Comparisons::new();
         let mut list = SmallVecMergeState::<T, P, N>::merge(List::new(), a, b, copier, op, count)?;
-        proved::range_set::room::give_back_room(&mut list);
+        proved::lists::give_back_room(&mut list);
         Ok(list)
     }
 

@@ -21,6 +21,7 @@
 //! - `std` (on by default): `std::error::Error` for the error types. Without it the crate asks for `alloc` alone.
 //! - `serde`: sets are written and read as sequences of boundaries.
 //! - `new_unchecked`: `new_unchecked` of sets and views.
+//! - `c`: the functions of the header `range_set.h`, for a library that C links.
 #![cfg_attr(not(feature = "std"), no_std)]
 #![cfg_attr(docsrs, feature(doc_cfg))]
 #![deny(unsafe_code, unsafe_op_in_unsafe_fn)]
@@ -29,6 +30,9 @@
 extern crate alloc;
 
 mod array;
+#[cfg(feature = "c")]
+#[allow(unsafe_code)]
+mod c;
 mod entry;
 pub mod fallible;
 // Its names are told by the modules beside it.

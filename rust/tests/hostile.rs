@@ -2,6 +2,9 @@
 //! every set stays one that can be read.
 #![cfg(panic = "unwind")]
 
+mod common;
+
+use common::one_in;
 use range_sets::range_set::RangeSetEntry;
 use range_sets::{fallible, Array, Connective, RangeSet, RangeSetRef};
 use std::cell::Cell;
@@ -287,8 +290,8 @@ fn panics_in_turn<A: Array<Item = Hostile>>(plan: fn(usize) -> Plan, at_least: u
         for (left, right) in sides() {
             let mut turn = 0;
             while !call_by(plan(turn), call, &left, &right, name) {
-                turn += 1;
-                panicked += 1;
+                turn += one_in();
+                panicked += one_in();
                 assert!(turn < 10_000, "{name} never returns");
             }
         }
@@ -317,7 +320,7 @@ fn orders_that_lie() {
     fn lie<A: Array<Item = Hostile>>(seeds: u64) {
         for (name, call) in calls::<A>() {
             for (left, right) in sides() {
-                for seed in 1..seeds {
+                for seed in (1..seeds).step_by(one_in()) {
                     call_by(
                         Plan::Lie(seed.wrapping_mul(0x9e37_79b9_7f4a_7c15)),
                         call,

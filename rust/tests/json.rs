@@ -28,6 +28,21 @@ fn what_is_written_is_read_back() {
     }
 }
 
+/// More boundaries than are sorted without memory, in order, in the opposite order, and each twice.
+#[test]
+fn long_lists_in_any_order() {
+    let sorted: Vec<i64> = (0..50).map(|n| 3 * n - 70).collect();
+    let reversed: Vec<i64> = sorted.iter().rev().copied().collect();
+    let twice = [&reversed[..], &sorted[..]].concat();
+    for list in [&sorted, &reversed, &twice] {
+        let text = to_string(list).unwrap();
+        let set: RangeSet2<i64> = from_str(&text).unwrap();
+        assert_eq!(set.boundaries(), sorted);
+        let set: fallible::RangeSet2<i64> = from_str(&text).unwrap();
+        assert_eq!(set.boundaries(), sorted);
+    }
+}
+
 #[test]
 fn elements_of_other_types() {
     let set: RangeSet<[Option<String>; 2]> = RangeSet::from(None..Some("m".to_string()));

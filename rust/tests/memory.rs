@@ -1,5 +1,8 @@
 //! Memory refused at each request in turn: every fallible call answers an error, and leaves its set as it was.
 
+mod common;
+
+use common::one_in;
 use range_sets::fallible::{AllocError, EntryClone, RangeSet, RangeSet2};
 use range_sets::tracker::{TrackError, Tracker};
 use range_sets::{Connective, ParseError, RangeSetEntry, RangeSetRange, RangeSetRef};
@@ -81,8 +84,43 @@ fn unrefused<R>(run: impl FnOnce() -> R) -> R {
     result
 }
 
-/// Refuses each request of a call in turn: that one alone, and that one with all after it, until none is refused. The
-/// call gives the boundaries of its result. How many requests it makes.
+/// Refuses the requests of a call in turn, each or one in some: that one alone, and that one with all after it, until none
+/// is refused. The call gives the boundaries of its result. How many requests it makes.
+fn refusals<T, S, E>(
+    one_in: usize,
+    name: &str,
+    prepare: impl Fn() -> S,
+    call: impl Fn(&mut S) -> Result<Vec<T>, E>,
+    left_as_it_was: impl Fn(&S, &S) -> bool,
+) -> usize
+where
+    T: PartialEq + Debug,
+    E: Debug,
+{
+    let (before, mut state) = (prepare(), prepare());
+    let expected = call(&mut state).unwrap_or_else(|error| panic!("{name}: {error:?}"));
+    let refused_by = |refusal| {
+        let mut state = prepare();
+        let (result, refused) = refusing(refusal, || call(&mut state));
+        match result {
+            Ok(found) => assert_eq!(found, expected, "{name} by {refusal:?}"),
+            Err(_) => {
+                assert!(refused > 0, "{name} failed without a refusal");
+                assert!(
+                    left_as_it_was(&state, &before),
+                    "{name} changed something by {refusal:?}"
+                );
+            }
+        }
+        refused
+    };
+    (0..)
+        .step_by(one_in)
+        .find(|&turn| refused_by(Refusal::One(turn)) + refused_by(Refusal::From(turn)) == 0)
+        .expect("a call ends")
+}
+
+/// Refuses the requests of a call in turn: each, or one in `one_in()`.
 fn each_refusal<T, S, E>(
     name: &str,
     prepare: impl Fn() -> S,
@@ -93,25 +131,7 @@ where
     T: PartialEq + Debug,
     E: Debug,
 {
-    let expected = call(&mut prepare()).unwrap_or_else(|error| panic!("{name}: {error:?}"));
-    let refused_by = |refusal| {
-        let mut state = prepare();
-        let (result, refused) = refusing(refusal, || call(&mut state));
-        match result {
-            Ok(found) => assert_eq!(found, expected, "{name} by {refusal:?}"),
-            Err(_) => {
-                assert!(refused > 0, "{name} failed without a refusal");
-                assert!(
-                    left_as_it_was(&state, &prepare()),
-                    "{name} changed something by {refusal:?}"
-                );
-            }
-        }
-        refused
-    };
-    (0..)
-        .find(|&turn| refused_by(Refusal::One(turn)) + refused_by(Refusal::From(turn)) == 0)
-        .expect("a call ends")
+    refusals(one_in(), name, prepare, call, left_as_it_was)
 }
 
 /// The element types: numbers, and those whose copies take memory.
@@ -317,7 +337,7 @@ fn sets_of_lists() {
 fn copies_of_elements() {
     fn copy<T: EntryClone + Debug>(element: T, requests: usize) {
         let listed = |_: &mut ()| element.entry_clone().map(|it| unrefused(|| vec![it]));
-        let made = each_refusal("entry_clone", || (), listed, |_, _| true);
+        let made = refusals(1, "entry_clone", || (), listed, |_, _| true);
         assert_eq!(made, requests, "{element:?}");
     }
     copy(7u8, 0);
@@ -339,7 +359,7 @@ fn copies_of_ranges() {
     for (range, requests) in ranges {
         let listed = |_: &mut ()| range.try_cloned().map(|it| unrefused(|| vec![it]));
         assert_eq!(
-            each_refusal("try_cloned", || (), listed, |_, _| true),
+            refusals(1, "try_cloned", || (), listed, |_, _| true),
             requests
         );
         assert_eq!(range.try_cloned(), Ok(range.cloned()));

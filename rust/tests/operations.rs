@@ -3,7 +3,7 @@
 mod common;
 
 use common::{bitmap, boundaries, pairs, set, Bitmap, Operation, OPERATIONS};
-use range_sets::{fallible, Array, Connective, RangeSet};
+use range_sets::{fallible, Array, Connective, RangeSet, RangeSet2};
 
 /// The results of all forms of an operation on two sets, each with its name.
 fn forms<A, B>(op: Operation, a: Bitmap, b: Bitmap) -> Vec<(&'static str, Vec<u8>)>
@@ -186,10 +186,10 @@ fn lengths_of_results_without_a_start_panic() {
 #[test]
 fn long_lists_of_far_and_near_boundaries() {
     let mut random = common::Random(77);
-    for round in 0..200 {
+    for round in (0..200).step_by(common::one_in()) {
         let a = made_up_list(&mut random, 1 + round);
         let b = made_up_list(&mut random, 400 - round);
-        let inside = |list: &[i64], x: i64| list.iter().filter(|&&y| y <= x).count() % 2 == 1;
+        let inside = |list: &[i64], x: i64| list.partition_point(|&y| y <= x) % 2 == 1;
         let left: RangeSet<[i64; 4]> = RangeSet::new(a.iter().copied().collect()).unwrap();
         let right: RangeSet<[i64; 4]> = RangeSet::new(b.iter().copied().collect()).unwrap();
         let results: [(RangeSet<[i64; 4]>, fn(bool, bool) -> bool); 4] = [
@@ -214,6 +214,17 @@ fn long_lists_of_far_and_near_boundaries() {
                 );
             }
         }
+    }
+}
+
+/// Room is asked for as long as both lists are. A result that is much shorter gives it back.
+#[test]
+fn a_short_result_of_long_sets_lies_in_the_set_itself() {
+    let long: RangeSet2<u32> = (0..1000).map(|n| 2 * n..2 * n + 1).collect();
+    let longer = &long ^ &RangeSet2::from(5000..);
+    for result in [&long ^ &longer, &longer - &long] {
+        assert_eq!(result.boundaries(), [5000]);
+        assert!(!result.into_inner().spilled());
     }
 }
 

@@ -103,6 +103,19 @@ fn the_range_at_a_value() {
 }
 
 #[test]
+fn the_next_member_and_the_next_gap() {
+    for (a, _) in pairs().step_by(5) {
+        let set: RangeSet2<u8> = set(a);
+        for from in 0..64 {
+            // What is a member at 63 is one at all values above it.
+            let next = |bits: u64| (from..64).find(|&at| bits >> at & 1 == 1);
+            assert_eq!(set.next_member(&from).copied(), next(a), "{set:?} {from}");
+            assert_eq!(set.next_gap(&from).copied(), next(!a), "{set:?} {from}");
+        }
+    }
+}
+
+#[test]
 fn first_last_and_span() {
     for (a, _) in pairs() {
         let set: RangeSet2<u8> = set(a);

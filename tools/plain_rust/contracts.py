@@ -25,7 +25,7 @@ def wrapped(line, indent):
 
 
 def clause_at(found, at):
-    """The clause at `at`, and the index behind it."""
+    """The clause at `at`, and the index after it."""
     body = at + 1
     name = ""
     if found[body].kind == "word":
@@ -65,7 +65,7 @@ def is_clause(found, at):
 
 
 def with_contract(lead, clauses):
-    """The comments before a function, with its contract behind them."""
+    """The comments before a function, with its contract after them."""
     above, _, indent = lead.rpartition("\n")
     comments = [line for line in above.split("\n") if line.strip()]
     lines = ["# Contract", "", "```text", *(line for clause in clauses for line in clause.lines()), "```"]

@@ -35,7 +35,7 @@ def drop_ghost_field(found, at):
 
 
 def skipped_field(found, at):
-    """The index behind the field at `at`."""
+    """The index after the field at `at`."""
     while found[at].text not in (",", "}"):
         at = closing(found, at) + 1 if found[at].text in OPENING else at + 1
     return at + 1 if found[at].text == "," else at
@@ -122,13 +122,13 @@ def is_left_out_impl(found, end):
 
 def drop_bound(found, at, end):
     """Drops the bound from `at` up to `end`, and gives the index where it stood."""
-    before, behind = found[at - 1].text, found[end].text
+    before, after = found[at - 1].text, found[end].text
     if before == "+":
         del found[at - 1 : end]
         return at - 1
     if before != ":":
         raise Refused(found[at].line, f"{found[at].text} as something else than a bound")
-    if behind == "+":
+    if after == "+":
         found[end + 1].lead = " "
         del found[at : end + 1]
         return at
@@ -136,7 +136,7 @@ def drop_bound(found, at, end):
     if not where:
         del found[at - 1 : end]
         return at - 1
-    last = end + 1 if behind == "," else end
+    last = end + 1 if after == "," else end
     if found[last].text in ("{", ";"):
         del found[at - 3 : last]
         return at - 3

@@ -1,6 +1,6 @@
 """The sources, and the Rust that is made of each."""
 
-from plain_rust import code, ghosts, tables
+from plain_rust import code, exports, ghosts, tables
 from plain_rust.contracts import take_clauses
 from plain_rust.items import items
 from plain_rust.shaping import Shaping
@@ -17,6 +17,7 @@ class Source:
         self.words = words_outside(found)
         self.clauses = take_clauses(found)
         ghosts.drop_ghosts(found)
+        exports.change_exports(found)
         ghosts.change_attributes(found)
         ghosts.drop_bounds(found)
         self.found = found

@@ -1,17 +1,24 @@
 """What differs between Rattle and Rust 1.63, by names. It has signatures and no bodies: those are in rust/src/support."""
 
+import re
+
 # The crates that are written, each as a module, and where.
-CRATES = ("range_merge", "range_entry", "range_collections", "range_tracker")
+CRATES = ("range_merge", "range_entry", "range_collections", "range_tracker", "range_c")
 ROOT = ("crate", "generated")
 SUPPORT = ("crate", "support")
+# Crates that are compiled with a feature alone.
+FEATURES = {"range_c": "c"}
 
 # The rustfmt by which the files are laid out. With another one only the tokens are compared.
 RUSTFMT = "rustfmt 1.9.0"
 
 # Modules of Rattle's std that are modules of Rust's core, with the same names in them.
-CORE = {"cmp", "fmt", "iter", "marker", "mem", "num", "ops", "slice"}
+CORE = {"cmp", "fmt", "iter", "marker", "mem", "num", "ops", "slice", "str"}
 # Names that come from elsewhere: from the support module.
-MOVED = {("std", "alloc", "AllocError"), ("std", "alloc", "Global"), ("std", "error", "Error"), ("smallvec", "SmallVec")}
+MOVED = {("std", "alloc", "AllocError"), ("std", "alloc", "Global"), ("std", "error", "Error"), ("smallvec", "SmallVec")} | {
+    ("itoa", "Buffer"),
+    ("itoa", "Integer"),
+}
 # Names of std that only proofs have a use for.
 GHOSTLY = {("std", "marker", "Model"), ("std", "default", "MadeWith")}
 # Names that need no `use` in Rattle, or another one than in Rust.
@@ -35,23 +42,26 @@ RENAMED = {
 SAME = set(
     """
     abs_diff all allocator as_array as_bytes as_mut_slice as_ref as_slice bitand bitor bitxor capacity char_indices
-    checked_add chunks chunks_exact cmp contains copy_from_slice copied dedup drain enumerate eq expect extend_from_slice
-    filter_map first fmt from get insert into_iter into_vec is_ascii_digit is_empty is_eq is_err is_ge is_gt is_le is_lt
-    is_ne is_none is_ok is_some is_whitespace iter iter_mut last leading_zeros len map max min next next_back not ok
-    parse pop position push_reserved remove reserve rev reverse rotate_left rotate_right saturating_add saturating_mul
-    saturating_sub shrink_to_fit size_hint split split_at split_at_mut split_first split_last split_once strip_prefix
-    sub swap swap_with_slice take then_some trailing_zeros trim truncate unwrap_or windows with_capacity write_str
-    wrapping_sub zip
+    checked_add chunks chunks_exact cmp contains copied copy_from_slice copy_within dedup drain enumerate eq expect
+    extend_from_slice filter_map first fmt format from get insert into_iter into_vec is_ascii_digit is_empty is_eq is_err
+    is_ge is_gt is_le is_lt is_ne is_none is_ok is_some is_whitespace iter iter_mut last leading_zeros len map max min
+    next next_back not ok parse pop position push_reserved remove reserve rev reverse rotate_left rotate_right
+    saturating_add saturating_mul saturating_sub shrink_to_fit size_hint sort_unstable sort_unstable_by_key split
+    split_at split_at_mut split_first split_last split_once strip_prefix sub swap swap_with_slice take then_some
+    trailing_zeros trim truncate unwrap_or valid_up_to windows with_capacity wrapping_sub write_str zip
     """.split()
 )
 # Macros, attributes and derives that are the same in Rust.
 MACROS = {"assert", "debug_assert", "unreachable", "write", "writeln"}
-ATTRIBUTES = {"inline", "must_use", "cold"}
+ATTRIBUTES = {"inline", "must_use", "cold", "repr"}
 DERIVES = {"Clone", "Copy", "Debug", "Default", "Eq", "Hash", "Ord", "PartialEq", "PartialOrd"}
 # Those of proofs.
 PROOF_ATTRIBUTES = {"cycle", "tactic"}
 # Words of Rust that no source uses, and whose forms this script doesn't know.
 UNKNOWN_WORDS = {"async", "await", "dyn", "extern", "macro_rules", "move", "static", "unsafe", "yield"}
+
+# The names of exports: `proved_range_set_`, the type, and the call.
+EXPORT = re.compile(r"proved_range_set_[iu]\d+_(\w+)")
 
 # Functions that do nothing when they run: a caller learns something by them.
 #   fn known(&self), fn known_in_range(&self), fn keeps_own()
@@ -59,20 +69,20 @@ NOTHING = {"known", "known_in_range", "keeps_own"}
 # The comment before a statement that is there for a proof alone.
 HINT = "// Brings that"
 
-# Files that are left out: laws are found by their form; JSON is read and written by serde; a set of Rattle's own
-# needs numbers other than 0 that have a default.
+# Files that are left out: laws are found by their form; JSON is read and written by serde; std prints sets of
+# characters; a set of Rattle's own needs numbers other than 0 that have a default.
 LEFT_OUT = {
     "range_entry/non_zero",
     "range_entry/non_zero_std",
-    "range_collections/range_set/json",
-    "range_collections/range_set/json_errors",
+    "range_collections/json",
+    "range_collections/text/chars",
 }
 # Names whose files are left out, wherever they are imported.
 LEFT_OUT_NAMES = {"JsonError", "NonZeroU8", "NonZeroU16", "NonZeroU32", "NonZeroU64", "NonZeroU128", "NonZeroUsize"}
 
 # Files of which these items alone are written: lists of support have gaps without items, where Rattle's have blank
 # items, so what moves items is theirs. See the module `opened`.
-ITEMS_KEPT = {"range_merge/place": {"trait Place", "fn turn_round"}}
+ITEMS_KEPT = {"range_merge/place": {"trait Place", "trait Shelf"}}
 
 # Items that are left out, by their file: a kind with a name, or an impl with its title up to the generics of the type.
 ITEMS_LEFT_OUT = {
@@ -83,8 +93,8 @@ ITEMS_LEFT_OUT = {
     "range_entry/lists": {"impl EntryClone for Vec"},
     "range_entry/texts": {"impl EntryClone for String"},
     # Every element with std's Debug has one.
-    "range_collections/range_set/text": {"impl fmt::Debug for RangeSet"},
-    "range_collections/range_set_range/text": {"impl fmt::Debug for RangeSetRange"},
+    "range_collections/text": {"impl fmt::Debug for RangeSet"},
+    "range_collections/range_set_range": {"impl fmt::Debug for RangeSetRange"},
 }
 # Names that support has in place of what is left out.
 BY_SUPPORT = {"InPlaceMergeState", "InPlaceMergeStateRef"}
@@ -92,6 +102,5 @@ BY_SUPPORT = {"InPlaceMergeState", "InPlaceMergeStateRef"}
 IMPLS_LEFT_OUT = {"MadeWith", "Model", "RangeSetEntry"}
 # Private fields and functions that support uses, by their file.
 SHOWN = {
-    "range_merge/merge_state/in_place": {"reversed"},
     "range_merge/merge_state/in_place_ref": {"over"},
 }

@@ -29,7 +29,7 @@ def is_word(char):
 
 
 def end_of_comment(text, at, line):
-    """The index behind the comment in `/* .. */` that begins at `at`."""
+    """The index after the comment in `/* .. */` that begins at `at`."""
     depth = 0
     while at < len(text):
         if text.startswith("/*", at):
@@ -44,7 +44,7 @@ def end_of_comment(text, at, line):
 
 
 def end_of_string(text, at, line):
-    """The index behind the string whose quote stands at `at`."""
+    """The index after the string whose quote stands at `at`."""
     at += 1
     while at < len(text) and text[at] != '"':
         at += 2 if text[at] == "\\" else 1
@@ -54,7 +54,7 @@ def end_of_string(text, at, line):
 
 
 def end_of_quote(text, at):
-    """The kind of what begins with the quote at `at`, and the index behind it."""
+    """The kind of what begins with the quote at `at`, and the index after it."""
     if text[at + 1 : at + 2] == "\\":
         return "char", text.index("'", at + 3) + 1
     if text[at + 2 : at + 3] == "'":
@@ -66,7 +66,7 @@ def end_of_quote(text, at):
 
 
 def end_of_word(text, at):
-    """The index behind a word, which may end with the primes of a ghost name."""
+    """The index after a word, which may end with the primes of a ghost name."""
     while at < len(text) and is_word(text[at]):
         at += 1
     while at < len(text) and text[at] == "'":
@@ -75,8 +75,8 @@ def end_of_word(text, at):
 
 
 def tokens(text):
-    """The tokens of a text. The last one is empty and has what stands behind the others as its lead."""
-    found, at, behind, line = [], 0, 0, 1
+    """The tokens of a text. The last one is empty and has what stands after the others as its lead."""
+    found, at, after, line = [], 0, 0, 1
     while at < len(text):
         char = text[at]
         if char.isspace():
@@ -99,10 +99,10 @@ def tokens(text):
             kind, end = "word", end_of_word(text, at)
         else:
             kind, end = "punct", at + 1
-        found.append(Token(text[behind:at], text[at:end], kind, line))
+        found.append(Token(text[after:at], text[at:end], kind, line))
         line += text.count("\n", at, end)
-        at = behind = end
-    found.append(Token(text[behind:], "", "end", line))
+        at = after = end
+    found.append(Token(text[after:], "", "end", line))
     return found
 
 

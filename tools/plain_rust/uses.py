@@ -5,7 +5,7 @@ from plain_rust.tokens import Refused, made, stands
 
 
 def paths_of(found, at, front=()):
-    """The paths of the tree of a `use` from `at` on, and the index behind it."""
+    """The paths of the tree of a `use` from `at` on, and the index after it."""
     path = list(front)
     while True:
         if found[at].text == "{":

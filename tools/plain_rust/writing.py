@@ -46,8 +46,14 @@ def files_of(folder):
     for file, text in rust_of(texts_of(folder)).items():
         crate, _, path = file.partition("/")
         files[path_of(file)] = HEADER.format(crate=crate, path=path) + text
-    modules = "".join(f"pub mod {crate};\n" for crate in sorted(tables.CRATES))
+    modules = "".join(map(module_of, sorted(tables.CRATES)))
     return {"mod.rs": ROOT + modules, **files}
+
+
+def module_of(crate):
+    """The line that has a crate as a module."""
+    feature = tables.FEATURES.get(crate)
+    return (f'#[cfg(feature = "{feature}")]\n' if feature else "") + f"pub mod {crate};\n"
 
 
 def rustfmt():

@@ -6,6 +6,8 @@
 // Not all that is proved has a use in this crate, and some names are read by clauses alone.
 #![allow(dead_code, unused_imports, unused_variables)]
 
+#[cfg(feature = "c")]
+pub mod range_c;
 pub mod range_collections;
 pub mod range_entry;
 pub mod range_merge;

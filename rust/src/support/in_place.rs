@@ -1,16 +1,16 @@
 //! Merges in place, where the list lies.
 //!
-//! In Rattle a gap in a list is filled with blank items, which ask for a default value. Here nothing lies in a gap, so that any element will do; so the merge runs over lists that are [`Opened`].
+//! In Rattle a gap in a list is filled with blank items, which ask for a default value. Here nothing lies in a gap, so that any element will do: the merge runs over [`Slot`]s of lists that are [`Opened`].
 
-use super::opened::Opened;
+use super::opened::{Given, Opened};
+use super::slot::{BySlots, OfSlots, Slot};
 use super::{AllocError, SmallVec};
 use crate::generated::range_merge::in_place_memory::{prepared, prepared_copies};
 use crate::generated::range_merge::merge_state::in_place::OwnedRight;
-use crate::generated::range_merge::merge_state::in_place_ref::CopiedRight;
+use crate::generated::range_merge::merge_state::in_place_ref::{BorrowedRight, CopiedRight};
 use crate::generated::range_merge::merge_state::placing::PlacingMergeState;
 use crate::generated::range_merge::merge_state::right_side::RightSide;
-use crate::generated::range_merge::place::turn_round;
-use crate::generated::range_merge::{merge, Compare, Copier, MergeOperation};
+use crate::generated::range_merge::{Compare, Copier, MergeOperation};
 use core::marker::PhantomData;
 
 /// A merge into its own left list, which takes the items of a right list that it owns.
@@ -33,11 +33,7 @@ impl<K, const N: usize> InPlaceMergeState<K, N> {
         if let Err(error) = prepared(a, extra) {
             return Err((error, b));
         }
-        turn_round(&mut b);
-        let right = OwnedRight {
-            reversed: Opened::over(&mut b),
-        };
-        merge_opened(a, right, extra, op, cmp);
+        merge_opened(a, OwnedRight::over(Given::over(&mut b)), extra, op, cmp);
         Ok(())
     }
 }
@@ -45,7 +41,7 @@ impl<K, const N: usize> InPlaceMergeState<K, N> {
 impl<K, P: Copier<K>, const N: usize> InPlaceMergeStateRef<K, P, N> {
     /// Leaves in `a` the items at which the connective of `op` changes between two strictly sorted lists: its own, and copies of those of `b`. Of two equal items it is the one of `a` that stays.
     ///
-    /// It asks for room in `a` for the items of `b`, and for a copy of each item of `b`, before it changes anything. Where one is refused, `a` is as it was.
+    /// It asks for room in `a` for the items of `b`, and, unless the copier never refuses, for a copy of each item of `b`, before it changes anything. Where one is refused, `a` is as it was.
     pub fn merge<O: MergeOperation, C: Compare<K>>(
         a: &mut SmallVec<K, N>,
         b: &[K],
@@ -53,8 +49,15 @@ impl<K, P: Copier<K>, const N: usize> InPlaceMergeStateRef<K, P, N> {
         op: &O,
         cmp: &mut C,
     ) -> Result<(), AllocError> {
+        let slots = Slot::slots(b);
+        if copier.never_refuses() {
+            prepared(a, b.len())?;
+            let copier = OfSlots(copier);
+            merge_opened(a, BorrowedRight::over(slots, &copier), b.len(), op, cmp);
+            return Ok(());
+        }
         let mut copies = prepared_copies(a, b, copier)?;
-        let right = CopiedRight::<K, P, _>::over(b, Opened::over(&mut copies));
+        let right = CopiedRight::<_, OfSlots<P>, _>::over(slots, Given::over(&mut copies));
         merge_opened(a, right, b.len(), op, cmp);
         Ok(())
     }
@@ -62,15 +65,13 @@ impl<K, P: Copier<K>, const N: usize> InPlaceMergeStateRef<K, P, N> {
 
 /// Merges into a list that has room for `extra` more items, at most so many of which the right side puts.
 #[inline(always)]
-fn merge_opened<K, R: RightSide<K>, O: MergeOperation, C: Compare<K>, const N: usize>(
+fn merge_opened<K, R: RightSide<Slot<K>>, O: MergeOperation, C: Compare<K>, const N: usize>(
     a: &mut SmallVec<K, N>,
     right: R,
     extra: usize,
     op: &O,
     cmp: &mut C,
 ) {
-    let mut state = PlacingMergeState::<K, N, R, _>::over(Opened::over(a), right, extra);
-    // Such a state neither stops nor refuses.
-    let _went_through = merge(&mut state, op, cmp);
-    state.result().close();
+    let state = PlacingMergeState::<Slot<K>, N, R, _>::over(Opened::over(a), right, extra);
+    state.merged(op, &mut BySlots(cmp)).close();
 }

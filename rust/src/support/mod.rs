@@ -4,10 +4,13 @@
 
 mod alloc_error;
 mod clones;
+#[cfg(feature = "c")]
+mod decimal;
 mod error;
 mod in_place;
 mod opened;
 mod since;
+mod slot;
 mod small_vec;
 mod sorting;
 #[cfg(test)]
@@ -15,6 +18,8 @@ mod tests;
 mod vec;
 
 pub use alloc_error::{AllocError, AllocFailed, Global};
+#[cfg(feature = "c")]
+pub use decimal::{Buffer, Integer};
 pub use error::Error;
 pub use in_place::{InPlaceMergeState, InPlaceMergeStateRef};
 // The sources need now these, now those.

@@ -1,10 +1,14 @@
-//! A list that is open for changes in place: some of its room may hold no item.
+//! Lists that are open for changes in place: some of their room may hold no item.
 
+use super::slot::Slot;
 use super::SmallVec;
-use crate::generated::range_merge::place::Place;
+use crate::generated::range_merge::indexed::Indexed;
+use crate::generated::range_merge::merge_state::right_side::RightSide;
+use crate::generated::range_merge::place::{Place, Shelf};
 use core::marker::PhantomData;
 use core::mem;
 use core::ptr;
+use core::slice;
 
 /// A borrowed list whose items are moved within its room.
 ///
@@ -12,7 +16,7 @@ use core::ptr;
 pub struct Opened<'a, K, const N: usize> {
     // A pointer, and no reference: it would be the only way to the items, which lie in the list itself where they are few.
     list: *mut smallvec::SmallVec<[K; N]>,
-    items: *mut K,
+    items: *mut Slot<K>,
     room: usize,
     front: usize,
     back: usize,
@@ -29,7 +33,7 @@ impl<'a, K, const N: usize> Opened<'a, K, N> {
         let (len, room, items) = unsafe {
             let len = (*list).len();
             (*list).set_len(0);
-            (len, (*list).capacity(), (*list).as_mut_ptr())
+            (len, (*list).capacity(), (*list).as_mut_ptr().cast())
         };
         Opened {
             list,
@@ -56,47 +60,80 @@ impl<'a, K, const N: usize> Opened<'a, K, N> {
         unsafe { (*list).set_len(len) };
     }
 
-    /// Drops the items from `from` up to `to`, where a gap comes to be. If there is one before, it begins at `from`.
+    /// Makes one gap of the places from `from` up to `to` and the gap that is there, and drops the items in it.
     #[inline(always)]
     fn clear(&mut self, from: usize, to: usize) {
-        let gap = self.front != self.back;
-        assert!(!gap || self.front == from, "a second gap");
-        let there = if gap { self.back } else { from };
-        assert!(there <= to && to <= self.len, "out of range");
+        assert!(from <= to && to <= self.len, "out of range");
+        if self.front == self.back {
+            self.front = from;
+            self.back = to;
+            self.drop_items(from, to);
+            return;
+        }
+        let (front, back) = (self.front, self.back);
+        assert!(from <= front && back <= to.max(back), "a second gap");
         self.front = from;
-        self.back = to;
-        // SAFETY: these items are there, and they lie in the gap now, so that none is dropped again, also where one of them panics.
-        unsafe { ptr::drop_in_place(self.slice(there, to)) };
+        self.back = to.max(back);
+        self.drop_items(from, front);
+        if back < to {
+            self.drop_items(back, to);
+        }
     }
 
-    /// The places from `from` up to `to`, which are within the room.
+    /// Drops the items from `from` up to `to`. They are there, and lie in the gap by now.
     #[inline(always)]
-    fn slice(&self, from: usize, to: usize) -> *mut [K] {
-        debug_assert!(from <= to && to <= self.room);
-        ptr::slice_from_raw_parts_mut(self.items.wrapping_add(from), to - from)
+    fn drop_items(&mut self, from: usize, to: usize) {
+        // SAFETY: no item in the gap is dropped again, also where one of these panics.
+        unsafe { drop_items(self.items, from, to) };
+    }
+
+    /// The places from `from` on, `n` of them.
+    #[inline(always)]
+    fn slots(&mut self, from: usize, n: usize) -> &mut [Slot<K>] {
+        assert!(from <= self.len && n <= self.len - from, "out of range");
+        // SAFETY: the places up to `len` are within the room, and a slot may hold no item.
+        unsafe { slice::from_raw_parts_mut(self.items.add(from), n) }
     }
 }
 
-impl<K, const N: usize> Place<K> for Opened<'_, K, N> {
+/// Drops the items in these slots.
+///
+/// # Safety
+///
+/// The slots are within the memory of `items`, and each has an item, which isn't dropped again.
+#[inline(always)]
+unsafe fn drop_items<K>(items: *mut Slot<K>, from: usize, to: usize) {
+    // SAFETY: by the caller.
+    unsafe {
+        ptr::drop_in_place(ptr::slice_from_raw_parts_mut(
+            items.add(from).cast::<K>(),
+            to - from,
+        ))
+    };
+}
+
+impl<K, const N: usize> Indexed<Slot<K>> for Opened<'_, K, N> {
     #[inline(always)]
     fn len(&self) -> usize {
         self.len
     }
 
     #[inline(always)]
-    fn at(&self, i: usize) -> &K {
+    fn at(&self, i: usize) -> &Slot<K> {
         assert!(self.back <= i && i < self.len, "out of range");
-        // SAFETY: the items from `back` up to `len` are there.
+        // SAFETY: the place is within the room. It has an item, as those from `back` up to `len` have.
         unsafe { &*self.items.add(i) }
     }
+}
 
+impl<K, const N: usize> Place<Slot<K>> for Opened<'_, K, N> {
     #[inline(always)]
     fn move_down(&mut self, to: usize, from: usize, n: usize) {
         if to == from {
             return;
         }
         self.clear(to, from);
-        assert!(n <= self.len - from, "out of range");
+        assert!(self.back == from && n <= self.len - from, "out of range");
         // SAFETY: the items from `from` on are there, those before it down to `to` aren't, and all are within the room.
         unsafe { ptr::copy(self.items.add(from), self.items.add(to), n) };
         self.front = to + n;
@@ -105,38 +142,46 @@ impl<K, const N: usize> Place<K> for Opened<'_, K, N> {
 
     #[inline(never)]
     fn open_gap(&mut self, at: usize, n: usize) {
-        assert!(self.front == self.back, "a second gap");
-        assert!(at <= self.len && n <= self.room - self.len, "out of range");
-        // SAFETY: without a gap the items from `at` on are there, and there is room behind them for `n` more.
+        assert!(n <= self.room - self.len, "no room");
+        if self.front != self.back {
+            self.clear(self.front, at);
+        }
+        assert!(
+            at <= self.len && (self.front == self.back || self.back == at),
+            "out of range"
+        );
+        // SAFETY: the items from `at` on are there, and there is room behind them for `n` more.
         unsafe {
             let first = self.items.add(at);
             ptr::copy(first, first.add(n), self.len - at);
         }
-        self.front = at;
+        if self.front == self.back {
+            self.front = at;
+        }
         self.back = at + n;
         self.len += n;
     }
 
     #[inline(always)]
-    fn set(&mut self, i: usize, item: K) {
-        if self.front == self.back {
-            assert!(i < self.len, "out of range");
-            // SAFETY: without a gap all items are there.
-            drop(mem::replace(unsafe { &mut *self.items.add(i) }, item));
-        } else {
-            assert!(i == self.front, "out of range");
-            // SAFETY: this is the first place of the gap, where no item is.
-            unsafe { self.items.add(i).write(item) };
-            self.front += 1;
-        }
+    fn set(&mut self, i: usize, item: Slot<K>) {
+        self.clear(i, i + 1);
+        self.slots(i, 1)[0] = item;
+        self.front = i + 1;
     }
 
     #[inline(always)]
-    fn pop(&mut self) -> K {
-        assert!(self.back < self.len, "no item");
-        self.len -= 1;
-        // SAFETY: the item was there, and is no longer within the length.
-        unsafe { self.items.add(self.len).read() }
+    fn put_from<R: RightSide<Slot<K>>>(&mut self, at: usize, n: usize, right: &mut R) {
+        self.clear(at, at + n);
+        if !mem::needs_drop::<K>() {
+            right.put_front(self.slots(at, n));
+            self.front = at + n;
+            return;
+        }
+        // One by one, so that those are known that are there if a copy panics.
+        for i in at..at + n {
+            right.put_front(self.slots(i, 1));
+            self.front = i + 1;
+        }
     }
 
     #[inline(always)]
@@ -154,8 +199,75 @@ impl<K, const N: usize> Drop for Opened<'_, K, N> {
     fn drop(&mut self) {
         // SAFETY: these are the items that are there, and the list itself has none of them.
         unsafe {
-            ptr::drop_in_place(self.slice(0, self.front));
-            ptr::drop_in_place(self.slice(self.back, self.len));
+            drop_items(self.items, 0, self.front);
+            drop_items(self.items, self.back, self.len);
         }
+    }
+}
+
+/// A borrowed list whose items are taken from its front. What isn't taken is dropped, and the list is left empty.
+pub struct Given<'a, K, const N: usize> {
+    items: *mut Slot<K>,
+    front: usize,
+    len: usize,
+    of: PhantomData<&'a mut SmallVec<K, N>>,
+}
+
+impl<'a, K, const N: usize> Given<'a, K, N> {
+    /// All items of the list.
+    #[inline]
+    pub fn over(list: &'a mut SmallVec<K, N>) -> Self {
+        let list = list.as_inner_mut();
+        let len = list.len();
+        // SAFETY: none of its items is within a length of 0.
+        unsafe { list.set_len(0) };
+        Given {
+            items: list.as_mut_ptr().cast(),
+            front: 0,
+            len,
+            of: PhantomData,
+        }
+    }
+
+    /// Drops the items before `at` that are there.
+    #[inline(always)]
+    fn skip_to(&mut self, at: usize) {
+        assert!(self.front <= at && at <= self.len, "out of range");
+        let front = mem::replace(&mut self.front, at);
+        // SAFETY: the items from the former front on are there, and they lie before the new one by now.
+        unsafe { drop_items(self.items, front, at) };
+    }
+}
+
+impl<K, const N: usize> Indexed<Slot<K>> for Given<'_, K, N> {
+    #[inline(always)]
+    fn len(&self) -> usize {
+        self.len
+    }
+
+    #[inline(always)]
+    fn at(&self, i: usize) -> &Slot<K> {
+        assert!(self.front <= i && i < self.len, "out of range");
+        // SAFETY: the items from `front` up to `len` are there.
+        unsafe { &*self.items.add(i) }
+    }
+}
+
+impl<K, const N: usize> Shelf<Slot<K>> for Given<'_, K, N> {
+    #[inline(always)]
+    fn swap_with(&mut self, at: usize, others: &mut [Slot<K>]) {
+        let n = others.len();
+        assert!(at <= self.len && n <= self.len - at, "out of range");
+        self.skip_to(at);
+        self.front = at + n;
+        // SAFETY: the items are there, and lie before the front by now. The slots are those of a gap in another list.
+        unsafe { ptr::copy_nonoverlapping(self.items.add(at), others.as_mut_ptr(), n) };
+    }
+}
+
+impl<K, const N: usize> Drop for Given<'_, K, N> {
+    fn drop(&mut self) {
+        // SAFETY: the items from `front` on are there, and the list itself has none of them.
+        unsafe { drop_items(self.items, self.front, self.len) };
     }
 }

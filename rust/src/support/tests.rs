@@ -2,9 +2,12 @@
 
 extern crate std;
 
-use super::opened::Opened;
+use super::opened::{Given, Opened};
+use super::slot::Slot;
 use super::*;
-use crate::generated::range_merge::place::Place;
+use crate::generated::range_merge::indexed::Indexed;
+use crate::generated::range_merge::merge_state::in_place::OwnedRight;
+use crate::generated::range_merge::place::{Place, Shelf};
 use crate::generated::range_merge::{
     Compare, Connective, Copier, DiffOp, IntersectionOp, MergeOperation, UnionOp, XorOp,
 };
@@ -59,12 +62,32 @@ impl Compare<Item> for ByKey {
     }
 }
 
-/// Copies an item of the right side.
-struct Copying;
+/// Copies an item of the right side, before the merge or as it is taken, and panics at the copy with this number.
+struct Copying {
+    late: bool,
+    made: Cell<usize>,
+    panics_at: usize,
+}
+
+impl Copying {
+    fn new(late: bool, panics_at: usize) -> Self {
+        Copying {
+            late,
+            made: Cell::new(0),
+            panics_at,
+        }
+    }
+}
 
 impl Copier<Item> for Copying {
     fn copy(&self, item: &Item) -> Result<Item, AllocError> {
+        self.made.set(self.made.get() + 1);
+        assert!(self.made.get() != self.panics_at, "a copy panics");
         Ok(Item::new(item.key, item.side, &item.there))
+    }
+
+    fn never_refuses(&self) -> bool {
+        self.late
     }
 }
 
@@ -95,6 +118,11 @@ fn changes<O: MergeOperation>(a: u32, b: u32, op: &O) -> alloc::vec::Vec<(u32, u
         right ^= in_right;
     }
     found
+}
+
+/// Of how many made-up cases one is tried, as in the crate's other tests.
+fn one_in() -> usize {
+    std::env::var("RANGE_SETS_ONE_IN").map_or(1, |it| it.parse().expect("it is a number"))
 }
 
 /// Bits that are made up, from sparse to dense.
@@ -132,12 +160,17 @@ fn merges_in_place<O: MergeOperation, const N: usize>(a: u32, b: u32, op: &O) {
     assert_eq!(seen(&owned), expected, "{a:b} {b:b}");
     assert_eq!(there.get(), expected.len() as isize);
 
-    let mut borrowed = list::<N>(a, 0, &there);
-    let right = list::<N>(b, 1, &there);
-    InPlaceMergeStateRef::merge(&mut borrowed, &right, &Copying, op, &mut cmp).unwrap();
-    assert_eq!(seen(&borrowed), expected, "{a:b} {b:b}");
-    drop((owned, borrowed, right));
-    assert_eq!(there.get(), 0);
+    drop(owned);
+
+    for late in [false, true] {
+        let mut borrowed = list::<N>(a, 0, &there);
+        let right = list::<N>(b, 1, &there);
+        let copier = Copying::new(late, 0);
+        InPlaceMergeStateRef::merge(&mut borrowed, &right, &copier, op, &mut cmp).unwrap();
+        assert_eq!(seen(&borrowed), expected, "{a:b} {b:b}");
+        drop((borrowed, right));
+        assert_eq!(there.get(), 0);
+    }
 }
 
 #[test]
@@ -149,7 +182,7 @@ fn merges_in_place_give_the_changes_and_drop_every_item_once() {
         right: true,
         both: false,
     };
-    for _ in 0..2000 {
+    for _ in (0..2000).step_by(one_in()) {
         let (a, b) = (made_up(&mut seed), made_up(&mut seed));
         merges_in_place::<_, 0>(a, b, &UnionOp);
         merges_in_place::<_, 2>(a, b, &XorOp);
@@ -165,7 +198,7 @@ fn a_comparison_that_panics_drops_every_item_once() {
     use std::panic::{catch_unwind, AssertUnwindSafe};
 
     let mut seed = 2;
-    for _ in 0..300 {
+    for _ in (0..300).step_by(one_in()) {
         let (a, b) = (made_up(&mut seed), made_up(&mut seed));
         let mut panics_at = 1;
         loop {
@@ -188,21 +221,76 @@ fn a_comparison_that_panics_drops_every_item_once() {
     }
 }
 
+#[cfg(panic = "unwind")]
+#[test]
+fn a_copy_that_panics_drops_every_item_once() {
+    use std::panic::{catch_unwind, AssertUnwindSafe};
+
+    let mut seed = 4;
+    for round in (0..300).step_by(one_in()) {
+        let (a, b) = (made_up(&mut seed), made_up(&mut seed));
+        let mut panics_at = 1;
+        loop {
+            let there = Rc::new(Cell::new(0));
+            let mut left = list::<4>(a, 0, &there);
+            let right = list::<4>(b, 1, &there);
+            let copier = Copying::new(round % 2 == 0, panics_at);
+            let mut cmp = ByKey {
+                made: 0,
+                panics_at: ByKey::NEVER,
+            };
+            let merged = catch_unwind(AssertUnwindSafe(|| {
+                InPlaceMergeStateRef::merge(&mut left, &right, &copier, &UnionOp, &mut cmp).is_ok()
+            }));
+            assert_eq!(there.get(), (left.len() + right.len()) as isize);
+            drop((left, right));
+            assert_eq!(there.get(), 0);
+            if merged.is_ok() {
+                break;
+            }
+            panics_at += 1;
+        }
+    }
+}
+
 #[test]
 fn a_list_that_is_not_closed_is_left_empty() {
     let there = Rc::new(Cell::new(0));
+    let slot = || Slot::of(Item::new(9, 1, &there));
     let mut items = list::<4>(0b1111_1111, 0, &there);
     items.reserve(8).unwrap();
     let mut opened = Opened::over(&mut items);
     opened.move_down(0, 2, 3);
     assert_eq!(there.get(), 6);
-    opened.set(3, Item::new(9, 1, &there));
-    opened.set(4, Item::new(9, 1, &there));
+    opened.set(3, slot());
+    opened.set(4, slot());
     opened.open_gap(5, 3);
-    opened.set(5, Item::new(9, 1, &there));
-    assert_eq!((opened.at(8).key, there.get()), (5, 9));
+    opened.set(5, slot());
+    // SAFETY: it was moved up by the gap.
+    let moved = unsafe { opened.at(8).item().key };
+    assert_eq!((moved, there.get()), (5, 9));
     drop(opened);
     assert_eq!((items.len(), there.get()), (0, 0));
+}
+
+#[test]
+fn what_is_not_taken_of_a_list_is_dropped() {
+    let there = Rc::new(Cell::new(0));
+    let mut items = list::<4>(0b1111_1111, 0, &there);
+    let mut room = list::<4>(0b11, 0, &there);
+    let mut opened = Opened::over(&mut room);
+    let mut right = OwnedRight::over(Given::over(&mut items));
+    opened.truncate(0);
+    assert_eq!(there.get(), 8);
+    opened.open_gap(0, 2);
+    opened.put_from(0, 2, &mut right);
+    assert_eq!(there.get(), 8);
+    drop(right);
+    opened.close();
+    assert_eq!(
+        (seen(&room), items.len(), there.get()),
+        (std::vec![(0, 0), (1, 0)], 0, 2)
+    );
 }
 
 #[test]
@@ -223,28 +311,47 @@ fn a_gap_is_neither_read_nor_closed() {
         opened.move_down(0, 2, 2);
         std::panic::catch_unwind(core::panic::AssertUnwindSafe(|| change(opened))).is_err()
     }
+    fn reads(opened: &Opened<'_, u8, 8>, i: usize) -> u8 {
+        // SAFETY: what `at` gives has an item.
+        unsafe { *opened.at(i).item() }
+    }
 
-    assert!(!panics(|opened| assert_eq!(*opened.at(4), 4)));
-    assert!(panics(|opened| assert_eq!(*opened.at(3), 3)));
-    assert!(panics(|opened| assert_eq!(*opened.at(6), 6)));
+    assert!(!panics(|opened| assert_eq!(reads(&opened, 4), 4)));
+    assert!(panics(|opened| assert_eq!(reads(&opened, 3), 3)));
+    assert!(panics(|opened| assert_eq!(reads(&opened, 6), 6)));
     assert!(panics(|opened| opened.close()));
-    assert!(panics(|mut opened| opened.open_gap(4, 1)));
-    assert!(panics(|mut opened| opened.set(3, 1)));
-    assert!(panics(|mut opened| opened.move_down(1, 4, 1)));
+    assert!(panics(|mut opened| opened.open_gap(3, 1)));
+    assert!(panics(|mut opened| opened.open_gap(4, 3)));
+    assert!(panics(|mut opened| opened.set(3, Slot::of(1))));
+    assert!(panics(|mut opened| opened.move_down(3, 4, 1)));
     assert!(panics(|mut opened| opened.move_down(2, 4, 3)));
-    assert!(panics(|mut opened| opened.truncate(1)));
-    assert!(panics(|mut opened| {
-        opened.truncate(2);
-        opened.open_gap(2, 7);
-    }));
+    assert!(panics(|mut opened| opened.truncate(3)));
     assert!(!panics(|mut opened| {
-        assert_eq!((opened.pop(), opened.pop()), (5, 4));
+        opened.truncate(2);
+        opened.close();
     }));
-    assert!(panics(|mut opened| {
-        opened.pop();
-        opened.pop();
-        opened.pop();
-    }));
+}
+
+#[cfg(panic = "unwind")]
+#[test]
+fn what_was_taken_of_a_list_is_not_read() {
+    use std::panic::{catch_unwind, AssertUnwindSafe};
+
+    let mut items = SmallVec::<u8, 8>::new(Global);
+    (0..6).for_each(|n| items.push_reserved(n));
+    let mut given = Given::over(&mut items);
+    given.swap_with(1, &mut [Slot::of(0), Slot::of(0)]);
+    for i in [0, 2, 6] {
+        // SAFETY: nothing is given.
+        assert!(catch_unwind(AssertUnwindSafe(|| unsafe { *given.at(i).item() })).is_err());
+    }
+    for at in [2, 6] {
+        assert!(
+            catch_unwind(AssertUnwindSafe(|| given.swap_with(at, &mut [Slot::of(0)]))).is_err()
+        );
+    }
+    // SAFETY: what `at` gives has an item.
+    assert_eq!(unsafe { *given.at(3).item() }, 3);
 }
 
 #[test]

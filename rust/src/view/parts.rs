@@ -75,6 +75,45 @@ impl<T: Ord> RangeSetRef<T> {
             .map(RangeSetRange::from_proved)
     }
 
+    /// Returns the lowest member at or above `from`, or `None` if there is none.
+    ///
+    /// It is `from` itself if that is a member, else the start of the next range. It makes *O*(log *n*) comparisons.
+    ///
+    /// # Examples
+    ///
+    /// ```
+    /// use range_sets::RangeSetRef;
+    ///
+    /// let set = RangeSetRef::new(&[0, 10, 20, 30]).unwrap();
+    /// assert_eq!(set.next_member(&7), Some(&7));
+    /// assert_eq!(set.next_member(&10), Some(&20));
+    /// assert_eq!(set.next_member(&30), None);
+    /// ```
+    pub fn next_member<'a>(&'a self, from: &'a T) -> Option<&'a T> {
+        self.proved().next_member(from)
+    }
+
+    /// Returns the lowest value at or above `from` that is no member, or `None` if there is none.
+    ///
+    /// It is `from` itself if that is no member, else the end of the range that has it. It makes *O*(log *n*)
+    /// comparisons.
+    ///
+    /// # Examples
+    ///
+    /// The next byte of a download that is missing:
+    ///
+    /// ```
+    /// use range_sets::RangeSetRef;
+    ///
+    /// let received = RangeSetRef::new(&[0, 10, 20]).unwrap();
+    /// assert_eq!(received.next_gap(&0), Some(&10));
+    /// assert_eq!(received.next_gap(&15), Some(&15));
+    /// assert_eq!(received.next_gap(&20), None);
+    /// ```
+    pub fn next_gap<'a>(&'a self, from: &'a T) -> Option<&'a T> {
+        self.proved().next_gap(from)
+    }
+
     /// Returns the lowest range, or `None` if the set is empty.
     ///
     /// # Examples

@@ -90,6 +90,11 @@ impl Random {
     }
 }
 
+/// Of how many cases one is tried: of each, or of as many as RANGE_SETS_ONE_IN says, for a processor that is emulated.
+pub fn one_in() -> usize {
+    std::env::var("RANGE_SETS_ONE_IN").map_or(1, |it| it.parse().expect("it is a number"))
+}
+
 /// Pairs of bitmaps: all of six places, and made-up ones of all 64.
 pub fn pairs() -> impl Iterator<Item = (Bitmap, Bitmap)> {
     let spread = |bits: u64| {
@@ -100,6 +105,7 @@ pub fn pairs() -> impl Iterator<Item = (Bitmap, Bitmap)> {
     let all = (0..64).flat_map(move |a| (0..64).map(move |b| (spread(a), spread(b))));
     let mut random = Random(0x2545_f491_4f6c_dd1d);
     all.chain((0..MADE_UP).map(move |_| (random.bitmap(), random.bitmap())))
+        .step_by(one_in())
 }
 
 /// Where six places lie among 64: the first is the least value, the last has no end.

@@ -65,6 +65,11 @@ impl<T: EntryClone> Copier<T> for EntryCopier {
     }
 
     #[inline(always)]
+    fn never_refuses(&self) -> bool {
+        T::never_refuses()
+    }
+
+    #[inline(always)]
     fn append(&self, list: &mut Vec<T>, items: &[T]) -> Result<(), AllocError> {
         T::append_clones(list, items)
     }

@@ -4,8 +4,7 @@
 //! A value's place is the number of values below it. The places go from 0 up without a gap, in the order of the values.
 
 pub(crate) mod chars;
-pub(crate) mod integers;
-pub(crate) mod naturals;
+pub(crate) mod numbers;
 
 use crate::generated::range_entry::RangeSetEntry;
 

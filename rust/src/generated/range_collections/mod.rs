@@ -3,17 +3,17 @@
 
 pub(crate) mod comparisons;
 pub(crate) mod countable;
-pub(crate) mod gaps;
 pub(crate) mod iter;
-pub(crate) mod least;
+pub(crate) mod lists;
+pub(crate) mod parse;
 pub(crate) mod range_set;
 pub(crate) mod range_set_range;
-pub(crate) mod sortedness;
+pub(crate) mod text;
 pub(crate) mod view;
 pub(crate) mod whole_number;
 
 pub use crate::generated::range_entry::{EntryClone, RangeSetEntry};
-pub(crate) use crate::generated::range_merge::{merge, run_length, search};
+pub(crate) use crate::generated::range_merge::{count_up_to, merge, run_length, search};
 pub use crate::generated::range_merge::{
     BoolOpMergeState, Buffer, BufferMergeState, Compare, Connective, Copier, CountMergeState,
     DiffOp, InPlaceBuilder, IntersectionOp, MergeOperation, MergeState, MergeStateMut, NoRoom, Run,
@@ -22,9 +22,9 @@ pub use crate::generated::range_merge::{
 pub use crate::support::{InPlaceMergeState, InPlaceMergeStateRef};
 pub use comparisons::{Comparisons, EntryCopier};
 pub use countable::{Countable, Unsigned};
-pub use gaps::{Gaps, RangesWithin};
-pub use iter::Iter;
-pub use range_set::{Expected, ParseError, RangeSet, RangeSet2};
+pub use iter::{Gaps, Iter, RangesWithin};
+pub use parse::{check_ranges, Expected, ParseError};
+pub use range_set::{RangeSet, RangeSet2};
 pub use range_set_range::RangeSetRange;
 pub use view::RangeSetRef;
 pub use whole_number::WholeNumber;

@@ -1,13 +1,14 @@
 // Written by tools/plain-rust from crates/range_collections/src/range_set_range.rt. It isn't edited.
 //! One range of a set: with an end, or without one.
+//!
+//! Two are equal if both have an end or neither has, the starts are equal, and so are the ends. Two ranges of nothing differ where their ends do.
 
-pub(crate) mod equality;
-pub(crate) mod text;
-
+use crate::generated::range_collections::comparisons::Comparisons;
 use crate::generated::range_entry::EntryClone;
+use crate::generated::range_merge::Compare;
 use crate::support::AllocError;
+use core::fmt;
 use core::ops::{Bound, Range, RangeFrom};
-pub(crate) use text::write_range;
 
 /// The elements from a start on, up to an end or without one.
 pub enum RangeSetRange<T> {
@@ -15,6 +16,12 @@ pub enum RangeSetRange<T> {
     Range(Range<T>),
     /// From the start on.
     RangeFrom(RangeFrom<T>),
+}
+
+// Whether the range has an element: its start is below its end. Every call that takes a range asks this. An empty or reversed range stands for the empty set.
+#[inline(always)]
+pub(crate) fn has_elements<T: Ord>(start: &T, end: &T, count: &mut Comparisons) -> bool {
+    count.compare(start, end).is_lt()
 }
 
 impl<'a, T: EntryClone> RangeSetRange<&'a T> {
@@ -43,7 +50,7 @@ impl<'a, T: EntryClone> RangeSetRange<&'a T> {
 }
 
 impl<T: EntryClone> RangeSetRange<T> {
-    /// A copy of the range, or an error where there is no memory for it.
+    /// A copy of the range, or an error if memory runs out.
     ///
     /// # Contract
     ///
@@ -53,20 +60,7 @@ impl<T: EntryClone> RangeSetRange<T> {
     /// ensures succeeds: AllEnds T.is_infallible self.now → IsOk result
     /// ```
     pub fn try_clone(&self) -> Result<RangeSetRange<T>, AllocError> {
-        match self {
-            RangeSetRange::Range(range) => {
-                let low = range.start.entry_clone()?;
-                let high = range.end.entry_clone()?;
-                Ok(RangeSetRange::Range(Range {
-                    start: low,
-                    end: high,
-                }))
-            }
-            RangeSetRange::RangeFrom(range) => {
-                let start = range.start.entry_clone()?;
-                Ok(RangeSetRange::RangeFrom(RangeFrom { start }))
-            }
-        }
+        self.as_ref().cloned()
     }
 }
 
@@ -104,7 +98,7 @@ impl<T> RangeSetRange<T> {
         }
     }
 
-    /// The end, which is not part of the range, or no bound where there is none.
+    /// The end, which isn't part of the range, or no bound if there is none.
     ///
     /// # Contract
     ///
@@ -128,5 +122,38 @@ impl<T> From<Range<T>> for RangeSetRange<T> {
 impl<T> From<RangeFrom<T>> for RangeSetRange<T> {
     fn from(range: RangeFrom<T>) -> Self {
         RangeSetRange::RangeFrom(range)
+    }
+}
+
+impl<T: PartialEq> PartialEq for RangeSetRange<T> {
+    /// Whether both have equal starts, and equal ends or none.
+    fn eq(&self, other: &Self) -> bool {
+        match (self, other) {
+            (RangeSetRange::Range(one), RangeSetRange::Range(two)) => one == two,
+            (RangeSetRange::RangeFrom(one), RangeSetRange::RangeFrom(two)) => {
+                one.start == two.start
+            }
+            _ => false,
+        }
+    }
+}
+
+impl<T: Eq> Eq for RangeSetRange<T> {}
+
+// The text of a range of references, each end as its own Debug text.
+pub(crate) fn write_range<T: fmt::Debug>(
+    range: &RangeSetRange<&T>,
+    f: &mut fmt::Formatter<'_>,
+) -> fmt::Result {
+    match range {
+        RangeSetRange::Range(range) => {
+            fmt::Debug::fmt(range.start, f)?;
+            f.write_str("..")?;
+            fmt::Debug::fmt(range.end, f)
+        }
+        RangeSetRange::RangeFrom(range) => {
+            fmt::Debug::fmt(range.start, f)?;
+            f.write_str("..")
+        }
     }
 }

@@ -1,24 +1,28 @@
 // Written by tools/plain-rust from crates/range_collections/src/view.rt. It isn't edited.
 //! A view of a set: a strictly sorted slice of boundaries.
 
-pub(crate) mod buffers;
-pub(crate) mod connectives;
 pub(crate) mod counting;
 pub(crate) mod equality;
-pub(crate) mod extent;
-pub(crate) mod fitting;
-pub(crate) mod gaps;
 pub(crate) mod operations;
-pub(crate) mod points;
+pub(crate) mod parts;
 pub(crate) mod predicates;
 pub(crate) mod ranges;
-pub(crate) mod split;
-pub(crate) mod values;
 
-use crate::generated::range_collections::sortedness::is_ascending;
+use crate::generated::range_collections::lists::is_ascending;
 use core::slice;
 
-/// The set of the elements with an odd number of these boundaries at or below them.
+/// A borrowed set: a strictly sorted slice of boundaries.
+///
+/// It answers what a set answers, and makes new sets. It is `Copy`, and the parts that it is split into are slices of the same list. The costs are those of `RangeSet`.
+///
+/// ```text
+/// let hours = RangeSetRef::new(&[9, 13, 15, 20])?;     // None if they aren't strictly sorted
+/// hours.contains(&12)                                  // true
+/// hours.contains_range(10..16)                         // false
+/// hours.union::<4>(alloc, busy.as_ref())?              // a new set
+/// ```
+///
+/// Calls that take another set take it as a view: `set.union(other.as_ref())`.
 pub struct RangeSetRef<'a, T: Ord> {
     /// The boundaries, strictly sorted.
     pub(crate) boundaries: &'a [T],
@@ -35,7 +39,7 @@ impl<'a, T: Ord> Clone for RangeSetRef<'a, T> {
 impl<'a, T: Ord> Copy for RangeSetRef<'a, T> {}
 
 impl<'a, T: Ord> Default for RangeSetRef<'a, T> {
-    /// The set of nothing.
+    /// The empty set.
     #[inline]
     fn default() -> Self {
         Self::empty()
@@ -43,19 +47,20 @@ impl<'a, T: Ord> Default for RangeSetRef<'a, T> {
 }
 
 impl<'a, T: Ord> RangeSetRef<'a, T> {
-    /// The set of nothing.
+    /// The empty set.
     ///
     /// # Contract
     ///
     /// ```text
-    /// ensures result.boundaries.now ≡ []
+    /// ensures boundaries: result.boundaries.now ≡ []
+    /// ensures members: (x : T) → member T.cmp result.boundaries.now x ≡ false
     /// ```
     #[inline]
     pub fn empty() -> Self {
         RangeSetRef { boundaries: &[] }
     }
 
-    /// The set of the elements at or above `value`.
+    /// The elements at or above `value`.
     ///
     /// # Contract
     ///
@@ -71,7 +76,7 @@ impl<'a, T: Ord> RangeSetRef<'a, T> {
         }
     }
 
-    /// The set with these boundaries, or nothing where they are not strictly sorted.
+    /// The set with these boundaries, or `None` if they aren't strictly sorted.
     ///
     /// # Contract
     ///
@@ -88,7 +93,7 @@ impl<'a, T: Ord> RangeSetRef<'a, T> {
         }
     }
 
-    /// The set with these boundaries, which have to be strictly sorted.
+    /// The set with these boundaries, which must be strictly sorted.
     ///
     /// # Contract
     ///

@@ -5,7 +5,7 @@ use crate::support::{AllocError, Vec};
 
 /// An element type whose clones are equal to their source.
 pub trait EntryClone: Ord + Sized {
-    /// A copy of this element, which is equal to it, or an error where there is no memory for it.
+    /// A copy of this element, which is equal to it, or an error if memory runs out.
     ///
     /// # Contract
     ///
@@ -16,7 +16,19 @@ pub trait EntryClone: Ord + Sized {
     /// ```
     fn entry_clone(&self) -> Result<Self, AllocError>;
 
-    /// Appends a copy of each item to the list, or answers an error where there is no memory for all of them; the copies made before it stay. It asks for room once.
+    /// Whether copies of elements never fail: `true` only if the type says so, as numbers, characters and references do.
+    ///
+    /// # Contract
+    ///
+    /// ```text
+    /// ensures IsTrue result → (x : Self) → is_infallible x
+    /// ```
+    #[inline(always)]
+    fn never_refuses() -> bool {
+        false
+    }
+
+    /// Appends a copy of each item to the list. If memory runs out it is an error, and the copies made before stay. It asks for room once.
     ///
     /// # Contract
     ///

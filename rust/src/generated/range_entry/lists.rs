@@ -15,4 +15,9 @@ impl<T: Ord> EntryClone for &[T] {
     fn entry_clone(&self) -> Result<Self, AllocError> {
         Ok(*self)
     }
+
+    #[inline(always)]
+    fn never_refuses() -> bool {
+        true
+    }
 }

@@ -17,6 +17,11 @@ impl<T: Number> EntryClone for T {
         Ok(*self)
     }
 
+    #[inline(always)]
+    fn never_refuses() -> bool {
+        true
+    }
+
     /// All at once.
     #[inline(always)]
     fn append_clones(list: &mut Vec<T>, items: &[T]) -> Result<(), AllocError> {

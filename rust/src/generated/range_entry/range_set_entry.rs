@@ -1,5 +1,5 @@
 // Written by tools/plain-rust from crates/range_entry/src/range_set_entry.rt. It isn't edited.
-//! Element types with a least value, on which "all values", a range without a start and negation stand.
+//! Element types with a least value, which "all values", ranges without a start, and negation need.
 //!
 //! Not every element of a type need be a value, since a contract reads a `u8` as any number: the values of `u8` are 0 to 255. Whatever is in hand at run time is a value, as `known` promises.
 
@@ -7,7 +7,7 @@ use crate::support::{AllocError, Global};
 
 /// An element type that has a least value.
 pub trait RangeSetEntry: Ord + Sized {
-    /// The least value, or an error where there is no memory for it.
+    /// The least value, or an error if memory runs out.
     ///
     /// # Contract
     ///

@@ -10,4 +10,9 @@ impl EntryClone for &str {
     fn entry_clone(&self) -> Result<Self, AllocError> {
         Ok(*self)
     }
+
+    #[inline(always)]
+    fn never_refuses() -> bool {
+        true
+    }
 }

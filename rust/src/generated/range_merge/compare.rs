@@ -1,12 +1,12 @@
 // Written by tools/plain-rust from crates/range_merge/src/compare.rt. It isn't edited.
-//! What a merge is handed to compare items with and to copy them by. Nothing in this crate can make either, so each comparison of items is one call that its caller counts.
+//! What a merge is given to compare and to copy items. Nothing in this crate can make either, so each comparison of items is one call that its caller counts.
 
 use crate::support::{AllocError, Vec};
 use core::cmp::Ordering;
 
 /// Compares items by one lawful order, and counts how often it did.
 pub trait Compare<K> {
-    /// How `a` stands to `b`, for one more comparison.
+    /// Compares `a` with `b`, and counts one comparison.
     ///
     /// # Contract
     ///
@@ -29,7 +29,7 @@ pub trait Compare<K> {
 
 /// Copies items into a result.
 pub trait Copier<K> {
-    /// A copy of the item, or an error where there is no memory for one.
+    /// A copy of the item, or an error if memory runs out.
     ///
     /// # Contract
     ///
@@ -39,7 +39,19 @@ pub trait Copier<K> {
     /// ```
     fn copy(&self, item: &K) -> Result<K, AllocError>;
 
-    /// Appends a copy of each item, or answers an error where there is no memory for all of them; the copies made before it stay. It asks for room once.
+    /// Whether copies of items never fail: `true` only if their type says so. Then a merge in place copies an item as it takes it, and makes no list of copies first.
+    ///
+    /// # Contract
+    ///
+    /// ```text
+    /// ensures IsTrue result → (x : K) → is_infallible x
+    /// ```
+    #[inline(always)]
+    fn never_refuses(&self) -> bool {
+        false
+    }
+
+    /// Appends a copy of each item. If memory runs out it is an error, and the copies made before stay. It asks for room once.
     ///
     /// # Contract
     ///

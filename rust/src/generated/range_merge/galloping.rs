@@ -2,18 +2,10 @@
 //! How many items at the front of a strictly sorted list are below a key, found by doubled steps and then by halving.
 
 use crate::generated::range_merge::compare::Compare;
+use crate::generated::range_merge::indexed::Indexed;
 use core::cmp::Ordering;
 
-/// A list whose items are read by their places.
-pub(crate) trait Side<K> {
-    /// How many items there are.
-    fn len(&self) -> usize;
-
-    /// The item at index `i`.
-    fn at(&self, i: usize) -> &K;
-}
-
-/// How many items at the front of a side are below a key, and how the item behind them stands to the key, if there is one.
+/// How many items at the start of a side are below a key, and how the item after them stands to the key, if there is one.
 #[derive(Clone, Copy)]
 pub(crate) struct Front {
     pub(crate) len: usize,
@@ -31,7 +23,7 @@ struct Window {
 ///
 /// For an answer of `n` it makes at most twice as many comparisons as `n` has binary digits, less one. Most runs are of one item, so the second is looked at before any step is doubled.
 #[inline(always)]
-pub(crate) fn gallop<K, L: Side<K>, C: Compare<K>>(side: &L, key: &K, cmp: &mut C) -> Front {
+pub(crate) fn gallop<K, L: Indexed<K>, C: Compare<K>>(side: &L, key: &K, cmp: &mut C) -> Front {
     if side.len() < 2 {
         return Front { len: 1, next: None };
     }
@@ -48,7 +40,7 @@ pub(crate) fn gallop<K, L: Side<K>, C: Compare<K>>(side: &L, key: &K, cmp: &mut 
 
 // Looks at the places 3, 7, 15, .. until one is not below the key or the list ends, where the second item is known to be below it.
 #[inline(always)]
-fn doubled<K, L: Side<K>, C: Compare<K>>(side: &L, key: &K, cmp: &mut C) -> Window {
+fn doubled<K, L: Indexed<K>, C: Compare<K>>(side: &L, key: &K, cmp: &mut C) -> Window {
     let len = side.len();
     let mut low = 2;
     while low <= len / 2 {
@@ -72,7 +64,12 @@ fn doubled<K, L: Side<K>, C: Compare<K>>(side: &L, key: &K, cmp: &mut C) -> Wind
 
 // Halves a window until it is empty, which is where the items below the key end.
 #[inline(always)]
-fn halved<K, L: Side<K>, C: Compare<K>>(side: &L, key: &K, window: Window, cmp: &mut C) -> Front {
+fn halved<K, L: Indexed<K>, C: Compare<K>>(
+    side: &L,
+    key: &K,
+    window: Window,
+    cmp: &mut C,
+) -> Front {
     let Window {
         mut low,
         mut high,

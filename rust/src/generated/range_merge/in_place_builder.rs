@@ -1,13 +1,14 @@
 // Written by tools/plain-rust from crates/range_merge/src/in_place_builder.rt. It isn't edited.
 //! A list that is rebuilt in place: some of its items are kept, some are dropped, and new ones are put between them.
 //!
-//! The kept items stand in front, then a gap, and then the unread ones. The gap is what was dropped, or, from the first put that finds none on, the room that was asked for: the unread items move up behind it, once at most.
+//! The kept items come first, then a gap, then the unread ones. The gap is what was dropped. Once a put finds too little of that, it is room that was asked for, and the unread items move up, at most once.
 
+use crate::generated::range_merge::merge_state::RightSide;
 use crate::generated::range_merge::place::Place;
 use crate::support::SmallVec;
 use core::marker::PhantomData;
 
-/// A list with the items that are kept, in front of those that are still unread. `L` is the list, by value where a caller makes the builder.
+/// A list with the kept items before those that are still unread. `L` is the list, by value where a caller makes the builder.
 pub struct InPlaceBuilder<K, const N: usize, L: Place<K> = SmallVec<K, N>> {
     list: L,
     kept: usize,
@@ -65,7 +66,7 @@ impl<K, const N: usize, L: Place<K>> InPlaceBuilder<K, N, L> {
         self.puts
     }
 
-    /// Moves the first `n` unread items behind the kept ones.
+    /// Moves the first `n` unread items after the kept ones.
     ///
     /// # Contract
     ///
@@ -107,7 +108,7 @@ impl<K, const N: usize, L: Place<K>> InPlaceBuilder<K, N, L> {
         self.skip(n);
     }
 
-    /// Puts an item behind the kept ones. Where no dropped item gives way to it, all unread items move up first, once at most in the life of a builder.
+    /// Puts an item after the kept ones. If no dropped item gives way to it, all unread items move up first, at most once in the life of a builder.
     ///
     /// # Contract
     ///
@@ -122,6 +123,14 @@ impl<K, const N: usize, L: Place<K>> InPlaceBuilder<K, N, L> {
         self.start = put_item(&mut self.list, self.kept, self.start, self.puts, value);
         self.kept += 1;
         self.puts -= 1;
+    }
+
+    /// Puts what the right side gives for its first `n` unread items. Where too few dropped items give way to them, the unread items move up first, far enough for all that the right side has.
+    #[inline(always)]
+    pub(crate) fn put_from<R: RightSide<K>>(&mut self, n: usize, right: &mut R) {
+        self.start = put_items(&mut self.list, self.kept, self.start, self.puts, n, right);
+        self.kept += n;
+        self.puts -= n;
     }
 
     /// The list, with the kept items followed by those that are still unread.
@@ -151,7 +160,7 @@ impl<K, const N: usize, L: Place<K>> InPlaceBuilder<K, N, L> {
     }
 }
 
-// Puts an item behind the kept ones, into the gap. It answers where the unread items begin now.
+// Puts an item after the kept ones, into the gap. It returns where the unread items begin now.
 #[inline(always)]
 fn put_item<K, L: Place<K>>(
     list: &mut L,
@@ -160,17 +169,41 @@ fn put_item<K, L: Place<K>>(
     puts: usize,
     value: K,
 ) -> usize {
-    let first = with_gap(list, kept, start, puts);
+    let first = with_gap(list, kept, start, puts, 1, puts);
     list.set(kept, value);
     first
 }
 
-// Opens a gap for as many items as may still be put, where there is none. It answers where the unread items begin now.
+// Puts what the right side gives for its first `n` unread items after the kept ones, into the gap. It returns where the unread items begin now.
 #[inline(always)]
-fn with_gap<K, L: Place<K>>(list: &mut L, kept: usize, start: usize, puts: usize) -> usize {
-    if kept < start {
+fn put_items<K, L: Place<K>, R: RightSide<K>>(
+    list: &mut L,
+    kept: usize,
+    start: usize,
+    puts: usize,
+    n: usize,
+    right: &mut R,
+) -> usize {
+    let first = with_gap(list, kept, start, puts, n, right.len());
+    list.put_from(kept, n, right);
+    first
+}
+
+// Sees that the gap has room for `n` items: if it hasn't, it opens one for `wanted`. It returns where the unread items begin now.
+#[inline(always)]
+fn with_gap<K, L: Place<K>>(
+    list: &mut L,
+    kept: usize,
+    start: usize,
+    puts: usize,
+    n: usize,
+    wanted: usize,
+) -> usize {
+    let gap = start - kept;
+    if n <= gap {
         return start;
     }
-    list.open_gap(start, puts);
-    start + puts
+    let more = wanted - gap;
+    list.open_gap(start, more);
+    start + more
 }

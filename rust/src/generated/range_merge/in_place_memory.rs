@@ -3,7 +3,6 @@
 
 use crate::generated::range_merge::compare::Copier;
 use crate::generated::range_merge::merge_state::append_copies;
-use crate::generated::range_merge::place::turn_round;
 use crate::support::{AllocError, Global, SmallVec, Vec};
 
 // Asks for room for `extra` more items in the list.
@@ -14,25 +13,14 @@ pub(crate) fn prepared<K, const N: usize>(
     list.reserve(extra)
 }
 
-// Asks for room in the list for as many items as there are in `items`, and for a copy of each of `items`, the last one first.
+// Asks for room in the list for as many items as there are in `items`, and for a copy of each of `items`.
 pub(crate) fn prepared_copies<K, P: Copier<K>, const N: usize>(
     list: &mut SmallVec<K, N>,
     items: &[K],
     copier: &P,
 ) -> Result<SmallVec<K, N>, AllocError> {
     prepared(list, items.len())?;
-    reversed_copies(*list.allocator(), items, copier)
-}
-
-// A copy of each item, the last one first.
-fn reversed_copies<K, P: Copier<K>, const N: usize>(
-    alloc: Global,
-    items: &[K],
-    copier: &P,
-) -> Result<SmallVec<K, N>, AllocError> {
-    let mut copies = copies(alloc, items, copier)?;
-    turn_round(&mut copies);
-    Ok(copies)
+    copies(*list.allocator(), items, copier)
 }
 
 // A copy of each item. It asks for room once.

@@ -19,6 +19,7 @@ pub use crate::support::InPlaceMergeStateRef;
 pub use bool_op::BoolOpMergeState;
 pub use buffer::{Buffer, BufferMergeState, NoRoom};
 pub use count::CountMergeState;
+pub(crate) use right_side::RightSide;
 pub(crate) use sink::append_copies;
 pub use small_vec::SmallVecMergeState;
 
@@ -70,7 +71,7 @@ pub trait MergeState {
 
 /// A state that a merge moves on. Each advance removes items from the front of an unread list and either appends them to the output or drops them.
 pub trait MergeStateMut: MergeState {
-    /// Removes the first `n` unread items of the left list, and appends them to the output if `take`. The answer `false` stops the merge; an error comes where memory or a copy was refused.
+    /// Removes the first `n` unread items of the left list, and appends them to the output if `take`. `false` stops the merge. It is an error if an allocation or a copy fails.
     ///
     /// # Contract
     ///
@@ -152,7 +153,7 @@ pub trait MergeStateMut: MergeState {
     /// ```
     fn bc(&self) -> bool;
 
-    /// Whether the merge may hand over the first item alone of a run that is taken, and no more: `true` only of a state that stops there.
+    /// Whether the merge may pass only the first item of a run that is taken: `true` only of a state that stops there.
     ///
     /// # Contract
     ///

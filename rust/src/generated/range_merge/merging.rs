@@ -2,19 +2,20 @@
 //! The merge: it takes the first run of the unread lists whole or drops it whole, until both lists are used up.
 
 use crate::generated::range_merge::compare::Compare;
-use crate::generated::range_merge::merge_state::{MergeState, MergeStateMut};
+use crate::generated::range_merge::galloping::{gallop, Front};
+use crate::generated::range_merge::merge_state::MergeStateMut;
 use crate::generated::range_merge::operations::MergeOperation;
-use crate::generated::range_merge::runs::{first_run, order_at, FirstRun, Run};
+use crate::generated::range_merge::runs::{order_at, reversed, LeftOf, RightOf};
 use crate::support::AllocError;
 use core::cmp::Ordering;
 
 /// Merges the unread lists of `state` by the operation `op`.
 ///
 /// Both lists are strictly sorted by the order of `cmp`, and both sides are off at the start. The merge appends to the output exactly the items at which the connective of `op` changes, in order; of two equal items the left's.
-/// It answers `true` where it used up both lists, and `false` where the state stopped, which a state that stops does at the first item that it takes.
-/// An error comes only where an advance of the state was refused (seen by reading; the clause says that none comes where the state never refuses). It asks for no memory itself.
+/// It returns `true` if it used up both lists, and `false` if the state stopped, which a state that stops does at the first item that it takes.
+/// It fails only if an advance of the state does (seen by reading; the clause says that it doesn't fail if the state never does). It asks for no memory itself.
 ///
-/// It makes at most twice the weight of the two lists in comparisons, whether it ends, stops or is refused.
+/// It makes at most twice the weight of the two lists in comparisons, whether it ends, stops or fails.
 ///
 /// # Contract
 ///
@@ -49,89 +50,201 @@ pub(crate) fn merge<S: MergeStateMut, O: MergeOperation, C: Compare<S::Item>>(
     op: &O,
     cmp: &mut C,
 ) -> Result<bool, AllocError> {
-    let mut firsts = order_at(state, 0, cmp);
-    while let Some(how) = firsts {
-        if stops_at_first(state, op, how) {
-            let goes_on = take_run(state, op, one_of(how))?;
-            return Ok(goes_on);
-        }
-        let FirstRun { run, behind } = first_run(state, how, cmp);
-        if !take_run(state, op, run)? {
-            return Ok(false);
-        }
-        firsts = behind;
-    }
-    let run = match last_run(state) {
-        Some(run) => run,
-        _ => return Ok(true),
-    };
-    let more = take_run(state, op, run)?;
-    Ok(more)
-}
-
-// Whether the state stops at the first run, of which one item is enough then.
-#[inline(always)]
-fn stops_at_first<S: MergeStateMut, O: MergeOperation>(state: &S, op: &O, how: Ordering) -> bool {
-    state.stops() && takes_first(state, op, how)
-}
-
-// Whether the first run is taken, by how the first items stand.
-#[inline(always)]
-fn takes_first<S: MergeStateMut, O: MergeOperation>(state: &S, op: &O, how: Ordering) -> bool {
-    match how {
-        Ordering::Less => op.takes_a(state.bc()),
-        Ordering::Equal => op.takes_both(state.ac(), state.bc()),
-        Ordering::Greater => op.takes_b(state.ac()),
+    match take_all(state, op, cmp)? {
+        Went::Stopped => Ok(false),
+        Went::On(_) => Ok(true),
     }
 }
 
-// One item of the first run, by how the first items stand.
-#[inline(always)]
-fn one_of(how: Ordering) -> Run {
-    match how {
-        Ordering::Less => Run::Left(1),
-        Ordering::Equal => Run::Both,
-        Ordering::Greater => Run::Right(1),
-    }
+/// How a part of a merge went.
+#[derive(Clone, Copy)]
+pub(crate) enum Went {
+    /// The state stopped.
+    Stopped,
+    /// It goes on. The next two items stand so to one another, if both lists have one.
+    On(Option<Ordering>),
 }
 
-// The one run of what is unread, if anything is, where one list is used up. It needs no comparison.
+// Takes runs or drops them, until both lists are used up.
 #[inline(always)]
-fn last_run<S: MergeState>(state: &S) -> Option<Run> {
-    match (state.a_len(), state.b_len()) {
-        (0, 0) => None,
-        (0, n) => Some(Run::Right(n)),
-        (n, _) => Some(Run::Left(n)),
-    }
-}
-
-// Takes a run or drops it, as the operation says. Runs of one item have arms of their own, since most runs are.
-#[inline(always)]
-fn take_run<S: MergeStateMut, O: MergeOperation>(
+fn take_all<S: MergeStateMut, O: MergeOperation, C: Compare<S::Item>>(
     state: &mut S,
     op: &O,
-    run: Run,
+    cmp: &mut C,
+) -> Result<Went, AllocError> {
+    match take_runs(state, op, cmp)? {
+        Went::Stopped => Ok(Went::Stopped),
+        Went::On(_) => {
+            if take_rest(state, op)? {
+                return Ok(Went::On(None));
+            }
+            Ok(Went::Stopped)
+        }
+    }
+}
+
+// Takes runs or drops them, while both lists have items. The steps follow one another, so that each knows how the first items stand.
+#[inline(always)]
+fn take_runs<S: MergeStateMut, O: MergeOperation, C: Compare<S::Item>>(
+    state: &mut S,
+    op: &O,
+    cmp: &mut C,
+) -> Result<Went, AllocError> {
+    let mut firsts = order_at(state, 0, cmp);
+    while firsts.is_some() {
+        let next = match step_left(state, op, firsts, cmp)? {
+            Went::On(next) => next,
+            _ => return Ok(Went::Stopped),
+        };
+        let next = match step_right(state, op, next, cmp)? {
+            Went::On(next) => next,
+            _ => return Ok(Went::Stopped),
+        };
+        let next = match steps_both(state, op, next, cmp)? {
+            Went::On(next) => next,
+            _ => return Ok(Went::Stopped),
+        };
+        firsts = next;
+    }
+    Ok(Went::On(firsts))
+}
+
+// Takes or drops the first run, where it is of the left list.
+#[inline(always)]
+fn step_left<S: MergeStateMut, O: MergeOperation, C: Compare<S::Item>>(
+    state: &mut S,
+    op: &O,
+    firsts: Option<Ordering>,
+    cmp: &mut C,
+) -> Result<Went, AllocError> {
+    if !stand(firsts, Ordering::Less) {
+        return Ok(Went::On(firsts));
+    }
+    let take = op.takes_a(state.bc());
+    let front = left_front(state, take, cmp);
+    if !advance_left(state, front.len, take)? {
+        return Ok(Went::Stopped);
+    }
+    Ok(Went::On(front.next))
+}
+
+// Takes or drops the first run, where it is of the right list.
+#[inline(always)]
+fn step_right<S: MergeStateMut, O: MergeOperation, C: Compare<S::Item>>(
+    state: &mut S,
+    op: &O,
+    firsts: Option<Ordering>,
+    cmp: &mut C,
+) -> Result<Went, AllocError> {
+    if !stand(firsts, Ordering::Greater) {
+        return Ok(Went::On(firsts));
+    }
+    let take = op.takes_b(state.ac());
+    let front = right_front(state, take, cmp);
+    if !advance_right(state, front.len, take)? {
+        return Ok(Went::Stopped);
+    }
+    Ok(Went::On(front.next))
+}
+
+// Takes or drops the first items, while they are equal.
+#[inline(always)]
+fn steps_both<S: MergeStateMut, O: MergeOperation, C: Compare<S::Item>>(
+    state: &mut S,
+    op: &O,
+    mut firsts: Option<Ordering>,
+    cmp: &mut C,
+) -> Result<Went, AllocError> {
+    while stand(firsts, Ordering::Equal) {
+        let next = match step_both(state, op, cmp)? {
+            Went::On(next) => next,
+            _ => return Ok(Went::Stopped),
+        };
+        firsts = next;
+    }
+    Ok(Went::On(firsts))
+}
+
+// Takes or drops the first items, which are equal.
+#[inline(always)]
+fn step_both<S: MergeStateMut, O: MergeOperation, C: Compare<S::Item>>(
+    state: &mut S,
+    op: &O,
+    cmp: &mut C,
+) -> Result<Went, AllocError> {
+    let take = op.takes_both(state.ac(), state.bc());
+    match state.advance_both(take) {
+        Ok(true) => Ok(Went::On(order_at(state, 0, cmp))),
+        Ok(false) => Ok(Went::Stopped),
+        Err(error) => Err(error),
+    }
+}
+
+// Whether the first items stand so to one another.
+#[inline(always)]
+fn stand(firsts: Option<Ordering>, how: Ordering) -> bool {
+    firsts == Some(how)
+}
+
+// Takes or drops what is left where one list is used up: it is one run, and needs no comparison.
+#[inline(always)]
+fn take_rest<S: MergeStateMut, O: MergeOperation>(
+    state: &mut S,
+    op: &O,
 ) -> Result<bool, AllocError> {
-    match run {
-        Run::Left(1) => {
-            let take = op.takes_a(state.bc());
-            state.advance_a(1, take)
-        }
-        Run::Left(n) => {
-            let take = op.takes_a(state.bc());
-            state.advance_a(n, take)
-        }
-        Run::Right(1) => {
-            let take = op.takes_b(state.ac());
-            state.advance_b(1, take)
-        }
-        Run::Right(n) => {
+    match (state.a_len(), state.b_len()) {
+        (0, 0) => Ok(true),
+        (0, n) => {
             let take = op.takes_b(state.ac());
             state.advance_b(n, take)
         }
-        Run::Both => {
-            let take = op.takes_both(state.ac(), state.bc());
-            state.advance_both(take)
+        (n, _) => {
+            let take = op.takes_a(state.bc());
+            state.advance_a(n, take)
         }
     }
+}
+
+// The first run, which is of the left list. Where the state stops at it, its first item is enough.
+#[inline(always)]
+fn left_front<S: MergeStateMut, C: Compare<S::Item>>(state: &S, take: bool, cmp: &mut C) -> Front {
+    if take && state.stops() {
+        return Front { len: 1, next: None };
+    }
+    gallop(&LeftOf(state), state.b_at(0), cmp)
+}
+
+// The first run, which is of the right list. Where the state stops at it, its first item is enough.
+#[inline(always)]
+fn right_front<S: MergeStateMut, C: Compare<S::Item>>(state: &S, take: bool, cmp: &mut C) -> Front {
+    if take && state.stops() {
+        return Front { len: 1, next: None };
+    }
+    let front = gallop(&RightOf(state), state.a_at(0), cmp);
+    Front {
+        len: front.len,
+        next: reversed(front.next),
+    }
+}
+
+// Runs of one item have a call of their own, since most runs are.
+#[inline(always)]
+fn advance_left<S: MergeStateMut>(state: &mut S, n: usize, take: bool) -> Result<bool, AllocError> {
+    if n == 1 {
+        return state.advance_a(1, take);
+    }
+    state.advance_a(n, take)
+}
+
+// Runs of one item have a call of their own, since most runs are.
+#[inline(always)]
+fn advance_right<S: MergeStateMut>(
+    state: &mut S,
+    n: usize,
+    take: bool,
+) -> Result<bool, AllocError> {
+    if n == 1 {
+        return state.advance_b(1, take);
+    }
+    state.advance_b(n, take)
 }

@@ -1,7 +1,7 @@
 // Written by tools/plain-rust from crates/range_merge/src/operations.rt. It isn't edited.
 //! The operations on two sets, each as the places where its connective changes.
 
-/// A connective of two sides, and where it changes.
+/// A boolean operation on two sides (a connective), and where it changes.
 pub trait MergeOperation {
     /// Whether the answer changes where the left side alone does, while the right is as `bc` says.
     ///

@@ -1,40 +1,22 @@
 // Written by tools/plain-rust from crates/range_merge/src/place.rt. It isn't edited.
 //! Where a list lies that is changed in place: by value or borrowed. What moves its items is generic in that.
 
-use crate::support::SmallVec;
+use crate::generated::range_merge::indexed::Indexed;
+use crate::generated::range_merge::merge_state::RightSide;
 
-/// A list of items that can be moved within it and taken from its end, and that grows only by a gap, where there is room for that.
-pub trait Place<K> {
-    /// How many items there are.
-    ///
-    /// # Contract
-    ///
-    /// ```text
-    /// ensures result ≡ length (items self.now)
-    /// ```
-    fn len(&self) -> usize;
-
-    /// The item at index `i`.
-    ///
-    /// # Contract
-    ///
-    /// ```text
-    /// requires i < length (items self.now)
-    /// ensures slice_get (items self.now) i ≡ Some result.now
-    /// ```
-    fn at(&self, i: usize) -> &K;
-
-    /// Moves `n` items down from `from` to `to`. What they replace comes to lie behind them.
+/// A list of items that can be moved within it, and that grows only by a gap, where there is room for that.
+pub trait Place<K>: Indexed<K> {
+    /// Moves `n` items down from `from` to `to`. What they replace comes to lie after them.
     ///
     /// # Contract
     ///
     /// ```text
     /// requires ordered: to ≤ from
-    /// requires within: from + n ≤ length (items self.old)
-    /// ensures front: take (to + n) (items self.new) ≡ take to (items self.old) ++ take n (drop
-    ///     from (items self.old))
-    /// ensures behind: drop (from + n) (items self.new) ≡ drop (from + n) (items self.old)
-    /// ensures len: length (items self.new) ≡ length (items self.old)
+    /// requires within: from + n ≤ length (Self.items self.old)
+    /// ensures front: take (to + n) (Self.items self.new) ≡ take to (Self.items self.old) ++ take n
+    ///     (drop from (Self.items self.old))
+    /// ensures after: drop (from + n) (Self.items self.new) ≡ drop (from + n) (Self.items self.old)
+    /// ensures len: length (Self.items self.new) ≡ length (Self.items self.old)
     /// ensures room: room self.new ≡ room self.old
     /// ```
     fn move_down(&mut self, to: usize, from: usize, n: usize);
@@ -44,12 +26,12 @@ pub trait Place<K> {
     /// # Contract
     ///
     /// ```text
-    /// requires within: at ≤ length (items self.old)
+    /// requires within: at ≤ length (Self.items self.old)
     /// requires some: 0 < n
-    /// requires enough: length (items self.old) + n ≤ room self.old
-    /// ensures front: take at (items self.new) ≡ take at (items self.old)
-    /// ensures behind: drop (at + n) (items self.new) ≡ drop at (items self.old)
-    /// ensures len: length (items self.new) ≡ length (items self.old) + n
+    /// requires enough: length (Self.items self.old) + n ≤ room self.old
+    /// ensures front: take at (Self.items self.new) ≡ take at (Self.items self.old)
+    /// ensures after: drop (at + n) (Self.items self.new) ≡ drop at (Self.items self.old)
+    /// ensures len: length (Self.items self.new) ≡ length (Self.items self.old) + n
     /// ensures room: room self.new ≡ room self.old
     /// ```
     fn open_gap(&mut self, at: usize, n: usize);
@@ -59,35 +41,52 @@ pub trait Place<K> {
     /// # Contract
     ///
     /// ```text
-    /// requires i < length (items self.old)
-    /// ensures items: items self.new ≡ slice_set (items self.old) i item
+    /// requires i < length (Self.items self.old)
+    /// ensures items: Self.items self.new ≡ slice_set (Self.items self.old) i item
     /// ensures room: room self.new ≡ room self.old
     /// ```
     fn set(&mut self, i: usize, item: K);
 
-    /// Removes the last item.
+    /// Replaces the `n` items at `at` by what the right side gives for its first `n` unread items.
     ///
     /// # Contract
     ///
     /// ```text
-    /// requires 0 < length (items self.old)
-    /// ensures items: items self.old ≡ items self.new ++ result ∷ []
+    /// requires within: at + n ≤ length (Self.items self.old)
+    /// requires some: n ≤ length (R.items right.old)
+    /// ensures front: take at (Self.items self.new) ≡ take at (Self.items self.old)
+    /// ensures after: drop (at + n) (Self.items self.new) ≡ drop (at + n) (Self.items self.old)
+    /// ensures len: length (Self.items self.new) ≡ length (Self.items self.old)
     /// ensures room: room self.new ≡ room self.old
+    /// ensures rest: R.items right.new ≡ drop n (R.items right.old)
+    /// ensures put: (ts : List (Taken K)) (kept : List K) → R.may_be ts kept → R.may_be (ts ++
+    ///     taken_right true n (R.items right.old)) (kept ++ take n (drop at (Self.items self.new)))
     /// ```
-    fn pop(&mut self) -> K;
+    fn put_from<R: RightSide<K>>(&mut self, at: usize, n: usize, right: &mut R);
 
     /// Keeps the first `n` items, and drops the others.
     ///
     /// # Contract
     ///
     /// ```text
-    /// ensures items: items self.new ≡ take n (items self.old)
+    /// ensures items: Self.items self.new ≡ take n (Self.items self.old)
     /// ensures room: room self.new ≡ room self.old
     /// ```
     fn truncate(&mut self, n: usize);
 }
 
-// Reverses the items of a list.
-pub(crate) fn turn_round<K, const N: usize>(list: &mut SmallVec<K, N>) {
-    list.as_mut_slice().reverse();
+/// Items that are exchanged for others.
+pub trait Shelf<K>: Indexed<K> {
+    /// Exchanges the items from `at` on with `others`, as many as there are.
+    ///
+    /// # Contract
+    ///
+    /// ```text
+    /// requires at + length others.old ≤ length (Self.items self.old)
+    /// ensures others: others.new ≡ take (length others.old) (drop at (Self.items self.old))
+    /// ensures after: drop (at + length others.old) (Self.items self.new) ≡ drop (at + length
+    ///     others.old) (Self.items self.old)
+    /// ensures len: length (Self.items self.new) ≡ length (Self.items self.old)
+    /// ```
+    fn swap_with(&mut self, at: usize, others: &mut [K]);
 }

@@ -2,7 +2,8 @@
 //! The first run of two lists.
 
 use crate::generated::range_merge::compare::Compare;
-use crate::generated::range_merge::galloping::{gallop, Side};
+use crate::generated::range_merge::galloping::gallop;
+use crate::generated::range_merge::indexed::Indexed;
 use crate::generated::range_merge::merge_state::MergeState;
 use core::cmp::Ordering;
 
@@ -18,7 +19,7 @@ pub enum Run {
 }
 
 // The left list of a state.
-struct LeftOf<'a, S>(&'a S);
+pub(crate) struct LeftOf<'a, S>(pub(crate) &'a S);
 
 impl<'a, S> Clone for LeftOf<'a, S> {
     #[inline(always)]
@@ -30,7 +31,7 @@ impl<'a, S> Clone for LeftOf<'a, S> {
 impl<'a, S> Copy for LeftOf<'a, S> {}
 
 // The right list of a state.
-struct RightOf<'a, S>(&'a S);
+pub(crate) struct RightOf<'a, S>(pub(crate) &'a S);
 
 impl<'a, S> Clone for RightOf<'a, S> {
     #[inline(always)]
@@ -41,7 +42,7 @@ impl<'a, S> Clone for RightOf<'a, S> {
 
 impl<'a, S> Copy for RightOf<'a, S> {}
 
-impl<S: MergeState> Side<S::Item> for LeftOf<'_, S> {
+impl<S: MergeState> Indexed<S::Item> for LeftOf<'_, S> {
     #[inline(always)]
     fn len(&self) -> usize {
         self.0.a_len()
@@ -53,7 +54,7 @@ impl<S: MergeState> Side<S::Item> for LeftOf<'_, S> {
     }
 }
 
-impl<S: MergeState> Side<S::Item> for RightOf<'_, S> {
+impl<S: MergeState> Indexed<S::Item> for RightOf<'_, S> {
     #[inline(always)]
     fn len(&self) -> usize {
         self.0.b_len()
@@ -67,7 +68,7 @@ impl<S: MergeState> Side<S::Item> for RightOf<'_, S> {
 
 /// The first run of the unread lists of `state`.
 ///
-/// Both lists have to be strictly sorted, with an item at least. For a run of `n` items it makes at most twice as many comparisons as `n` has binary digits.
+/// Both lists must be strictly sorted, with at least one item. For a run of `n` items it makes at most twice as many comparisons as `n` has binary digits.
 ///
 /// # Contract
 ///
@@ -93,43 +94,6 @@ pub(crate) fn run_length<S: MergeState, C: Compare<S::Item>>(state: &S, cmp: &mu
     }
 }
 
-/// The first run of two lists, and how the two items behind it stand to one another, if both lists go on.
-pub(crate) struct FirstRun {
-    pub(crate) run: Run,
-    pub(crate) behind: Option<Ordering>,
-}
-
-/// The first run of the unread lists of `state`, where it is known how their first items stand.
-///
-/// For a run of `n` items it makes at most twice as many comparisons as `n` has binary digits, less one.
-#[inline(always)]
-pub(crate) fn first_run<S: MergeState, C: Compare<S::Item>>(
-    state: &S,
-    how: Ordering,
-    cmp: &mut C,
-) -> FirstRun {
-    match how {
-        Ordering::Less => {
-            let front = gallop(&LeftOf(state), state.b_at(0), cmp);
-            FirstRun {
-                run: Run::Left(front.len),
-                behind: front.next,
-            }
-        }
-        Ordering::Equal => FirstRun {
-            run: Run::Both,
-            behind: order_at(state, 1, cmp),
-        },
-        Ordering::Greater => {
-            let front = gallop(&RightOf(state), state.a_at(0), cmp);
-            FirstRun {
-                run: Run::Right(front.len),
-                behind: reversed(front.next),
-            }
-        }
-    }
-}
-
 /// How the two unread items at index `i` stand to one another, if both lists have one.
 #[inline(always)]
 pub(crate) fn order_at<S: MergeState, C: Compare<S::Item>>(
@@ -143,9 +107,9 @@ pub(crate) fn order_at<S: MergeState, C: Compare<S::Item>>(
     None
 }
 
-// How the second of two items stands to the first, where it is known how the first stands to the second.
+/// How the second of two items stands to the first, where it is known how the first stands to the second.
 #[inline(always)]
-fn reversed(how: Option<Ordering>) -> Option<Ordering> {
+pub(crate) fn reversed(how: Option<Ordering>) -> Option<Ordering> {
     match how {
         None => None,
         Some(how) => Some(how.reverse()),

@@ -1,12 +1,17 @@
 // Written by tools/plain-rust from crates/range_merge/src/searching.rt. It isn't edited.
-//! A search in a strictly sorted list, at most as many comparisons long as the list's length has binary digits.
+//! Searches in a strictly sorted list, at most as many comparisons long as the list's length has binary digits.
+
+pub(crate) mod branchless;
+pub(crate) mod by_halves;
 
 use crate::generated::range_merge::compare::Compare;
-use core::cmp::Ordering;
+use crate::generated::range_merge::searching::branchless::count_branchless;
+use crate::generated::range_merge::searching::by_halves::search_by_halves;
+use core::mem::size_of_val;
 
-/// The place of the item that is equal to `key`, or in an `Err` the place where such an item would go.
+/// The index of the item that is equal to `key`, or in an `Err` the index where such an item would go.
 ///
-/// The items have to be strictly sorted. It makes at most as many comparisons as the binary digits of `items.len()`.
+/// The items must be strictly sorted. It makes at most as many comparisons as `items.len()` has binary digits.
 ///
 /// # Contract
 ///
@@ -23,16 +28,48 @@ use core::cmp::Ordering;
 /// ensures comparisons: AddsAtMost (C.count cmp.old) (C.count cmp.new) (digits (length
 ///     items.now))
 /// ```
+#[inline]
 pub(crate) fn search<K, C: Compare<K>>(items: &[K], key: &K, cmp: &mut C) -> Result<usize, usize> {
-    let mut low = 0;
-    let mut high = items.len();
-    while low < high {
-        let mid = low + (high - low) / 2;
-        match cmp.compare(&items[mid], key) {
-            Ordering::Less => low = mid + 1,
-            Ordering::Equal => return Ok(mid),
-            Ordering::Greater => high = mid,
-        }
+    if !is_read_fast(items, key) {
+        return search_by_halves(items, key, cmp);
     }
-    Err(low)
+    let front = count_branchless(items, key, cmp);
+    if front.has_equal {
+        Ok(front.len - 1)
+    } else {
+        Err(front.len)
+    }
+}
+
+/// How many items are at or below `key`.
+///
+/// The items must be strictly sorted. It makes at most as many comparisons as `items.len()` has binary digits.
+///
+/// # Contract
+///
+/// ```text
+/// requires ascending: IsAscending C.order items.now
+/// requires made: C.count cmp.old < 2 ^ 127
+/// ensures within: result ≤ length items.now
+/// ensures before: AllWithin (λ y. is_le (C.order y key.now) ≡ true) items.now 0 result
+/// ensures from: AllWithin (λ y. C.order y key.now ≡ Greater) items.now result (length
+///     items.now)
+/// ensures comparisons: AddsAtMost (C.count cmp.old) (C.count cmp.new) (digits (length
+///     items.now))
+/// ```
+#[inline]
+pub(crate) fn count_up_to<K, C: Compare<K>>(items: &[K], key: &K, cmp: &mut C) -> usize {
+    if is_read_fast(items, key) {
+        return count_branchless(items, key, cmp).len;
+    }
+    match search_by_halves(items, key, cmp) {
+        Ok(i) => i + 1,
+        Err(i) => i,
+    }
+}
+
+// Whether the items are at hand where they lie: each, as `key`, is a word at most, as numbers are, and all of them together fit into a processor's own cache. Longer items mostly point to what is compared. Where reading takes so long, a branch that is guessed well, and reads ahead, is better than none.
+#[inline(always)]
+fn is_read_fast<K>(items: &[K], key: &K) -> bool {
+    size_of_val(key) <= 8 && items.len() <= 1 << 17
 }

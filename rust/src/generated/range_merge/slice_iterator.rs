@@ -44,7 +44,7 @@ impl<'a, K> SliceIterator<'a, K> {
         self.unread = &self.unread[n..];
     }
 
-    /// Removes the first `n` unread items, and answers them.
+    /// Removes the first `n` unread items, and returns them.
     ///
     /// # Contract
     ///

@@ -12,7 +12,7 @@ pub enum TrackError {
         /// How many it would leave.
         boundaries: usize,
     },
-    /// A growth of memory was refused.
+    /// Memory ran out.
     OutOfMemory,
 }
 

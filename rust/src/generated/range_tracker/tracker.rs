@@ -1,7 +1,7 @@
 // Written by tools/plain-rust from crates/range_tracker/src/tracker.rt. It isn't edited.
 //! A tracker of offsets: the strictly sorted list of their boundaries, which never has more of them than a limit.
 //!
-//! A command is first measured, without memory, and refused where it would leave too many boundaries. Then it changes the list where it lies.
+//! A command is first measured, without memory, and refused if it would leave too many boundaries. Then it changes the list in place.
 
 use crate::generated::range_collections::{
     Comparisons, DiffOp, Gaps, Iter, MergeOperation, RangeSet2, RangeSetRef, UnionOp,
@@ -40,7 +40,7 @@ impl Tracker {
 
     /// The offsets of the range are there from now on. An empty or reversed range changes nothing.
     ///
-    /// The answer is `TooMany` exactly where the list would have more boundaries than the limit; this is known before memory is asked for. Where the list doesn't grow, and where nothing was there, it isn't `OutOfMemory`. An error leaves the tracker as it was.
+    /// It returns `TooMany` exactly if the list would have more boundaries than the limit, which is known before memory is asked for. If the list doesn't grow, or if nothing was there, it isn't `OutOfMemory`. An error leaves the tracker as it was.
     ///
     /// # Contract
     ///
@@ -59,7 +59,7 @@ impl Tracker {
 
     /// The offsets of the range aren't there from now on. An empty or reversed range changes nothing.
     ///
-    /// The answer is `TooMany` exactly where the list would have more boundaries than the limit; this is known before memory is asked for. Where the list doesn't grow, and where nothing was there, it isn't `OutOfMemory`. An error leaves the tracker as it was.
+    /// It returns `TooMany` exactly if the list would have more boundaries than the limit, which is known before memory is asked for. If the list doesn't grow, or if nothing was there, it isn't `OutOfMemory`. An error leaves the tracker as it was.
     ///
     /// # Contract
     ///
@@ -76,7 +76,7 @@ impl Tracker {
         Ok(())
     }
 
-    /// Takes each command in turn, goes on after a refusal, and puts each answer at its command's place.
+    /// Does each command in turn, goes on after an error, and puts each reply at its command's index.
     ///
     /// # Contract
     ///
@@ -101,11 +101,10 @@ impl Tracker {
     /// ensures IsTrue result ↔ ((n : ℕ) → is_within range n ≡ true → recorded self.now n ≡ true)
     /// ```
     pub fn has(&self, range: Range<u64>) -> bool {
-        let ends = [range.start, range.end];
-        offsets_between(&ends).is_subset(self.set.as_ref())
+        self.set.contains_range(range)
     }
 
-    /// The offsets below `len` that aren't there. The one error is want of memory, and it doesn't come where nothing is there.
+    /// The offsets below `len` that aren't there. It fails only if memory runs out, and never if nothing is there.
     ///
     /// # Contract
     ///

@@ -1,5 +1,5 @@
 // Written by tools/plain-rust from crates/range_collections/src/countable/chars.rt. It isn't edited.
-//! Characters in a row. Behind U+D7FF stands U+E000: the surrogates between them are no characters.
+//! Characters in a row. After U+D7FF comes U+E000: the surrogates between them are no characters.
 
 use crate::generated::range_collections::countable::Countable;
 

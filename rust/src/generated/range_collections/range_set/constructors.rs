@@ -1,14 +1,18 @@
 // Written by tools/plain-rust from crates/range_collections/src/range_set/constructors.rt. It isn't edited.
-//! Sets made of a range, or of every value.
+//! Sets made of a range, of every value, of a list in any order, and of many ranges or sets.
 
+use crate::generated::range_collections::comparisons::Comparisons;
+use crate::generated::range_collections::range_set::joining::union_of;
+use crate::generated::range_collections::range_set::many_ranges::set_of_ranges;
 use crate::generated::range_collections::range_set::RangeSet;
-use crate::generated::range_collections::range_set_range::RangeSetRange;
-use crate::generated::range_entry::RangeSetEntry;
-use crate::support::{AllocError, Global, SmallVec};
+use crate::generated::range_collections::range_set_range::{has_elements, RangeSetRange};
+use crate::generated::range_collections::view::RangeSetRef;
+use crate::generated::range_entry::{EntryClone, RangeSetEntry};
+use crate::support::{AllocError, Global, SmallVec, SortIn};
 use core::ops::{Range, RangeFrom, RangeFull, RangeTo};
 
 impl<T: Ord, const N: usize> RangeSet<T, N> {
-    /// The elements from the start up to the end, which is out. A range whose start isn't below its end gives the set of nothing.
+    /// The elements from the start up to the end, which isn't a member. An empty or reversed range gives the empty set.
     ///
     /// # Contract
     ///
@@ -20,7 +24,7 @@ impl<T: Ord, const N: usize> RangeSet<T, N> {
     /// ```
     pub fn from_range(alloc: Global, range: Range<T>) -> Result<Self, AllocError> {
         let Range { start, end } = range;
-        if !start.cmp(&end).is_lt() {
+        if !has_elements(&start, &end, &mut Comparisons::new()) {
             return Ok(Self::empty(alloc));
         }
         Ok(RangeSet::new_unchecked(two_items(alloc, start, end)?))
@@ -40,7 +44,7 @@ impl<T: Ord, const N: usize> RangeSet<T, N> {
         Ok(RangeSet::new_unchecked(one_item(alloc, range.start)?))
     }
 
-    /// The elements of the range: what `from_range` or `from_range_from` gives for it. The one error is want of memory.
+    /// The elements of the range, as `from_range` or `from_range_from` gives them. It fails only if an allocation does.
     ///
     /// # Contract
     ///
@@ -59,10 +63,29 @@ impl<T: Ord, const N: usize> RangeSet<T, N> {
             RangeSetRange::RangeFrom(start) => Self::from_range_from(alloc, start),
         }
     }
+
+    /// The set whose boundaries are the distinct items of the list, in order. Of equal items the first is kept.
+    ///
+    /// The sort takes memory for more than 20 items. If that fails, the list is dropped.
+    ///
+    /// # Contract
+    ///
+    /// ```text
+    /// ensures distinct: IfOk result (AreDistinctOf T.cmp list.items)
+    /// ensures first: IfOk result (AreFirstOf T.cmp list.items)
+    /// ensures succeeds: length list.items ≤ 20 → IsOk result
+    /// ```
+    pub fn from_unsorted(list: SmallVec<T, N>) -> Result<Self, AllocError> {
+        let mut items = list;
+        let alloc = *items.allocator();
+        items.as_mut_slice().sort_in(alloc)?;
+        items.dedup();
+        Ok(RangeSet { list: items })
+    }
 }
 
 impl<T: RangeSetEntry, const N: usize> RangeSet<T, N> {
-    /// The values below the end: the end itself is a boundary, behind the least value, and where it is that there are none.
+    /// The values below the end. The boundaries are the least value and the end; if these are equal, there are none.
     ///
     /// # Contract
     ///
@@ -110,7 +133,7 @@ impl<T: RangeSetEntry, const N: usize> RangeSet<T, N> {
         RangeSet::all(alloc)
     }
 
-    /// Every value where `everything` is true, else the set of nothing.
+    /// Every value if `everything` is true, or else the empty set.
     ///
     /// # Contract
     ///
@@ -148,4 +171,58 @@ fn two_items<T, const N: usize>(
     list.push_reserved(first);
     list.push_reserved(second);
     Ok(list)
+}
+
+impl<T: EntryClone, const N: usize> RangeSet<T, N> {
+    /// The union of many sets: the elements that are members of at least one.
+    ///
+    /// # Contract
+    ///
+    /// ```text
+    /// ensures gives: GivesUnion T.cmp T.is_copy T.is_infallible (λ set. set.boundaries.now) N
+    ///     sets.now result
+    /// ensures members: IfOk result (λ set. (x : T) → (member T.cmp set x ≡ true) ↔ Any (λ part.
+    ///     member T.cmp part.boundaries.now x ≡ true) sets.now)
+    /// ```
+    pub fn union_all(alloc: Global, sets: &[RangeSetRef<T>]) -> Result<Self, AllocError> {
+        Self::union_all_counted(alloc, sets, &mut Comparisons::new())
+    }
+
+    /// The union of many sets, counting the comparisons.
+    ///
+    /// It copies each boundary once. The union of the first half of the sets takes in that of the second half, and so on within each half.
+    ///
+    /// # Contract
+    ///
+    /// ```text
+    /// ensures gives: GivesUnion T.cmp T.is_copy T.is_infallible (λ set. set.boundaries.now) N
+    ///     sets.now result
+    /// ensures members: IfOk result (λ set. (x : T) → (member T.cmp set x ≡ true) ↔ Any (λ part.
+    ///     member T.cmp part.boundaries.now x ≡ true) sets.now)
+    /// ensures comparisons: AddsAtMost count.old count.new (2 * length (flat_map (λ set.
+    ///     set.boundaries.now) sets.now) * digits (length sets.now - 1))
+    /// ```
+    pub fn union_all_counted(
+        alloc: Global,
+        sets: &[RangeSetRef<T>],
+        count: &mut Comparisons,
+    ) -> Result<Self, AllocError> {
+        union_of(alloc, sets, count)
+    }
+
+    /// The elements that lie in at least one of the ranges. The ranges may come in any order, and may overlap, touch or be empty.
+    ///
+    /// It copies the ends of each range that isn't empty. If the ranges come in the order of their starts, each is added at the set's end. Else a few at a time make a set, and halves of these are joined as `union_all` does.
+    ///
+    /// # Contract
+    ///
+    /// ```text
+    /// ensures gives: GivesUnion T.cmp T.is_copy T.is_infallible (range_boundaries T.cmp) N
+    ///     ranges.now result
+    /// ensures members: IfOk result (λ set. (x : T) → (member T.cmp set x ≡ true) ↔ Any (λ range.
+    ///     IsInRange T.cmp range x) ranges.now)
+    /// ```
+    pub fn from_ranges(alloc: Global, ranges: &[RangeSetRange<T>]) -> Result<Self, AllocError> {
+        set_of_ranges(alloc, ranges)
+    }
 }

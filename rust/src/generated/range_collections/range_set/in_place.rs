@@ -1,7 +1,7 @@
 // Written by tools/plain-rust from crates/range_collections/src/range_set/in_place.rt. It isn't edited.
-//! Operations that change a set in place. Of two boundaries that are equal, this set's own stays.
+//! Operations that change a set in place. Of two equal boundaries, this set's own stays.
 //!
-//! Each asks for all its memory before it changes a boundary: room in this set for the boundaries of the other; with a view also a copy of each of its boundaries, even of those that are not kept. Where it is refused, the boundaries of this set are as they were, and a set that was handed over comes back as it was.
+//! Each asks for all its memory before it changes a boundary: room in this set for the boundaries of the other, and with a borrowed set a copy of each of these, even of those that aren't kept, unless copies of the element type never fail. If an allocation or a copy fails, this set is as it was, and an owned right side comes back as it was.
 
 use crate::generated::range_collections::comparisons::{Comparisons, EntryCopier};
 use crate::generated::range_collections::range_set::RangeSet;
@@ -11,7 +11,7 @@ use crate::generated::range_merge::{DiffOp, IntersectionOp, MergeOperation, Unio
 use crate::support::{AllocError, InPlaceMergeState, InPlaceMergeStateRef};
 
 impl<T: EntryClone, const N: usize> RangeSet<T, N> {
-    /// Leaves the members that the operation tells from the members of both, and counts at most twice the weight of the two lists in comparisons.
+    /// Changes this set to the operation's result. It counts its comparisons, at most twice the weight of the two lists.
     ///
     /// # Contract
     ///
@@ -38,7 +38,7 @@ impl<T: EntryClone, const N: usize> RangeSet<T, N> {
         )
     }
 
-    /// Keeps the members that are members of both.
+    /// Keeps the elements that are members of both sets.
     ///
     /// # Contract
     ///
@@ -62,7 +62,7 @@ impl<T: EntryClone, const N: usize> RangeSet<T, N> {
         self.merge_ref(that, &UnionOp, &mut Comparisons::new())
     }
 
-    /// Takes out the members of `that`.
+    /// Removes the members of `that`.
     ///
     /// # Contract
     ///
@@ -74,7 +74,7 @@ impl<T: EntryClone, const N: usize> RangeSet<T, N> {
         self.merge_ref(that, &DiffOp, &mut Comparisons::new())
     }
 
-    /// Leaves the members of one of the two that are not members of the other.
+    /// Leaves the elements that are members of exactly one of the sets.
     ///
     /// # Contract
     ///
@@ -88,7 +88,7 @@ impl<T: EntryClone, const N: usize> RangeSet<T, N> {
 }
 
 impl<T: Ord, const N: usize> RangeSet<T, N> {
-    /// Leaves the members that the operation tells from the members of both, and counts at most twice the weight of the two lists in comparisons.
+    /// Changes this set to the operation's result. It counts its comparisons, at most twice the weight of the two lists.
     ///
     /// # Contract
     ///
@@ -111,7 +111,7 @@ impl<T: Ord, const N: usize> RangeSet<T, N> {
         }
     }
 
-    /// Keeps the members that are members of both.
+    /// Keeps the elements that are members of both sets.
     ///
     /// # Contract
     ///
@@ -133,7 +133,7 @@ impl<T: Ord, const N: usize> RangeSet<T, N> {
         self.merge_owned(that, &UnionOp, &mut Comparisons::new())
     }
 
-    /// Takes out the members of `that`.
+    /// Removes the members of `that`.
     ///
     /// # Contract
     ///
@@ -144,7 +144,7 @@ impl<T: Ord, const N: usize> RangeSet<T, N> {
         self.merge_owned(that, &DiffOp, &mut Comparisons::new())
     }
 
-    /// Leaves the members of one of the two that are not members of the other.
+    /// Leaves the elements that are members of exactly one of the sets.
     ///
     /// # Contract
     ///

@@ -1,7 +1,7 @@
 // Written by tools/plain-rust from crates/range_collections/src/range_set/insertion.rt. It isn't edited.
-//! One range put into a set or taken out of it, where the set lies.
+//! A range put into a set or taken out of it, in place.
 //!
-//! The start and the end are searched for, and what lies between gives way to those of the two at which the set changes. The list grows by two boundaries or not at all.
+//! The start and the end are searched for. What lies between gives way to those of the two at which the set changes. The list grows by two boundaries or not at all.
 
 use crate::generated::range_collections::comparisons::Comparisons;
 use crate::generated::range_collections::range_set::splicing::set_range;
@@ -10,21 +10,25 @@ use crate::support::AllocError;
 use core::ops::Range;
 
 impl<T: Ord, const N: usize> RangeSet<T, N> {
-    /// Adds the elements from the range's start up to its end, which is out. A range whose start isn't below its end changes nothing. Of two boundaries that are equal, this set's own stays.
+    /// Adds the elements of the range. An empty or reversed range changes nothing. Of two equal boundaries, this set's own stays.
     ///
-    /// It asks for memory only where the set grows by two boundaries and has no room for two more, and before it changes anything. Where it is refused, the set is as it was and the range is dropped.
+    /// Each call moves the boundaries after the range. If there are many ranges, make a set of them by `from_ranges` and add it by `union_with`: of 100,000 ranges at random, one call each takes over 30 times as long, and of as many in order some 4 times.
+    ///
+    /// It asks for memory only if the set grows by two boundaries and has no room for them, and before it changes anything. If that fails, the set is as it was and the range is dropped.
     ///
     /// # Contract
     ///
     /// ```text
     /// ensures changed: IsChangedByRange T.cmp union_table N self.old (range_items T.cmp
     ///     range.start range.end) self.new result
+    /// ensures members: OnOk result ((x : T) → member T.cmp self.new x ≡ (member T.cmp self.old x
+    ///     || (is_le (T.cmp range.start x) && is_lt (T.cmp x range.end))))
     /// ```
     pub fn insert(&mut self, range: Range<T>) -> Result<(), AllocError> {
         self.insert_counted(range, &mut Comparisons::new())
     }
 
-    /// The same, with its comparisons counted: one of the start with the end, and for each of the two at most as many as the number of boundaries has binary digits.
+    /// The same, counted: one comparison of the start with the end, and for each of the two at most as many as the number of boundaries has binary digits.
     ///
     /// # Contract
     ///
@@ -32,6 +36,8 @@ impl<T: Ord, const N: usize> RangeSet<T, N> {
     /// requires made: count.old < 2 ^ 64
     /// ensures changed: IsChangedByRange T.cmp union_table N self.old (range_items T.cmp
     ///     range.start range.end) self.new result
+    /// ensures members: OnOk result ((x : T) → member T.cmp self.new x ≡ (member T.cmp self.old x
+    ///     || (is_le (T.cmp range.start x) && is_lt (T.cmp x range.end))))
     /// ensures comparisons: AddsAtMost count.old count.new (2 * digits (length self.old) + 1)
     /// ```
     pub(crate) fn insert_counted(
@@ -42,21 +48,23 @@ impl<T: Ord, const N: usize> RangeSet<T, N> {
         set_range(&mut self.list, range, true, count)
     }
 
-    /// Takes out the elements from the range's start up to its end, which is out. A range whose start isn't below its end changes nothing. Of two boundaries that are equal, this set's own stays.
+    /// Removes the elements of the range. An empty or reversed range changes nothing. Of two equal boundaries, this set's own stays.
     ///
-    /// It asks for memory only where the set grows by two boundaries and has no room for two more, and before it changes anything. Where it is refused, the set is as it was and the range is dropped.
+    /// It asks for memory only if the set grows by two boundaries and has no room for them, and before it changes anything. If that fails, the set is as it was and the range is dropped.
     ///
     /// # Contract
     ///
     /// ```text
     /// ensures changed: IsChangedByRange T.cmp difference_table N self.old (range_items T.cmp
     ///     range.start range.end) self.new result
+    /// ensures members: OnOk result ((x : T) → member T.cmp self.new x ≡ (member T.cmp self.old x
+    ///     && not (is_le (T.cmp range.start x) && is_lt (T.cmp x range.end))))
     /// ```
     pub fn remove(&mut self, range: Range<T>) -> Result<(), AllocError> {
         self.remove_counted(range, &mut Comparisons::new())
     }
 
-    /// The same, with its comparisons counted: one of the start with the end, and for each of the two at most as many as the number of boundaries has binary digits.
+    /// The same, counted: one comparison of the start with the end, and for each of the two at most as many as the number of boundaries has binary digits.
     ///
     /// # Contract
     ///
@@ -64,6 +72,8 @@ impl<T: Ord, const N: usize> RangeSet<T, N> {
     /// requires made: count.old < 2 ^ 64
     /// ensures changed: IsChangedByRange T.cmp difference_table N self.old (range_items T.cmp
     ///     range.start range.end) self.new result
+    /// ensures members: OnOk result ((x : T) → member T.cmp self.new x ≡ (member T.cmp self.old x
+    ///     && not (is_le (T.cmp range.start x) && is_lt (T.cmp x range.end))))
     /// ensures comparisons: AddsAtMost count.old count.new (2 * digits (length self.old) + 1)
     /// ```
     pub(crate) fn remove_counted(

@@ -1,22 +1,18 @@
 // Written by tools/plain-rust from crates/range_collections/src/range_set/joining.rt. It isn't edited.
-//! The union of many parts, by halves: each part is copied once, and then sets are joined in place.
+//! The union of many sets, by halves: each set is copied once, and then sets are joined in place.
 
 use crate::generated::range_collections::comparisons::Comparisons;
 use crate::generated::range_collections::range_set::RangeSet;
+use crate::generated::range_collections::range_set_range::{has_elements, RangeSetRange};
+use crate::generated::range_collections::view::RangeSetRef;
 use crate::generated::range_entry::EntryClone;
-use crate::generated::range_merge::UnionOp;
+use crate::generated::range_merge::{Indexed, UnionOp};
 use crate::support::{AllocError, Global, SmallVec};
 
-// What a union is made of, as a set or a range: boundaries by their places.
-pub(super) trait Part<T: Ord> {
-    // How many there are.
-    fn len(&self) -> usize;
+// What a union is made of, as a set or a range: its boundaries by index.
+pub(super) trait Part<T: Ord>: Indexed<T> {}
 
-    // The one at place `i`.
-    fn at(&self, i: usize) -> &T;
-}
-
-// The set of the elements that are members of one part at least.
+// The elements that are members of at least one part.
 pub(super) fn union_of<T: EntryClone, P: Part<T>, const N: usize>(
     alloc: Global,
     parts: &[P],
@@ -35,7 +31,7 @@ pub(super) fn union_of<T: EntryClone, P: Part<T>, const N: usize>(
 }
 
 // The set, with the members of `that` added in place.
-fn joined<T: Ord, const N: usize>(
+pub(super) fn joined<T: Ord, const N: usize>(
     set: RangeSet<T, N>,
     that: RangeSet<T, N>,
     count: &mut Comparisons,
@@ -51,7 +47,7 @@ fn joined<T: Ord, const N: usize>(
 }
 
 // The set of the part's elements, with a copy of each boundary.
-fn copied<T: EntryClone, P: Part<T>, const N: usize>(
+pub(super) fn copied<T: EntryClone, P: Part<T>, const N: usize>(
     alloc: Global,
     part: &P,
 ) -> Result<RangeSet<T, N>, AllocError> {
@@ -70,3 +66,45 @@ fn copies<T: EntryClone, P: Part<T>, const N: usize>(
     }
     Ok(list)
 }
+
+impl<'a, T: Ord> Indexed<T> for RangeSetRef<'a, T> {
+    fn len(&self) -> usize {
+        self.boundaries.len()
+    }
+
+    fn at(&self, i: usize) -> &T {
+        &self.boundaries[i]
+    }
+}
+
+impl<'a, T: Ord> Part<T> for RangeSetRef<'a, T> {}
+
+impl<T: Ord> Indexed<T> for RangeSetRange<T> {
+    fn len(&self) -> usize {
+        match self {
+            RangeSetRange::Range(range) => {
+                if has_elements(&range.start, &range.end, &mut Comparisons::new()) {
+                    2
+                } else {
+                    0
+                }
+            }
+            RangeSetRange::RangeFrom(_) => 1,
+        }
+    }
+
+    fn at(&self, i: usize) -> &T {
+        match self {
+            RangeSetRange::Range(range) => {
+                if i == 0 {
+                    &range.start
+                } else {
+                    &range.end
+                }
+            }
+            RangeSetRange::RangeFrom(range) => &range.start,
+        }
+    }
+}
+
+impl<T: Ord> Part<T> for RangeSetRange<T> {}

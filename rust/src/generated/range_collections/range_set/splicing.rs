@@ -2,7 +2,9 @@
 //! One range set in a list of boundaries: the list is cut around the start and around the end, and what lies between the cuts gives way to those of the two that are put.
 
 use crate::generated::range_collections::comparisons::Comparisons;
-use crate::generated::range_merge::{search, Compare};
+use crate::generated::range_collections::lists::is_odd;
+use crate::generated::range_collections::range_set_range::has_elements;
+use crate::generated::range_merge::search;
 use crate::support::{AllocError, SmallVec};
 use core::ops::Range;
 
@@ -14,7 +16,7 @@ pub(crate) fn set_range<T: Ord, const N: usize>(
     count: &mut Comparisons,
 ) -> Result<(), AllocError> {
     let Range { start, end } = range;
-    if !count.compare(&start, &end).is_lt() {
+    if !has_elements(&start, &end, count) {
         return Ok(());
     }
     let (from, start) = cut_at(list.as_slice(), start, inside, count);
@@ -22,9 +24,14 @@ pub(crate) fn set_range<T: Ord, const N: usize>(
     splice(list, from, to, start, end)
 }
 
-// Where the items are cut around an element, so that an odd number stands before exactly if `inside`, and the element where it has to be put there for that. An item that is equal to it stands before the cut or behind it, as the number asks.
+// Where the items are cut around an element, so that an odd number stands before exactly if `inside`, and the element where it has to be put there for that. An item that is equal to it stands before the cut or after it, as the number asks.
 #[inline]
-fn cut_at<T: Ord>(items: &[T], at: T, inside: bool, count: &mut Comparisons) -> (usize, Option<T>) {
+pub(super) fn cut_at<T: Ord>(
+    items: &[T],
+    at: T,
+    inside: bool,
+    count: &mut Comparisons,
+) -> (usize, Option<T>) {
     match search(items, &at, count) {
         Ok(i) if is_odd(i) == inside => (i, None),
         Ok(i) => (i + 1, None),
@@ -33,13 +40,8 @@ fn cut_at<T: Ord>(items: &[T], at: T, inside: bool, count: &mut Comparisons) -> 
     }
 }
 
-#[inline(always)]
-fn is_odd(n: usize) -> bool {
-    n % 2 == 1
-}
-
-// Puts the start and the end, where they are given, in the place of the items between `from` and `to`. It asks for memory only where both are put and nothing gives way.
-fn splice<T, const N: usize>(
+// Replaces the items between `from` and `to` by the start and the end, where they are given. It asks for memory only if both are put and nothing gives way.
+pub(super) fn splice<T, const N: usize>(
     list: &mut SmallVec<T, N>,
     from: usize,
     to: usize,
@@ -64,18 +66,18 @@ fn replace_between<T, const N: usize>(
     start: Option<T>,
     end: Option<T>,
 ) {
-    let behind = overwrite_both(list.as_mut_slice(), from, start, end);
-    list.drain(behind..to);
+    let after = overwrite_both(list.as_mut_slice(), from, start, end);
+    list.drain(after..to);
 }
 
-// Puts the start and the end, where they are given, in the place of as many items from index `from` on. Answers the index behind them.
+// Replaces as many items from index `from` on by the start and the end, where they are given. Returns the index after them.
 #[inline(always)]
 fn overwrite_both<T>(items: &mut [T], from: usize, start: Option<T>, end: Option<T>) -> usize {
-    let behind = overwrite(items, from, start);
-    overwrite(items, behind, end)
+    let after = overwrite(items, from, start);
+    overwrite(items, after, end)
 }
 
-// Puts the item, if there is one, in the place of the one at index `at`. Answers the index behind it.
+// Replaces the item at index `at` by this one, if there is one. Returns the index after it.
 #[inline(always)]
 fn overwrite<T>(items: &mut [T], at: usize, item: Option<T>) -> usize {
     match item {
@@ -104,5 +106,18 @@ fn insert_both<T, const N: usize>(
 // Moves the last two items before those from index `at` on.
 #[inline(always)]
 fn move_last_two<T>(items: &mut [T], at: usize) {
-    items[at..].rotate_right(2);
+    last_two_to_front(&mut items[at..]);
+}
+
+// So many items are turned by two places at once, which first clears a buffer of 4 KB. Fewer are turned twice by one place, which takes none.
+const MANY: usize = 512;
+
+// Moves the last two items to the front.
+fn last_two_to_front<T>(items: &mut [T]) {
+    if items.len() < MANY {
+        items.rotate_right(1);
+        items.rotate_right(1);
+    } else {
+        items.rotate_right(2);
+    }
 }

@@ -1,18 +1,19 @@
 // Written by tools/plain-rust from crates/range_collections/src/view/operations.rt. It isn't edited.
-//! Operations on two views, each into a new set, whose boundaries are copies of theirs. Of two boundaries that are equal, this set's is copied.
+//! Operations on two views: into a new set with copies of their boundaries, or into a borrowed slice, which takes no memory. Of two equal boundaries, this set's is taken.
 
 use crate::generated::range_collections::comparisons::{Comparisons, EntryCopier};
-use crate::generated::range_collections::range_set::room::give_back_room;
+use crate::generated::range_collections::lists::give_back_room;
 use crate::generated::range_collections::range_set::RangeSet;
 use crate::generated::range_collections::view::RangeSetRef;
-use crate::generated::range_entry::EntryClone;
+use crate::generated::range_entry::{EntryClone, RangeSetEntry};
 use crate::generated::range_merge::{
-    DiffOp, IntersectionOp, MergeOperation, SmallVecMergeState, UnionOp, XorOp,
+    BufferMergeState, DiffOp, IntersectionOp, MergeOperation, NoRoom, SmallVecMergeState, UnionOp,
+    XorOp,
 };
 use crate::support::{AllocError, Global, SmallVec};
 
 impl<'a, T: EntryClone> RangeSetRef<'a, T> {
-    /// The set whose members the operation tells from the members of both, with its comparisons counted.
+    /// The operation's result, counting the comparisons.
     ///
     /// # Contract
     ///
@@ -34,7 +35,7 @@ impl<'a, T: EntryClone> RangeSetRef<'a, T> {
         self.merged(alloc, that, op, count)
     }
 
-    // The set of copies of the boundaries at which the connective changes.
+    // The set of copies of the boundaries at which the connective changes. Its members are what the operation says, or where the connective is on while both sides are off, the others.
     pub(super) fn merged<O: MergeOperation, const M: usize>(
         &self,
         alloc: Global,
@@ -54,7 +55,7 @@ impl<'a, T: EntryClone> RangeSetRef<'a, T> {
         Ok(RangeSet::new_unchecked(list))
     }
 
-    /// The set of the elements that are members of one of the two, or of both.
+    /// The union: the elements that are members of either set.
     ///
     /// # Contract
     ///
@@ -67,10 +68,10 @@ impl<'a, T: EntryClone> RangeSetRef<'a, T> {
         alloc: Global,
         that: RangeSetRef<T>,
     ) -> Result<RangeSet<T, M>, AllocError> {
-        self.merge_new(alloc, that, &UnionOp, &mut Comparisons::new())
+        self.merged(alloc, that, &UnionOp, &mut Comparisons::new())
     }
 
-    /// The set of the elements that are members of both.
+    /// The intersection: the elements that are members of both sets.
     ///
     /// # Contract
     ///
@@ -83,10 +84,10 @@ impl<'a, T: EntryClone> RangeSetRef<'a, T> {
         alloc: Global,
         that: RangeSetRef<T>,
     ) -> Result<RangeSet<T, M>, AllocError> {
-        self.merge_new(alloc, that, &IntersectionOp, &mut Comparisons::new())
+        self.merged(alloc, that, &IntersectionOp, &mut Comparisons::new())
     }
 
-    /// The set of the members of this set that are not members of `that`.
+    /// The difference: the members of this set that aren't members of `that`.
     ///
     /// # Contract
     ///
@@ -99,10 +100,10 @@ impl<'a, T: EntryClone> RangeSetRef<'a, T> {
         alloc: Global,
         that: RangeSetRef<T>,
     ) -> Result<RangeSet<T, M>, AllocError> {
-        self.merge_new(alloc, that, &DiffOp, &mut Comparisons::new())
+        self.merged(alloc, that, &DiffOp, &mut Comparisons::new())
     }
 
-    /// The set of the elements that are members of one of the two and not of the other.
+    /// The symmetric difference: the elements that are members of exactly one of the sets.
     ///
     /// # Contract
     ///
@@ -115,6 +116,82 @@ impl<'a, T: EntryClone> RangeSetRef<'a, T> {
         alloc: Global,
         that: RangeSetRef<T>,
     ) -> Result<RangeSet<T, M>, AllocError> {
-        self.merge_new(alloc, that, &XorOp, &mut Comparisons::new())
+        self.merged(alloc, that, &XorOp, &mut Comparisons::new())
+    }
+}
+
+impl<'a, T: RangeSetEntry + EntryClone> RangeSetRef<'a, T> {
+    /// The result of any boolean operation (a connective), counting the comparisons. If the connective is on while both sides are off, the result is that among values.
+    ///
+    /// It copies the boundaries at which the connective changes, of two equal ones this set's. If the connective is on while both sides are off, it then removes a first boundary that is the least value, or else puts the least value before the others. It makes at most twice the weight of the two lists in comparisons, even if it fails.
+    ///
+    /// # Contract
+    ///
+    /// ```text
+    /// requires made: count.old < 2 ^ 64
+    /// ensures means: IfOk result (λ set. MeansAmong T.cmp T.is_value (O.connective op.now) set
+    ///     self.now.boundaries.now that.entry.boundaries.now)
+    /// ensures left_own_item: O.connective op.now false false ≡ false → IfOk result (λ set.
+    ///     AreCopies T.is_copy (changes T.cmp (O.connective op.now) self.now.boundaries.now
+    ///     that.entry.boundaries.now) set)
+    /// // On while both sides are off: the copies, with the least value removed from the start or
+    /// // put there.
+    /// ensures flipped: O.connective op.now false false ≡ true → IfOk result (λ set. AreFlipped
+    ///     T.cmp T.least (AreCopies T.is_copy (changes T.cmp (O.connective op.now)
+    ///     self.now.boundaries.now that.entry.boundaries.now)) set)
+    /// ensures succeeds: O.connective op.now false false ≡ false → length self.now.boundaries.now +
+    ///     length that.entry.boundaries.now ≤ M → All T.is_infallible self.now.boundaries.now → All
+    ///     T.is_infallible that.entry.boundaries.now → IsOk result
+    /// ensures succeeds_flipped: O.connective op.now false false ≡ true → length
+    ///     self.now.boundaries.now + length that.entry.boundaries.now < M → All T.is_infallible
+    ///     self.now.boundaries.now → All T.is_infallible that.entry.boundaries.now →
+    ///     T.is_min_infallible → IsOk result
+    /// ensures comparisons: AddsAtMost count.old count.new (2 * weight T.cmp
+    ///     self.now.boundaries.now that.entry.boundaries.now)
+    /// ```
+    pub(crate) fn combine<O: MergeOperation, const M: usize>(
+        &self,
+        alloc: Global,
+        that: RangeSetRef<T>,
+        op: &O,
+        count: &mut Comparisons,
+    ) -> Result<RangeSet<T, M>, AllocError> {
+        let merged = self.merged(alloc, that, op, count)?;
+        let flips = op.when_off();
+        if flips {
+            !merged
+        } else {
+            Ok(merged)
+        }
+    }
+}
+
+impl<'a, T: Ord> RangeSetRef<'a, T> {
+    /// Writes the boundaries of the operation's result to the start of `out`, and returns how many there are. Both lengths together must fit a `usize`.
+    ///
+    /// Of two equal boundaries this set's is written, and the rest of `out` stays as it was. It is an error exactly if `out` is too short: the error says how long it must be, and nothing is said of what `out` then holds. It takes no memory, and counts its comparisons, at most twice the weight of the two lists.
+    ///
+    /// # Contract
+    ///
+    /// ```text
+    /// requires off: O.connective op.now false false ≡ false
+    /// requires fits: length self.now.boundaries.now + length that.boundaries.now < 2 ^ 64
+    /// requires made: count.old < 2 ^ 64
+    /// ensures writes: WritesOperation T.cmp (O.connective op.now) self.now.boundaries.now
+    ///     that.entry.boundaries.now out.old out.new result
+    /// ensures comparisons: AddsAtMost count.old count.new (2 * weight T.cmp
+    ///     self.now.boundaries.now that.entry.boundaries.now)
+    /// ```
+    pub(crate) fn merge_into<O: MergeOperation>(
+        &self,
+        that: RangeSetRef<T>,
+        op: &O,
+        out: &mut [T],
+        count: &mut Comparisons,
+    ) -> Result<usize, NoRoom>
+    where
+        T: Copy,
+    {
+        BufferMergeState::merge(self.boundaries, that.boundaries, out, op, count)
     }
 }

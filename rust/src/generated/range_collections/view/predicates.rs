@@ -1,14 +1,16 @@
 // Written by tools/plain-rust from crates/range_collections/src/view/predicates.rt. It isn't edited.
-//! What can be asked of a set and of two, each answered by the members, at every element. Nothing here takes memory.
+//! What can be asked of a set and of two, each answered by the members, at every element, and whether a set has every value. Nothing here takes memory.
 
 use crate::generated::range_collections::comparisons::Comparisons;
+use crate::generated::range_collections::lists::{begins_at_least, is_odd};
 use crate::generated::range_collections::view::RangeSetRef;
+use crate::generated::range_entry::RangeSetEntry;
 use crate::generated::range_merge::{
-    search, BoolOpMergeState, CountMergeState, DiffOp, IntersectionOp, MergeOperation,
+    count_up_to, BoolOpMergeState, CountMergeState, DiffOp, IntersectionOp, MergeOperation,
 };
 
 impl<'a, T: Ord> RangeSetRef<'a, T> {
-    /// Whether an odd number of boundaries is at or below `value`.
+    /// Whether `value` is a member: an odd number of boundaries is at or below it.
     ///
     /// # Contract
     ///
@@ -20,7 +22,7 @@ impl<'a, T: Ord> RangeSetRef<'a, T> {
         self.contains_counted(value, &mut Comparisons::new())
     }
 
-    /// The same, with its comparisons counted: at most as many as the number of boundaries has binary digits.
+    /// The same, counted: at most as many comparisons as the number of boundaries has binary digits.
     ///
     /// # Contract
     ///
@@ -32,13 +34,10 @@ impl<'a, T: Ord> RangeSetRef<'a, T> {
     /// ```
     #[inline]
     pub(crate) fn contains_counted(&self, value: &T, count: &mut Comparisons) -> bool {
-        match search(self.boundaries, value, count) {
-            Ok(i) => i % 2 == 0,
-            Err(i) => i % 2 == 1,
-        }
+        is_odd(count_up_to(self.boundaries, value, count))
     }
 
-    /// Whether no element is a member.
+    /// Whether the set is empty.
     ///
     /// # Contract
     ///
@@ -50,7 +49,7 @@ impl<'a, T: Ord> RangeSetRef<'a, T> {
         self.boundaries.is_empty()
     }
 
-    /// Whether some element is a member of what the operation makes of both, with its comparisons counted. It stops at the first one (no clause says so), and makes at most twice the weight of the two lists in comparisons.
+    /// Whether the operation's result has a member. It counts its comparisons, at most twice the weight of the two lists, and stops at the first change (no clause says so).
     ///
     /// # Contract
     ///
@@ -71,7 +70,7 @@ impl<'a, T: Ord> RangeSetRef<'a, T> {
         BoolOpMergeState::merge(self.boundaries, that.boundaries, op, count)
     }
 
-    /// How many boundaries the operation's result has, without making it, with its comparisons counted. Both lengths together have to fit a usize. It makes at most twice the weight of the two lists in comparisons.
+    /// How many boundaries the operation's result has, without making it. Both lengths together must fit a `usize`. It counts its comparisons, at most twice the weight of the two lists.
     ///
     /// # Contract
     ///
@@ -118,7 +117,7 @@ impl<'a, T: Ord> RangeSetRef<'a, T> {
         !self.merge_test(that, &IntersectionOp, &mut Comparisons::new())
     }
 
-    /// Whether every member of this set is one of `that`.
+    /// Whether every member of this set is a member of `that`.
     ///
     /// # Contract
     ///
@@ -129,7 +128,7 @@ impl<'a, T: Ord> RangeSetRef<'a, T> {
         !self.merge_test(that, &DiffOp, &mut Comparisons::new())
     }
 
-    /// Whether every member of `that` is one of this set.
+    /// Whether every member of `that` is a member of this set.
     ///
     /// # Contract
     ///
@@ -138,5 +137,21 @@ impl<'a, T: Ord> RangeSetRef<'a, T> {
     /// ```
     pub fn is_superset(&self, that: RangeSetRef<T>) -> bool {
         that.is_subset(*self)
+    }
+}
+
+impl<'a, T: RangeSetEntry> RangeSetRef<'a, T> {
+    /// Whether every value is a member.
+    ///
+    /// # Contract
+    ///
+    /// ```text
+    /// ensures IsTrue result ↔ IsEverything T.cmp T.is_value self.now.boundaries.now
+    /// ```
+    pub fn is_all(&self) -> bool {
+        match self.boundaries.get(1) {
+            Some(second) => false,
+            None => begins_at_least(self.boundaries),
+        }
     }
 }

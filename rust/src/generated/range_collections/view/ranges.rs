@@ -1,10 +1,13 @@
 // Written by tools/plain-rust from crates/range_collections/src/view/ranges.rt. It isn't edited.
-//! The ranges of a view, and one range of elements against it.
+//! The ranges of a view: all of them, the first and the last, the one at an element; and one range of elements against the view.
 
 use crate::generated::range_collections::comparisons::Comparisons;
 use crate::generated::range_collections::iter::Iter;
+use crate::generated::range_collections::lists::is_odd;
+use crate::generated::range_collections::range_set_range::{has_elements, RangeSetRange};
 use crate::generated::range_collections::view::RangeSetRef;
-use core::ops::Range;
+use crate::generated::range_merge::{count_up_to, search};
+use core::ops::{Range, RangeFrom};
 
 impl<'a, T: Ord> RangeSetRef<'a, T> {
     /// The ranges of the members, from the lowest on.
@@ -19,7 +22,175 @@ impl<'a, T: Ord> RangeSetRef<'a, T> {
         Iter::new(self.boundaries)
     }
 
-    /// Whether some member is at or above the range's start and below its end. No member is in a range whose start is not below its end.
+    /// The first range, or `None` if the set is empty.
+    ///
+    /// # Contract
+    ///
+    /// ```text
+    /// ensures MatchOption result (self.now.boundaries.now ≡ []) (λ range. slice_get (ranges_of
+    ///     self.now.boundaries.now) 0 ≡ Some (range_now range))
+    /// ```
+    #[inline]
+    pub fn first(&self) -> Option<RangeSetRange<&'a T>> {
+        self.iter().next()
+    }
+
+    /// The last range, or `None` if the set is empty.
+    ///
+    /// # Contract
+    ///
+    /// ```text
+    /// ensures MatchOption result (self.now.boundaries.now ≡ []) (λ range. last_or None (ranges_of
+    ///     self.now.boundaries.now) ≡ Some (range_now range))
+    /// ```
+    #[inline]
+    pub fn last(&self) -> Option<RangeSetRange<&'a T>> {
+        self.iter().next_back()
+    }
+
+    /// The hull: from the start of the first range to the end of the last one, or without an end if that has none. `None` if the set is empty.
+    ///
+    /// # Contract
+    ///
+    /// ```text
+    /// ensures MatchOption result (self.now.boundaries.now ≡ []) (λ range. IsSpan (ranges_of
+    ///     self.now.boundaries.now) (range_now range))
+    /// ```
+    #[inline]
+    pub fn span(&self) -> Option<RangeSetRange<&'a T>> {
+        let start = start_of(self.first()?);
+        match self.last()? {
+            RangeSetRange::Range(range) => Some(RangeSetRange::Range(Range {
+                start,
+                end: range.end,
+            })),
+            RangeSetRange::RangeFrom(_) => Some(RangeSetRange::RangeFrom(RangeFrom { start })),
+        }
+    }
+
+    /// How many ranges there are.
+    ///
+    /// # Contract
+    ///
+    /// ```text
+    /// ensures result ≡ length (ranges_of self.now.boundaries.now)
+    /// ```
+    #[inline]
+    pub fn ranges_len(&self) -> usize {
+        self.iter().len()
+    }
+
+    /// The range of the set that holds `value`, or `None` if it isn't a member.
+    ///
+    /// # Contract
+    ///
+    /// ```text
+    /// ensures member: IsSome result ↔ (member T.cmp self.now.boundaries.now value.now ≡ true)
+    /// ensures of_set: IfSome result (λ range. Contains (ranges_of self.now.boundaries.now)
+    ///     (range_now range))
+    /// ensures holds: IfSome result (λ range. IsInRange T.cmp (range_now range) value.now)
+    /// ensures members: IfSome result (λ range. (x : T) → IsInRange T.cmp (range_now range) x →
+    ///     member T.cmp self.now.boundaries.now x ≡ true)
+    /// ```
+    #[inline]
+    pub fn range_at(&self, value: &T) -> Option<RangeSetRange<&'a T>> {
+        self.range_at_counted(value, &mut Comparisons::new())
+    }
+
+    /// The same, counted: at most as many comparisons as the number of boundaries has binary digits.
+    ///
+    /// # Contract
+    ///
+    /// ```text
+    /// requires count.old < 2 ^ 64
+    /// ensures member: IsSome result ↔ (member T.cmp self.now.boundaries.now value.now ≡ true)
+    /// ensures of_set: IfSome result (λ range. Contains (ranges_of self.now.boundaries.now)
+    ///     (range_now range))
+    /// ensures holds: IfSome result (λ range. IsInRange T.cmp (range_now range) value.now)
+    /// ensures members: IfSome result (λ range. (x : T) → IsInRange T.cmp (range_now range) x →
+    ///     member T.cmp self.now.boundaries.now x ≡ true)
+    /// ensures comparisons: AddsAtMost count.old count.new (digits (length
+    ///     self.now.boundaries.now))
+    /// ```
+    #[inline]
+    pub(crate) fn range_at_counted(
+        &self,
+        value: &T,
+        count: &mut Comparisons,
+    ) -> Option<RangeSetRange<&'a T>> {
+        let before = count_up_to(self.boundaries, value, count);
+        if !is_odd(before) {
+            return None;
+        }
+        Iter::new(&self.boundaries[before - 1..]).next()
+    }
+
+    /// The least member at or above `from`, or `None` if there is none. It is `from` itself if that is a member, or else the start of the next range. It takes no memory, and makes at most as many comparisons as the number of boundaries has binary digits (seen by reading).
+    ///
+    /// # Contract
+    ///
+    /// ```text
+    /// ensures next: IfSome result (λ next. IsNext T.cmp true self.now.boundaries.now from.now
+    ///     next.now)
+    /// ensures none: IfNone result ((x : T) → is_le (T.cmp from.now x) ≡ true → member T.cmp
+    ///     self.now.boundaries.now x ≡ false)
+    /// ```
+    #[inline]
+    pub fn next_member(&self, from: &'a T) -> Option<&'a T> {
+        self.next_at(from, true)
+    }
+
+    /// The least element at or above `from` that isn't a member. It is `from` itself if that isn't one, or else the end of the range that holds it, or `None` if that range has no end. It takes no memory, and makes at most as many comparisons as the number of boundaries has binary digits (seen by reading).
+    ///
+    /// # Contract
+    ///
+    /// ```text
+    /// ensures next: IfSome result (λ next. IsNext T.cmp false self.now.boundaries.now from.now
+    ///     next.now)
+    /// ensures none: IfNone result ((x : T) → is_le (T.cmp from.now x) ≡ true → member T.cmp
+    ///     self.now.boundaries.now x ≡ true)
+    /// ```
+    #[inline]
+    pub fn next_gap(&self, from: &'a T) -> Option<&'a T> {
+        self.next_at(from, false)
+    }
+
+    /// Whether every element of the range is a member. It is `true` for an empty or reversed range.
+    ///
+    /// # Contract
+    ///
+    /// ```text
+    /// ensures IsTrue result ↔ HasAllWithin T.cmp self.now.boundaries.now range.start range.end
+    /// ```
+    #[inline]
+    pub fn contains_range(&self, range: Range<T>) -> bool {
+        self.contains_range_counted(range, &mut Comparisons::new())
+    }
+
+    /// The same, counted: at most `2 * d + 1` comparisons, where `d` is the number of binary digits of the number of boundaries.
+    ///
+    /// # Contract
+    ///
+    /// ```text
+    /// requires count.old < 2 ^ 64
+    /// ensures members: IsTrue result ↔ HasAllWithin T.cmp self.now.boundaries.now range.start
+    ///     range.end
+    /// ensures comparisons: AddsAtMost count.old count.new (2 * digits (length
+    ///     self.now.boundaries.now) + 1)
+    /// ```
+    #[inline]
+    pub(crate) fn contains_range_counted(&self, range: Range<T>, count: &mut Comparisons) -> bool {
+        if !has_elements(&range.start, &range.end, count) {
+            return true;
+        }
+        let before = count_up_to(self.boundaries, &range.start, count);
+        if !is_odd(before) {
+            return false;
+        }
+        before == self.count_below(&range.end, count)
+    }
+
+    /// Whether some member lies in the range. It is `false` for an empty or reversed range.
     ///
     /// # Contract
     ///
@@ -28,14 +199,24 @@ impl<'a, T: Ord> RangeSetRef<'a, T> {
     /// ```
     #[inline]
     pub fn intersects_range(&self, range: Range<T>) -> bool {
-        if !range.start.cmp(&range.end).is_lt() {
+        if !has_elements(&range.start, &range.end, &mut Comparisons::new()) {
             return false;
         }
-        let count = self.count_up_to(&range.start, &mut Comparisons::new());
-        if count % 2 == 1 {
+        let count = count_up_to(self.boundaries, &range.start, &mut Comparisons::new());
+        if is_odd(count) {
             return true;
         }
         self.is_next_below(count, &range.end)
+    }
+
+    // The least element at or above `from` that is a member, where `inside` is true, or else that is none.
+    #[inline(always)]
+    fn next_at(&self, from: &'a T, inside: bool) -> Option<&'a T> {
+        let before = count_up_to(self.boundaries, from, &mut Comparisons::new());
+        if is_odd(before) == inside {
+            return Some(from);
+        }
+        self.boundaries.get(before)
     }
 
     // Whether there is a boundary at place `i`, and it is below `end`.
@@ -45,5 +226,34 @@ impl<'a, T: Ord> RangeSetRef<'a, T> {
             Some(next) => next.cmp(end).is_lt(),
             None => false,
         }
+    }
+
+    // How many boundaries are below `value`.
+    #[inline(always)]
+    pub(super) fn count_below(&self, value: &T, count: &mut Comparisons) -> usize {
+        match search(self.boundaries, value, count) {
+            Ok(i) => i,
+            Err(i) => i,
+        }
+    }
+}
+
+impl<'a, T: Ord> IntoIterator for RangeSetRef<'a, T> {
+    type Item = RangeSetRange<&'a T>;
+
+    type IntoIter = Iter<'a, T>;
+
+    #[inline]
+    fn into_iter(self) -> Iter<'a, T> {
+        self.iter()
+    }
+}
+
+// Where the range starts.
+#[inline(always)]
+fn start_of<'a, T>(range: RangeSetRange<&'a T>) -> &'a T {
+    match range {
+        RangeSetRange::Range(range) => range.start,
+        RangeSetRange::RangeFrom(range) => range.start,
     }
 }

@@ -8,7 +8,7 @@ use crate::generated::range_merge::merging;
 use crate::generated::range_merge::operations::MergeOperation;
 use crate::support::AllocError;
 
-/// A state that stops the merge at the first item that is taken, and remembers that there was one. It takes no memory and never refuses.
+/// A state that stops the merge at the first item that is taken, and remembers that there was one. It takes no memory and never fails.
 pub type BoolOpMergeState<'a, K> = SliceMergeState<'a, K, bool>;
 
 impl<'a, K> BoolOpMergeState<'a, K> {

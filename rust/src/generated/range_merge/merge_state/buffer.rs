@@ -1,7 +1,7 @@
 // Written by tools/plain-rust from crates/range_merge/src/merge_state/buffer.rt. It isn't edited.
 //! A merge that writes what is taken into a borrowed slice.
 //!
-//! The count goes on where the slice is full, so that it tells how long a slice has to be. While it is within the slice, the slice begins with what was taken, and behind that it is as it was.
+//! The count goes on when the slice is full, so that it tells how long a slice must be. While it is within the slice, the slice begins with what was taken, and after that it is as it was.
 
 use crate::generated::range_merge::compare::Compare;
 use crate::generated::range_merge::merge_state::output::Output;
@@ -10,17 +10,17 @@ use crate::generated::range_merge::merging;
 use crate::generated::range_merge::operations::MergeOperation;
 use crate::support::AllocError;
 
-/// A state that writes the items that are taken into a borrowed slice, and counts them. It never stops the merge, takes no memory and never refuses.
+/// A state that writes the items that are taken into a borrowed slice, and counts them. It never stops the merge, takes no memory and never fails.
 pub type BufferMergeState<'a, 'o, K> = SliceMergeState<'a, K, Buffer<'o, K>>;
 
-/// There is no room for a list in the slice that was lent for it.
+/// The borrowed slice is too short for the list.
 #[derive(Clone, Copy, Debug, PartialEq, Eq)]
 pub struct NoRoom {
     /// How long the list is.
     pub needed: usize,
 }
 
-/// A slice that is filled from its front, and how many items it was given.
+/// A slice that is filled from its start, and how many items it was given.
 pub struct Buffer<'o, K> {
     /// It begins with the items that it was given, while it has room for them.
     pub items: &'o mut [K],
@@ -42,7 +42,7 @@ impl<'a, 'o, K: Copy> BufferMergeState<'a, 'o, K> {
     /// ensures items: result.taken.items.now ≡ out.old
     /// ensures given: result.taken.given ≡ 0
     /// ensures began: result.began ≡ out.entry.ghost_name
-    /// ensures lent: result.taken.items.ghost_name ≡ out.entry.ghost_name
+    /// ensures borrowed: result.taken.items.ghost_name ≡ out.entry.ghost_name
     /// ```
     pub(crate) fn new(a: &'a [K], b: &'a [K], out: &'o mut [K]) -> Self {
         Self::over(
@@ -58,7 +58,7 @@ impl<'a, 'o, K: Copy> BufferMergeState<'a, 'o, K> {
 
     /// Writes the items at which the connective of `op` changes between two strictly sorted lists into `out`, whose lengths together fit a `usize`.
     ///
-    /// It answers how many items it wrote; behind them `out` is as it was. An error comes exactly where `out` is shorter than the list, and tells the length that it needs; then nothing is said of what stands in `out`. It takes no memory, and makes at most twice the weight of the two lists in comparisons.
+    /// It returns how many items it wrote; after them `out` is as it was. It is an error exactly if `out` is shorter than the list: the error says how long it must be, and nothing is said of what `out` then holds. It takes no memory, and makes at most twice the weight of the two lists in comparisons.
     ///
     /// # Contract
     ///
@@ -94,7 +94,7 @@ impl<'a, 'o, K: Copy> BufferMergeState<'a, 'o, K> {
         Ok(given)
     }
 
-    // The slice that was lent, given the items at which the connective changes.
+    // The borrowed slice, given the items at which the connective changes.
     fn filled<O: MergeOperation, C: Compare<K>>(
         a: &'a [K],
         b: &'a [K],
@@ -120,10 +120,10 @@ impl<'o, K: Copy> Output<K, ()> for Buffer<'o, K> {
     }
 }
 
-// Changes nothing. That the slice is used ties it to the one that was lent, whose last items it then tells.
+// Changes nothing. Using the slice ties it to the borrowed one, whose last items it then tells.
 #[inline(always)]
 fn take_back<K>(items: &mut [K]) {
-    let _lent = items;
+    let _borrowed = items;
 }
 
 // Writes those of the items that have room into the slice, from the index `at` on.

@@ -8,7 +8,7 @@ use crate::generated::range_merge::merging;
 use crate::generated::range_merge::operations::MergeOperation;
 use crate::support::AllocError;
 
-/// A state that counts the items that are taken. It never stops the merge, takes no memory and never refuses.
+/// A state that counts the items that are taken. It never stops the merge, takes no memory and never fails.
 pub type CountMergeState<'a, K> = SliceMergeState<'a, K, usize>;
 
 impl<'a, K> CountMergeState<'a, K> {

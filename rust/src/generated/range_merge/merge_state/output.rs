@@ -5,7 +5,7 @@ use crate::support::AllocError;
 
 /// What the items that are taken are appended to, by a means such as a copier. From which side they come makes no difference.
 pub trait Output<K, By> {
-    /// Appends the items, if they are taken. The answer `false` stops the merge; an error comes where memory or a copy was refused.
+    /// Appends the items, if they are taken. `false` stops the merge. It is an error if an allocation or a copy fails.
     ///
     /// # Contract
     ///

@@ -1,13 +1,16 @@
 // Written by tools/plain-rust from crates/range_merge/src/merge_state/placing.rt. It isn't edited.
 //! A merge into its own left list, which leaves what it reads on the right to that side.
 
+use crate::generated::range_merge::compare::Compare;
 use crate::generated::range_merge::in_place_builder::InPlaceBuilder;
 use crate::generated::range_merge::merge_state::right_side::RightSide;
 use crate::generated::range_merge::merge_state::{MergeState, MergeStateMut};
+use crate::generated::range_merge::merging;
+use crate::generated::range_merge::operations::MergeOperation;
 use crate::generated::range_merge::place::Place;
 use crate::support::AllocError;
 
-/// A state that keeps items of its left list, and puts what its right side gives between them. Once made it takes no memory and never refuses. `L` is the list, by value where a caller makes the state.
+/// A state that keeps items of its left list, and puts what its right side gives between them. Once made, it takes no memory and never fails. `L` is the list, by value where a caller makes the state.
 pub struct PlacingMergeState<K, const N: usize, R: RightSide<K>, L: Place<K>> {
     builder: InPlaceBuilder<K, N, L>,
     right: R,
@@ -24,6 +27,13 @@ impl<K, const N: usize, R: RightSide<K>, L: Place<K>> PlacingMergeState<K, N, R,
             ac: false,
             bc: false,
         }
+    }
+
+    // The list, with the items at which the connective of `op` changes. It stands here, and not over the list and the right side, since a state made of those would owe the proof that it fits in memory.
+    #[inline(always)]
+    pub(crate) fn merged<O: MergeOperation, C: Compare<K>>(mut self, op: &O, cmp: &mut C) -> L {
+        let _ = merging::merge(&mut self, op, cmp);
+        self.result()
     }
 
     /// The list, with the items that were taken. What is still unread is dropped.
@@ -107,11 +117,9 @@ fn put_front<K, const N: usize, R: RightSide<K>, L: Place<K>>(
     n: usize,
     wanted: bool,
 ) {
-    if !wanted {
+    if wanted {
+        builder.put_from(n, right);
+    } else {
         right.drop_front(n);
-        return;
-    }
-    for _i in 0..n {
-        builder.put(right.take_front());
     }
 }

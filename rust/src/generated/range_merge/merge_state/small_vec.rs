@@ -17,7 +17,7 @@ pub type SmallVecMergeState<'a, K, P, const M: usize> =
 impl<'a, K, P: Copier<K>, const M: usize> SmallVecMergeState<'a, K, P, M> {
     /// All items of both slices unread, both sides off, and the items of `r` as what was taken so far, from the left.
     ///
-    /// Copies of what is taken are appended to them. No advance is refused where the items of `r` and those of both slices together are at most `M`, and no copy is refused. It takes no memory.
+    /// Copies of what is taken are appended to them. No advance fails if the items of `r` and those of both slices together are at most `M`, and no copy fails. It takes no memory.
     ///
     /// # Contract
     ///
@@ -41,8 +41,8 @@ impl<'a, K, P: Copier<K>, const M: usize> SmallVecMergeState<'a, K, P, M> {
 
     /// Fills the empty list `r` with copies of the items at which the connective of `op` changes between two strictly sorted lists.
     ///
-    /// It asks for room for both lengths at once where they are more than a few; where that is refused, and for a few, for each run that is taken; and for what the copies ask (seen by reading). Where both lengths together are at most `M` and no copy is refused, it succeeds. A refusal drops `r`.
-    /// It makes at most twice the weight of the two lists in comparisons, also where it is refused.
+    /// It asks for room for both lengths at once if they are more than a few; if that fails, and for a few, it asks for each run that is taken. Copies ask for what they need (seen by reading). It succeeds if both lengths together are at most `M` and no copy fails. If it fails, `r` is dropped.
+    /// It makes at most twice the weight of the two lists in comparisons, even if it fails.
     ///
     /// # Contract
     ///
@@ -51,10 +51,8 @@ impl<'a, K, P: Copier<K>, const M: usize> SmallVecMergeState<'a, K, P, M> {
     /// requires left_ascending: IsAscending C.order a.now
     /// requires right_ascending: IsAscending C.order b.now
     /// requires made: C.count cmp.old < 2 ^ 64
-    /// ensures copied: IfOk result (λ list. AreCopies P.alike (changes C.order (O.connective
-    ///     op.now) a.now b.now) list.items)
-    /// ensures succeeds: length a.now + length b.now ≤ M → All P.is_infallible a.now → All
-    ///     P.is_infallible b.now → IsOk result
+    /// ensures gives: GivesCopies P.alike C.order (O.connective op.now) a.now b.now (FitInline
+    ///     P.is_infallible M a.now b.now) result
     /// ensures comparisons: AddsAtMost (C.count cmp.old) (C.count cmp.new) (2 * weight C.order
     ///     a.now b.now)
     /// ```
@@ -124,7 +122,7 @@ fn fit_together(a: usize, b: usize, room: usize) -> bool {
     a <= room && b <= room - a
 }
 
-/// How a list is appended to: by copies that the copier makes, behind the items that it had at first.
+/// How a list is appended to: by copies that the copier makes, after the items that it had at first.
 pub struct Copying<'a, P> {
     pub copier: &'a P,
     pub began: usize,

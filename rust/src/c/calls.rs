@@ -1,0 +1,449 @@
+//! The calls of the header for one type of numbers, by macros: an export can't be generic.
+
+/// `RANGE_SET_NEITHER`, and all that `combine` may keep.
+pub(super) const NEITHER: u32 = 8;
+pub(super) const ALL: u32 = 15;
+
+/// The calls for a type: a module for them, the type, the unsigned one of its width, its name in the header, the module of the generated calls, and the struct of a range there.
+macro_rules! calls {
+    ($module:ident, $number:ident, $count:ident, $name:literal, $proved:ident, $range:ident) => {
+        /// Each call asks of its caller what the header says: pointers and lengths of arrays, and sets that the library made.
+        mod $module {
+            use super::calls::{ALL, NEITHER};
+            use super::lists::{
+                changed, is_array, is_result, items_at, put, room_at, told, Buffer, Bytes, Range,
+                Set,
+            };
+            use super::owned::{Allocator, Owned};
+            use super::{operations, texts, Status};
+            use crate::generated::range_c::$proved::*;
+            use std::os::raw::c_uint;
+
+            type Numbers = Set<$number>;
+
+            // ---- Sets of lists ----
+
+            #[export_name = concat!("range_set_", $name, "_view")]
+            unsafe extern "C" fn view(
+                list: *const $number,
+                len: usize,
+                set: *mut Numbers,
+            ) -> Status {
+                if !is_array(list, len) || !is_result(set, Bytes::of(list, len)) {
+                    return Status::BadArgument;
+                }
+                if !proved_is_sorted(unsafe { items_at(list, len) }) {
+                    return Status::NotSorted;
+                }
+                unsafe { set.write(Set::of(list, len)) };
+                Status::Done
+            }
+
+            #[export_name = concat!("range_set_", $name, "_from_unsorted")]
+            unsafe extern "C" fn from_unsorted(
+                items: *mut $number,
+                len: usize,
+                set: *mut Numbers,
+            ) -> Status {
+                if !is_array(items, len) || !is_result(set, Bytes::of(items, len)) {
+                    return Status::BadArgument;
+                }
+                let kept = proved_from_unsorted(unsafe { room_at(items, len) });
+                unsafe { set.write(Set::of(items, kept)) };
+                Status::Done
+            }
+
+            #[export_name = concat!("range_set_", $name, "_from_ranges")]
+            unsafe extern "C" fn from_ranges(
+                ranges: *mut $number,
+                count: usize,
+                set: *mut Numbers,
+            ) -> Status {
+                let pairs: *mut $range = ranges.cast();
+                if !is_array(pairs, count) || !is_result(set, Bytes::of(pairs, count)) {
+                    return Status::BadArgument;
+                }
+                let kept = proved_from_ranges(unsafe { room_at(pairs, count) });
+                unsafe { set.write(Set::of(ranges, 2 * kept)) };
+                Status::Done
+            }
+
+            // ---- Questions ----
+
+            #[export_name = concat!("range_set_", $name, "_contains")]
+            unsafe extern "C" fn contains(set: Numbers, value: $number) -> bool {
+                proved_contains(unsafe { set.list() }, value)
+            }
+
+            #[export_name = concat!("range_set_", $name, "_contains_range")]
+            unsafe extern "C" fn contains_range(
+                set: Numbers,
+                start: $number,
+                end: $number,
+            ) -> bool {
+                proved_contains_range(unsafe { set.list() }, start, end)
+            }
+
+            #[export_name = concat!("range_set_", $name, "_is_empty")]
+            unsafe extern "C" fn is_empty(set: Numbers) -> bool {
+                proved_is_empty(unsafe { set.list() })
+            }
+
+            #[export_name = concat!("range_set_", $name, "_is_all")]
+            unsafe extern "C" fn is_all(set: Numbers) -> bool {
+                proved_is_all(unsafe { set.list() })
+            }
+
+            #[export_name = concat!("range_set_", $name, "_is_disjoint")]
+            unsafe extern "C" fn is_disjoint(a: Numbers, b: Numbers) -> bool {
+                unsafe { proved_is_disjoint(a.list(), b.list()) }
+            }
+
+            #[export_name = concat!("range_set_", $name, "_intersects")]
+            unsafe extern "C" fn intersects(a: Numbers, b: Numbers) -> bool {
+                unsafe { proved_intersects(a.list(), b.list()) }
+            }
+
+            #[export_name = concat!("range_set_", $name, "_is_subset")]
+            unsafe extern "C" fn is_subset(a: Numbers, b: Numbers) -> bool {
+                unsafe { proved_is_subset(a.list(), b.list()) }
+            }
+
+            #[export_name = concat!("range_set_", $name, "_equal")]
+            unsafe extern "C" fn equal(a: Numbers, b: Numbers) -> bool {
+                unsafe { proved_equal(a.list(), b.list()) }
+            }
+
+            #[export_name = concat!("range_set_", $name, "_ranges_len")]
+            unsafe extern "C" fn ranges_len(set: Numbers) -> usize {
+                proved_ranges_len(unsafe { set.list() })
+            }
+
+            #[export_name = concat!("range_set_", $name, "_range_at")]
+            unsafe extern "C" fn range_at(
+                set: Numbers,
+                value: $number,
+                range: *mut Range<$number>,
+            ) -> bool {
+                let list = unsafe { set.list() };
+                unsafe {
+                    told(range, |start, end, has_end| {
+                        proved_range_at(list, value, start, end, has_end)
+                    })
+                }
+            }
+
+            #[export_name = concat!("range_set_", $name, "_get")]
+            unsafe extern "C" fn get(
+                set: Numbers,
+                index: usize,
+                range: *mut Range<$number>,
+            ) -> bool {
+                let list = unsafe { set.list() };
+                unsafe {
+                    told(range, |start, end, has_end| {
+                        proved_range(list, index, start, end, has_end)
+                    })
+                }
+            }
+
+            #[export_name = concat!("range_set_", $name, "_first")]
+            unsafe extern "C" fn first(set: Numbers, range: *mut Range<$number>) -> bool {
+                let list = unsafe { set.list() };
+                unsafe {
+                    told(range, |start, end, has_end| {
+                        proved_first(list, start, end, has_end)
+                    })
+                }
+            }
+
+            #[export_name = concat!("range_set_", $name, "_last")]
+            unsafe extern "C" fn last(set: Numbers, range: *mut Range<$number>) -> bool {
+                let list = unsafe { set.list() };
+                unsafe {
+                    told(range, |start, end, has_end| {
+                        proved_last(list, start, end, has_end)
+                    })
+                }
+            }
+
+            #[export_name = concat!("range_set_", $name, "_covered")]
+            unsafe extern "C" fn covered(set: Numbers, count: *mut u64) -> bool {
+                let mut many = 0;
+                let has_end = proved_covered(unsafe { set.list() }, &mut many);
+                if has_end {
+                    unsafe { put(count, many) };
+                }
+                has_end
+            }
+
+            #[export_name = concat!("range_set_", $name, "_split")]
+            unsafe extern "C" fn split(
+                set: Numbers,
+                at: $number,
+                below: *mut Numbers,
+                from: *mut Numbers,
+            ) {
+                let list = unsafe { set.list() };
+                let (mut left_len, mut right_start) = (0, 0);
+                proved_split(list, at, &mut left_len, &mut right_start);
+                let left = Set::of(set.boundaries, left_len);
+                let right = if set.boundaries.is_null() {
+                    set
+                } else {
+                    Set::of(list[right_start..].as_ptr(), list.len() - right_start)
+                };
+                unsafe {
+                    put(below, left);
+                    put(from, right);
+                }
+            }
+
+            #[export_name = concat!("range_set_", $name, "_first_fit")]
+            unsafe extern "C" fn first_fit(
+                set: Numbers,
+                start: $number,
+                end: $number,
+                count: $count,
+                first: *mut $number,
+            ) -> bool {
+                let mut at = 0;
+                let fits = proved_first_fit(unsafe { set.list() }, start, end, count, &mut at);
+                if fits {
+                    unsafe { put(first, at) };
+                }
+                fits
+            }
+
+            // ---- Operations ----
+
+            // A connective that is on where neither side is, is told from the least number on.
+            unsafe fn combined(a: Numbers, b: Numbers, keep: c_uint, out: &mut [$number]) -> usize {
+                let (a, b) = unsafe { (a.list(), b.list()) };
+                if keep & NEITHER != 0 {
+                    return proved_combine_from(a, b, keep & ALL, out);
+                }
+                proved_combine(a, b, keep & (ALL - NEITHER), out)
+            }
+
+            #[export_name = concat!("range_set_", $name, "_combine")]
+            unsafe extern "C" fn combine(
+                a: Numbers,
+                b: Numbers,
+                keep: c_uint,
+                out: *mut $number,
+                room: usize,
+                result: *mut Numbers,
+            ) -> Status {
+                unsafe {
+                    operations::written(&[a, b], out, room, result, |out| combined(a, b, keep, out))
+                }
+            }
+
+            #[export_name = concat!("range_set_", $name, "_combine_len")]
+            unsafe extern "C" fn combine_len(a: Numbers, b: Numbers, keep: c_uint) -> usize {
+                unsafe { combined(a, b, keep, &mut []) }
+            }
+
+            #[export_name = concat!("range_set_", $name, "_negation")]
+            unsafe extern "C" fn negation(
+                set: Numbers,
+                out: *mut $number,
+                room: usize,
+                result: *mut Numbers,
+            ) -> Status {
+                unsafe {
+                    operations::written(&[set], out, room, result, |out| {
+                        proved_negation(set.list(), out)
+                    })
+                }
+            }
+
+            #[export_name = concat!("range_set_", $name, "_gaps")]
+            unsafe extern "C" fn gaps(
+                set: Numbers,
+                start: $number,
+                end: $number,
+                out: *mut $number,
+                room: usize,
+                result: *mut Numbers,
+            ) -> Status {
+                unsafe {
+                    operations::written(&[set], out, room, result, |out| {
+                        proved_gaps(set.list(), start, end, out)
+                    })
+                }
+            }
+
+            #[export_name = concat!("range_set_", $name, "_union_all")]
+            unsafe extern "C" fn union_all(
+                sets: *const Numbers,
+                count: usize,
+                out: *mut $number,
+                room: usize,
+                result: *mut Numbers,
+            ) -> Status {
+                let join = |items: &mut [$number]| {
+                    let pairs: *mut $range = items.as_mut_ptr().cast();
+                    2 * proved_from_ranges(unsafe { room_at(pairs, items.len() / 2) })
+                };
+                let below = |list: &[$number], at| {
+                    let (mut left_len, mut right_start) = (0, 0);
+                    proved_split(list, at, &mut left_len, &mut right_start);
+                    left_len
+                };
+                unsafe { operations::union_all(sets, count, out, room, result, join, below) }
+            }
+
+            // ---- Texts ----
+
+            #[export_name = concat!("range_set_", $name, "_print")]
+            unsafe extern "C" fn print(
+                set: Numbers,
+                text: *mut u8,
+                room: usize,
+                len: *mut usize,
+            ) -> Status {
+                unsafe { texts::printed(set, text, room, len, proved_print) }
+            }
+
+            #[export_name = concat!("range_set_", $name, "_parse")]
+            unsafe extern "C" fn parse(
+                text: *const u8,
+                text_len: usize,
+                out: *mut $number,
+                room: usize,
+                result: *mut Numbers,
+                fault: *mut usize,
+            ) -> Status {
+                let text = texts::Text {
+                    text,
+                    text_len,
+                    fault,
+                };
+                unsafe { text.read(out, room, result, proved_check_text, proved_parse) }
+            }
+
+            // ---- Sets in a buffer ----
+
+            #[export_name = concat!("range_set_", $name, "_buffer_view")]
+            unsafe extern "C" fn buffer_view(
+                items: *mut $number,
+                len: usize,
+                room: usize,
+                buffer: *mut Buffer<$number>,
+            ) -> Status {
+                if len > room
+                    || !is_array(items, room)
+                    || !is_result(buffer, Bytes::of(items, room))
+                {
+                    return Status::BadArgument;
+                }
+                if !proved_is_sorted(unsafe { items_at(items, len) }) {
+                    return Status::NotSorted;
+                }
+                unsafe { buffer.write(Buffer::of(items, room, len)) };
+                Status::Done
+            }
+
+            #[export_name = concat!("range_set_", $name, "_insert")]
+            unsafe extern "C" fn insert(
+                buffer: *mut Buffer<$number>,
+                start: $number,
+                end: $number,
+            ) -> Status {
+                unsafe { changed(buffer, |items, len| proved_insert(items, len, start, end)) }
+            }
+
+            #[export_name = concat!("range_set_", $name, "_remove")]
+            unsafe extern "C" fn remove(
+                buffer: *mut Buffer<$number>,
+                start: $number,
+                end: $number,
+            ) -> Status {
+                unsafe { changed(buffer, |items, len| proved_remove(items, len, start, end)) }
+            }
+
+            #[export_name = concat!("range_set_", $name, "_combine_with")]
+            unsafe extern "C" fn combine_with(
+                buffer: *mut Buffer<$number>,
+                other: Numbers,
+                keep: c_uint,
+            ) -> Status {
+                let is_apart = |buffer: &Buffer<$number>| {
+                    !Bytes::of(buffer, 1).overlap(other.bytes())
+                        && !buffer.bytes().overlap(other.bytes())
+                };
+                if keep & NEITHER != 0 || !unsafe { buffer.as_ref() }.map_or(false, is_apart) {
+                    return Status::BadArgument;
+                }
+                let keep = keep & (ALL - NEITHER);
+                unsafe {
+                    changed(buffer, |items, len| {
+                        proved_combine_within(items, len, other.list(), keep)
+                    })
+                }
+            }
+
+            // ---- Owned sets ----
+
+            #[export_name = concat!("range_set_", $name, "_owned_init")]
+            unsafe extern "C" fn owned_init(
+                owned: *mut Owned<$number>,
+                allocator: *const Allocator,
+            ) {
+                unsafe { owned.write(Owned::new(allocator.as_ref())) };
+            }
+
+            #[export_name = concat!("range_set_", $name, "_owned_free")]
+            unsafe extern "C" fn owned_free(owned: &mut Owned<$number>) {
+                unsafe { owned.clear() };
+            }
+
+            #[export_name = concat!("range_set_", $name, "_owned_reserve")]
+            unsafe extern "C" fn owned_reserve(owned: &mut Owned<$number>, room: usize) -> Status {
+                unsafe { owned.reserve(room) }
+            }
+
+            #[export_name = concat!("range_set_", $name, "_owned_assign")]
+            unsafe extern "C" fn owned_assign(owned: &mut Owned<$number>, set: Numbers) -> Status {
+                unsafe { owned.assign(set) }
+            }
+
+            #[export_name = concat!("range_set_", $name, "_owned_insert")]
+            unsafe extern "C" fn owned_insert(
+                owned: &mut Owned<$number>,
+                start: $number,
+                end: $number,
+            ) -> Status {
+                unsafe { owned.change(|buffer| insert(buffer, start, end)) }
+            }
+
+            #[export_name = concat!("range_set_", $name, "_owned_remove")]
+            unsafe extern "C" fn owned_remove(
+                owned: &mut Owned<$number>,
+                start: $number,
+                end: $number,
+            ) -> Status {
+                unsafe { owned.change(|buffer| remove(buffer, start, end)) }
+            }
+
+            #[export_name = concat!("range_set_", $name, "_owned_combine")]
+            unsafe extern "C" fn owned_combine(
+                owned: &mut Owned<$number>,
+                other: Numbers,
+                keep: c_uint,
+            ) -> Status {
+                let more = usize::from(keep & NEITHER != 0);
+                let room = owned.within.set.len + other.length() + more;
+                unsafe {
+                    owned.rewrite(room, |set, out, result| {
+                        combine(set, other, keep, out, room, result)
+                    })
+                }
+            }
+        }
+    };
+}
+
+pub(super) use calls;

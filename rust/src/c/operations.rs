@@ -1,0 +1,122 @@
+//! Operations, which write a set into a buffer of the caller's.
+
+use super::lists::{is_array, is_result, items_at, room_at, Bytes, Set};
+use super::Status;
+
+/// Whether the buffer overlaps neither the set's list nor the result, and the result not that list.
+fn is_apart<T>(set: &Set<T>, out: *const T, room: usize, result: *const Set<T>) -> bool {
+    is_array(out, room)
+        && is_result(result, Bytes::of(out, room))
+        && is_result(result, set.bytes())
+        && !Bytes::of(out, room).overlap(set.bytes())
+}
+
+/// The set that stands in the buffer where that has room for its `len` boundaries, and the length that it needs where not.
+///
+/// # Safety
+///
+/// The result is a place for a set.
+pub(super) unsafe fn answered<T>(
+    len: usize,
+    out: *const T,
+    room: usize,
+    result: *mut Set<T>,
+) -> Status {
+    let fits = len <= room;
+    let boundaries = if fits { out } else { core::ptr::null() };
+    unsafe { result.write(Set::of(boundaries, len)) };
+    if fits {
+        Status::Done
+    } else {
+        Status::NoRoom
+    }
+}
+
+/// What `write` makes of some sets, in a buffer apart from them. It answers the length, and has written the list where the buffer has room.
+///
+/// # Safety
+///
+/// The sets are the library's, and the buffer and the result are null or as long as they say.
+pub(super) unsafe fn written<T>(
+    sets: &[Set<T>],
+    out: *mut T,
+    room: usize,
+    result: *mut Set<T>,
+    write: impl FnOnce(&mut [T]) -> usize,
+) -> Status {
+    if !sets.iter().all(|set| is_apart(set, out, room, result)) {
+        return Status::BadArgument;
+    }
+    unsafe {
+        let len = write(room_at(out, room));
+        answered(len, out, room, result)
+    }
+}
+
+/// The set of the numbers in any of `count` sets. `join` makes a set of the ranges in a list, at its front, and answers its length; `below` is the length of the part of a list below a number.
+///
+/// The ranges with an end are copied and joined. Of those without, the one that starts first stays: what lies below it is
+/// kept, and where that has no member right below it its start.
+///
+/// # Safety
+///
+/// As for [`written`], and there are so many sets.
+pub(super) unsafe fn union_all<T: Copy + Ord>(
+    sets: *const Set<T>,
+    count: usize,
+    out: *mut T,
+    room: usize,
+    result: *mut Set<T>,
+    join: impl FnOnce(&mut [T]) -> usize,
+    below: impl FnOnce(&[T], T) -> usize,
+) -> Status {
+    let of_sets = Bytes::of(sets, count);
+    if !is_array(sets, count)
+        || !is_array(out, room)
+        || !is_result(result, Bytes::of(out, room))
+        || !is_result(result, of_sets)
+        || of_sets.overlap(Bytes::of(out, room))
+    {
+        return Status::BadArgument;
+    }
+    let sets = unsafe { items_at(sets, count) };
+    let needed = sets
+        .iter()
+        .fold(0usize, |len, set| len.saturating_add(set.length()));
+    let write = |items: &mut [T]| {
+        if needed > room {
+            return needed;
+        }
+        let (mut len, mut open) = (0, None);
+        for set in sets {
+            let (closed, last) = parts(unsafe { set.list() });
+            items[len..len + closed.len()].copy_from_slice(closed);
+            len += closed.len();
+            open = open.into_iter().chain(last).min();
+        }
+        let len = join(&mut items[..len]);
+        match open {
+            Some(open) => {
+                let len = below(&items[..len], open);
+                opened(items, len, open)
+            }
+            None => len,
+        }
+    };
+    unsafe { written(sets, out, room, result, write) }
+}
+
+/// The ranges with an end, and the start of the last range where it has none.
+fn parts<T: Copy>(list: &[T]) -> (&[T], Option<T>) {
+    let (closed, rest) = list.split_at(list.len() / 2 * 2);
+    (closed, rest.first().copied())
+}
+
+/// Adds all numbers from `open` on to the set of the first `len` boundaries, which all lie below, and answers its length.
+fn opened<T>(items: &mut [T], len: usize, open: T) -> usize {
+    if len % 2 == 1 {
+        return len;
+    }
+    items[len] = open;
+    len + 1
+}

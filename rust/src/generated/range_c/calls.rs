@@ -1,0 +1,72 @@
+// Written by tools/plain-rust from crates/range_c/src/calls.rt. It isn't edited.
+//! What the exports make of two sets, for numbers of any type.
+
+use crate::generated::range_collections::{
+    Comparisons, Connective, DiffOp, IntersectionOp, MergeOperation, RangeSetRef, UnionOp, XorOp,
+};
+
+/// In the left set alone; what a connective is on for is summed up.
+const LEFT: u32 = 1;
+/// In the right set alone.
+const RIGHT: u32 = 2;
+/// In both sets.
+const BOTH: u32 = 4;
+
+// Writes the operation's result to the front of `out`, where it has room, and answers how many boundaries that is.
+pub(crate) fn merge<T: Ord + Copy, O: MergeOperation>(
+    a: &[T],
+    b: &[T],
+    op: &O,
+    out: &mut [T],
+) -> usize {
+    let left = RangeSetRef::new_unchecked(a);
+    let right = RangeSetRef::new_unchecked(b);
+    match left.merge_into(right, op, out, &mut Comparisons::new()) {
+        Ok(len) => len,
+        Err(refused) => refused.needed,
+    }
+}
+
+// The same, by the connective that a number tells. The four operations have a merge of their own, which is faster.
+pub(crate) fn combine<T: Ord + Copy>(a: &[T], b: &[T], connective: u32, out: &mut [T]) -> usize {
+    if connective == LEFT + RIGHT + BOTH {
+        return merge(a, b, &UnionOp, out);
+    }
+    if connective == BOTH {
+        return merge(a, b, &IntersectionOp, out);
+    }
+    if connective == LEFT {
+        return merge(a, b, &DiffOp, out);
+    }
+    if connective == LEFT + RIGHT {
+        return merge(a, b, &XorOp, out);
+    }
+    merge(a, b, &told_by(connective), out)
+}
+
+// The connective that a number tells.
+pub(crate) fn told_by(connective: u32) -> Connective {
+    Connective {
+        neither: connective / 8 % 2 == 1,
+        left: connective % 2 == 1,
+        right: connective / 2 % 2 == 1,
+        both: connective / 4 % 2 == 1,
+    }
+}
+
+// The boundaries of the range from the first number to below the second.
+pub(crate) fn range_of<'a, T: Ord>(ends: &'a [T; 2]) -> &'a [T] {
+    let [start, end] = ends;
+    if start.cmp(end).is_lt() {
+        ends
+    } else {
+        &[]
+    }
+}
+
+// Writes how many boundaries the part below `at` has, and where the part from it on begins.
+pub(crate) fn split<T: Ord>(a: &[T], at: T, left_len: &mut usize, right_start: &mut usize) {
+    let (left, right) = RangeSetRef::new_unchecked(a).split(at);
+    *left_len = left.boundaries.len();
+    *right_start = a.len() - right.boundaries.len();
+}

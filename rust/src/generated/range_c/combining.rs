@@ -1,0 +1,24 @@
+// Written by tools/plain-rust from crates/range_c/src/combining.rt. It isn't edited.
+//! What a connective makes of a set in a buffer of the caller's and another set, in that buffer.
+//!
+//! The set moves to the end of the buffer, and the result is written at its front. So there has to be room for both.
+
+use crate::generated::range_c::calls::combine;
+
+// Leaves at the front of the buffer what the connective makes of the set of its first `len` boundaries and another, and answers how many boundaries that is. Where there is no room for that set and the result, the buffer is as it was, and it answers the room that both take.
+pub(crate) fn combine_within<T: Ord + Copy>(
+    buffer: &mut [T],
+    len: usize,
+    other: &[T],
+    connective: u32,
+) -> usize {
+    let (set, _room) = buffer.split_at(len);
+    let needed = len + combine(set, other, connective, &mut []);
+    if needed > buffer.len() {
+        return needed;
+    }
+    let start = buffer.len() - len;
+    buffer.copy_within(0..len, start);
+    let (out, set) = buffer.split_at_mut(start);
+    combine(set, other, connective, out)
+}

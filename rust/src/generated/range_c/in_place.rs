@@ -1,0 +1,83 @@
+// Written by tools/plain-rust from crates/range_c/src/in_place.rt. It isn't edited.
+//! One range put into a set or taken out of it, in a buffer of the caller's.
+//!
+//! The start and the end are searched for. What stands between gives way to those of the two at which the set changes, and what comes after moves once.
+
+use crate::generated::range_collections::{search, Comparisons};
+
+// Puts the numbers from `start` to below `end` into the set of the first `len` boundaries, and answers how many it has then. Where the buffer has no room for them it is as it was.
+pub(crate) fn insert<T: Ord + Copy>(buffer: &mut [T], len: usize, start: T, end: T) -> usize {
+    set_range(buffer, len, start, end, true)
+}
+
+// The same, with the numbers taken out.
+pub(crate) fn remove<T: Ord + Copy>(buffer: &mut [T], len: usize, start: T, end: T) -> usize {
+    set_range(buffer, len, start, end, false)
+}
+
+// Leaves at the front of the buffer the set of its first `len` boundaries, with the numbers from `start` to below `end` as members where `inside` is true, and else as no members. It answers how many boundaries that are. Where the buffer has no room for them it is as it was.
+fn set_range<T: Ord + Copy>(buffer: &mut [T], len: usize, start: T, end: T, inside: bool) -> usize {
+    if !start.cmp(&end).is_lt() {
+        return len;
+    }
+    let (set, _room) = buffer.split_at(len);
+    let (from, first) = cut_at(set, start, inside);
+    let (to, last) = cut_at(set, end, inside);
+    splice(buffer, len, from, to, first, last)
+}
+
+// Where the items are cut around an element, so that an odd number stands before exactly if `inside`, and the element where it has to be put there for that.
+#[inline(always)]
+pub(crate) fn cut_at<T: Ord + Copy>(items: &[T], at: T, inside: bool) -> (usize, Option<T>) {
+    match search(items, &at, &mut Comparisons::new()) {
+        Ok(i) if is_odd(i) == inside => (i, None),
+        Ok(i) => (i + 1, None),
+        Err(i) if is_odd(i) == inside => (i, None),
+        Err(i) => (i, Some(at)),
+    }
+}
+
+#[inline(always)]
+fn is_odd(n: usize) -> bool {
+    n % 2 == 1
+}
+
+// Replaces those of the first `len` items that stand between `from` and `to` by the start and the end, where they are given. It answers how many items that are. Where the buffer has no room for them it is as it was.
+fn splice<T: Copy>(
+    buffer: &mut [T],
+    len: usize,
+    from: usize,
+    to: usize,
+    start: Option<T>,
+    end: Option<T>,
+) -> usize {
+    let behind = from + count(&start) + count(&end);
+    let needed = behind + (len - to);
+    if needed > buffer.len() {
+        return needed;
+    }
+    buffer.copy_within(to..len, behind);
+    let next = overwrite(buffer, from, start);
+    overwrite(buffer, next, end);
+    needed
+}
+
+#[inline(always)]
+fn count<T>(item: &Option<T>) -> usize {
+    match item {
+        Some(_) => 1,
+        None => 0,
+    }
+}
+
+// Replaces the item at index `at` by this one, if there is one. Returns the index after it.
+#[inline(always)]
+pub(crate) fn overwrite<T: Copy>(items: &mut [T], at: usize, item: Option<T>) -> usize {
+    match item {
+        Some(item) => {
+            items[at] = item;
+            at + 1
+        }
+        None => at,
+    }
+}

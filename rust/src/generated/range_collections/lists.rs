@@ -1,0 +1,52 @@
+// Written by tools/plain-rust from crates/range_collections/src/lists.rt. It isn't edited.
+//! Lists of boundaries: whether one is strictly sorted, whether it begins at the least value, which places are odd, and how much room a new one keeps.
+
+use crate::generated::range_entry::RangeSetEntry;
+use crate::support::SmallVec;
+
+// So many pairs of neighbours are compared with no branch between them.
+const BLOCK: usize = 16;
+
+// Whether each item is below the next. It goes block by block, each of which begins with the last item of the one before, up to the first that is not sorted.
+pub(crate) fn is_ascending<T: Ord>(items: &[T]) -> bool {
+    let mut rest = items;
+    while rest.len() > BLOCK {
+        if !block_ascends(&rest[..BLOCK + 1]) {
+            return false;
+        }
+        rest = &rest[BLOCK..];
+    }
+    block_ascends(rest)
+}
+
+// The same for a few items. It looks at all of them, whatever the first ones say.
+#[inline(always)]
+fn block_ascends<T: Ord>(items: &[T]) -> bool {
+    let mut ascends = true;
+    for i in 0..items.len().saturating_sub(1) {
+        ascends = ascends & items[i].cmp(&items[i + 1]).is_lt();
+    }
+    ascends
+}
+
+// Whether the first item is the least value. A caller learns that the first item is a value.
+pub(crate) fn begins_at_least<T: RangeSetEntry>(items: &[T]) -> bool {
+    match items.first() {
+        Some(first) => first.is_min_value(),
+        None => false,
+    }
+}
+
+// Whether a number of boundaries is odd: an element with so many at or below it is a member.
+#[inline(always)]
+pub(crate) fn is_odd(n: usize) -> bool {
+    n % 2 == 1
+}
+
+// Gives back the room of a list that has some for more than twice its items, which come to lie inline where they fit. What the allocator doesn't take back stays.
+#[inline]
+pub(crate) fn give_back_room<T, const N: usize>(list: &mut SmallVec<T, N>) {
+    if list.capacity() > list.len().saturating_mul(2) {
+        list.shrink_to_fit();
+    }
+}

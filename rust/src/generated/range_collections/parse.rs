@@ -1,0 +1,278 @@
+// Written by tools/plain-rust from crates/range_collections/src/parse.rt. It isn't edited.
+//! Sets read from a text of ranges, and why a text is not read as one. Where it stops being one is found character by character: a table says what may follow what.
+
+use crate::generated::range_collections::range_set::RangeSet;
+use crate::generated::range_collections::range_set_range::RangeSetRange;
+use crate::generated::range_collections::whole_number::WholeNumber;
+use crate::generated::range_entry::EntryClone;
+use crate::support::{AllocError, CollectIn, Error, Global, Vec};
+use core::fmt;
+
+/// Why a text isn't read as a set.
+#[derive(Clone, Copy, Debug, PartialEq, Eq)]
+pub enum ParseError {
+    /// The text is one of ranges up to the byte `at`, where something else was expected.
+    Malformed { at: usize, expected: Expected },
+    /// A number doesn't fit the type.
+    OutOfRange,
+    /// Memory ran out.
+    OutOfMemory,
+}
+
+/// What was expected in a text.
+#[derive(Clone, Copy, Debug, PartialEq, Eq)]
+pub enum Expected {
+    /// A number, or a further digit of one. After the two dots a comma or the end may stand as well.
+    Number,
+    /// One of the two dots of a range.
+    Dot,
+    /// A comma, or the end of the text.
+    Comma,
+}
+
+impl fmt::Display for Expected {
+    fn fmt(&self, f: &mut fmt::Formatter<'_>) -> fmt::Result {
+        match self {
+            Expected::Number => f.write_str("a number"),
+            Expected::Dot => f.write_str("a dot"),
+            Expected::Comma => f.write_str("a comma or the end"),
+        }
+    }
+}
+
+impl fmt::Display for ParseError {
+    fn fmt(&self, f: &mut fmt::Formatter<'_>) -> fmt::Result {
+        match self {
+            ParseError::Malformed { at, expected } => {
+                write!(f, "{expected} was expected at byte {at}")
+            }
+            ParseError::OutOfRange => f.write_str("a number is past those of its type"),
+            ParseError::OutOfMemory => f.write_str("memory ran out"),
+        }
+    }
+}
+
+impl Error for ParseError {}
+
+impl From<AllocError> for ParseError {
+    fn from(_refused: AllocError) -> Self {
+        Self::OutOfMemory
+    }
+}
+
+impl<T: EntryClone + WholeNumber, const N: usize> RangeSet<T, N> {
+    /// Reads ranges like `0..10, 20..`: in any order, with commas between them and blanks around each. A text of blanks is the empty set.
+    ///
+    /// The whole text is read before memory is asked for, and one range that fits inline asks for none. An error gives the byte at which the text stops being one of ranges, and what was expected there; or it says that a number doesn't fit its type, or that memory ran out.
+    ///
+    /// # Contract
+    ///
+    /// ```text
+    /// ensures ok: IfOk result (λ set. is_ranges T.number text.now ≡ true)
+    /// ensures members: IfOk result (λ set. (x : T) → (member T.cmp set x ≡ true) ↔ Any (λ range.
+    ///     IsInRange T.cmp range x) (ranges_in T.number text.now))
+    /// ensures succeeds: length (parts_of text.now) ≤ 1 → 2 ≤ N → is_ranges T.number text.now ≡
+    ///     true → IsOk result
+    /// ensures malformed: IfErr result (λ error. error ≢ OutOfMemory → is_ranges T.number text.now
+    ///     ≡ false)
+    /// ensures fault: IfErr result (λ error. error ≢ OutOfMemory → IsFaultIn text.now error)
+    /// ensures out_of_memory: IfErr result (λ error. error ≡ OutOfMemory → is_ranges T.number
+    ///     text.now ≡ true)
+    /// ```
+    pub fn parse(alloc: Global, text: &str) -> Result<Self, ParseError> {
+        if !is_ranges::<T>(text) {
+            return Err(fault_in(text));
+        }
+        Ok(read(alloc, text)?)
+    }
+}
+
+impl<T: WholeNumber> RangeSetRange<T> {
+    /// Reads one range like `0..10` or `20..`, with blanks around it, or answers `None` where the text isn't that.
+    ///
+    /// # Contract
+    ///
+    /// ```text
+    /// ensures result ≡ range_in T.number text.now
+    /// ```
+    #[inline]
+    pub fn parse(text: &str) -> Option<Self> {
+        range_in(text)
+    }
+}
+
+/// Checks that `RangeSet::parse` reads the text, unless memory runs out, or says why it doesn't. It takes no memory.
+///
+/// # Contract
+///
+/// ```text
+/// ensures ok: IsOk result ↔ (is_ranges T.number text.now ≡ true)
+/// ensures fault: IfErr result (IsFaultIn text.now)
+/// ```
+pub fn check_ranges<T: WholeNumber>(text: &str) -> Result<(), ParseError> {
+    if is_ranges::<T>(text) {
+        Ok(())
+    } else {
+        Err(fault_in(text))
+    }
+}
+
+// The set of the ranges of a text. One range needs no list.
+fn read<T: EntryClone + WholeNumber, const N: usize>(
+    alloc: Global,
+    text: &str,
+) -> Result<RangeSet<T, N>, AllocError> {
+    if text.contains(',') {
+        let ranges = ranges_in(alloc, text)?;
+        return RangeSet::from_ranges(alloc, ranges.as_slice());
+    }
+    match range_in(text) {
+        Some(range) => RangeSet::from_range_set_range(alloc, range),
+        None => Ok(RangeSet::empty(alloc)),
+    }
+}
+
+// Whether the text is one of blanks, or of ranges with commas between them.
+fn is_ranges<T: WholeNumber>(text: &str) -> bool {
+    text.trim().is_empty() || text.split(',').all(|part| range_in::<T>(part).is_some())
+}
+
+// The ranges of a text, in order.
+fn ranges_in<T: WholeNumber>(
+    alloc: Global,
+    text: &str,
+) -> Result<Vec<RangeSetRange<T>>, AllocError> {
+    text.split(',')
+        .filter_map(|part| range_in::<T>(part))
+        .collect_in(alloc)
+}
+
+// The range that a part of a text writes, if it writes one.
+fn range_in<T: WholeNumber>(part: &str) -> Option<RangeSetRange<T>> {
+    let (start, after) = part.trim().split_once('.')?;
+    let start = T::read(start)?;
+    range_up_to(start, after.strip_prefix('.')?)
+}
+
+// The range from the start on, up to the end if one is written.
+fn range_up_to<T: WholeNumber>(start: T, end: &str) -> Option<RangeSetRange<T>> {
+    if end.is_empty() {
+        return Some(RangeSetRange::from(start..));
+    }
+    let end = T::read(end)?;
+    Some(RangeSetRange::from(start..end))
+}
+
+// What a character is in the text of a list of ranges.
+#[derive(Clone, Copy)]
+enum Kind {
+    Blank,
+    Comma,
+    Dot,
+    Sign,
+    Digit,
+    Other,
+}
+
+impl Kind {
+    // The kind of a character.
+    fn of(c: char) -> Kind {
+        if c == ',' {
+            Kind::Comma
+        } else if c == '.' {
+            Kind::Dot
+        } else if c == '+' || c == '-' {
+            Kind::Sign
+        } else if c.is_ascii_digit() {
+            Kind::Digit
+        } else if c.is_whitespace() {
+            Kind::Blank
+        } else {
+            Kind::Other
+        }
+    }
+}
+
+// How far the text of a list of ranges is read.
+#[derive(Clone, Copy)]
+enum Place {
+    // At the start of the text.
+    First,
+    // After a comma.
+    Start,
+    // After the sign of a start, and inside of one.
+    StartSign,
+    InStart,
+    // After one dot, and after both.
+    OneDot,
+    End,
+    // After the sign of an end, and inside of one.
+    EndSign,
+    InEnd,
+    // After a range and a blank.
+    After,
+}
+
+impl Place {
+    // What is expected there.
+    fn expected(self) -> Expected {
+        match self {
+            Place::First | Place::Start | Place::StartSign | Place::End | Place::EndSign => {
+                Expected::Number
+            }
+            Place::InStart | Place::OneDot => Expected::Dot,
+            Place::InEnd | Place::After => Expected::Comma,
+        }
+    }
+
+    // Whether the text may end there.
+    fn is_end(self) -> bool {
+        match self {
+            Place::First | Place::End | Place::InEnd | Place::After => true,
+            Place::Start | Place::StartSign | Place::InStart | Place::OneDot | Place::EndSign => {
+                false
+            }
+        }
+    }
+
+    // The place after a character of this kind, if it may stand there.
+    fn after(self, kind: Kind) -> Option<Place> {
+        match (self, kind) {
+            (Place::First, Kind::Blank) => Some(Place::First),
+            (Place::Start, Kind::Blank) => Some(Place::Start),
+            (Place::First | Place::Start, Kind::Sign) => Some(Place::StartSign),
+            (Place::First | Place::Start, Kind::Digit) => Some(Place::InStart),
+            (Place::StartSign | Place::InStart, Kind::Digit) => Some(Place::InStart),
+            (Place::InStart, Kind::Dot) => Some(Place::OneDot),
+            (Place::OneDot, Kind::Dot) => Some(Place::End),
+            (Place::End, Kind::Sign) => Some(Place::EndSign),
+            (Place::End | Place::EndSign | Place::InEnd, Kind::Digit) => Some(Place::InEnd),
+            (Place::End | Place::InEnd | Place::After, Kind::Blank) => Some(Place::After),
+            (Place::End | Place::InEnd | Place::After, Kind::Comma) => Some(Place::Start),
+            _ => None,
+        }
+    }
+}
+
+// Why a text that writes no ranges doesn't: the first byte that may not stand where it does, or else a number.
+fn fault_in(text: &str) -> ParseError {
+    let mut place = Place::First;
+    for (at, c) in text.char_indices() {
+        match place.after(Kind::of(c)) {
+            Some(next) => place = next,
+            None => {
+                let expected = place.expected();
+                return ParseError::Malformed { at, expected };
+            }
+        }
+    }
+    if place.is_end() {
+        ParseError::OutOfRange
+    } else {
+        let expected = place.expected();
+        ParseError::Malformed {
+            at: text.len(),
+            expected,
+        }
+    }
+}

@@ -1,0 +1,613 @@
+// Written by tools/plain-rust from crates/range_collections/src/range_set/by_view.rt. It isn't edited.
+//! What the set's view answers, in the order of the view's calls.
+
+use crate::generated::range_collections::comparisons::Comparisons;
+use crate::generated::range_collections::countable::{Countable, Unsigned};
+use crate::generated::range_collections::iter::{Gaps, Iter, RangesWithin};
+use crate::generated::range_collections::range_set::RangeSet;
+use crate::generated::range_collections::range_set_range::RangeSetRange;
+use crate::generated::range_collections::view::RangeSetRef;
+use crate::generated::range_entry::{EntryClone, RangeSetEntry};
+use crate::generated::range_merge::{MergeOperation, NoRoom};
+use crate::support::AllocError;
+use core::ops::Range;
+
+impl<T: Ord, const N: usize> RangeSet<T, N> {
+    /// Whether `value` is a member: an odd number of boundaries is at or below it.
+    ///
+    /// # Contract
+    ///
+    /// ```text
+    /// ensures result ≡ member T.cmp self.now value.now
+    /// ```
+    #[inline]
+    pub fn contains(&self, value: &T) -> bool {
+        self.as_ref().contains(value)
+    }
+
+    /// The same, counted: at most as many comparisons as the number of boundaries has binary digits.
+    ///
+    /// # Contract
+    ///
+    /// ```text
+    /// requires count.old < 2 ^ 64
+    /// ensures member: result ≡ member T.cmp self.now value.now
+    /// ensures comparisons: AddsAtMost count.old count.new (digits (length self.now))
+    /// ```
+    #[inline]
+    pub(crate) fn contains_counted(&self, value: &T, count: &mut Comparisons) -> bool {
+        self.as_ref().contains_counted(value, count)
+    }
+
+    /// Whether the set is empty.
+    ///
+    /// # Contract
+    ///
+    /// ```text
+    /// ensures IsTrue result ↔ ((x : T) → member T.cmp self.now x ≡ false)
+    /// ```
+    #[inline]
+    pub fn is_empty(&self) -> bool {
+        self.as_ref().is_empty()
+    }
+
+    /// Whether the operation's result has a member. It counts its comparisons, at most twice the weight of the two lists.
+    ///
+    /// # Contract
+    ///
+    /// ```text
+    /// requires off: O.connective op.now false false ≡ false
+    /// requires made: count.old < 2 ^ 64
+    /// ensures members: IsTrue result ↔ HasMember T.cmp (O.connective op.now) self.now
+    ///     that.entry.boundaries.now
+    /// ensures comparisons: AddsAtMost count.old count.new (2 * weight T.cmp self.now
+    ///     that.entry.boundaries.now)
+    /// ```
+    pub(crate) fn merge_test<O: MergeOperation>(
+        &self,
+        that: RangeSetRef<T>,
+        op: &O,
+        count: &mut Comparisons,
+    ) -> bool {
+        self.as_ref().merge_test(that, op, count)
+    }
+
+    /// How many boundaries the operation's result has, without making it. Both lengths together must fit a `usize`. It counts its comparisons, at most twice the weight of the two lists.
+    ///
+    /// # Contract
+    ///
+    /// ```text
+    /// requires off: O.connective op.now false false ≡ false
+    /// requires fits: length self.now + length that.boundaries.now < 2 ^ 64
+    /// requires made: count.old < 2 ^ 64
+    /// ensures value: result ≡ length (changes T.cmp (O.connective op.now) self.now
+    ///     that.entry.boundaries.now)
+    /// // It is the length of every list that the operation may give.
+    /// ensures means: (items : List T) → Means T.cmp (O.connective op.now) items self.now
+    ///     that.entry.boundaries.now → length items ≡ result
+    /// ensures comparisons: AddsAtMost count.old count.new (2 * weight T.cmp self.now
+    ///     that.entry.boundaries.now)
+    /// ```
+    pub(crate) fn merge_len<O: MergeOperation>(
+        &self,
+        that: RangeSetRef<T>,
+        op: &O,
+        count: &mut Comparisons,
+    ) -> usize {
+        self.as_ref().merge_len(that, op, count)
+    }
+
+    /// Whether some element is a member of both.
+    ///
+    /// # Contract
+    ///
+    /// ```text
+    /// ensures IsTrue result ↔ Intersects T.cmp self.now that.entry.boundaries.now
+    /// ```
+    pub fn intersects(&self, that: RangeSetRef<T>) -> bool {
+        self.as_ref().intersects(that)
+    }
+
+    /// Whether no element is a member of both.
+    ///
+    /// # Contract
+    ///
+    /// ```text
+    /// ensures IsTrue result ↔ IsDisjoint T.cmp self.now that.entry.boundaries.now
+    /// ```
+    pub fn is_disjoint(&self, that: RangeSetRef<T>) -> bool {
+        self.as_ref().is_disjoint(that)
+    }
+
+    /// Whether every member of this set is a member of `that`.
+    ///
+    /// # Contract
+    ///
+    /// ```text
+    /// ensures IsTrue result ↔ IsSubset T.cmp self.now that.entry.boundaries.now
+    /// ```
+    pub fn is_subset(&self, that: RangeSetRef<T>) -> bool {
+        self.as_ref().is_subset(that)
+    }
+
+    /// Whether every member of `that` is a member of this set.
+    ///
+    /// # Contract
+    ///
+    /// ```text
+    /// ensures IsTrue result ↔ IsSubset T.cmp that.entry.boundaries.now self.now
+    /// ```
+    pub fn is_superset(&self, that: RangeSetRef<T>) -> bool {
+        self.as_ref().is_superset(that)
+    }
+
+    /// The ranges of the members, from the lowest on.
+    ///
+    /// # Contract
+    ///
+    /// ```text
+    /// ensures result ≡ self.now
+    /// ```
+    #[inline]
+    pub fn iter(&self) -> Iter<'_, T> {
+        self.as_ref().iter()
+    }
+
+    /// The first range, or `None` if the set is empty.
+    ///
+    /// # Contract
+    ///
+    /// ```text
+    /// ensures MatchOption result (self.now ≡ []) (λ range. slice_get (ranges_of self.now) 0 ≡ Some
+    ///     (range_now range))
+    /// ```
+    #[inline]
+    pub fn first(&self) -> Option<RangeSetRange<&T>> {
+        self.as_ref().first()
+    }
+
+    /// The last range, or `None` if the set is empty.
+    ///
+    /// # Contract
+    ///
+    /// ```text
+    /// ensures MatchOption result (self.now ≡ []) (λ range. last_or None (ranges_of self.now) ≡
+    ///     Some (range_now range))
+    /// ```
+    #[inline]
+    pub fn last(&self) -> Option<RangeSetRange<&T>> {
+        self.as_ref().last()
+    }
+
+    /// The hull: from the start of the first range to the end of the last one, or without an end if that has none. `None` if the set is empty.
+    ///
+    /// # Contract
+    ///
+    /// ```text
+    /// ensures MatchOption result (self.now ≡ []) (λ range. IsSpan (ranges_of self.now) (range_now
+    ///     range))
+    /// ```
+    #[inline]
+    pub fn span(&self) -> Option<RangeSetRange<&T>> {
+        self.as_ref().span()
+    }
+
+    /// How many ranges there are.
+    ///
+    /// # Contract
+    ///
+    /// ```text
+    /// ensures result ≡ length (ranges_of self.now)
+    /// ```
+    #[inline]
+    pub fn ranges_len(&self) -> usize {
+        self.as_ref().ranges_len()
+    }
+
+    /// The range of the set that holds `value`, or `None` if it isn't a member.
+    ///
+    /// # Contract
+    ///
+    /// ```text
+    /// ensures member: IsSome result ↔ (member T.cmp self.now value.now ≡ true)
+    /// ensures of_set: IfSome result (λ range. Contains (ranges_of self.now) (range_now range))
+    /// ensures holds: IfSome result (λ range. IsInRange T.cmp (range_now range) value.now)
+    /// ensures members: IfSome result (λ range. (x : T) → IsInRange T.cmp (range_now range) x →
+    ///     member T.cmp self.now x ≡ true)
+    /// ```
+    #[inline]
+    pub fn range_at(&self, value: &T) -> Option<RangeSetRange<&T>> {
+        self.as_ref().range_at(value)
+    }
+
+    /// The same, counted: at most as many comparisons as the number of boundaries has binary digits.
+    ///
+    /// # Contract
+    ///
+    /// ```text
+    /// requires count.old < 2 ^ 64
+    /// ensures member: IsSome result ↔ (member T.cmp self.now value.now ≡ true)
+    /// ensures of_set: IfSome result (λ range. Contains (ranges_of self.now) (range_now range))
+    /// ensures holds: IfSome result (λ range. IsInRange T.cmp (range_now range) value.now)
+    /// ensures members: IfSome result (λ range. (x : T) → IsInRange T.cmp (range_now range) x →
+    ///     member T.cmp self.now x ≡ true)
+    /// ensures comparisons: AddsAtMost count.old count.new (digits (length self.now))
+    /// ```
+    #[inline]
+    pub(crate) fn range_at_counted(
+        &self,
+        value: &T,
+        count: &mut Comparisons,
+    ) -> Option<RangeSetRange<&T>> {
+        self.as_ref().range_at_counted(value, count)
+    }
+
+    /// The least member at or above `from`, or `None` if there is none. It is `from` itself if that is a member, or else the start of the next range. It takes no memory, and makes at most as many comparisons as the number of boundaries has binary digits (seen by reading).
+    ///
+    /// # Contract
+    ///
+    /// ```text
+    /// ensures next: IfSome result (λ next. IsNext T.cmp true self.now from.now next.now)
+    /// ensures none: IfNone result ((x : T) → is_le (T.cmp from.now x) ≡ true → member T.cmp
+    ///     self.now x ≡ false)
+    /// ```
+    #[inline]
+    pub fn next_member<'a>(&'a self, from: &'a T) -> Option<&'a T> {
+        self.as_ref().next_member(from)
+    }
+
+    /// The least element at or above `from` that isn't a member. It is `from` itself if that isn't one, or else the end of the range that holds it, or `None` if that range has no end. It takes no memory, and makes at most as many comparisons as the number of boundaries has binary digits (seen by reading).
+    ///
+    /// # Contract
+    ///
+    /// ```text
+    /// ensures next: IfSome result (λ next. IsNext T.cmp false self.now from.now next.now)
+    /// ensures none: IfNone result ((x : T) → is_le (T.cmp from.now x) ≡ true → member T.cmp
+    ///     self.now x ≡ true)
+    /// ```
+    #[inline]
+    pub fn next_gap<'a>(&'a self, from: &'a T) -> Option<&'a T> {
+        self.as_ref().next_gap(from)
+    }
+
+    /// Whether every element of the range is a member. It is `true` for an empty or reversed range.
+    ///
+    /// # Contract
+    ///
+    /// ```text
+    /// ensures IsTrue result ↔ HasAllWithin T.cmp self.now range.start range.end
+    /// ```
+    #[inline]
+    pub fn contains_range(&self, range: Range<T>) -> bool {
+        self.as_ref().contains_range(range)
+    }
+
+    /// The same, counted: at most `2 * d + 1` comparisons, where `d` is the number of binary digits of the number of boundaries.
+    ///
+    /// # Contract
+    ///
+    /// ```text
+    /// requires count.old < 2 ^ 64
+    /// ensures members: IsTrue result ↔ HasAllWithin T.cmp self.now range.start range.end
+    /// ensures comparisons: AddsAtMost count.old count.new (2 * digits (length self.now) + 1)
+    /// ```
+    #[inline]
+    pub(crate) fn contains_range_counted(&self, range: Range<T>, count: &mut Comparisons) -> bool {
+        self.as_ref().contains_range_counted(range, count)
+    }
+
+    /// Whether some member lies in the range. It is `false` for an empty or reversed range.
+    ///
+    /// # Contract
+    ///
+    /// ```text
+    /// ensures IsTrue result ↔ HasMemberWithin T.cmp self.now range.start range.end
+    /// ```
+    #[inline]
+    pub fn intersects_range(&self, range: Range<T>) -> bool {
+        self.as_ref().intersects_range(range)
+    }
+
+    /// The shortest list with the same members below `at`, and the shortest one with the same members from `at` on. Both are slices of this set's list.
+    ///
+    /// # Contract
+    ///
+    /// ```text
+    /// ensures left: result.0.boundaries.now ≡ split_left T.cmp self.now at
+    /// ensures right: result.1.boundaries.now ≡ split_right T.cmp self.now at
+    /// ensures least_below: IsLeastBelow T.cmp at result.0.boundaries.now self.now
+    /// ensures least_from: IsLeastFrom T.cmp at result.1.boundaries.now self.now
+    /// ```
+    #[inline]
+    pub fn split(&self, at: T) -> (RangeSetRef<'_, T>, RangeSetRef<'_, T>) {
+        self.as_ref().split(at)
+    }
+
+    /// The same, counted: at most as many comparisons as the number of boundaries has binary digits.
+    ///
+    /// # Contract
+    ///
+    /// ```text
+    /// requires count.old < 2 ^ 64
+    /// ensures left: result.0.boundaries.now ≡ split_left T.cmp self.now at
+    /// ensures right: result.1.boundaries.now ≡ split_right T.cmp self.now at
+    /// ensures least_below: IsLeastBelow T.cmp at result.0.boundaries.now self.now
+    /// ensures least_from: IsLeastFrom T.cmp at result.1.boundaries.now self.now
+    /// ensures comparisons: AddsAtMost count.old count.new (digits (length self.now))
+    /// ```
+    #[inline]
+    pub(crate) fn split_counted(
+        &self,
+        at: T,
+        count: &mut Comparisons,
+    ) -> (RangeSetRef<'_, T>, RangeSetRef<'_, T>) {
+        self.as_ref().split_counted(at, count)
+    }
+
+    /// The parts of `within` that aren't in the set, from the lowest on. None is empty, and each ends below the start of the next. An empty or reversed range has none. Where a boundary equals an end of `within`, the end of `within` is given.
+    ///
+    /// # Contract
+    ///
+    /// ```text
+    /// ensures gives: GivesParts T.cmp difference_table within.entry self.now result
+    /// ensures members: (x : T) → member T.cmp result x ≡ ((is_le (T.cmp within.entry.start.now x)
+    ///     && is_lt (T.cmp x within.entry.end.now)) && not (member T.cmp self.now x))
+    /// ```
+    #[inline]
+    pub fn gaps<'a>(&'a self, within: Range<&'a T>) -> Gaps<'a, T> {
+        self.as_ref().gaps(within)
+    }
+
+    /// The same, counted: at most `2 * d + 1` comparisons, where `d` is the number of binary digits of the number of boundaries. The iterator's steps make none.
+    ///
+    /// # Contract
+    ///
+    /// ```text
+    /// requires count.old < 2 ^ 64
+    /// ensures gives: GivesParts T.cmp difference_table within.entry self.now result
+    /// ensures members: (x : T) → member T.cmp result x ≡ ((is_le (T.cmp within.entry.start.now x)
+    ///     && is_lt (T.cmp x within.entry.end.now)) && not (member T.cmp self.now x))
+    /// ensures comparisons: AddsAtMost count.old count.new (2 * digits (length self.now) + 1)
+    /// ```
+    #[inline]
+    pub(crate) fn gaps_counted<'a>(
+        &'a self,
+        within: Range<&'a T>,
+        count: &mut Comparisons,
+    ) -> Gaps<'a, T> {
+        self.as_ref().gaps_counted(within, count)
+    }
+
+    /// The parts of `within` that are in the set, from the lowest on. None is empty, and each ends below the start of the next. An empty or reversed range has none. Where a boundary equals an end of `within`, the end of `within` is given.
+    ///
+    /// # Contract
+    ///
+    /// ```text
+    /// ensures gives: GivesParts T.cmp intersection_table within.entry self.now result
+    /// ensures members: (x : T) → member T.cmp result x ≡ ((is_le (T.cmp within.entry.start.now x)
+    ///     && is_lt (T.cmp x within.entry.end.now)) && member T.cmp self.now x)
+    /// ```
+    #[inline]
+    pub fn ranges_within<'a>(&'a self, within: Range<&'a T>) -> RangesWithin<'a, T> {
+        self.as_ref().ranges_within(within)
+    }
+
+    /// The same, counted: at most `2 * d + 1` comparisons, where `d` is the number of binary digits of the number of boundaries. The iterator's steps make none.
+    ///
+    /// # Contract
+    ///
+    /// ```text
+    /// requires count.old < 2 ^ 64
+    /// ensures gives: GivesParts T.cmp intersection_table within.entry self.now result
+    /// ensures members: (x : T) → member T.cmp result x ≡ ((is_le (T.cmp within.entry.start.now x)
+    ///     && is_lt (T.cmp x within.entry.end.now)) && member T.cmp self.now x)
+    /// ensures comparisons: AddsAtMost count.old count.new (2 * digits (length self.now) + 1)
+    /// ```
+    #[inline]
+    pub(crate) fn ranges_within_counted<'a>(
+        &'a self,
+        within: Range<&'a T>,
+        count: &mut Comparisons,
+    ) -> RangesWithin<'a, T> {
+        self.as_ref().ranges_within_counted(within, count)
+    }
+
+    /// Writes the boundaries of the operation's result to the start of `out`, and returns how many there are. Both lengths together must fit a `usize`.
+    ///
+    /// Of two equal boundaries this set's is written, and the rest of `out` stays as it was. It is an error exactly if `out` is too short: the error says how long it must be, and nothing is said of what `out` then holds. It takes no memory, and counts its comparisons, at most twice the weight of the two lists.
+    ///
+    /// # Contract
+    ///
+    /// ```text
+    /// requires off: O.connective op.now false false ≡ false
+    /// requires fits: length self.now + length that.boundaries.now < 2 ^ 64
+    /// requires made: count.old < 2 ^ 64
+    /// ensures writes: WritesOperation T.cmp (O.connective op.now) self.now
+    ///     that.entry.boundaries.now out.old out.new result
+    /// ensures comparisons: AddsAtMost count.old count.new (2 * weight T.cmp self.now
+    ///     that.entry.boundaries.now)
+    /// ```
+    pub(crate) fn merge_into<O: MergeOperation>(
+        &self,
+        that: RangeSetRef<T>,
+        op: &O,
+        out: &mut [T],
+        count: &mut Comparisons,
+    ) -> Result<usize, NoRoom>
+    where
+        T: Copy,
+    {
+        self.as_ref().merge_into(that, op, out, count)
+    }
+}
+
+impl<T: RangeSetEntry, const N: usize> RangeSet<T, N> {
+    /// Whether every value is a member.
+    ///
+    /// # Contract
+    ///
+    /// ```text
+    /// ensures IsTrue result ↔ IsEverything T.cmp T.is_value self.now
+    /// ```
+    pub fn is_all(&self) -> bool {
+        self.as_ref().is_all()
+    }
+}
+
+impl<T: Countable, const N: usize> RangeSet<T, N> {
+    /// The cardinality: how many values are members, or `None` if the set has no end. A set with an end has fewer members than there are values.
+    ///
+    /// It looks at each boundary once and takes no memory.
+    ///
+    /// # Contract
+    ///
+    /// ```text
+    /// ensures fits: IfSome result (λ n. n < T.count)
+    /// ensures value: result ≡ covered_of T.cmp T.value T.count self.now
+    /// ```
+    pub fn covered(&self) -> Option<u128> {
+        self.as_ref().covered()
+    }
+}
+
+impl<T: Unsigned, const N: usize> RangeSet<T, N> {
+    /// The least number from which `len` numbers lie in the range, none of them a member, or `None` if there is no such number. If `len` is 0, it is the start of the range, unless that is reversed.
+    ///
+    /// It looks at each gap from the start up to the answer, and takes no memory.
+    ///
+    /// # Contract
+    ///
+    /// ```text
+    /// ensures fits: IfSome result (Fits T.cmp T.place self.now within.start within.end len)
+    /// ensures free: IfSome result (λ at. (x : T) → T.place at ≤ T.place x → T.place x < T.place at
+    ///     + T.place len → member T.cmp self.now x ≡ false)
+    /// ensures least: IfSome result (λ x. (y : T) → Fits T.cmp T.place self.now within.start
+    ///     within.end len y → T.place x ≤ T.place y)
+    /// ensures none: IfNone result ((x : T) → ¬ (Fits T.cmp T.place self.now within.start
+    ///     within.end len x))
+    /// ```
+    pub fn first_fit(&self, within: Range<T>, len: T) -> Option<T> {
+        self.as_ref().first_fit(within, len)
+    }
+}
+
+impl<T: EntryClone, const N: usize> RangeSet<T, N> {
+    /// The operation's result, counting the comparisons.
+    ///
+    /// # Contract
+    ///
+    /// ```text
+    /// requires off: O.connective op.now false false ≡ false
+    /// requires made: count.old < 2 ^ 64
+    /// ensures gives: GivesOperation T.cmp T.is_copy T.is_infallible (O.connective op.now) M
+    ///     self.now that.entry.boundaries.now result
+    /// ensures comparisons: AddsAtMost count.old count.new (2 * weight T.cmp self.now
+    ///     that.entry.boundaries.now)
+    /// ```
+    pub(crate) fn merge_new<O: MergeOperation, const M: usize>(
+        &self,
+        that: RangeSetRef<T>,
+        op: &O,
+        count: &mut Comparisons,
+    ) -> Result<RangeSet<T, M>, AllocError> {
+        self.as_ref().merge_new(self.allocator(), that, op, count)
+    }
+
+    /// The union: the elements that are members of either set.
+    ///
+    /// # Contract
+    ///
+    /// ```text
+    /// ensures gives: GivesOperation T.cmp T.is_copy T.is_infallible union_table M self.now
+    ///     that.entry.boundaries.now result
+    /// ```
+    pub fn union<const M: usize>(
+        &self,
+        that: RangeSetRef<T>,
+    ) -> Result<RangeSet<T, M>, AllocError> {
+        self.as_ref().union(self.allocator(), that)
+    }
+
+    /// The intersection: the elements that are members of both sets.
+    ///
+    /// # Contract
+    ///
+    /// ```text
+    /// ensures gives: GivesOperation T.cmp T.is_copy T.is_infallible intersection_table M self.now
+    ///     that.entry.boundaries.now result
+    /// ```
+    pub fn intersection<const M: usize>(
+        &self,
+        that: RangeSetRef<T>,
+    ) -> Result<RangeSet<T, M>, AllocError> {
+        self.as_ref().intersection(self.allocator(), that)
+    }
+
+    /// The difference: the members of this set that aren't members of `that`.
+    ///
+    /// # Contract
+    ///
+    /// ```text
+    /// ensures gives: GivesOperation T.cmp T.is_copy T.is_infallible difference_table M self.now
+    ///     that.entry.boundaries.now result
+    /// ```
+    pub fn difference<const M: usize>(
+        &self,
+        that: RangeSetRef<T>,
+    ) -> Result<RangeSet<T, M>, AllocError> {
+        self.as_ref().difference(self.allocator(), that)
+    }
+
+    /// The symmetric difference: the elements that are members of exactly one of the sets.
+    ///
+    /// # Contract
+    ///
+    /// ```text
+    /// ensures gives: GivesOperation T.cmp T.is_copy T.is_infallible symmetric_difference_table M
+    ///     self.now that.entry.boundaries.now result
+    /// ```
+    pub fn symmetric_difference<const M: usize>(
+        &self,
+        that: RangeSetRef<T>,
+    ) -> Result<RangeSet<T, M>, AllocError> {
+        self.as_ref().symmetric_difference(self.allocator(), that)
+    }
+}
+
+impl<T: RangeSetEntry + EntryClone, const N: usize> RangeSet<T, N> {
+    /// The result of any boolean operation (a connective), counting the comparisons. If the connective is on while both sides are off, the result is that among values.
+    ///
+    /// It copies the boundaries at which the connective changes, of two equal ones this set's. If the connective is on while both sides are off, it then removes a first boundary that is the least value, or else puts the least value before the others. It makes at most twice the weight of the two lists in comparisons, even if it fails.
+    ///
+    /// # Contract
+    ///
+    /// ```text
+    /// requires made: count.old < 2 ^ 64
+    /// ensures means: IfOk result (λ set. MeansAmong T.cmp T.is_value (O.connective op.now) set
+    ///     self.now that.entry.boundaries.now)
+    /// ensures left_own_item: O.connective op.now false false ≡ false → IfOk result (λ set.
+    ///     AreCopies T.is_copy (changes T.cmp (O.connective op.now) self.now
+    ///     that.entry.boundaries.now) set)
+    /// // On while both sides are off: the copies, with the least value removed from the start or
+    /// // put there.
+    /// ensures flipped: O.connective op.now false false ≡ true → IfOk result (λ set. AreFlipped
+    ///     T.cmp T.least (AreCopies T.is_copy (changes T.cmp (O.connective op.now) self.now
+    ///     that.entry.boundaries.now)) set)
+    /// ensures succeeds: O.connective op.now false false ≡ false → length self.now + length
+    ///     that.entry.boundaries.now ≤ M → All T.is_infallible self.now → All T.is_infallible
+    ///     that.entry.boundaries.now → IsOk result
+    /// ensures succeeds_flipped: O.connective op.now false false ≡ true → length self.now + length
+    ///     that.entry.boundaries.now < M → All T.is_infallible self.now → All T.is_infallible
+    ///     that.entry.boundaries.now → T.is_min_infallible → IsOk result
+    /// ensures comparisons: AddsAtMost count.old count.new (2 * weight T.cmp self.now
+    ///     that.entry.boundaries.now)
+    /// ```
+    pub(crate) fn combine<O: MergeOperation, const M: usize>(
+        &self,
+        that: RangeSetRef<T>,
+        op: &O,
+        count: &mut Comparisons,
+    ) -> Result<RangeSet<T, M>, AllocError> {
+        self.as_ref().combine(self.allocator(), that, op, count)
+    }
+}
