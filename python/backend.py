@@ -1,7 +1,9 @@
-"""Builds the wheel of range_sets. It needs a C compiler and Python's headers, and nothing from the network.
+"""Builds the wheel of range_sets. It needs a C compiler and Python's headers.
 
-The compiler is CC, or else cc. The library and its header are those of dist/, beside this folder in the repository, or inside it
-in a source distribution.
+The compiler is CC, or else cc. On x86-64 Linux the library is that of dist/, and nothing comes from the network. Elsewhere
+cargo builds it of the crate in rust/, which is written from the same proved source: CARGO is the command with its options. Both
+folders lie beside this one in the repository, or inside it in a source distribution. The config setting `library` chooses
+between `proved` and `rust` on any platform, and so does RANGE_SETS_LIBRARY.
 """
 
 import base64
@@ -25,7 +27,10 @@ NAME = PROJECT["name"].replace("-", "_")
 STEM = f"{NAME}-{PROJECT['version']}"
 SOURCES = [it for it in sorted((HERE / "src" / NAME).iterdir()) if it.is_file()]
 DIST = next((it for it in (HERE / "dist", HERE.parent / "dist") if it.is_dir()), HERE.parent / "dist")
+RUST = next((it for it in (HERE / "rust", HERE.parent / "rust") if it.is_dir()), HERE.parent / "rust")
 LICENSES = ["LICENSE-MIT", "LICENSE-APACHE"]
+# The platform of the proved library.
+PROVED_FOR = "linux-x86_64"
 
 
 def prepare_metadata_for_build_wheel(metadata_directory, config_settings=None):
@@ -41,7 +46,8 @@ def build_wheel(wheel_directory, config_settings=None, metadata_directory=None):
     """Writes the wheel, with the compiled module, and answers its name."""
     suffix = sysconfig.get_config_var("EXT_SUFFIX")
     files = {f"{NAME}/{it.name}": it.read_bytes() for it in SOURCES if it.suffix != ".c"}
-    files[f"{NAME}/_core{suffix}"] = compiled(library(), suffix)
+    with tempfile.TemporaryDirectory() as work:
+        files[f"{NAME}/_core{suffix}"] = compiled(library(config_settings, Path(work)), suffix)
     files |= metadata()
     record = f"{STEM}.dist-info/RECORD"
     rows = [f"{name},sha256={digest(data)},{len(data)}\n" for name, data in files.items()]
@@ -60,6 +66,7 @@ def build_sdist(sdist_directory, config_settings=None):
     files = {it: HERE / it for it in ("pyproject.toml", "backend.py", "README.md")}
     files |= {f"src/{NAME}/{it.name}": it for it in SOURCES}
     files |= {f"dist/{it}": DIST / it for it in ("librange_set.a", "range_set.h")}
+    files |= {f"rust/{it.relative_to(RUST).as_posix()}": it for it in crate()}
     files |= {it: found for it in LICENSES if (found := beside(it))}
     archive = f"{STEM}.tar.gz"
     with tarfile.open(Path(sdist_directory, archive), "w:gz", format=tarfile.PAX_FORMAT) as tar:
@@ -105,15 +112,40 @@ def metadata():
     return {f"{STEM}.dist-info/{name}": data for name, data in files.items()}
 
 
-def library():
-    """The static library for this platform. A build by cargo from rust/ belongs here, once that crate has the calls for C."""
+def crate():
+    """The files of the crate that cargo needs to build it."""
+    return [RUST / "Cargo.toml", RUST / "README.md", *(it for name in ("src", "examples") for it in sorted((RUST / name).rglob("*.rs")))]
+
+
+def library(settings, work):
+    """The static library: the proved one, or one that cargo builds in the folder `work`."""
     platform = sysconfig.get_platform()
-    if platform != "linux-x86_64":
-        sys.exit(f"range_sets: there is no library for {platform} yet: dist/ has that of x86-64 Linux alone")
+    kind = (settings or {}).get("library") or os.environ.get("RANGE_SETS_LIBRARY")
+    if kind not in (None, "proved", "rust"):
+        sys.exit(f"range_sets: the library is proved or rust, and not {kind}")
+    if kind == "rust" or (kind is None and platform != PROVED_FOR):
+        return built(work)
+    if platform != PROVED_FOR:
+        sys.exit(f"range_sets: there is no proved library for {platform}: dist/ has that of x86-64 Linux alone")
     archive = DIST / "librange_set.a"
     if not archive.is_file():
         sys.exit(f"range_sets: the library {archive} is missing: build from a whole clone, or from the source distribution")
     return archive
+
+
+def built(work):
+    """The static library that cargo builds of a copy of the crate."""
+    cargo = shlex.split(os.environ.get("CARGO", "cargo"))
+    if not shutil.which(cargo[0]):
+        sys.exit(f"range_sets: {cargo[0]} is missing, which builds the library here: install Rust 1.63 or later, or name another in CARGO")
+    for it in crate():
+        copy = work / "rust" / it.relative_to(RUST)
+        copy.parent.mkdir(parents=True, exist_ok=True)
+        shutil.copyfile(it, copy)
+    words = [*cargo, "rustc", "--quiet", "--release", "--features", "c", "--lib", "--crate-type", "staticlib"]
+    if subprocess.run(words, cwd=work / "rust", env={**os.environ, "CARGO_TARGET_DIR": str(work / "built")}).returncode:
+        sys.exit("range_sets: cargo refused the crate in rust/; what it said stands above")
+    return work / "built" / "release" / "librange_sets.a"
 
 
 def compiled(archive, suffix):
@@ -125,7 +157,8 @@ def compiled(archive, suffix):
         sys.exit(f"range_sets: Python's header {include}/Python.h is missing: on Debian the package python3-dev brings it")
     with tempfile.TemporaryDirectory() as work:
         module = Path(work, f"_core{suffix}")
-        flags = ["-std=c99", "-O2", "-DNDEBUG", "-fPIC", "-shared", "-fvisibility=hidden", "-Wl,--exclude-libs,ALL"]
+        shared = ["-bundle", "-undefined", "dynamic_lookup"] if sys.platform == "darwin" else ["-shared", "-Wl,--exclude-libs,ALL"]
+        flags = ["-std=c99", "-O2", "-DNDEBUG", "-fPIC", "-fvisibility=hidden", *shared]
         words = [*compiler, *flags, f"-I{include}", f"-I{DIST}", HERE / "src" / NAME / "_core.c", archive, "-o", module]
         if subprocess.run(words).returncode:
             sys.exit("range_sets: the C compiler refused _core.c; what it said stands above")

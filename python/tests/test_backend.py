@@ -11,12 +11,20 @@ import zipfile
 from unittest import mock
 
 TREE = pathlib.Path(__file__).resolve().parent.parent
+NOWHERE = pathlib.Path("/no/such/folder")
 SPEC = importlib.util.spec_from_file_location("backend", TREE / "backend.py")
 backend = importlib.util.module_from_spec(SPEC)
 SPEC.loader.exec_module(backend)
 
 
 class Missing(unittest.TestCase):
+    def setUp(self):
+        # Nothing is chosen by who runs the tests.
+        environment = mock.patch.dict(os.environ)
+        environment.start()
+        self.addCleanup(environment.stop)
+        os.environ.pop("RANGE_SETS_LIBRARY", None)
+
     def refused(self, call, text):
         with self.assertRaises(SystemExit) as raised:
             call()
@@ -32,16 +40,39 @@ class Missing(unittest.TestCase):
             self.refused(lambda: backend.compiled(backend.DIST / "librange_set.a", ".so"),
                          "range_sets: Python's header /no/such/folder/Python.h is missing: on Debian the package python3-dev brings it")
 
-    def test_a_library_for_another_machine(self):
+    def test_cargo_on_another_machine(self):
+        text = ("range_sets: no-such-cargo is missing, which builds the library here: install Rust 1.63 or later, "
+                "or name another in CARGO")
         for platform in ("linux-aarch64", "macosx-14.0-arm64", "win-amd64"):
-            with mock.patch.object(sysconfig, "get_platform", lambda: platform):
-                self.refused(backend.library, f"range_sets: there is no library for {platform} yet: dist/ has that of x86-64 Linux alone")
+            with mock.patch.object(sysconfig, "get_platform", lambda: platform), mock.patch.dict(os.environ, CARGO="no-such-cargo --offline"):
+                self.refused(lambda: backend.library(None, NOWHERE), text)
+
+    def test_cargo_where_it_is_chosen(self):
+        with mock.patch.object(backend, "built", lambda work: work / "built"):
+            with mock.patch.object(sysconfig, "get_platform", lambda: "linux-x86_64"):
+                self.assertEqual(backend.library({"library": "rust"}, NOWHERE), NOWHERE / "built")
+                self.assertEqual(backend.library(None, NOWHERE), backend.DIST / "librange_set.a")
+                with mock.patch.dict(os.environ, RANGE_SETS_LIBRARY="rust"):
+                    self.assertEqual(backend.library({}, NOWHERE), NOWHERE / "built")
+                    self.assertEqual(backend.library({"library": "proved"}, NOWHERE), backend.DIST / "librange_set.a")
+
+    def test_a_crate_that_cargo_refuses(self):
+        with tempfile.TemporaryDirectory() as work, mock.patch.dict(os.environ, CARGO="false"):
+            self.refused(lambda: backend.library({"library": "rust"}, pathlib.Path(work)),
+                         "range_sets: cargo refused the crate in rust/; what it said stands above")
+
+    def test_a_choice(self):
+        self.refused(lambda: backend.library({"library": "other"}, NOWHERE), "range_sets: the library is proved or rust, and not other")
+        with mock.patch.object(sysconfig, "get_platform", lambda: "linux-aarch64"):
+            self.refused(lambda: backend.library({"library": "proved"}, NOWHERE),
+                         "range_sets: there is no proved library for linux-aarch64: dist/ has that of x86-64 Linux alone")
 
     def test_the_library(self):
-        elsewhere = mock.patch.object(backend, "DIST", pathlib.Path("/no/such/folder"))
+        elsewhere = mock.patch.object(backend, "DIST", NOWHERE)
         with elsewhere, mock.patch.object(sysconfig, "get_platform", lambda: "linux-x86_64"):
-            self.refused(backend.library, "range_sets: the library /no/such/folder/librange_set.a is missing: build from a whole clone, "
-                                          "or from the source distribution")
+            self.refused(lambda: backend.library(None, NOWHERE),
+                         "range_sets: the library /no/such/folder/librange_set.a is missing: build from a whole clone, "
+                         "or from the source distribution")
 
 
 class Written(unittest.TestCase):
@@ -53,21 +84,22 @@ class Written(unittest.TestCase):
     def test_a_wheel(self):
         with mock.patch.object(backend, "compiled", lambda archive, suffix: b"compiled"):
             name = backend.build_wheel(self.folder)
-        self.assertEqual(name, f"range_sets-0.1.0-{backend.tag()}.whl")
+        self.assertEqual(name, f"range_sets-0.2.0-{backend.tag()}.whl")
         with zipfile.ZipFile(self.folder / name) as wheel:
             self.assertIsNone(wheel.testzip())
-            record = wheel.read("range_sets-0.1.0.dist-info/RECORD").decode().splitlines()
+            record = wheel.read("range_sets-0.2.0.dist-info/RECORD").decode().splitlines()
             self.assertEqual([row.split(",")[0] for row in record], wheel.namelist())
             self.assertEqual(wheel.read(f"range_sets/_core{sysconfig.get_config_var('EXT_SUFFIX')}"), b"compiled")
-            self.assertTrue({f"range_sets-0.1.0.dist-info/licenses/LICENSE-{it}" for it in ("MIT", "APACHE")} <= set(wheel.namelist()))
+            self.assertTrue({f"range_sets-0.2.0.dist-info/licenses/LICENSE-{it}" for it in ("MIT", "APACHE")} <= set(wheel.namelist()))
 
     def test_a_source_distribution(self):
         name = backend.build_sdist(self.folder)
         with tarfile.open(self.folder / name) as archive:
             names = set(archive.getnames())
-        sources = ("src/range_sets/_core.c", "src/range_sets/py.typed", "dist/librange_set.a", "dist/range_set.h")
+        sources = ("src/range_sets/_core.c", "src/range_sets/py.typed", "dist/librange_set.a", "dist/range_set.h",
+                   "rust/Cargo.toml", "rust/src/lib.rs", "rust/src/c/calls.rs", "rust/src/generated/range_c/mod.rs")
         for it in ("pyproject.toml", "backend.py", "README.md", "PKG-INFO", "LICENSE-MIT", *sources):
-            self.assertIn(f"range_sets-0.1.0/{it}", names)
+            self.assertIn(f"range_sets-0.2.0/{it}", names)
 
 
 if __name__ == "__main__":

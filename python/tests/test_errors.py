@@ -1,6 +1,8 @@
 """Each error's type and text, word for word."""
 
 import pickle
+import subprocess
+import sys
 import unittest
 from array import array
 
@@ -142,6 +144,36 @@ class Texts(unittest.TestCase):
             (lambda: RangeSet.parse("-1..0", unsigned=True), OverflowError, f"{at} 0 is out of range: {UNSIGNED}"),
             (lambda: RangeSet.parse("0..1, 1" + 5000 * "0" + ".."), OverflowError, f"{at} 6 is out of range: it has 5001 digits"),
         ))
+
+
+# A million ranges, then calls for which the process has no memory, then the set once more.
+IN_LITTLE_MEMORY = """
+import resource
+from pathlib import Path
+from range_sets import MutableRangeSet, RangeSet
+
+least, most = 0, 2_000_000
+s = MutableRangeSet.from_boundaries(range(least, most))
+more = RangeSet([(-2, -1)])
+pages = int(Path("/proc/self/statm").read_text().split()[0])
+limits = resource.getrlimit(resource.RLIMIT_AS)
+resource.setrlimit(resource.RLIMIT_AS, (pages * resource.getpagesize() + 4_000_000, limits[1]))
+refused = 0
+for call in (lambda: s | more, lambda: ~s, lambda: s.gaps(least, most), lambda: s.add(-2, -1), lambda: s.__ior__(more)):
+    try:
+        call()
+    except MemoryError:
+        refused += 1
+resource.setrlimit(resource.RLIMIT_AS, limits)
+print(refused, s == MutableRangeSet.from_boundaries(range(least, most)), len(s | more))
+"""
+
+
+class Memory(unittest.TestCase):
+    def test_refused_memory_changes_nothing(self):
+        """In a process of its own, since it takes memory away."""
+        said = subprocess.run([sys.executable, "-c", IN_LITTLE_MEMORY], capture_output=True, text=True, check=True).stdout
+        self.assertEqual(said, "5 True 1000001\n")
 
 
 class Pickles(unittest.TestCase):

@@ -1,4 +1,4 @@
-"""Sets of whole numbers as the ranges that have them, by a proved library.
+"""Sets of whole numbers as the ranges that have them, by a library that is proved on x86-64 Linux.
 
 >>> from range_sets import RangeSet
 >>> print(RangeSet([(0, 10), (20, None)]) - RangeSet([(3, 5)]))
@@ -37,7 +37,7 @@ from ._errors import NoRoom, NotSorted, ParseError
 from ._ranges import AnyRangeSet
 from ._sets import MutableRangeSet, RangeSet
 
-__version__ = "0.1.0"
+__version__ = "0.2.0"
 
 __all__ = [
     "AnyRangeSet",

@@ -24,12 +24,16 @@ typedef struct {
     uint64_t numbers[2];
 } Arguments;
 
-/* A call of range_set.h for the type of the lists, and how it is given them. */
-#define CALL(list, call, ...) ((list).is_signed ? range_set_i64_##call(__VA_ARGS__) : range_set_u64_##call(__VA_ARGS__))
-#define A(given) (given)->lists[0].items, (given)->lists[0].len
-#define B(given) (given)->lists[1].items, (given)->lists[1].len
-#define FIRST(given) (given)->numbers[0]
-#define BOTH(given) (given)->numbers[0], (given)->numbers[1]
+/* A list as a set. Operations and questions of two lists see first that they are sorted; searches don't, and stay within any list. */
+#define SET(type, list) ((range_set_##type){(list).items, (list).len})
+
+/* A call of range_set.h for the type of the lists, and what it is given. */
+#define CALL(name, arguments) \
+    (given->lists[0].is_signed ? range_set_i64_##name(arguments(i64)) : range_set_u64_##name(arguments(u64)))
+#define LIST(type) SET(type, given->lists[0])
+#define LISTS(type) SET(type, given->lists[0]), SET(type, given->lists[1])
+#define LIST_AND_NUMBER(type) SET(type, given->lists[0]), given->numbers[0]
+#define LIST_AND_NUMBERS(type) SET(type, given->lists[0]), given->numbers[0], given->numbers[1]
 
 /* ---- What a call is given ---- */
 
@@ -169,10 +173,25 @@ static PyObject *list_over(PyObject *bytes, size_t len, bool is_signed)
 
 typedef range_set_status Operation(const Arguments *given, void *out, size_t room, size_t *written);
 
+/* Sees that each list is sorted. */
+static range_set_status check_sorted(const Arguments *given)
+{
+    range_set_status status = RANGE_SET_DONE;
+    for (int i = 0; status == RANGE_SET_DONE && i < given->held; i++) {
+        const List *list = &given->lists[i];
+        range_set_i64 of_signed;
+        range_set_u64 of_unsigned;
+        status = list->is_signed ? range_set_i64_view(list->items, list->len, &of_signed)
+                                 : range_set_u64_view(list->items, list->len, &of_unsigned);
+    }
+    return status;
+}
+
 static range_set_status run(Operation *call, const Arguments *given, void *out, size_t room, size_t *written)
 {
     PyThreadState *thread = let_others_run(given->lists[0].len + given->lists[1].len);
-    range_set_status status = call(given, out, room, written);
+    range_set_status status = check_sorted(given);
+    if (status == RANGE_SET_DONE) status = call(given, out, room, written);
     go_on(thread);
     return status;
 }
@@ -216,42 +235,67 @@ static PyObject *operate(PyObject *const *args, Py_ssize_t n, int lists, int num
     return answer;
 }
 
-#define OPERATION(name, list_count, number_count, ...) \
-    static range_set_status write_##name(const Arguments *it, void *out, size_t room, size_t *written) \
-    { return CALL(it->lists[0], name, __VA_ARGS__, out, room, written); } \
+#define WRITE(type, name, arguments) \
+    range_set_##type set = {NULL, 0}; \
+    range_set_status status = range_set_##type##_##name(arguments(type), out, room, &set); \
+    *written = set.len; \
+    return status;
+
+#define OPERATION(name, list_count, number_count, arguments) \
+    static range_set_status write_##name(const Arguments *given, void *out, size_t room, size_t *written) \
+    { \
+        if (given->lists[0].is_signed) { WRITE(i64, name, arguments) } \
+        WRITE(u64, name, arguments) \
+    } \
     static PyObject *core_##name(PyObject *module, PyObject *const *args, Py_ssize_t n) \
     { return operate(args, n, list_count, number_count, write_##name); }
 
-OPERATION(union, 2, 0, A(it), B(it))
-OPERATION(intersection, 2, 0, A(it), B(it))
-OPERATION(difference, 2, 0, A(it), B(it))
-OPERATION(symmetric_difference, 2, 0, A(it), B(it))
-OPERATION(negation, 1, 0, A(it))
-OPERATION(insert, 1, 2, A(it), BOTH(it))
-OPERATION(remove, 1, 2, A(it), BOTH(it))
-OPERATION(gaps, 1, 2, A(it), BOTH(it))
+OPERATION(union, 2, 0, LISTS)
+OPERATION(intersection, 2, 0, LISTS)
+OPERATION(difference, 2, 0, LISTS)
+OPERATION(symmetric_difference, 2, 0, LISTS)
+OPERATION(negation, 1, 0, LIST)
+OPERATION(gaps, 1, 2, LIST_AND_NUMBERS)
+
+/* A list with the range between two numbers put in or taken out, as a new list: what the operation makes of it and of the set of
+ * that range. */
+#define WITH_RANGE(type, number, operation) \
+    number ends[2] = {(number)given->numbers[0], (number)given->numbers[1]}; \
+    range_set_##type range = {NULL, 0}, set = {NULL, 0}; \
+    range_set_status status = range_set_##type##_from_ranges(ends, 1, &range); \
+    if (status == RANGE_SET_DONE) status = range_set_##type##_##operation(LIST(type), range, out, room, &set); \
+    *written = set.len; \
+    return status;
+
+#define OPERATION_WITH_RANGE(name, operation) \
+    static range_set_status write_##name(const Arguments *given, void *out, size_t room, size_t *written) \
+    { \
+        if (given->lists[0].is_signed) { WITH_RANGE(i64, int64_t, operation) } \
+        WITH_RANGE(u64, uint64_t, operation) \
+    } \
+    static PyObject *core_##name(PyObject *module, PyObject *const *args, Py_ssize_t n) \
+    { return operate(args, n, 1, 2, write_##name); }
+
+OPERATION_WITH_RANGE(insert, union)
+OPERATION_WITH_RANGE(remove, difference)
 
 /* ---- Lists made of a copy, in its place ---- */
 
 typedef range_set_status Arrangement(const List *copy, size_t *written);
 
-static range_set_status arrange_sorted(const List *copy, size_t *written)
-{
-    bool sorted = false;
-    *written = copy->len;
-    range_set_status status = CALL(*copy, is_sorted, copy->items, copy->len, &sorted);
-    return status == RANGE_SET_DONE && !sorted ? RANGE_SET_NOT_SORTED : status;
-}
+#define ARRANGE(type, name, count) \
+    range_set_##type set = {NULL, 0}; \
+    range_set_status status = range_set_##type##_##name(copy->items, count, &set); \
+    *written = set.len; \
+    return status;
 
-static range_set_status arrange_unsorted(const List *copy, size_t *written)
-{
-    return CALL(*copy, from_unsorted, copy->items, copy->len, written);
-}
-
-static range_set_status arrange_ranges(const List *copy, size_t *written)
-{
-    return CALL(*copy, from_ranges, copy->items, copy->len / 2, written);
-}
+#define ARRANGEMENT(name, call, pairs, count) \
+    static range_set_status arrange_##name(const List *copy, size_t *written) \
+    { \
+        if (copy->is_signed) { ARRANGE(i64, call, count) } \
+        ARRANGE(u64, call, count) \
+    } \
+    static PyObject *core_##name(PyObject *module, PyObject *object) { return arrange(object, pairs, arrange_##name); }
 
 static PyObject *arrange(PyObject *object, bool pairs, Arrangement *call)
 {
@@ -270,16 +314,13 @@ static PyObject *arrange(PyObject *object, bool pairs, Arrangement *call)
     return raise_status(status, 0);
 }
 
-#define ARRANGEMENT(name, pairs, how) \
-    static PyObject *core_##name(PyObject *module, PyObject *object) { return arrange(object, pairs, arrange_##how); }
-
-ARRANGEMENT(from_boundaries, false, sorted)
-ARRANGEMENT(from_unsorted, false, unsorted)
-ARRANGEMENT(from_ranges, true, ranges)
+ARRANGEMENT(from_boundaries, view, false, copy->len)
+ARRANGEMENT(from_unsorted, from_unsorted, false, copy->len)
+ARRANGEMENT(from_ranges, from_ranges, true, copy->len / 2)
 
 /* ---- Questions ---- */
 
-typedef range_set_status Question(const Arguments *given, bool *answer);
+typedef bool Question(const Arguments *given);
 
 static PyObject *ask(PyObject *const *args, Py_ssize_t n, int lists, int numbers, Question *call)
 {
@@ -287,29 +328,53 @@ static PyObject *ask(PyObject *const *args, Py_ssize_t n, int lists, int numbers
     bool answer = false;
     if (!read_arguments(&given, args, n, lists, numbers, 0)) return NULL;
     PyThreadState *thread = let_others_run(given.lists[1].len);
-    range_set_status status = call(&given, &answer);
+    range_set_status status = lists == 2 ? check_sorted(&given) : RANGE_SET_DONE;
+    if (status == RANGE_SET_DONE) answer = call(&given);
     go_on(thread);
     release_all(&given);
     return status == RANGE_SET_DONE ? PyBool_FromLong(answer) : raise_status(status, 0);
 }
 
-#define QUESTION(name, list_count, number_count, ...) \
-    static range_set_status ask_##name(const Arguments *it, bool *answer) { return CALL(it->lists[0], name, __VA_ARGS__, answer); } \
+#define QUESTION(name, list_count, number_count, arguments) \
+    static bool ask_##name(const Arguments *given) { return CALL(name, arguments); } \
     static PyObject *core_##name(PyObject *module, PyObject *const *args, Py_ssize_t n) \
     { return ask(args, n, list_count, number_count, ask_##name); }
 
-QUESTION(is_sorted, 1, 0, A(it))
-QUESTION(is_empty, 1, 0, A(it))
-QUESTION(contains, 1, 1, A(it), FIRST(it))
-QUESTION(contains_range, 1, 2, A(it), BOTH(it))
-QUESTION(is_disjoint, 2, 0, A(it), B(it))
-QUESTION(intersects, 2, 0, A(it), B(it))
-QUESTION(is_subset, 2, 0, A(it), B(it))
-QUESTION(equal, 2, 0, A(it), B(it))
+QUESTION(is_empty, 1, 0, LIST)
+QUESTION(contains, 1, 1, LIST_AND_NUMBER)
+QUESTION(contains_range, 1, 2, LIST_AND_NUMBERS)
+QUESTION(is_disjoint, 2, 0, LISTS)
+QUESTION(intersects, 2, 0, LISTS)
+QUESTION(is_subset, 2, 0, LISTS)
+QUESTION(equal, 2, 0, LISTS)
+
+static bool ask_is_sorted(const Arguments *given)
+{
+    return check_sorted(given) == RANGE_SET_DONE;
+}
+
+static PyObject *core_is_sorted(PyObject *module, PyObject *const *args, Py_ssize_t n)
+{
+    return ask(args, n, 1, 0, ask_is_sorted);
+}
 
 static PyObject *number_of(uint64_t bits, bool is_signed)
 {
     return is_signed ? PyLong_FromLongLong((int64_t)bits) : PyLong_FromUnsignedLongLong(bits);
+}
+
+#define RANGE_AT(type, found, start, end, has_end) \
+    range_set_##type##_range range = {0, 0, false}; \
+    *(found) = range_set_##type##_range_at(LIST_AND_NUMBER(type), &range); \
+    *(start) = (uint64_t)range.start, *(end) = (uint64_t)range.end, *(has_end) = range.has_end;
+
+static void find_range(const Arguments *given, bool *found, uint64_t *start, uint64_t *end, bool *has_end)
+{
+    if (given->lists[0].is_signed) {
+        RANGE_AT(i64, found, start, end, has_end)
+    } else {
+        RANGE_AT(u64, found, start, end, has_end)
+    }
 }
 
 static PyObject *core_range_at(PyObject *module, PyObject *const *args, Py_ssize_t n)
@@ -319,10 +384,15 @@ static PyObject *core_range_at(PyObject *module, PyObject *const *args, Py_ssize
     uint64_t start = 0, end = 0;
     if (!read_arguments(&given, args, n, 1, 1, 0)) return NULL;
     bool is_signed = given.lists[0].is_signed;
-    CALL(given.lists[0], range_at, A(&given), FIRST(&given), &found, (void *)&start, (void *)&end, &has_end);
+    find_range(&given, &found, &start, &end, &has_end);
     release_all(&given);
     if (!found) Py_RETURN_NONE;
     return Py_BuildValue("NN", number_of(start, is_signed), has_end ? number_of(end, is_signed) : Py_NewRef(Py_None));
+}
+
+static bool count_members(const Arguments *given, uint64_t *count)
+{
+    return given->lists[0].is_signed ? range_set_i64_covered(LIST(i64), count) : range_set_u64_covered(LIST(u64), count);
 }
 
 static PyObject *core_covered(PyObject *module, PyObject *const *args, Py_ssize_t n)
@@ -330,10 +400,26 @@ static PyObject *core_covered(PyObject *module, PyObject *const *args, Py_ssize_
     Arguments given;
     uint64_t count = 0;
     if (!read_arguments(&given, args, n, 1, 0, 0)) return NULL;
-    range_set_status status = CALL(given.lists[0], covered, A(&given), &count);
+    range_set_status status = check_sorted(&given);
+    bool has_end = status == RANGE_SET_DONE && count_members(&given, &count);
     release_all(&given);
-    if (status == RANGE_SET_NO_END) Py_RETURN_NONE;
-    return status == RANGE_SET_DONE ? PyLong_FromUnsignedLongLong(count) : raise_status(status, 0);
+    if (status != RANGE_SET_DONE) return raise_status(status, 0);
+    return has_end ? PyLong_FromUnsignedLongLong(count) : Py_NewRef(Py_None);
+}
+
+#define SPLIT(type, left_len, right_start) \
+    range_set_##type below, from; \
+    range_set_##type##_split(LIST_AND_NUMBER(type), &below, &from); \
+    *(left_len) = below.len, *(right_start) = given->lists[0].len - from.len;
+
+/* How many boundaries the part below the number has, and where the part from it on begins. */
+static void find_parts(const Arguments *given, size_t *left_len, size_t *right_start)
+{
+    if (given->lists[0].is_signed) {
+        SPLIT(i64, left_len, right_start)
+    } else {
+        SPLIT(u64, left_len, right_start)
+    }
 }
 
 static PyObject *core_split(PyObject *module, PyObject *const *args, Py_ssize_t n)
@@ -341,7 +427,7 @@ static PyObject *core_split(PyObject *module, PyObject *const *args, Py_ssize_t 
     Arguments given;
     size_t left_len = 0, right_start = 0;
     if (!read_arguments(&given, args, n, 1, 1, 0)) return NULL;
-    CALL(given.lists[0], split, A(&given), FIRST(&given), &left_len, &right_start);
+    find_parts(&given, &left_len, &right_start);
     release_all(&given);
     return Py_BuildValue("nn", (Py_ssize_t)left_len, (Py_ssize_t)right_start);
 }
@@ -368,8 +454,8 @@ static PyObject *core_first_fit(PyObject *module, PyObject *const *args, Py_ssiz
     uint64_t more = 0;
     if (!read_arguments(&given, args, n, 1, 2, 1)) return NULL;
     bool is_signed = given.lists[0].is_signed, is_length = read_number(args[n - 1], false, &more);
-    uint64_t flip = is_signed ? (uint64_t)1 << 63 : 0, at = FIRST(&given) ^ flip, last = given.numbers[1] ^ flip;
-    CALL(given.lists[0], split, A(&given), FIRST(&given), &left_len, &i);
+    uint64_t flip = is_signed ? (uint64_t)1 << 63 : 0, at = given.numbers[0] ^ flip, last = given.numbers[1] ^ flip;
+    find_parts(&given, &left_len, &i);
     bool fits = is_length && find_fit(&given.lists[0], i, flip, &at, last, more);
     release_all(&given);
     return !is_length ? NULL : fits ? number_of(at ^ flip, is_signed) : Py_NewRef(Py_None);
