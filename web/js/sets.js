@@ -1,0 +1,177 @@
+"use strict";
+
+// Two sets that are typed or drawn, and the result of an operation on them.
+{
+    const { element, grouped } = Daleribbon.tools;
+    const { Board, OperationChooser, Scale, SetRow, TextField, pairs } = Daleribbon;
+
+    const USUAL = 24n;
+    const LONGEST_TEXT = 1200;
+    const MOST_GAPS = 40;
+    /** Up to so many ranges the text follows each move of the pointer. */
+    const FEW = 200;
+    const EXAMPLES = ["0..5, 5..10", "0..5, 6..10", "3..8, 4..6, 20..", "12..4", "1..2, 3..4, 5..6, 7..8"];
+
+    /** The text of 10,000 ranges with gaps between them. */
+    function manyRanges() {
+        let at = 0;
+        const texts = Array.from({ length: 10000 }, (_, i) => {
+            const start = at + 1 + ((i * 7919) % 13);
+            at = start + 1 + ((i * 104729) % 11);
+            return `${start}..${at}`;
+        });
+        return texts.join(", ");
+    }
+
+    class SetsView {
+        constructor(library) {
+            this.scale = new Scale(0n, USUAL);
+            this.board = new Board({ scale: this.scale, fit: () => this.fit() });
+            this.before = library.newSet();
+            this.operation = new OperationChooser({ id: "sets", onChange: () => this.update() });
+            this.a = this.typedRow(library, "A", "2..5, 10..14");
+            this.b = this.typedRow(library, "B", "5..8, 12..");
+            this.result = new SetRow({ id: "sets-result", name: "A ∪ B", label: "The result", set: library.newSet(), scale: this.scale, board: this.board });
+            this.board.rows = [this.a, this.b, this.result];
+            this.board.onLook = () => this.showFacts();
+            this.node = element("div", {},
+                element("div", { class: "card" }, this.operation.node),
+                element("div", { class: "card board" }, this.toolbar(), this.a.node, this.b.node, this.result.node),
+                this.facts());
+            this.board.value = 7n;
+            this.board.rows.forEach((row) => { row.line.probe = 7n; });
+        }
+
+        typedRow(library, name, text) {
+            const id = `sets-${name.toLowerCase()}`;
+            const field = new TextField({ id, name: `The ranges of ${name}`, onText: (typed, event) => this.typed(row, typed, event) });
+            const row = new SetRow({
+                id: `${id}`, name, set: library.newSet(text), scale: this.scale, board: this.board, head: field.node, endless: true,
+                onPaint: (...range) => this.painted(row, ...range), onMove: (...move) => this.movedBoundary(row, ...move),
+            });
+            row.field = field;
+            field.text = text;
+            return row;
+        }
+
+        toolbar() {
+            const examples = EXAMPLES.map((text) => this.example(text, text));
+            const many = this.example("10,000 ranges", manyRanges());
+            return element("div", { class: "toolbar" }, element("div", { class: "examples", role: "group", "aria-label": "Examples for A" }, ...examples, many), this.board.buttons());
+        }
+
+        example(label, text) {
+            const button = element("button", { type: "button", class: "example" }, label);
+            button.addEventListener("click", (event) => {
+                this.a.field.text = text;
+                this.typed(this.a, text, event);
+            });
+            return button;
+        }
+
+        facts() {
+            const fact = (id, name, told = false) => {
+                this[id] = element("dd", { id: `sets-${id}`, "aria-live": told ? "polite" : null });
+                return [element("dt", {}, name), this[id]];
+            };
+            return element("dl", { class: "card facts" },
+                ...fact("text", "Text", true), ...fact("members", "Members"), ...fact("ranges", "Ranges"), ...fact("gaps", "Gaps in the window"));
+        }
+
+        /** Reads what was typed. A text with a fault leaves the set as it was. */
+        typed(row, text, event) {
+            const fault = row.set.parse(text);
+            row.field.fault(fault);
+            row.node.classList.toggle("stale", fault !== null);
+            if (fault === null) {
+                if (this.board.follows) {
+                    this.fit();
+                }
+                this.update();
+            }
+            Daleribbon.time(event);
+        }
+
+        /** Keeps the set as it is before a gesture, to which each step of the gesture goes back. */
+        begin(row, done) {
+            if (!this.drawing) {
+                this.before.copyFrom(row.set);
+            }
+            row.set.copyFrom(this.before);
+            this.drawing = !done;
+        }
+
+        painted(row, start, end, inside, done) {
+            this.begin(row, done);
+            if (inside) {
+                row.set.insert(start, end);
+            } else {
+                row.set.remove(start, end);
+            }
+            this.changed(row, done);
+        }
+
+        /** Moves a boundary: its range gets another start or end. An end of null is none. */
+        movedBoundary(row, from, to, done) {
+            this.begin(row, done);
+            const starts = row.set.has(from);
+            const [start, end] = row.set.rangeAt(starts ? from : from - 1n);
+            row.set.remove(start, end);
+            if (!starts) {
+                row.set.insert(start, to);
+            } else if (to !== null) {
+                row.set.insert(to, end);
+            }
+            this.changed(row, done);
+        }
+
+        changed(row, done) {
+            if (done || row.set.rangesLength() <= FEW) {
+                row.field.text = row.set.toString();
+                row.node.classList.remove("stale");
+            }
+            this.update();
+        }
+
+        /** Shows both sets, from the lowest boundary to the highest. */
+        fit() {
+            const ends = [this.a, this.b].flatMap((row) => row.set.ends() ?? []);
+            const first = ends.reduce((a, b) => (a < b ? a : b), ends[0] ?? 0n);
+            const last = ends.reduce((a, b) => (a > b ? a : b), 0n);
+            if (last <= USUAL - 2n) {
+                this.scale.show(0n, USUAL);
+                return;
+            }
+            const room = (last - first) / 12n + 2n;
+            const start = first < (last - first) / 3n || first < room ? 0n : first - room;
+            this.scale.show(start, last - start + room);
+        }
+
+        update() {
+            const { a, b, result, operation } = this;
+            result.set.combine(a.set, b.set, operation.answers);
+            result.badge.textContent = operation.sign;
+            this.board.draw();
+            this.showFacts();
+        }
+
+        showFacts() {
+            const { set } = this.result;
+            const text = set.toString();
+            const covered = set.covered();
+            this.text.textContent = text.length > LONGEST_TEXT ? `${text.slice(0, LONGEST_TEXT)} …` : text || "nothing: no range";
+            this.text.classList.toggle("none", text === "");
+            this.members.textContent = covered === null ? "no end" : grouped(covered);
+            this.ranges.textContent = grouped(set.rangesLength());
+            this.showGaps([...pairs(set.gaps(this.scale.start, this.scale.end))]);
+        }
+
+        showGaps(gaps) {
+            const shown = gaps.slice(0, MOST_GAPS).map(([start, end]) => `${start}..${end}`).join(", ");
+            const more = gaps.length > MOST_GAPS ? `, and ${grouped(gaps.length - MOST_GAPS)} more` : "";
+            this.gaps.textContent = shown === "" ? "none" : shown + more;
+        }
+    }
+
+    Daleribbon.SetsView = SetsView;
+}
