@@ -84,7 +84,7 @@ template <class Exports> struct Exported : Exports {
         return call_commands(Exports::take_out, left, commands, out);
     }
 
-private:
+protected:
     static std::size_t granted(std::size_t length) {
         if (length == SIZE_MAX) {
             throw std::bad_alloc();

@@ -26,8 +26,21 @@ struct Library {
     static constexpr auto* ranges = range_bench_iter;
 };
 
+// With what no other contender exports.
+struct WholeLibrary : Exported<Library> {
+    static constexpr unsigned offers = Exported<Library>::offers | Group::texts | Group::at_once;
+
+    static std::size_t contains_text(const Texts& set, const Texts& values) {
+        return granted(range_bench_contains_text(set.data(), set.size(), values.data(), values.size()));
+    }
+
+    static std::size_t insert_all(const Set& left, const Commands& commands, Boundaries* out) {
+        return call_commands(range_bench_insert_all, left, commands, out);
+    }
+};
+
 } // namespace
 
 std::unique_ptr<Peer> library_peer() {
-    return std::make_unique<Held<Exported<Library>>>();
+    return std::make_unique<Held<WholeLibrary>>();
 }

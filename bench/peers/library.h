@@ -25,13 +25,14 @@ size_t range_bench_copy(const int64_t *left, size_t left_len, int64_t *out, size
 
 typedef size_t range_bench_commands(const int64_t *left, size_t left_len, const int64_t *starts, size_t starts_len,
                                     const int64_t *ends, size_t ends_len, int64_t *out, size_t out_len);
-range_bench_commands range_bench_insert, range_bench_remove;
+range_bench_commands range_bench_insert, range_bench_remove, range_bench_insert_all;
 
 bool range_bench_is_disjoint(const int64_t *left, size_t left_len, const int64_t *right, size_t right_len);
 bool range_bench_is_subset(const int64_t *left, size_t left_len, const int64_t *right, size_t right_len);
 size_t range_bench_union_len(const int64_t *left, size_t left_len, const int64_t *right, size_t right_len);
 uint64_t range_bench_union_comparisons(const int64_t *left, size_t left_len, const int64_t *right, size_t right_len);
 size_t range_bench_contains(const int64_t *set, size_t set_len, const int64_t *values, size_t values_len);
+size_t range_bench_contains_text(const char *texts, size_t texts_len, const char *values, size_t values_len);
 size_t range_bench_split(const int64_t *set, size_t set_len, const int64_t *values, size_t values_len);
 int64_t range_bench_iter(const int64_t *set, size_t set_len);
 

@@ -7,6 +7,7 @@ Peers all_peers() {
     peers.push_back(plain_rust_peer());
 #endif
     peers.push_back(vector_peer());
+    peers.push_back(c_calls_peer());
     peers.push_back(linear_peer());
 #ifdef WITH_ICU
     peers.push_back(icu_peer());

@@ -6,6 +6,7 @@
 std::unique_ptr<Peer> library_peer();
 std::unique_ptr<Peer> plain_rust_peer();
 std::unique_ptr<Peer> vector_peer();
+std::unique_ptr<Peer> c_calls_peer();
 std::unique_ptr<Peer> linear_peer();
 std::unique_ptr<Peer> icu_peer();
 std::unique_ptr<Peer> icl_peer();

@@ -18,6 +18,8 @@ enum class Group : unsigned {
     split = 32,
     iter = 64,
     changes = 128,
+    texts = 256,
+    at_once = 512,
 };
 
 constexpr unsigned operator|(Group a, Group b) {
@@ -43,10 +45,14 @@ inline Group group_of(Task task) {
         return Group::lengths;
     case Task::contains:
         return Group::contains;
+    case Task::contains_text:
+        return Group::texts;
     case Task::split:
         return Group::split;
     case Task::iter:
         return Group::iter;
+    case Task::insert_all:
+        return Group::at_once;
     default:
         return Group::changes;
     }
@@ -69,6 +75,12 @@ public:
         }
         values = that.values;
         commands = that.commands;
+        text_set.clear();
+        text_values.clear();
+        if (offers(Group::texts) && that.shape == texts_shape) {
+            text_set = texts_of(that.pairs.front().left);
+            text_values = texts_of(values);
+        }
     }
 
     std::size_t pass(Task task) override {
@@ -167,6 +179,13 @@ private:
                 });
             }
         }
+        if constexpr (offers(Group::texts)) {
+            if (task == Task::contains_text) {
+                return run([this](const Sides&, Boundaries*) {
+                    return Kind::contains_text(text_set, text_values);
+                });
+            }
+        }
         if constexpr (offers(Group::split)) {
             if (task == Task::split) {
                 return run([this](const Sides& sides, Boundaries*) {
@@ -192,6 +211,13 @@ private:
                 });
             }
         }
+        if constexpr (offers(Group::at_once)) {
+            if (task == Task::insert_all) {
+                return run([this](const Sides& sides, Boundaries* out) {
+                    return Kind::insert_all(sides.first, commands, out);
+                });
+            }
+        }
         throw std::logic_error(name() + " was asked for " + name_of(task));
     }
 
@@ -211,4 +237,6 @@ private:
     std::vector<Sides> pairs;
     Boundaries values;
     Commands commands;
+    Texts text_set;
+    Texts text_values;
 };

@@ -21,10 +21,12 @@ constexpr const char* names[] = {
     "is_subset",
     "union length",
     "contains",
+    "contains, texts",
     "split",
     "iter",
     "insert",
     "remove",
+    "insert, all at once",
 };
 
 } // namespace
@@ -40,7 +42,7 @@ Operation operation_of(Task task) {
 
 bool is_change(Task task) {
     bool is_in_place = Task::union_lent <= task && task <= Task::symmetric_difference_owned;
-    return is_in_place || task == Task::insert || task == Task::remove;
+    return is_in_place || Task::insert <= task;
 }
 
 Task copying_of(Task task) {

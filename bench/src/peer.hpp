@@ -28,10 +28,12 @@ enum class Task {
     is_subset,
     union_len,
     contains,
+    contains_text,
     split,
     iter,
     insert,
     remove,
+    insert_all,
 };
 
 const char* name_of(Task task);

@@ -26,6 +26,7 @@ Boundaries right_set(Task task, const Pair& pair, const Case& that) {
     case Task::copy_both:
         return pair.left;
     case Task::insert:
+    case Task::insert_all:
         return plain(Operation::unite, pair.left, all_of(that.commands));
     case Task::remove:
         return plain(Operation::subtract, pair.left, all_of(that.commands));
@@ -44,6 +45,7 @@ std::size_t right_answer(Task task, const Pair& pair, const Case& that) {
     case Task::union_len:
         return plain(Operation::unite, pair.left, pair.right).size();
     case Task::contains:
+    case Task::contains_text:
         for (std::int64_t value : that.values) {
             sum += is_member(pair.left, value);
         }
@@ -64,7 +66,7 @@ std::size_t right_answer(Task task, const Pair& pair, const Case& that) {
 }
 
 bool makes_a_set(Task task) {
-    return task <= Task::copy_both || task == Task::insert || task == Task::remove;
+    return task <= Task::copy_both || Task::insert <= task;
 }
 
 [[noreturn]] void fail(const Peer& peer, Task task, const Case& that, const std::string& what) {

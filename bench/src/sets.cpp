@@ -2,6 +2,16 @@
 
 #include <algorithm>
 
+Texts texts_of(const Boundaries& numbers) {
+    Texts texts;
+    for (std::int64_t each : numbers) {
+        std::string digits = std::to_string(each);
+        texts.append(text_len - digits.size(), '0');
+        texts += digits;
+    }
+    return texts;
+}
+
 std::size_t Case::answers() const {
     std::size_t each = 1;
     if (!values.empty()) {

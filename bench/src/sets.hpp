@@ -26,6 +26,13 @@ constexpr bool is_on(Operation operation, bool left, bool right) {
     return false;
 }
 
+// Texts of so many characters, one behind the other.
+constexpr std::size_t text_len = 32;
+using Texts = std::string;
+
+// The numbers as texts that stand in the same order: with zeros in front.
+Texts texts_of(const Boundaries& numbers);
+
 struct Pair {
     Boundaries left;
     Boundaries right;
@@ -36,6 +43,9 @@ struct Commands {
     Boundaries starts;
     Boundaries ends;
 };
+
+// The shape whose one set is asked as a set of texts.
+constexpr const char* texts_shape = "one set of texts";
 
 struct Case {
     std::string shape;

@@ -176,6 +176,9 @@ std::vector<Job> all_jobs() {
     for (std::size_t size : {10, 1000, 1000000}) {
         jobs.push_back({asked("one set", size), {Task::contains, Task::split}});
     }
+    for (std::size_t size : {1000, 10000}) {
+        jobs.push_back({asked(texts_shape, size), {Task::contains_text}});
+    }
     jobs.push_back({changed(4096, true), {Task::insert}});
     jobs.push_back({changed(4096, false), {Task::remove}});
     return jobs;
@@ -183,8 +186,8 @@ std::vector<Job> all_jobs() {
 
 std::vector<Job> command_jobs(std::size_t ranges) {
     return {
-        {commands_case("ranges in order", ranges, false, true), {Task::insert}},
-        {commands_case("ranges at random", ranges, false, false), {Task::insert}},
+        {commands_case("ranges in order", ranges, false, true), {Task::insert, Task::insert_all}},
+        {commands_case("ranges at random", ranges, false, false), {Task::insert, Task::insert_all}},
         {commands_case("holes in order", ranges, true, true), {Task::remove}},
         {commands_case("holes at random", ranges, true, false), {Task::remove}},
     };
