@@ -1,8 +1,13 @@
 #!/usr/bin/env bash
 # Compiles the header in dist/ as C99 and as C++11 without a warning, and runs the tests, the example and the lines of the
-# pages in C over the archive there, under valgrind too.
+# pages in C over the archive there, under valgrind too; the tests of the header for C++17; and the example against what
+# 'make install' leaves, found by pkg-config and by CMake. Then the same tests, example and installation over the library that
+# cargo builds of the Rust crate, without a network.
 #
-#   tests/c.sh
+#   tests/c.sh           these
+#   tests/c.sh --rust    those over the library that cargo builds alone
+#   tests/c.sh --more    the tests as each language by each compiler, under clang's sanitizers, and a fuzzer for a minute; and
+#                        the library that cargo builds under valgrind
 #
 # Its last line is 'N passed, M failed, K skipped'. It ends with 77 where gcc is missing.
 set -u
@@ -13,12 +18,25 @@ cd "$(dirname "$0")/.." || exit 1
 needs gcc gcc
 work=$(mktemp -d) || exit 1
 trap 'rm -rf "$work"' EXIT
-strict="-Wall -Wextra -Wpedantic -Werror -Ic/include"
+strict="-Wall -Wextra -Wpedantic -Wconversion -Werror -Ic/include"
 archive=dist/librange_set.a
+version=$(awk '$2 == "RANGE_SET_VERSION" { gsub("\"", ""); print $3 }' c/include/range_set.h)
 
-# The checksums, and the header, which is that of c/.
+# The checksums, and the headers, which are those of c/.
 is_whole() {
-    (cd dist && sha256sum --quiet -c SHA256SUMS) && cmp c/include/range_set.h dist/range_set.h
+    (cd dist && sha256sum --quiet -c SHA256SUMS) && cmp c/include/range_set.h dist/range_set.h &&
+        cmp c/include/range_set.hpp dist/range_set.hpp
+}
+
+# No name stands in the library for others but those of the header.
+has_only_its_names() {
+    [ "$(nm -g --defined-only "$archive" | awk 'NF == 3 { print $3 }' | grep -c '^range_set_')" -gt 100 ] &&
+        ! nm -g --defined-only "$archive" | awk 'NF == 3 { print $3 }' | grep -v '^range_set_'
+}
+
+# Whether another library has the same names for others.
+has_the_names_of() {
+    cmp <(nm -g --defined-only "$archive" | awk 'NF == 3 { print $3 }' | sort) <(nm -g --defined-only "$1" | awk 'NF == 3 { print $3 }' | sort)
 }
 
 # Compiles a source in C with the archive, and the layer from its source where there are more words.
@@ -30,7 +48,8 @@ compiles() {
 
 # What the example prints.
 prints_its_lines() {
-    "$work/$1" | cmp - <(printf 'busy: 9..11 12..15\nfree: 11..12 15..17\nneeds: 4\n')
+    "$work/$1" | cmp - <(printf '%s\n' ' 10%, next: 100 to 1000' ' 25%, next: 100 to 300' ' 35%, next: 200 to 300' \
+        ' 40%, next: 200 to 300' ' 50%, next: 200 to 300' '100%')
 }
 
 # Runs the lines in C of a page, word for word, as a program of their own.
@@ -39,19 +58,211 @@ runs_page() {
     [ -s "$work/page.c" ] && compiles "$work/page.c" page && "$work/page"
 }
 
-# The header in C++, and the example in it.
+# The same in C++.
+runs_cpp_page() {
+    awk '/^```/ { on = $0 == "```cpp"; next } on' "$1" >"$work/page.cpp"
+    [ -s "$work/page.cpp" ] && g++ -std=c++17 $strict "$work/page.cpp" "$archive" -o "$work/page" && "$work/page"
+}
+
+# The header in C++11, and the example in it.
 compiles_as_cpp() {
     echo '#include "range_set.h"' >"$work/header.cpp"
     g++ -std=c++11 $strict -c "$work/header.cpp" -o "$work/header.o" &&
         g++ -std=c++11 -O2 $strict -x c++ c/example.c -x none "$archive" -o "$work/example.cpp" && prints_its_lines example.cpp
 }
 
-# The tests under the sanitizers, with the layer in C from its source.
-is_sane() {
-    gcc -std=c99 -O1 -g -fsanitize=address,undefined $strict c/test.c c/range_set.c "$archive" -o "$work/sane" && "$work/sane" 1000
+# The tests of the header for C++17.
+tests_cpp() {
+    g++ -std=c++17 -O1 -g $strict c/test.cpp "$archive" -o "$work/test.cpp" && "$work/test.cpp"
 }
 
+# Installs the library into a folder with a blank in its name.
+prefix="$work/a place" makes=(BACKEND=proved LIBRARY="$PWD/$archive")
+installs() {
+    rm -rf "$work/c" "$prefix" && cp -r c "$work/c" && make -s -C "$work/c" install "${makes[@]}" PREFIX="$prefix"
+}
+
+# Builds the library by cargo, which finds the crates that Debian packages.
+packages=/usr/share/cargo/registry
+offline="--offline --config 'source.crates-io.replace-with=\"debian\"' --config 'source.debian.directory=\"$packages\"'"
+builds_by_cargo() {
+    rm -rf "$work/by_cargo" && cp -r c "$work/by_cargo" &&
+        make -s -C "$work/by_cargo" build/librange_set.a BACKEND=rust RUST="$PWD/rust" CARGO="cargo $offline"
+}
+
+# Builds a shared library by cargo alone, of the copy that make has made, looks at its names, and runs the tests over it.
+runs_over_cdylib() {
+    local built=$work/by_cargo/build/cargo/release/librange_sets.so
+    (cd "$work/by_cargo/build/rust" && eval "CARGO_TARGET_DIR=../cargo cargo $offline" rustc --quiet --release --features c --lib \
+        --crate-type cdylib) && cmp <(nm -D --defined-only "$built" | awk '{ print $3 }' | sort) \
+        <(nm -g --defined-only dist/librange_set.a | awk 'NF == 3 { print $3 }' | sort) &&
+        gcc -std=c99 -O1 $strict c/test.c "$built" -o "$work/over" && LD_LIBRARY_PATH="${built%/*}" "$work/over" 1000
+}
+
+# Whether a make without a cargo says so in one sentence.
+says_that_cargo_is_missing() {
+    ! make -s -C "$work/by_cargo" build/librange_set.a BACKEND=rust RUST="$PWD/rust" CARGO=no-such-cargo --always-make \
+        2>"$work/said" && head -n 1 "$work/said" | grep -qx 'range_set: no-such-cargo is missing, which builds the library here: install Rust 1.63 or later'
+}
+
+# Whether two libraries have the same version and the same sentences on statuses.
+say_the_same() {
+    cat >"$work/say.c" <<'END' && gcc -std=c99 $strict "$work/say.c" "$1" -o "$work/say_1" && gcc -std=c99 $strict "$work/say.c" "$2" -o "$work/say_2"
+#include "range_set.h"
+#include <stdio.h>
+
+int main(void)
+{
+    for (int status = 0; status < 6; status++) puts(range_set_status_text((range_set_status)status));
+    return puts(range_set_version()) < 0;
+}
+END
+    "$work/say_1" >"$work/said_1" && "$work/say_2" >"$work/said_2" && [ "$(wc -l <"$work/said_1")" = 7 ] && cmp "$work/said_1" "$work/said_2"
+}
+
+# Whether cargo and the crate that the library needs are there. What is missing is named, and what it is for is skipped.
+has_cargo() {
+    local missing
+    if ! command -v cargo >/dev/null; then
+        missing="cargo is missing; on Debian the package cargo brings it"
+    elif ! ls -d "$packages"/smallvec-[0-9]* >/dev/null 2>&1; then
+        missing="the crate smallvec is missing; on Debian the package librust-smallvec-dev brings it"
+    elif ! command -v make >/dev/null; then
+        missing="make is missing; on Debian the package make brings it"
+    else
+        return 0
+    fi
+    skipped=$((skipped + 1))
+    echo "$name: SKIPPED: the library that cargo builds: $missing"
+    return 1
+}
+
+# The steps over the library that cargo builds.
+over_rust() {
+    has_cargo || return
+    local by="by cargo"
+    step "$by: the library" builds_by_cargo
+    step "$by: a make without cargo" says_that_cargo_is_missing
+    step "$by: the sentences" say_the_same dist/librange_set.a "$work/by_cargo/build/librange_set.a"
+    archive=$work/by_cargo/build/librange_set.a makes=(BACKEND=rust LIBRARY="$archive")
+    step_by nm binutils "$by: the names in the library" has_only_its_names
+    step "$by: they are those of dist/" has_the_names_of dist/librange_set.a
+    step "$by: the tests compile" compiles c/test.c test
+    step "$by: the tests" "$work/test"
+    step "$by: the example compiles" compiles c/example.c example
+    step "$by: the example" prints_its_lines example
+    step_by g++ g++ "$by: the header for C++17" tests_cpp
+    step "$by: make install" installs
+    step_by pkg-config pkg-config "$by: a program by pkg-config" is_found_by_pkg_config
+    step_by cmake cmake "$by: a program by CMake" is_found_by_cmake
+    step_by readelf binutils "$by: the shared library" is_shared
+    step "$by: what isn't called is dropped" drops_what_is_not_called
+}
+
+# The example against what was installed, found by pkg-config: with the shared library, and with the static one.
+is_found_by_pkg_config() {
+    local found
+    export PKG_CONFIG_PATH="$prefix/lib/pkgconfig"
+    found=$(pkg-config --cflags --libs range_set) && [ "$(pkg-config --modversion range_set)" = "$version" ] &&
+        eval "gcc -std=c99 c/example.c $found" -o '"$work/found"' && LD_LIBRARY_PATH="$prefix/lib" prints_its_lines found &&
+        eval "gcc -std=c99 -static c/example.c $found" -o '"$work/found"' && prints_its_lines found
+}
+
+# The same by CMake, for each of the two libraries.
+is_found_by_cmake() {
+    rm -rf "$work/by cmake" && mkdir "$work/by cmake" && cp c/example.c "$work/by cmake" && cat >"$work/by cmake/CMakeLists.txt" <<END || return
+cmake_minimum_required(VERSION 3.10)
+project(example C)
+find_package(range_set $version REQUIRED)
+foreach(kind IN ITEMS range_set static)
+    add_executable(by_\${kind} example.c)
+    target_link_libraries(by_\${kind} range_set::\${kind})
+endforeach()
+END
+    cmake -S "$work/by cmake" -B "$work/by cmake/build" -DCMAKE_PREFIX_PATH="$prefix" && cmake --build "$work/by cmake/build" &&
+        prints_its_lines "by cmake/build/by_range_set" && prints_its_lines "by cmake/build/by_static"
+}
+
+# The names of the shared library, which is found by its soname.
+is_shared() {
+    nm -D --defined-only "$prefix/lib/librange_set.so" | awk '{ print $3 }' | grep -q '^range_set_i64_union\|^range_set_i64_combine$' &&
+        ! nm -D --defined-only "$prefix/lib/librange_set.so" | awk '{ print $3 }' | grep -v '^range_set_' &&
+        readelf -d "$prefix/lib/librange_set.so" | grep -q 'soname: \[librange_set.so.0\]'
+}
+
+# What isn't called is dropped from a program, where the linker is told so. The example calls five functions, some of which are
+# those of another type under two names.
+drops_what_is_not_called() {
+    gcc -std=c99 -O2 -Ic/include -Wl,--gc-sections c/example.c "$archive" -o "$work/small" && prints_its_lines small &&
+        [ "$(nm "$work/small" | grep -c ' T range_set_')" -lt 10 ] && ! nm "$work/small" | grep -q 'range_set_u64_combine$'
+}
+
+uninstalls() {
+    make -s -C "$work/c" uninstall PREFIX="$prefix" && [ -z "$(find "$prefix" -type f)" ]
+}
+
+# The tests under the sanitizers.
+is_sane() {
+    gcc -std=c99 -O1 -g -fsanitize=address,undefined $strict c/test.c "$archive" -o "$work/sane" && "$work/sane" 1000
+}
+
+# The tests of one language as a compiler builds them.
+builds_as() {
+    local compiler=$1 language=$2 source=$3
+    "$compiler" -std="$language" -O2 $strict "$source" "$archive" -o "$work/built" && "$work/built" 2000
+}
+
+# The tests under clang's sanitizers.
+is_sane_by_clang() {
+    clang -std=c11 -O1 -g -fsanitize=address,undefined -fno-sanitize-recover=all $strict c/test.c "$archive" -o "$work/sane" &&
+        "$work/sane" 1000 &&
+        clang++ -std=c++17 -O1 -g -fsanitize=address,undefined -fno-sanitize-recover=all $strict c/test.cpp "$archive" \
+            -o "$work/sane" && "$work/sane"
+}
+
+fuzzes() {
+    clang++ -std=c++17 -O1 -g -fsanitize=fuzzer,address,undefined -fno-sanitize-recover=all $strict c/fuzz.cpp "$archive" \
+        -o "$work/fuzz" && (cd "$work" && ./fuzz -max_total_time=60 -max_len=64 -verbosity=0 -print_final_stats=1)
+}
+
+# Whether clang finds what a fuzzer is linked with.
+has_fuzzer() {
+    [ -e "$(clang --print-file-name=libclang_rt.fuzzer-x86_64.a 2>/dev/null)" ] ||
+        [ -e "$(clang --print-runtime-dir 2>/dev/null)/libclang_rt.fuzzer-x86_64.a" ]
+}
+
+if [ "${1:-}" = --more ]; then
+    for language in c99 c11 c17 c2x; do
+        step_by gcc gcc "$language by gcc" builds_as gcc "$language" c/test.c
+        step_by clang clang "$language by clang" builds_as clang "$language" c/test.c
+    done
+    for language in c++17 c++20 c++2b; do
+        step_by g++ g++ "$language by g++" builds_as g++ "$language" c/test.cpp
+        step_by clang++ clang "$language by clang++" builds_as clang++ "$language" c/test.cpp
+    done
+    step_by clang++ clang "clang's sanitizers" is_sane_by_clang
+    if has_fuzzer; then
+        step "a fuzzer for a minute" fuzzes
+    else
+        skipped=$((skipped + 1))
+        echo "$name: SKIPPED: a fuzzer for a minute: clang has no libFuzzer; on Debian the package libclang-rt-14-dev brings it"
+    fi
+    if command -v valgrind >/dev/null && has_cargo; then
+        step "by cargo: the library" builds_by_cargo
+        archive=$work/by_cargo/build/librange_set.a
+        step "by cargo: the tests compile" compiles c/test.c test
+        step "by cargo: the tests under valgrind" valgrind -q --error-exitcode=9 --leak-check=full "$work/test" 1000
+        step "by cargo: a shared library without a C compiler" runs_over_cdylib
+    fi
+    ended
+fi
+if [ "${1:-}" = --rust ]; then
+    over_rust
+    ended
+fi
+step_by python3 python3 "what stands once for each type is what tools/c-types writes" tools/c-types --check
 step "dist/ is what its checksums say" is_whole
+step_by nm binutils "the names in the library" has_only_its_names
 step "the layer compiles" gcc -std=c99 -O2 -fPIC $strict -c c/range_set.c -o "$work/range_set.o"
 step "the tests compile" compiles c/test.c test
 step "the tests" "$work/test"
@@ -62,5 +273,14 @@ for page in README.md c/README.md; do
 done
 step "the sanitizers" is_sane
 step_by g++ g++ "C++11" compiles_as_cpp
+step_by g++ g++ "the header for C++17" tests_cpp
+step_by g++ g++ "the lines in C++ of c/README.md" runs_cpp_page c/README.md
+step_by make make "make install" installs
+step_by pkg-config pkg-config "a program by pkg-config" is_found_by_pkg_config
+step_by cmake cmake "a program by CMake" is_found_by_cmake
+step_by readelf binutils "the shared library" is_shared
+step "what isn't called is dropped" drops_what_is_not_called
+step_by make make "make uninstall" uninstalls
 step_by valgrind valgrind "the tests under valgrind" valgrind -q --error-exitcode=9 --leak-check=full "$work/test" 1000
+over_rust
 ended

@@ -1,11 +1,13 @@
 #!/usr/bin/env bash
 # Builds the Rust crate and runs its tests natively by two Rusts, on 32 bits, with emulated processors of other kinds, and
-# as WebAssembly in node.
+# as WebAssembly in node; but for the last, the tests in C too, over the library that its feature `c` gives.
 #
 #   tests/platforms.sh [WORD..]     those whose names begin with one of the words: native, i386, aarch64, s390x, wasm32
 #
 # It installs nothing and changes nothing outside of a folder of its own. The library of a foreign platform is downloaded
 # there by apt. What is missing is named, and its platform is skipped. The last line is 'N passed, M failed, K skipped'.
+#
+# Of the cases that a test tries in a loop, an emulated processor tries one in ONE_IN. All others try each.
 set -u
 export LC_ALL=C.UTF-8
 cd "$(dirname "$0")/.." || exit 1
@@ -14,6 +16,8 @@ cd "$(dirname "$0")/.." || exit 1
 packages=/usr/share/cargo/registry
 debian=/usr/bin newer=${CARGO_HOME:-$HOME/.cargo}/bin
 offline=(--offline --config 'source.crates-io.replace-with="debian"' --config "source.debian.directory=\"$packages\"")
+ONE_IN=7
+builds_quickly
 work=$(mktemp -d) || exit 1
 trap 'rm -rf "$work"' EXIT
 
@@ -32,11 +36,16 @@ wanted() {
     return 1
 }
 
+# Where the copy of the crate lies that cargo of a folder builds.
+copy_for() {
+    echo "$work/crate-$(echo "$1" | tr / -)"
+}
+
 # Calls cargo of a folder, with the compiler beside it, in a copy of the crate: it writes a lock file, and of another version.
 cargo_of() {
-    local bin=$1
+    local bin=$1 copy
     shift
-    local copy=$work/crate-$(echo "$bin" | tr / -)
+    copy=$(copy_for "$bin")
     [ -d "$copy" ] || { mkdir "$copy" && tar c -C rust --exclude=./target --exclude=./Cargo.lock . | tar x -C "$copy"; } || return 1
     (cd "$copy" && RUSTC=$bin/rustc RUSTDOC=$bin/rustdoc "$bin/cargo" "$1" "${offline[@]}" "${@:2}")
 }
@@ -54,17 +63,33 @@ tests_of() {
     [ "$many" -gt 0 ]
 }
 
+# The tests in C over the library of cargo of a folder: a C compiler, the platform's folder of what cargo built, the words of
+# cargo, and after -- what runs a program.
+tests_c() {
+    local compiler=$1 built=$2 bin=$3 words=()
+    shift 3
+    while [ $# -gt 0 ] && [ "$1" != -- ]; do words+=("$1") && shift; done
+    cargo_of "$bin" rustc --quiet --features c --lib --crate-type staticlib "${words[@]}" &&
+        "$compiler" -std=c99 -O1 -Wall -Wextra -Ic/include c/test.c "$(copy_for "$bin")/target/$built/librange_sets.a" \
+            -lpthread -ldl -lm -o "$work/test_c" && "${@:2}" "$work/test_c" 500
+}
+
 # The names of the tests, without those in documentation.
 names_of() {
     cargo_of "$debian" test --quiet "${features[@]}" --lib --tests "$@" -- --list 2>/dev/null | sed -n 's/: test$//p' | sort
 }
 
-# The tests by one Rust on this machine, and a build without std.
+# A build without std by one Rust on this machine, and the tests, unless tests/rust.sh runs them by that Rust.
 native() {
     local bin=$1 what
     what=$("$bin/rustc" --version)
     step "$what: a build without std" cargo_of "$bin" build --quiet --no-default-features
-    step "$what: the tests" tests_of "$what" "$bin" test "${features[@]}"
+    if [ "$(command -v cargo)" = "$bin/cargo" ] && [ "$bin" != "$debian" ]; then
+        echo "$name: $what: the tests are those of tests/rust.sh"
+    else
+        RUSTDOCFLAGS=$(links_quickly "$bin/rustc") step "$what: the tests" tests_of "$what" "$bin" test "${features[@]}"
+    fi
+    step_by gcc gcc "$what: the tests in C" tests_c gcc debug "$bin"
 }
 
 # Downloads the library of a foreign platform, by Debian's name of it, without adding the platform to this machine.
@@ -78,6 +103,11 @@ foreign_std() {
     (cd "$state" && "${apt[@]}" update; "${apt[@]}" download libstd-rust-dev && dpkg-deb -x libstd-rust-dev_*.deb "$work/std-$arch")
 }
 
+# Whether a linker finds the C library of its platform, which Debian has in a package that the compiler only recommends.
+links() {
+    echo 'int main(void) { return 0; }' | "$1" -xc - -o "$work/linked" 2>/dev/null
+}
+
 # The tests for a platform, by its name, the compiler's, Debian's, the linker with its package, and what runs a program.
 foreign() {
     local what=$1 triple=$2 arch=$3 linker=$4 package=$5 variable
@@ -85,6 +115,10 @@ foreign() {
     wanted "$what" || return
     command -v "$linker" >/dev/null || {
         skip "$what" "$linker is missing; on Debian the package $package brings it"
+        return
+    }
+    links "$linker" || {
+        skip "$what" "$linker finds no C library; on Debian the package libc6-dev-$arch-cross brings it"
         return
     }
     command -v "$1" >/dev/null || {
@@ -96,8 +130,14 @@ foreign() {
         return
     }
     variable=CARGO_TARGET_$(echo "$triple" | tr a-z- A-Z_)
-    export "${variable}_LINKER=$linker" "${variable}_RUNNER=$*" "${variable}_RUSTFLAGS=--sysroot $work/std-$arch/usr"
+    export "${variable}_LINKER=$linker" "${variable}_RUNNER=$*" "${variable}_RUSTFLAGS=--sysroot $work/std-$arch/usr $quick"
+    if [[ $1 == qemu-* ]]; then
+        export RANGE_SETS_ONE_IN=$ONE_IN
+        what="$what, one case in $ONE_IN"
+    fi
     step "$what: the tests" tests_of "$what" "$debian" test "${features[@]}" --lib --tests --target "$triple"
+    unset RANGE_SETS_ONE_IN
+    step "$what: the tests in C" tests_c "$linker" "$triple/debug" "$debian" --target "$triple" -- "$@"
 }
 
 # The tests as WebAssembly. It has no unwinding, so tests that catch a panic are no part of them: those are named.

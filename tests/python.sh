@@ -2,7 +2,8 @@
 # Installs the Python package into a fresh venv, without the network, and runs its tests and the lines of its page from there.
 #
 #   tests/python.sh           all tests, with some seconds of made-up cases
-#   tests/python.sh --more    long runs of made-up cases, the example on a cluster of two processes, the benchmark's answers
+#   tests/python.sh --more    long runs of made-up cases, the example on a cluster of two processes, the benchmark's answers;
+#                             and the tests over a wheel whose library cargo builds of rust/
 #
 # The interpreter is PYTHON, or else the first of python3 and /usr/bin/python3 that has numpy and hypothesis, or else python3.
 # Its last line is 'N passed, M failed, K skipped'. It ends with 77 where a tool is missing.
@@ -60,6 +61,15 @@ prints_the_difference() {
     [ "$(cd "$work" && "$venv" -c "$line")" = "0..3, 5..10, 20.." ]
 }
 
+# When five people have time, of files in any form that the example allows.
+finds_a_meeting() {
+    local free="free from 10:00 to 11:00;free from 13:00 to 14:00;free from 14:15 to 15:30"
+    printf '14:00-14:15\n  12:00-13:00\n\n' >"$work/one" && printf '# late\n11:30-12:15\n11:00-11:45\n09:00-10:00\n15:30-18:00' >"$work/two"
+    [ "$("$venv" examples/meeting.py | paste -sd ';')" = "$free;60 minutes from 10:00" ] &&
+        [ "$("$venv" examples/meeting.py --minutes 70 "$work/one" "$work/two" | paste -sd ';')" = "$free;70 minutes from 14:15" ] &&
+        [ "$("$venv" examples/meeting.py --minutes 76 | tail -n 1)" = "no 76 minutes are free" ]
+}
+
 # The types of the package, and of a program that uses it.
 types_hold() {
     "$venv" -m mypy --cache-dir="$work/mypy" src/range_sets &&
@@ -71,6 +81,22 @@ builds_from_source() {
     mkdir "$work/source" "$work/wheels" &&
         "$venv" -c "import backend; backend.build_sdist('$work/source')" &&
         (cd "$work" && "$venv" -m pip wheel --no-index --quiet --wheel-dir=wheels source/*.tar.gz && ls wheels/*.whl)
+}
+
+# Installs a wheel of the source distribution whose library cargo builds, in a venv of its own, and runs the tests over it. Cargo
+# finds the crates that Debian packages.
+packages=/usr/share/cargo/registry
+installs_by_cargo() {
+    export RANGE_SETS_LIBRARY=rust
+    export CARGO="cargo --offline --config 'source.crates-io.replace-with=\"debian\"' --config 'source.debian.directory=\"$packages\"'"
+    venv=$work/by_cargo/bin/python
+    "$python" -m venv --system-site-packages "$work/by_cargo" &&
+        "$venv" -m pip install --no-index --quiet "$work"/source/*.tar.gz && has_no_proved_code && tests
+}
+
+# Whether the module is the one that cargo built: Rust's library leaves its sentences in it.
+has_no_proved_code() {
+    grep -q 'RUST_BACKTRACE' "$(cd "$work" && "$venv" -c 'import range_sets._core; print(range_sets._core.__file__)')"
 }
 
 # Runs a step that wants modules, by what they are, their Debian packages, and the step.
@@ -102,12 +128,19 @@ if [ "${1:-}" = --more ]; then
     step_with "dask.bag, distributed, numpy" "python3-dask python3-distributed python3-numpy" \
         "the example on two processes" "$venv" examples/received.py --ranges 100000
     step "a wheel of the source distribution" builds_from_source
+    if ls -d "$packages"/smallvec-[0-9]* >/dev/null 2>&1; then
+        step_by cargo cargo "the tests over a library that cargo builds" installs_by_cargo
+    else
+        skipped=$((skipped + 1))
+        echo "$name: SKIPPED: a library that cargo builds: the crate smallvec is missing; on Debian: librust-smallvec-dev"
+    fi
     step_with "intervaltree, sortedcontainers, netaddr" "python3-intervaltree python3-sortedcontainers python3-netaddr" \
         "the benchmark's answers" "$venv" bench.py --pairs 2000
     ended
 fi
 step "the first line of the page" prints_the_difference
 step "the tests" tests
+step "when five people have time" finds_a_meeting
 step_with numpy python3-numpy "the tests with numpy" tests -p with_numpy.py
 step_with hypothesis python3-hypothesis "the tests with hypothesis" tests -p with_hypothesis.py
 step_with dask.bag python3-dask "the tests with dask" tests -p with_dask.py

@@ -27,6 +27,7 @@ done
 work=$(mktemp -d) || exit 1
 trap 'rm -rf "$work"' EXIT
 export CARGO_TARGET_DIR=$work/built
+builds_quickly
 mkdir "$work/rust" && tar c --exclude=./target --exclude=./Cargo.lock . | tar x -C "$work/rust" || exit 1
 host=$(rustc -vV | sed -n 's/^host: //p')
 
@@ -54,6 +55,12 @@ runs_the_program() {
     [ "$(cargo_there run --quiet --features serde --example bookings)" = "RangeSet{7..9, 20..} is written as [7,9,20]" ]
 }
 
+# Runs the cache of a file's parts, which says what it has.
+runs_the_cache() {
+    [ "$(cargo_there run --quiet --features serde --example cache)" = \
+        "29% are here: 0..50, 60..100, 300..400, 900..1000, kept as [1000,[0,50,60,100,300,400,900,1000]]" ]
+}
+
 documents() {
     RUSTDOCFLAGS='-D warnings' cargo_there doc --quiet --no-deps "${features[@]}"
 }
@@ -78,9 +85,10 @@ if [ "${1-}" = --sanitizer ]; then
     ended
 fi
 
-step "the tests" cargo_there test --quiet "${features[@]}"
+RUSTDOCFLAGS=$(links_quickly rustc) step "the tests" cargo_there test --quiet "${features[@]}"
 step "a build without std" cargo_there build --quiet --no-default-features --features serde
 step "the program written for range-collections" runs_the_program
+step "a cache of a file's parts" runs_the_cache
 step "the documentation, without a warning" documents
 step "the package" cargo_there package --quiet
 for page in ../README.md README.md; do

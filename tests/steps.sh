@@ -3,6 +3,18 @@
 passed=0 failed=0 skipped=0
 name=$(basename "$0" .sh)
 
+# Has cargo build what is only tested, by a third of the work: without debug information, without what a next build would
+# use, and without inlining.
+quick="-C no-prepopulate-passes"
+builds_quickly() {
+    export CARGO_INCREMENTAL=0 CARGO_PROFILE_DEV_DEBUG=0 CARGO_PROFILE_TEST_DEBUG=0 CARGO_BUILD_RUSTFLAGS=$quick
+}
+
+# What has a rustdoc link each line of the documentation, which is a program, to the std of a rustc and not copy it.
+links_quickly() {
+    echo "-C prefer-dynamic -C link-arg=-Wl,-rpath,$("$1" --print target-libdir)"
+}
+
 # Runs a step, by its name and its command, and shows what a failing one prints.
 step() {
     local what=$1 said
