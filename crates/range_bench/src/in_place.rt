@@ -1,4 +1,4 @@
-//! Sets changed in place. Each export copies what it changes or hands over: `range_bench_copy` and `range_bench_copies` do that alone, so that their time can be taken off.
+//! Sets changed in place. Each export copies what it changes or gives away: `range_bench_copy` and `range_bench_copies` do that alone, so that their time can be taken off.
 ghost use Rattle.std.specs.Prelude.{◌≡◌, false};
 ghost use Rattle.std.specs.Ordering.{int_cmp};
 ghost use Rattle.range_collections.specs.Boundaries.{IsAscending};
@@ -89,7 +89,7 @@ pub extern "C" fn range_bench_symmetric_difference_lent(
     handed_over(changed_by_view(alloc, left, right, &XorOp), out)
 }
 
-/// The union with a set that is handed over, in place.
+/// The union with an owned set, in place.
 #[unsafe(no_mangle)]
 pub extern "C" fn range_bench_union_owned(
     alloc: Global,
@@ -103,7 +103,7 @@ pub extern "C" fn range_bench_union_owned(
     handed_over(changed_by_owned(alloc, left, right, &UnionOp), out)
 }
 
-/// The intersection with a set that is handed over, in place.
+/// The intersection with an owned set, in place.
 #[unsafe(no_mangle)]
 pub extern "C" fn range_bench_intersection_owned(
     alloc: Global,
@@ -117,7 +117,7 @@ pub extern "C" fn range_bench_intersection_owned(
     handed_over(changed_by_owned(alloc, left, right, &IntersectionOp), out)
 }
 
-/// The difference from a set that is handed over, in place.
+/// The difference from an owned set, in place.
 #[unsafe(no_mangle)]
 pub extern "C" fn range_bench_difference_owned(
     alloc: Global,
@@ -131,7 +131,7 @@ pub extern "C" fn range_bench_difference_owned(
     handed_over(changed_by_owned(alloc, left, right, &DiffOp), out)
 }
 
-/// The symmetric difference with a set that is handed over, in place.
+/// The symmetric difference with an owned set, in place.
 #[unsafe(no_mangle)]
 pub extern "C" fn range_bench_symmetric_difference_owned(
     alloc: Global,
@@ -166,7 +166,7 @@ fn changed_by_view<O: MergeOperation>(
     Ok(set)
 }
 
-// A copy of the left, changed by a copy of the right, which is handed over.
+// A copy of the left, changed by an owned copy of the right.
 #[inline(always)]
 fn changed_by_owned<O: MergeOperation>(
     alloc: Global,

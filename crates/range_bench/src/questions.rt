@@ -1,4 +1,4 @@
-//! Questions, which take no memory.
+//! Questions. Only those about texts take memory, for where each text lies.
 ghost use Rattle.std.specs.Prelude.{◌≡◌, ◌↔◌, ◌+◌, ◌<◌, ◌^◌, length, IsTrue};
 ghost use Rattle.std.specs.Ordering.{int_cmp};
 ghost use Rattle.range_collections.specs.Boundaries.{IsAscending};
@@ -7,6 +7,7 @@ ghost use Rattle.range_collections.specs.Connective.{union_table};
 ghost use Rattle.range_collections.specs.Sets.{IsSubset, IsDisjoint};
 
 use range_collections::{Comparisons, RangeSetRange, RangeSetRef, UnionOp};
+use std::alloc::{AllocError, Global};
 
 /// Whether no number is a member of both.
 #[unsafe(no_mangle)]
@@ -68,6 +69,37 @@ pub extern "C" fn range_bench_contains(set: &[i64], values: &[i64]) -> usize
     let mut members = 0usize;
     for value in values {
         members = members.wrapping_add(set.contains(value) as usize);
+    }
+    members
+}
+
+/// How many of the values are members of the set of these texts, or `usize::MAX` if memory runs out or the texts aren't strictly sorted. Each text and each value has 32 bytes, and comes right after the one before.
+#[unsafe(no_mangle)]
+pub extern "C" fn range_bench_contains_text(alloc: Global, texts: &[u8], values: &[u8]) -> usize {
+    match texts_of(alloc, texts) {
+        Ok(list) => texts_among(&list, values),
+        Err(_) => usize::MAX,
+    }
+}
+
+// How many bytes a text has.
+const TEXT_LEN: usize = 32;
+
+fn texts_of<'a>(alloc: Global, bytes: &'a [u8]) -> Result<Vec<&'a [u8]>, AllocError> {
+    let mut texts = Vec::with_capacity(alloc, bytes.len() / TEXT_LEN)?;
+    for text in bytes.chunks(TEXT_LEN) {
+        texts.push(text)?;
+    }
+    Ok(texts)
+}
+
+fn texts_among(texts: &[&[u8]], values: &[u8]) -> usize {
+    let Some(set) = RangeSetRef::new(texts) else {
+        return usize::MAX;
+    };
+    let mut members = 0usize;
+    for value in values.chunks(TEXT_LEN) {
+        members = members.wrapping_add(set.contains(&value) as usize);
     }
     members
 }
