@@ -4,7 +4,7 @@
 
 enum operation { UNITE, INTERSECT, SUBTRACT, DIFFER };
 
-// Whether the result has what lies behind `i` boundaries of one side and `j` of the other.
+// Whether the result has what comes after `i` boundaries of one side and `j` of the other.
 static inline bool is_on(enum operation operation, size_t i, size_t j) {
     switch (operation) {
     case UNITE:

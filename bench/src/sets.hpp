@@ -26,7 +26,7 @@ constexpr bool is_on(Operation operation, bool left, bool right) {
     return false;
 }
 
-// Texts of so many characters, one behind the other.
+// Texts of so many characters, one after the other.
 constexpr std::size_t text_len = 32;
 using Texts = std::string;
 

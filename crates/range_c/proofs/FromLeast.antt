@@ -1,4 +1,4 @@
--- What a connective makes of two sets from the least number on: what it is there, and what changes behind it.
+-- What a connective makes of two sets from the least number on: what it is there, and what changes after it.
 use Rattle.std.proofs.Common.{◌≡◌, refl, sym, ap, ap₂, ◌∙◌, ℕ, ◌≤◌, ◌+◌, Bool, true, false, List, [], ◌∷◌, length, take, drop, All, arith, true≢false}
 use Rattle.std.specs.List.{AllWithin}
 use Rattle.std.proofs.lemmas.List.{take-append-drop, length-take-le, length-map}
@@ -34,7 +34,7 @@ module _ {K : Type 0} {order : K → K → Ordering} (o : IsTotalOrder order) (l
   none_low : (xs : List K) (x : K) → All (λ y. order y least ≡ Greater) xs → is_le (order x least) ≡ true → member order xs x ≡ false
   none_low xs x h low = member-above order xs x (All-weaker (λ y. order y least ≡ Greater) (λ y. order y x ≡ Greater) (λ y g. above-low y x g low) xs h)
 
-  -- behind the items that are at or below the least number, the members change by their number
+  -- after the items that are at or below the least number, the members change by their number
   pub member-drop : (items : List K) (n : ℕ) → n ≤ length items → AllWithin (λ y. is_le (order y least) ≡ true) items 0 n →
       (x : K) → is_le (order least x) ≡ true → member order items x ≡ differ (is_odd n) (member order (drop n items) x)
   member-drop items n within low x far =
@@ -60,7 +60,7 @@ module _ {K : Type 0} {order : K → K → Ordering} (o : IsTotalOrder order) (l
         (same_items o i j m.sorted n.sorted
         (λ x. is_le-cases (order least x) (λ h. m.members x h ∙ sym (n.members x h)) (λ g. below i x m g ∙ sym (below j x n g))))
 
-    -- what changes from the least number on, where both lists were cut behind it
+    -- what changes from the least number on, where both lists were cut after it
     module _ (g : Table) (p q : Bool) (u v : List K) (off : g false false ≡ false) (changed : (s t : Bool) → g s t ≡ differ (f p q) (f (differ p s) (differ q t)))
         (u_above : All (λ y. order y least ≡ Greater) u) (v_above : All (λ y. order y least ≡ Greater) v)
         (in_a : (x : K) → is_le (order least x) ≡ true → member order a x ≡ differ p (member order u x))
@@ -95,8 +95,8 @@ module _ {K : Type 0} {order : K → K → Ordering} (o : IsTotalOrder order) (l
         members = λ x far. told items m x far ∙ ap (λ s. differ s (f (member order a x) (member order b x))) e;
       }
 
-      MeansFrom-behind : (items : List K) → f p q ≡ true → Means order g items u v → MeansFrom order least f (least ∷ items) a b
-      MeansFrom-behind items e m = record {
+      MeansFrom-after : (items : List K) → f p q ≡ true → Means order g items u v → MeansFrom order least f (least ∷ items) a b
+      MeansFrom-after items e m = record {
         sorted = IsAscending-cons order least items (lows items (items_above items m)) m.sorted;
         from = All-cons (λ y. is_le (order least y) ≡ true) least items (ap is_le (Equal-self o least)) (froms items (items_above items m));
         members = λ x far.
@@ -115,15 +115,15 @@ module _ {K : Type 0} {order : K → K → Ordering} (o : IsTotalOrder order) (l
               r.counted ∙ sym (length-map (changes order g u v) taken_item)
               ∙ same-from (taken_items (changes order g u v)) items (MeansFrom-plain _ e items_changed) m;
           means = λ fits. MeansFrom-plain (take n new) e (r.means fits);
-          behind = r.behind;
+          after = r.after;
         }
 
-        pub AnswersFrom-behind : (old new : List K) (n : ℕ) → f p q ≡ true → n ≡ length (changes order g u v) + 1 →
+        pub AnswersFrom-after : (old new : List K) (n : ℕ) → f p q ≡ true → n ≡ length (changes order g u v) + 1 →
             (n ≤ length old → take n new ≡ least ∷ taken_items (changes order g u v)) → (n ≤ length old → drop n new ≡ drop n old) →
             AnswersFrom order least f a b old new n
-        AnswersFrom-behind old new n e counted front rest = record {
+        AnswersFrom-after old new n e counted front rest = record {
           counted = λ items m.
-              omega (arith, counted, length-map (changes order g u v) taken_item, same-from (least ∷ taken_items (changes order g u v)) items (MeansFrom-behind _ e items_changed) m);
-          means = λ fits. rw (front fits) (MeansFrom-behind _ e items_changed);
-          behind = rest;
+              omega (arith, counted, length-map (changes order g u v) taken_item, same-from (least ∷ taken_items (changes order g u v)) items (MeansFrom-after _ e items_changed) m);
+          means = λ fits. rw (front fits) (MeansFrom-after _ e items_changed);
+          after = rest;
         }

@@ -1,4 +1,4 @@
--- Ranges whose ends ascend, and one more behind them.
+-- Ranges whose ends ascend, and one more after them.
 use Rattle.std.proofs.Common.{◌≡◌, refl, sym, ap, ap₂, ◌∙◌, subst, ℕ, ◌<◌, ◌≤◌, ◌+◌, ◌-◌, Bool, true, false, ◌&&◌, ◌||◌, List, [], ◌∷◌, ◌++◌, All, append_assoc, length, get_or, set, take, drop, arith}
 use Rattle.std.specs.Cmp.{IsTotalOrder}
 use Rattle.std.specs.List.{list_any}
@@ -172,9 +172,9 @@ module _ {K : Type 0} {order : K → K → Ordering} (o : IsTotalOrder order) wh
             (λ past. ap (λ v. is_le v && is_lt (order x (last r))) past)
 
     -- a range that begins above all ends
-    IsPut-behind : (rs : List P) (r : P) → IsAscending order (ends_of first last rs) → starts_low r rs → order (first r) (last r) ≡ Less →
+    IsPut-after : (rs : List P) (r : P) → IsAscending order (ends_of first last rs) → starts_low r rs → order (first r) (last r) ≡ Less →
         All (λ y. order y (first r) ≡ Less) (ends_of first last rs) → IsPut order first last rs r (rs ++ r ∷ [])
-    IsPut-behind rs r up low less below = record {
+    IsPut-after rs r up low less below = record {
       sorted =
           subst (IsAscending order) (sym (ends_of-append rs (r ∷ [])))
           (IsAscending-append o (ends_of first last rs) (first r ∷ last r ∷ []) up (ascending-two (first r) (last r) less)
@@ -191,13 +191,13 @@ module _ {K : Type 0} {order : K → K → Ordering} (o : IsTotalOrder order) wh
 
     pub IsPut-first : (r : P) → is_lt (order (first r) (last r)) ≡ true → IsPut order first last [] r (r ∷ [])
     IsPut-first r some =
-        IsPut-behind [] r (IsAscending-nil order) (All-nil (λ t. is_le (order (first t) (first r)) ≡ true)) (Less-from_is_lt (order (first r) (last r)) some)
+        IsPut-after [] r (IsAscending-nil order) (All-nil (λ t. is_le (order (first t) (first r)) ≡ true)) (Less-from_is_lt (order (first r) (last r)) some)
         (All-nil (λ y. order y (first r) ≡ Less))
 
     pub IsPut-apart : (rs : List P) (b r : P) → IsAscending order (ends_of first last (rs ++ b ∷ [])) → starts_low r (rs ++ b ∷ []) →
         is_lt (order (first r) (last r)) ≡ true → is_lt (order (last b) (first r)) ≡ true → IsPut order first last (rs ++ b ∷ []) r ((rs ++ b ∷ []) ++ r ∷ [])
     IsPut-apart rs b r up low some gap =
-        IsPut-behind (rs ++ b ∷ []) r up low (Less-from_is_lt (order (first r) (last r)) some)
+        IsPut-after (rs ++ b ∷ []) r up low (Less-from_is_lt (order (first r) (last r)) some)
         (subst (All (λ y. order y (first r) ≡ Less)) (sym (ends_of-push rs b))
         (below_end (ends_of first last rs ++ first b ∷ []) (last b) (first r) (subst (IsAscending order) (ends_of-push rs b) up) (Less-from_is_lt (order (last b) (first r)) gap)))
 
@@ -323,7 +323,7 @@ module _ {K : Type 0} {order : K → K → Ordering} (o : IsTotalOrder order) wh
 
     pub IsJoined-more : (was now new : List P) (i kept next : ℕ) (r : P) → IsSortedByKey first order was → IsJoined order first last was i now kept → i < length was → r ≡ get_or now i r →
         next ≤ kept + 1 → IsPut order first last (take kept now) r (take next new) → drop (kept + 1) new ≡ drop (kept + 1) now → IsJoined order first last was (i + 1) new next
-    IsJoined-more was now new i kept next r up h inside is bound p behind = record {
+    IsJoined-more was now new i kept next r up h inside is bound p after = record {
       in_front = omega (arith, h.in_front, bound);
       as_was = later;
       sorted = p.sorted;
@@ -355,7 +355,7 @@ module _ {K : Type 0} {order : K → K → Ordering} (o : IsTotalOrder order) wh
 
         later : drop (i + 1) new ≡ drop (i + 1) was
         later =
-            sym (by_kept new) ∙ ap (drop (i - kept)) behind ∙ by_kept now
+            sym (by_kept new) ∙ ap (drop (i - kept)) after ∙ by_kept now
             ∙ sym (drop-drop 1 i now) ∙ ap (drop 1) h.as_was ∙ drop-drop 1 i was
 
     pub IsUnionOf-joined : (was now : List P) (i kept : ℕ) → IsJoined order first last was i now kept → length was ≤ i → IsUnionOf order first last was (take kept now)

@@ -1,4 +1,4 @@
--- Texts put behind one another in a buffer.
+-- Texts put one after the other in a buffer.
 use Rattle.std.proofs.Common.{◌≡◌, sym, ap, ap₂, ◌∙◌, ℕ, ◌+◌, ◌≤◌, List, [], ◌++◌, length, take, drop, append_assoc, arith}
 use Rattle.std.proofs.lemmas.List.{length-append, length-take-le, length-drop, take_at, drop_at, drop-drop, take-append-drop}
 use Rattle.range_c.specs.Text.{AnswersText, PutsText}
@@ -10,7 +10,7 @@ PutsText-nothing len old = record {
   written = λ h. sym (take-append-drop len old);
 }
 
--- a text, and another behind it
+-- a text, and another after it
 pub PutsText-append : (len m n : ℕ) (front back old mid new : List ℕ) → PutsText len front old mid m → PutsText m back mid new n → PutsText len (front ++ back) old new n
 PutsText-append len m n front back old mid new first second = record {
   counted = omega (arith, first.counted, second.counted, length-append front back);
@@ -20,7 +20,7 @@ PutsText-append len m n front back old mid new first second = record {
       let whole : mid ≡ before ++ drop m old = first.written early ∙ sym (append_assoc (take len old) front (drop m old)) in
       let long : length before ≡ m = omega (arith, length-append (take len old) front, length-take-le len old (omega (arith, first.counted, early)), first.counted) in
       let same : length mid ≡ length old = ap length (first.written early) ∙ omega (arith, length-append (take len old) (front ++ drop m old), length-append front (drop m old), length-take-le len old (omega (arith, first.counted, early)), first.counted, length-drop m old, early) in
-      let behind : drop n mid ≡ drop n old =
+      let after : drop n mid ≡ drop n old =
       ap (λ k. drop k mid) second.counted
       ∙ sym (drop-drop (length back) m mid)
       ∙ ap (λ xs. drop (length back) (drop m xs)) whole
@@ -28,7 +28,7 @@ PutsText-append len m n front back old mid new first second = record {
       ∙ drop-drop (length back) m old
       ∙ ap (λ k. drop k old) (sym second.counted) in
       second.written (omega (arith, same, h))
-      ∙ ap₂ (λ xs ys. xs ++ (back ++ ys)) (ap (take m) whole ∙ take_at before (drop m old) m long) behind
+      ∙ ap₂ (λ xs ys. xs ++ (back ++ ys)) (ap (take m) whole ∙ take_at before (drop m old) m long) after
       ∙ append_assoc (take len old) front (back ++ drop n old)
       ∙ ap (λ xs. take len old ++ xs) (sym (append_assoc front back (drop n old)));
 }

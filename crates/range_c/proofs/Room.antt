@@ -1,4 +1,4 @@
--- Sets changed in a buffer with room behind them: items between two places replaced.
+-- Sets changed in a buffer with room after them: items between two places replaced.
 use Rattle.std.proofs.Common.{◌≡◌, sym, ap, ap₂, ◌∙◌, ℕ, ◌+◌, ◌-◌, ◌≤◌, Bool, Option, List, ◌++◌, length, take, drop, arith}
 use Rattle.std.specs.Option.{option_to_list}
 use Rattle.std.specs.declared.cmp.Ordering.{Ordering}
@@ -24,7 +24,7 @@ module _ {K : Type 0} where
   drop-first : (k : ℕ) (us vs : List K) → length us ≡ k → drop k (us ++ vs) ≡ vs
   drop-first k us vs h = ap (λ j. drop j (us ++ vs)) (sym h) ∙ drop-append_seam us vs
 
-  -- a front stays where items are pasted behind it
+  -- a front stays where items are pasted after it
   front-paste : (xs ys s : List K) (from at n : ℕ) → from ≤ at → at ≤ length xs → n ≤ length s → ys ≡ paste xs at s n → take from ys ≡ take from xs
   front-paste xs ys s from at n h within few e =
       ap (take from) e
@@ -33,29 +33,29 @@ module _ {K : Type 0} where
       ∙ take-append-le from (take at xs) (take n s) (omega (arith, h, length-take-le at xs within))
       ∙ take-take from at xs h
 
-  -- what stands behind `to` among the first `len`, moved to `behind`, and the start and the end put before it
-  pub spliced-in_room : (xs ys zs : List K) (len from to behind : ℕ) (s e : Option K) → from ≤ to → to ≤ len → len ≤ length xs →
-      behind ≡ from + length (option_to_list s) + length (option_to_list e) → behind + (len - to) ≤ length xs →
-      ys ≡ paste xs behind (drop to xs) (len - to) → zs ≡ spliced ys from behind s e →
-      take (behind + (len - to)) zs ≡ spliced (take len xs) from to s e
-  spliced-in_room xs ys zs len from to behind s e ordered within room b fits moved put =
+  -- what stands after `to` among the first `len`, moved to `after`, and the start and the end put before it
+  pub spliced-in_room : (xs ys zs : List K) (len from to after : ℕ) (s e : Option K) → from ≤ to → to ≤ len → len ≤ length xs →
+      after ≡ from + length (option_to_list s) + length (option_to_list e) → after + (len - to) ≤ length xs →
+      ys ≡ paste xs after (drop to xs) (len - to) → zs ≡ spliced ys from after s e →
+      take (after + (len - to)) zs ≡ spliced (take len xs) from to s e
+  spliced-in_room xs ys zs len from to after s e ordered within room b fits moved put =
       let n = len - to in
       let few : n ≤ length (drop to xs) = omega (arith, length-drop to xs, room, within) in
-      let long : length ys ≡ length xs = ap length moved ∙ length-paste xs behind (drop to xs) n fits few in
+      let long : length ys ≡ length xs = ap length moved ∙ length-paste xs after (drop to xs) n fits few in
       let front : List K = spliced_front ys from s e in
-      let m : length front ≡ behind = length-spliced_front ys from s e (omega (arith, long, ordered, within, room)) ∙ sym b in
+      let m : length front ≡ after = length-spliced_front ys from s e (omega (arith, long, ordered, within, room)) ∙ sym b in
       let same_front : take from ys ≡ take from (take len xs) =
-      front-paste xs ys (drop to xs) from behind n (omega (arith, b)) (omega (arith, fits)) few moved
+      front-paste xs ys (drop to xs) from after n (omega (arith, b)) (omega (arith, fits)) few moved
       ∙ sym (take-take from len xs (omega (arith, ordered, within))) in
-      let moved_items : take n (drop behind ys) ≡ drop to (take len xs) =
-      sym (drop-take behind n ys)
-      ∙ ap (λ us. drop behind (take (behind + n) us)) moved
-      ∙ ap (drop behind) (take-paste xs behind (drop to xs) n (omega (arith, fits)) few)
-      ∙ drop-first behind (take behind xs) (take n (drop to xs)) (length-take-le behind xs (omega (arith, fits)))
+      let moved_items : take n (drop after ys) ≡ drop to (take len xs) =
+      sym (drop-take after n ys)
+      ∙ ap (λ us. drop after (take (after + n) us)) moved
+      ∙ ap (drop after) (take-paste xs after (drop to xs) n (omega (arith, fits)) few)
+      ∙ drop-first after (take after xs) (take n (drop to xs)) (length-take-le after xs (omega (arith, fits)))
       ∙ sym (drop-take to n xs)
       ∙ ap (λ k. drop to (take k xs)) (omega (arith, within)) in
-      ap (take (behind + n)) (put ∙ spliced-front ys from behind s e)
-      ∙ ap (λ k. take (k + n) (front ++ drop behind ys)) (sym m)
-      ∙ take-append-add front (drop behind ys) n
+      ap (take (after + n)) (put ∙ spliced-front ys from after s e)
+      ∙ ap (λ k. take (k + n) (front ++ drop after ys)) (sym m)
+      ∙ take-append-add front (drop after ys) n
       ∙ ap₂ (λ us vs. (us ++ (option_to_list s ++ option_to_list e)) ++ vs) same_front moved_items
       ∙ sym (spliced-front (take len xs) from to s e)

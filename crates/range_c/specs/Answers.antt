@@ -22,4 +22,4 @@ module _ {K : Type 0} (order : K → K → Ordering) where
     pub counted : n ≡ length (changes order f a b)
     pub means : n ≤ length old → Means order f (take n new) a b
     pub left_own_item : n ≤ length old → take n new ≡ taken_items (changes order f a b)
-    pub behind : n ≤ length old → drop n new ≡ drop n old
+    pub after : n ≤ length old → drop n new ≡ drop n old

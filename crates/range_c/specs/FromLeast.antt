@@ -15,8 +15,8 @@ module _ {K : Type 0} (order : K → K → Ordering) (least : K) (f : Table) whe
     pub members : (x : K) → is_le (order least x) ≡ true →
         member order items x ≡ f (member order a x) (member order b x)
 
-  -- n is the length of the one such list. Where the buffer is long enough it begins with that list, and behind it the buffer is as it was
+  -- n is the length of the one such list. Where the buffer is long enough it begins with that list, and after it the buffer is as it was
   pub record AnswersFrom (a b old new : List K) (n : ℕ) : Type 0 where
     pub counted : (items : List K) → MeansFrom items a b → n ≡ length items
     pub means : n ≤ length old → MeansFrom (take n new) a b
-    pub behind : n ≤ length old → drop n new ≡ drop n old
+    pub after : n ≤ length old → drop n new ≡ drop n old

@@ -34,7 +34,7 @@ pub(crate) fn combine_from<T: Ord + Copy>(
     if !is_on(&of, a_on, b_on) {
         return merge(a, b, &op, out);
     }
-    merge_behind(a, b, least, &op, out)
+    merge_after(a, b, least, &op, out)
 }
 
 // Whether the least number is a member, and the boundaries above it.
@@ -80,8 +80,8 @@ fn changes_from(of: &Connective, a: bool, b: bool) -> Connective
     }
 }
 
-// Writes the least number, and behind it what the operation makes of both lists.
-fn merge_behind<T: Ord + Copy, O: MergeOperation>(
+// Writes the least number, and after it what the operation makes of both lists.
+fn merge_after<T: Ord + Copy, O: MergeOperation>(
     a: &[T],
     b: &[T],
     least: T,
@@ -94,7 +94,7 @@ fn merge_behind<T: Ord + Copy, O: MergeOperation>(
     ensures counted { result ≡ length (changes T.cmp (O.connective op.now) a.now b.now) + 1 }
     ensures front { result ≤ length out.old → take result out.new ≡
         least ∷ taken_items (changes T.cmp (O.connective op.now) a.now b.now) }
-    ensures behind { result ≤ length out.old → drop result out.new ≡ drop result out.old }
+    ensures after { result ≤ length out.old → drop result out.new ≡ drop result out.old }
 {
     changes_are_at_most_the_lengths::<T, Comparisons>();
     if out.is_empty() {

@@ -89,12 +89,12 @@ fn splice<T: Copy>(
         take result buffer.new ≡ spliced (take len buffer.old) from to start end }
     ensures unchanged { length buffer.old < result → buffer.new ≡ buffer.old }
 {
-    let behind = from + count(&start) + count(&end);
-    let needed = behind + (len - to);
+    let after = from + count(&start) + count(&end);
+    let needed = after + (len - to);
     if needed > buffer.len() {
         return needed;
     }
-    buffer.copy_within(to..len, behind);
+    buffer.copy_within(to..len, after);
     let next = overwrite(buffer, from, start);
     overwrite(buffer, next, end);
     needed
@@ -117,7 +117,7 @@ pub(crate) fn overwrite<T: Copy>(items: &mut [T], at: usize, item: Option<T>) ->
     requires { at + length (option_to_list item) ≤ length items.old }
     ensures items { items.new ≡
         take at items.old ++ (option_to_list item ++ drop result items.old) }
-    ensures behind { result ≡ at + length (option_to_list item) }
+    ensures after { result ≡ at + length (option_to_list item) }
 {
     match item {
         Some(item) => {

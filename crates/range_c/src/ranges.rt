@@ -40,7 +40,7 @@ fn put<E: Ends>(ranges: &mut [E], kept: usize, range: E) -> usize
     ensures within { result ≤ kept + 1 }
     ensures put { IsPut E.Number.cmp E.first E.last (take kept ranges.old)
         range (take result ranges.new) }
-    ensures behind { drop (kept + 1) ranges.new ≡ drop (kept + 1) ranges.old }
+    ensures after { drop (kept + 1) ranges.new ≡ drop (kept + 1) ranges.old }
 {
     if !range.start().cmp(&range.end()).is_lt() {
         return kept;

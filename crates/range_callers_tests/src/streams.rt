@@ -70,7 +70,7 @@ fn one_byte_at_once_is_enough(rt: HostRuntime) {
 }
 
 /// Whether the error of an input that fails after these bytes is passed on, and the lines before it are answered.
-fn fails_behind(alloc: Global, unread: &[u8]) -> bool {
+fn fails_after(alloc: Global, unread: &[u8]) -> bool {
     let source = Source {
         unread,
         at_once: 5,
@@ -87,7 +87,7 @@ fn fails_behind(alloc: Global, unread: &[u8]) -> bool {
 fn an_input_that_fails_passes_its_error_on(rt: HostRuntime) {
     for length in 0..=INPUT.len() {
         assert!(rt;
-            fails_behind(rt.alloc(), &INPUT[..length]),
+            fails_after(rt.alloc(), &INPUT[..length]),
             "{length} bytes"
         );
     }

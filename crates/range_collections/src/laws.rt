@@ -15,7 +15,7 @@ pub use parts::{
 };
 pub use range_merge::laws::{
     changes_are_at_most_the_lengths, changes_are_marked_truly, changes_mean_the_connective,
-    changes_mean_the_opposite, copies_stand_behind_what_was_there, operations_are_connectives,
+    changes_mean_the_opposite, copies_stand_after_what_was_there, operations_are_connectives,
     owners_are_pinned, the_test_alone_stops, weight_is_at_most_the_lengths,
 };
 pub use ranges::{

@@ -60,7 +60,7 @@ pub fn changes_are_marked_truly<K, C: Compare<K>>()
 {}
 
 /// A list that began with some items still begins with them, followed by copies of what was taken since.
-pub fn copies_stand_behind_what_was_there<K, P: Copier<K>>()
+pub fn copies_stand_after_what_was_there<K, P: Copier<K>>()
     ensures after { (r : List K) (ts : List (Taken K)) (items : List K) →
         AreKeptThenCopies P.alike (length r) (map from_left r ++ ts) items →
         IsAppended P.alike (taken_items ts) r items }

@@ -24,7 +24,7 @@ all_read (Some xs) done rest text h e t =
     let same : xs ≡ rest = cc in
     t ∙ ap (λ zs. done ++ zs) (sym same ∙ h) ∙ append-nil done
 
--- what is kept of a list stays what is kept of it with more behind
+-- what is kept of a list stays what is kept of it with more after it
 pub take-take_append : (n : ℕ) (xs ys : List ℕ) → take n (take n xs ++ ys) ≡ take n (xs ++ ys)
 take-take_append zero xs ys = refl
 take-take_append (suc n) [] ys = refl

@@ -29,9 +29,9 @@ abbrev pub words_of : List ℕ → List (List ℕ)
 words_of line = slice_split (λ b. b == 32) line
 
 -- the words after a blank, if there is one
-abbrev pub words_behind : Option (Bor (List ℕ)) → List (List ℕ)
-words_behind None = []
-words_behind (Some rest) = words_of rest.now
+abbrev pub words_after : Option (Bor (List ℕ)) → List (List ℕ)
+words_after None = []
+words_after (Some rest) = words_of rest.now
 
 -- what a word asks of a range, if it asks something
 unfoldable pub asked_of_range : List ℕ → Range ℕ → Option Request

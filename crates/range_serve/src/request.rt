@@ -1,6 +1,6 @@
 //! What a line asks. It is read without memory.
 ghost use Rattle.std.specs.Prelude.{◌≡◌, [], ◌∷◌};
-ghost use Rattle.range_serve.specs.Requests.{request_of, asked_by, words_of, words_behind};
+ghost use Rattle.range_serve.specs.Requests.{request_of, asked_by, words_of, words_after};
 
 use crate::numbers::number;
 use range_tracker::Command;
@@ -50,7 +50,7 @@ fn of_text(text: &str) -> Option<Request>
 
 /// The first word of the text, and what comes after its blank, if there is one.
 fn cut(text: &str) -> (&str, Option<&str>)
-    ensures { words_of text.now ≡ result.0.now ∷ words_behind result.1 }
+    ensures { words_of text.now ≡ result.0.now ∷ words_after result.1 }
 {
     match text.split_once(' ') {
         Some((word, rest)) => (word, Some(rest)),

@@ -150,7 +150,7 @@ impl<K, const N: usize> Place<Slot<K>> for Opened<'_, K, N> {
             at <= self.len && (self.front == self.back || self.back == at),
             "out of range"
         );
-        // SAFETY: the items from `at` on are there, and there is room behind them for `n` more.
+        // SAFETY: the items from `at` on are there, and there is room after them for `n` more.
         unsafe {
             let first = self.items.add(at);
             ptr::copy(first, first.add(n), self.len - at);

@@ -10,15 +10,15 @@ returns-clause-items g c =
     λ fits.
     let xs = c.args.buffer.now in
     let ys = c.copy_within.new.self in
-    let behind = c.args.from + c.count.result + c.count-2.result in
-    let few : behind ≡ c.args.from + length (option_to_list c.args.start) + length (option_to_list c.args.end) =
+    let after = c.args.from + c.count.result + c.count-2.result in
+    let few : after ≡ c.args.from + length (option_to_list c.args.start) + length (option_to_list c.args.end) =
     omega (arith, c.count.ensures.value, c.count-2.ensures.value) in
-    let at : c.overwrite.result ≡ behind =
-    omega (arith, few, c.overwrite-next.ensures.behind, c.overwrite.ensures.behind) in
+    let at : c.overwrite.result ≡ after =
+    omega (arith, few, c.overwrite-next.ensures.after, c.overwrite.ensures.after) in
     let put : c.overwrite.new.items ≡ spliced ys c.args.from c.overwrite.result c.args.start c.args.end =
     c.overwrite.ensures.items
     ∙ spliced-twice ys c.overwrite-next.new.items c.args.from c.overwrite-next.result c.overwrite.result c.args.start c.args.end
-    (omega (arith, few, fits, c.copy_within.ensures.len)) c.overwrite-next.ensures.behind c.overwrite.ensures.behind c.overwrite-next.ensures.items in
-    spliced-in_room xs ys c.overwrite.new.items c.args.len c.args.from c.args.to behind c.args.start c.args.end
+    (omega (arith, few, fits, c.copy_within.ensures.len)) c.overwrite-next.ensures.after c.overwrite.ensures.after c.overwrite-next.ensures.items in
+    spliced-in_room xs ys c.overwrite.new.items c.args.len c.args.from c.args.to after c.args.start c.args.end
     c.requires.ordered c.requires.within c.requires.room few fits c.copy_within.ensures.after
     (put ∙ ap (λ n. spliced ys c.args.from n c.args.start c.args.end) at)

@@ -9,7 +9,7 @@ pub loop-i-preserved : goal.loop-i-preserved
 loop-i-preserved g c =
     let at = c.loop-i in
     IsJoined-more g.met.E.Number.Ord.total g.E.Ends.first g.E.Ends.last c.args.ranges.now at.ranges c.put-kept.new.ranges at.i at.kept c.put-kept.result c.index-ranges-i.result
-    c.requires at.invariant c.loop-i-test.true c.index-ranges-i.is c.put-kept.ensures.within c.put-kept.ensures.put c.put-kept.ensures.behind
+    c.requires at.invariant c.loop-i-test.true c.index-ranges-i.is c.put-kept.ensures.within c.put-kept.ensures.put c.put-kept.ensures.after
 
 pub put-kept-requires-clause-low : goal.put-kept-requires-clause-low
 put-kept-requires-clause-low g c =

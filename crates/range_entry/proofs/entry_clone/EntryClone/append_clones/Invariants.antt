@@ -1,4 +1,4 @@
--- What was there stands in front, and behind it copies of the items that were gone through.
+-- What was there stands first, and after it copies of the items that were gone through.
 use Rattle.std.proofs.Common.{◌≡◌, ◌+◌, ◌≤◌, length, take, drop}
 use Rattle.std.specs.List.{AllZip}
 use Rattle.std.specs.Vec.{vec_capacity}
