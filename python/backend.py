@@ -137,7 +137,7 @@ def built(work):
     """The static library that cargo builds of a copy of the crate."""
     cargo = shlex.split(os.environ.get("CARGO", "cargo"))
     if not shutil.which(cargo[0]):
-        sys.exit(f"range_sets: {cargo[0]} is missing, which builds the library here: install Rust 1.63 or later, or name another in CARGO")
+        sys.exit(f"range_sets: {cargo[0]} is missing, which builds the library here: install cargo 1.64 or later, or name another in CARGO")
     for it in crate():
         copy = work / "rust" / it.relative_to(RUST)
         copy.parent.mkdir(parents=True, exist_ok=True)

@@ -102,7 +102,7 @@ runs_over_cdylib() {
 # Whether a make without a cargo says so in one sentence.
 says_that_cargo_is_missing() {
     ! make -s -C "$work/by_cargo" build/librange_set.a BACKEND=rust RUST="$PWD/rust" CARGO=no-such-cargo --always-make \
-        2>"$work/said" && head -n 1 "$work/said" | grep -qx 'range_set: no-such-cargo is missing, which builds the library here: install Rust 1.63 or later'
+        2>"$work/said" && head -n 1 "$work/said" | grep -qx 'range_set: no-such-cargo is missing, which builds the library here: install cargo 1.64 or later'
 }
 
 # Whether two libraries have the same version and the same sentences on statuses.

@@ -41,7 +41,7 @@ class Missing(unittest.TestCase):
                          "range_sets: Python's header /no/such/folder/Python.h is missing: on Debian the package python3-dev brings it")
 
     def test_cargo_on_another_machine(self):
-        text = ("range_sets: no-such-cargo is missing, which builds the library here: install Rust 1.63 or later, "
+        text = ("range_sets: no-such-cargo is missing, which builds the library here: install cargo 1.64 or later, "
                 "or name another in CARGO")
         for platform in ("linux-aarch64", "macosx-14.0-arm64", "win-amd64"):
             with mock.patch.object(sysconfig, "get_platform", lambda: platform), mock.patch.dict(os.environ, CARGO="no-such-cargo --offline"):

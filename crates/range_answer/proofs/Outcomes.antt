@@ -33,7 +33,7 @@ pub IsReplyText-line : {A E : Type 0} (r : Result (String A) E) (query : Query) 
 IsReplyText-line (Ok text) query line answers is = (line, answers, is)
 IsReplyText-line (Err x) query line answers is = tt
 
--- want of memory, whatever was asked
+-- out of memory, whatever was asked
 pub IsReplyTo-no_memory : {A : Type 0} (query : Query) (r : Result (String A) Fault) → IsErrAnd r (λ why. why ≡ fault.NoMemory) → IsReplyTo query r
 IsReplyTo-no_memory query (Ok text) h = absurd h
 IsReplyTo-no_memory query (Err why) h = rw h tt
