@@ -1,5 +1,5 @@
 -- Texts put one after the other in a buffer.
-use Rattle.std.proofs.Common.{◌≡◌, sym, ap, ap₂, ◌∙◌, ℕ, ◌+◌, ◌≤◌, List, [], ◌++◌, length, take, drop, append_assoc, arith}
+use Rattle.std.proofs.Common.{◌≡◌, sym, ap, ap₂, ◌∙◌, ℕ, ◌≤◌, List, [], ◌++◌, length, take, drop, append_assoc, arith}
 use Rattle.std.proofs.lemmas.List.{length-append, length-take-le, length-drop, take_at, drop_at, drop-drop, take-append-drop}
 use Rattle.range_c.specs.Text.{AnswersText, PutsText}
 

@@ -16,6 +16,6 @@ numbers_in number text = length (flat_map range_ends (ranges_in number text))
 pub record TellsText {K : Type 0} (number : List ℕ → Option K) (text : List ℕ) (status told : ℕ) : Type 0 where
   pub one_of_four : status ≤ 3
   pub ranges : status ≡ 0 → IsUtf8 text × (is_ranges number text ≡ true) × (told ≡ numbers_in number text)
-  pub malformed : status ≡ 1 → IsUtf8 text × (is_ranges any_number text ≡ false) × IsLongestFront text told
+  pub malformed : status ≡ 1 → IsUtf8 text × (is_ranges number text ≡ false) × (is_ranges any_number text ≡ false) × IsLongestFront text told
   pub out_of_range : status ≡ 2 → IsUtf8 text × (is_ranges number text ≡ false) × (is_ranges any_number text ≡ true)
   pub not_text : status ≡ 3 → ¬ (IsUtf8 text) × IsValidUpTo text told

@@ -9,6 +9,7 @@ ghost use Rattle.range_collections.specs.Splicing.{IsCut, range_table, spliced};
 ghost use Rattle.range_collections.specs.Ranges.{range_items};
 ghost use Rattle.range_c.specs.InPlace.{ChangesList};
 
+use crate::calls::has_numbers;
 use range_collections::{Comparisons, search};
 
 // Puts the numbers from `start` to below `end` into the set of the first `len` boundaries, and answers how many it has then. Where the buffer has no room for them it is as it was.
@@ -41,7 +42,7 @@ fn set_range<T: Ord + Copy>(buffer: &mut [T], len: usize, start: T, end: T, insi
     ensures { ChangesList T.cmp (range_table inside) (take len buffer.old)
         (range_items T.cmp start end) buffer.old buffer.new result }
 {
-    if !start.cmp(&end).is_lt() {
+    if !has_numbers(&start, &end) {
         return len;
     }
     let (set, _room) = buffer.split_at(len);

@@ -6,6 +6,7 @@ ghost use Rattle.range_collections.specs.Boundaries.{IsAscending};
 ghost use Rattle.range_c.specs.Ranges.{ends_of, IsUnionOf};
 ghost use Rattle.range_c.specs.Joining.{IsPut};
 
+use crate::calls::has_numbers;
 use crate::ends::Ends;
 
 // Moves the ranges of the set of all numbers in the ranges to the front, as many as it answers. Empty and reversed ones have no number.
@@ -42,7 +43,7 @@ fn put<E: Ends>(ranges: &mut [E], kept: usize, range: E) -> usize
         range (take result ranges.new) }
     ensures after { drop (kept + 1) ranges.new ≡ drop (kept + 1) ranges.old }
 {
-    if !range.start().cmp(&range.end()).is_lt() {
+    if !has_numbers(&range.start(), &range.end()) {
         return kept;
     }
     if kept == 0 {

@@ -1,21 +1,20 @@
-use Rattle.std.proofs.Common.{◌≡◌, ◌∙◌, ap, sym, take, arith}
-use Rattle.std.specs.Ordering.{is_lt}
+use Rattle.std.proofs.Common.{◌≡◌, ◌∙◌, sym, take, arith}
 use Rattle.std.specs.declared.cmp.Ordering.TheVariants.{Less, Equal}
 use Rattle.std.proofs.lemmas.List.{length-take-le}
 use Rattle.std.proofs.lemmas.List.Elements.{length_all_zip}
-use Rattle.range_merge.proofs.Gallops.{Less-from_test}
 use Rattle.range_merge.proofs.SameSet.{same_items}
 use Rattle.range_collections.specs.Splicing.{IsCut}
+use Rattle.range_collections.proofs.Ascending.{Less-from_is_lt}
 use Rattle.range_collections.proofs.Insertion.{cuts_ordered, Means-spliced, length-meant, Means-no_range}
 use Rattle.range_c.proofs.in_place.set_range.Goals as goal
 
-pub returns-then-not-is_lt : goal.returns-then-not-is_lt
-returns-then-not-is_lt g c =
+pub returns-then-not-has_numbers : goal.returns-then-not-has_numbers
+returns-then-not-has_numbers g c =
     let order = g.T.Ord.cmp in
     let a = take c.args.len c.args.buffer.now in
     let up = c.requires.sorted in
     let same = Means-no_range g.met.T.Ord.total c.args.inside a c.args.start c.args.end up
-    (ap is_lt (sym c.cmp.ensures) ∙ sym c.is_lt.ensures ∙ c.if-not-is_lt.true) in
+    (sym c.has_numbers.ensures ∙ c.if-not-has_numbers.true) in
     record {
       counted = λ items m.
           sym (length_all_zip (λ x y. order x y ≡ Equal) items a
@@ -28,7 +27,7 @@ pub splice-requires-clause-ordered : goal.splice-requires-clause-ordered
 splice-requires-clause-ordered g c =
     let order = g.T.Ord.cmp in
     let a = take c.args.len c.args.buffer.now in
-    let less : order c.args.start c.args.end ≡ Less = Less-from_test c.is_lt.result c.cmp.result _ c.cmp.ensures c.is_lt.ensures c.if-not-is_lt.false in
+    let less : order c.args.start c.args.end ≡ Less = Less-from_is_lt (order c.args.start c.args.end) (sym c.has_numbers.ensures ∙ c.if-not-has_numbers.false) in
     let p : IsCut order c.args.inside a c.args.start c.cut_at-from.result.0 c.cut_at-from.result.1 = rw c.split_at.ensures.front at c.cut_at-from.ensures in
     let q : IsCut order c.args.inside a c.args.end c.cut_at-to.result.0 c.cut_at-to.result.1 = rw c.split_at.ensures.front at c.cut_at-to.ensures in
     cuts_ordered g.met.T.Ord.total c.args.inside a c.args.start c.args.end _ _ _ _ c.requires.sorted less p q
@@ -37,7 +36,7 @@ pub returns : goal.returns
 returns g c =
     let order = g.T.Ord.cmp in
     let a = take c.args.len c.args.buffer.now in
-    let less : order c.args.start c.args.end ≡ Less = Less-from_test c.is_lt.result c.cmp.result _ c.cmp.ensures c.is_lt.ensures c.if-not-is_lt.false in
+    let less : order c.args.start c.args.end ≡ Less = Less-from_is_lt (order c.args.start c.args.end) (sym c.has_numbers.ensures ∙ c.if-not-has_numbers.false) in
     let p : IsCut order c.args.inside a c.args.start c.cut_at-from.result.0 c.cut_at-from.result.1 = rw c.split_at.ensures.front at c.cut_at-from.ensures in
     let q : IsCut order c.args.inside a c.args.end c.cut_at-to.result.0 c.cut_at-to.result.1 = rw c.split_at.ensures.front at c.cut_at-to.ensures in
     record {
