@@ -126,6 +126,110 @@ fn ranges_in_any_order_are_united(rt: HostRuntime) {
     assert!(rt; gives::<i64, _>(RangeSet::from_ranges(rt.alloc(), &[]), &[]));
 }
 
+// Ranges in the order of their starts. Some touch, overlap, lie in another one, or have no element.
+const IN_ORDER: [(i64, i64); 20] = [
+    (0, 5),
+    (5, 9),
+    (7, 3),
+    (8, 12),
+    (9, 10),
+    (12, 12),
+    (20, 30),
+    (20, 25),
+    (29, 31),
+    (40, 41),
+    (42, 43),
+    (44, 45),
+    (45, 44),
+    (46, 47),
+    (48, 49),
+    (50, 60),
+    (52, 54),
+    (60, 61),
+    (70, 80),
+    (79, 90),
+];
+
+const LAST_FIRST: [(i64, i64); 20] = [
+    (79, 90),
+    (70, 80),
+    (60, 61),
+    (52, 54),
+    (50, 60),
+    (48, 49),
+    (46, 47),
+    (45, 44),
+    (44, 45),
+    (42, 43),
+    (40, 41),
+    (29, 31),
+    (20, 25),
+    (20, 30),
+    (12, 12),
+    (9, 10),
+    (8, 12),
+    (7, 3),
+    (5, 9),
+    (0, 5),
+];
+
+const MIXED: [(i64, i64); 20] = [
+    (9, 10),
+    (40, 41),
+    (20, 30),
+    (12, 12),
+    (48, 49),
+    (60, 61),
+    (70, 80),
+    (5, 9),
+    (7, 3),
+    (50, 60),
+    (42, 43),
+    (8, 12),
+    (45, 44),
+    (20, 25),
+    (46, 47),
+    (0, 5),
+    (52, 54),
+    (44, 45),
+    (29, 31),
+    (79, 90),
+];
+
+// What they have together.
+const UNITED: [i64; 18] = [
+    0, 12, 20, 31, 40, 41, 42, 43, 44, 45, 46, 47, 48, 49, 50, 61, 70, 90,
+];
+
+// The same where the range from 44 on has no end.
+const UNITED_WITHOUT_END: [i64; 9] = [0, 12, 20, 31, 40, 41, 42, 43, 44];
+
+fn with_end((start, end): (i64, i64)) -> RangeSetRange<i64> {
+    RangeSetRange::from(start..end)
+}
+
+fn without_end_from_44((start, end): (i64, i64)) -> RangeSetRange<i64> {
+    if start == 44 {
+        RangeSetRange::from(start..)
+    } else {
+        RangeSetRange::from(start..end)
+    }
+}
+
+#[test]
+fn many_ranges_are_united(rt: HostRuntime) {
+    for (order, pairs) in [
+        ("in order", IN_ORDER),
+        ("last first", LAST_FIRST),
+        ("mixed", MIXED),
+    ] {
+        let made = RangeSet::from_ranges(rt.alloc(), &pairs.map(with_end));
+        assert!(rt; gives(made, &UNITED), "{order}");
+        let made = RangeSet::from_ranges(rt.alloc(), &pairs.map(without_end_from_44));
+        assert!(rt; gives(made, &UNITED_WITHOUT_END), "{order}, without an end");
+    }
+}
+
 #[test]
 fn sets_are_united(rt: HostRuntime) {
     let alloc = rt.alloc();
