@@ -54,10 +54,16 @@ pub(crate) fn told_by(connective: u32) -> Connective {
     }
 }
 
+// Whether the range has a number: its start is below its end. Every call that takes a range asks this.
+#[inline(always)]
+pub(crate) fn has_numbers<T: Ord>(start: &T, end: &T) -> bool {
+    start.cmp(end).is_lt()
+}
+
 // The boundaries of the range from the first number to below the second.
 pub(crate) fn range_of<'a, T: Ord>(ends: &'a [T; 2]) -> &'a [T] {
     let [start, end] = ends;
-    if start.cmp(end).is_lt() {
+    if has_numbers(start, end) {
         ends
     } else {
         &[]

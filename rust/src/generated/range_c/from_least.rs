@@ -21,7 +21,7 @@ pub(crate) fn combine_from<T: Ord + Copy>(
     if !is_on(&of, a_on, b_on) {
         return merge(a, b, &op, out);
     }
-    merge_behind(a, b, least, &op, out)
+    merge_after(a, b, least, &op, out)
 }
 
 // Whether the least number is a member, and the boundaries above it.
@@ -52,8 +52,8 @@ fn changes_from(of: &Connective, a: bool, b: bool) -> Connective {
     }
 }
 
-// Writes the least number, and behind it what the operation makes of both lists.
-fn merge_behind<T: Ord + Copy, O: MergeOperation>(
+// Writes the least number, and after it what the operation makes of both lists.
+fn merge_after<T: Ord + Copy, O: MergeOperation>(
     a: &[T],
     b: &[T],
     least: T,

@@ -3,6 +3,7 @@
 //!
 //! The start and the end are searched for. What stands between gives way to those of the two at which the set changes, and what comes after moves once.
 
+use crate::generated::range_c::calls::has_numbers;
 use crate::generated::range_collections::{search, Comparisons};
 
 // Puts the numbers from `start` to below `end` into the set of the first `len` boundaries, and answers how many it has then. Where the buffer has no room for them it is as it was.
@@ -17,7 +18,7 @@ pub(crate) fn remove<T: Ord + Copy>(buffer: &mut [T], len: usize, start: T, end:
 
 // Leaves at the front of the buffer the set of its first `len` boundaries, with the numbers from `start` to below `end` as members where `inside` is true, and else as no members. It answers how many boundaries that are. Where the buffer has no room for them it is as it was.
 fn set_range<T: Ord + Copy>(buffer: &mut [T], len: usize, start: T, end: T, inside: bool) -> usize {
-    if !start.cmp(&end).is_lt() {
+    if !has_numbers(&start, &end) {
         return len;
     }
     let (set, _room) = buffer.split_at(len);
@@ -51,12 +52,12 @@ fn splice<T: Copy>(
     start: Option<T>,
     end: Option<T>,
 ) -> usize {
-    let behind = from + count(&start) + count(&end);
-    let needed = behind + (len - to);
+    let after = from + count(&start) + count(&end);
+    let needed = after + (len - to);
     if needed > buffer.len() {
         return needed;
     }
-    buffer.copy_within(to..len, behind);
+    buffer.copy_within(to..len, after);
     let next = overwrite(buffer, from, start);
     overwrite(buffer, next, end);
     needed

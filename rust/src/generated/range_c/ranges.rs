@@ -1,6 +1,7 @@
 // Written by tools/plain-rust from crates/range_c/src/ranges.rt. It isn't edited.
 //! Sets from ranges in any order, in place.
 
+use crate::generated::range_c::calls::has_numbers;
 use crate::generated::range_c::ends::Ends;
 
 // Moves the ranges of the set of all numbers in the ranges to the front, as many as it answers. Empty and reversed ones have no number.
@@ -21,7 +22,7 @@ fn join<E: Ends>(ranges: &mut [E]) -> usize {
 
 // Puts a range after the first `kept`, none of which starts above it, or joins it to the last of them.
 fn put<E: Ends>(ranges: &mut [E], kept: usize, range: E) -> usize {
-    if !range.start().cmp(&range.end()).is_lt() {
+    if !has_numbers(&range.start(), &range.end()) {
         return kept;
     }
     if kept == 0 {
