@@ -86,10 +86,7 @@ fn fails_after(alloc: Global, unread: &[u8]) -> bool {
 #[test]
 fn an_input_that_fails_passes_its_error_on(rt: HostRuntime) {
     for length in 0..=INPUT.len() {
-        assert!(rt;
-            fails_after(rt.alloc(), &INPUT[..length]),
-            "{length} bytes"
-        );
+        assert!(rt; fails_after(rt.alloc(), &INPUT[..length]), "{length} bytes");
     }
 }
 
