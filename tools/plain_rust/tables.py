@@ -95,6 +95,8 @@ ITEMS_LEFT_OUT = {
     # Every element with std's Debug has one.
     "range_collections/text": {"impl fmt::Debug for RangeSet"},
     "range_collections/range_set_range": {"impl fmt::Debug for RangeSetRange"},
+    # Rust drops a set's list by itself.
+    "range_collections/range_set": {"impl Drop for RangeSet"},
 }
 # Names that support has in place of what is left out.
 BY_SUPPORT = {"InPlaceMergeState", "InPlaceMergeStateRef"}

@@ -72,9 +72,16 @@ use std::marker::Model;
 /// | `clone`, `to_json` | none | the result |
 ///
 /// `union`, `insert` and the others move or copy each boundary that they keep, or that lies after the range.
-#[derive(Drop)]
 pub struct RangeSet<T: Ord, const N: usize> {
     list: SmallVec<T, N>,
+}
+
+// By hand: a call is proved once, and a derived drop anew at each exit of each function that owns a set.
+impl<T: Ord + Drop, const N: usize> Drop for RangeSet<T, N> {
+    #[inline]
+    fn drop(self) {
+        let Self { list: _list } = self;
+    }
 }
 
 /// A set with room for one range, which is two boundaries, in the value itself.
