@@ -293,15 +293,16 @@ class Crate:
         self.failed.append(f"{self.crate.name}: {text}")
 
     def rounds(self, edits):
-        """Tries the edits, of which those that no clause is known to refuse have a second round, among others."""
-        rounds, seen, number = side_by_side(edits), set(), 0
-        while rounds:
+        """Tries the edits side by side. Those that no clause is known to refuse are tried once more, each alone: the search
+        doesn't try the goals of a function that calls one whose proof another mutant took away."""
+        rounds, alone, seen, number = side_by_side(edits), [], set(), 0
+        while rounds or alone:
             number += 1
-            these, start = rounds[0], time.monotonic()
-            self.say(f"round {number} of {number + len(rounds) - 1}, {len(these)} side by side")
+            these, start = rounds.pop(0) if rounds else [alone.pop(0)], time.monotonic()
+            self.say(f"round {number} of {number + len(rounds) + len(alone)}, {len(these)} side by side")
             left = self.round(these, seen)
+            alone += left
             seen |= {edit.name for edit in left}
-            rounds = side_by_side([edit for others in rounds[1:] for edit in others] + left)
             self.say(f"round {number} took {time.monotonic() - start:.0f} s")
 
     def say(self, text):
