@@ -398,6 +398,8 @@ impl<T: Unsigned, const N: usize> RangeSet<T, N> {
 
 impl<T: EntryClone + MadeWith<Global> + Drop, const N: usize> RangeSet<T, N> {
     /// The operation's result, counting the comparisons.
+    ///
+    /// Of two equal boundaries this set's is copied. It fails only if an allocation or a copy does. It makes at most twice the weight of the two lists in comparisons, even if it fails.
     pub fn merge_new<O: MergeOperation, const M: usize>(
         &self,
         that: RangeSetRef<T>,
@@ -415,6 +417,8 @@ impl<T: EntryClone + MadeWith<Global> + Drop, const N: usize> RangeSet<T, N> {
     }
 
     /// The union: the elements that are members of either set.
+    ///
+    /// Of two equal boundaries this set's is copied. It fails only if an allocation or a copy does, and makes at most twice the weight of the two lists in comparisons.
     pub fn union<const M: usize>(&self, that: RangeSetRef<T>) -> Result<RangeSet<T, M>, AllocError>
         ensures gives { GivesOperation T.cmp T.is_copy T.is_infallible union_table M
             self.now that.entry.boundaries.now result }
@@ -423,6 +427,8 @@ impl<T: EntryClone + MadeWith<Global> + Drop, const N: usize> RangeSet<T, N> {
     }
 
     /// The intersection: the elements that are members of both sets.
+    ///
+    /// Of two equal boundaries this set's is copied. It fails only if an allocation or a copy does, and makes at most twice the weight of the two lists in comparisons.
     pub fn intersection<const M: usize>(
         &self,
         that: RangeSetRef<T>,
@@ -434,6 +440,8 @@ impl<T: EntryClone + MadeWith<Global> + Drop, const N: usize> RangeSet<T, N> {
     }
 
     /// The difference: the members of this set that aren't members of `that`.
+    ///
+    /// Of two equal boundaries this set's is copied. It fails only if an allocation or a copy does, and makes at most twice the weight of the two lists in comparisons.
     pub fn difference<const M: usize>(
         &self,
         that: RangeSetRef<T>,
@@ -445,6 +453,8 @@ impl<T: EntryClone + MadeWith<Global> + Drop, const N: usize> RangeSet<T, N> {
     }
 
     /// The symmetric difference: the elements that are members of exactly one of the sets.
+    ///
+    /// Of two equal boundaries this set's is copied. It fails only if an allocation or a copy does, and makes at most twice the weight of the two lists in comparisons.
     pub fn symmetric_difference<const M: usize>(
         &self,
         that: RangeSetRef<T>,

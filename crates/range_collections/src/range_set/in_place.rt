@@ -20,6 +20,8 @@ use std::default::MadeWith;
 
 impl<T: EntryClone + MadeWith<Global> + Drop, const N: usize> RangeSet<T, N> {
     /// Changes this set to the operation's result. It counts its comparisons, at most twice the weight of the two lists.
+    ///
+    /// Of two equal boundaries this set's own stays. If an allocation or a copy fails, this set is as it was.
     pub fn merge_ref<O: MergeOperation>(
         &mut self,
         that: RangeSetRef<T>,
@@ -45,6 +47,8 @@ impl<T: EntryClone + MadeWith<Global> + Drop, const N: usize> RangeSet<T, N> {
     }
 
     /// Keeps the elements that are members of both sets.
+    ///
+    /// Of two equal boundaries this set's own stays. If an allocation or a copy fails, this set is as it was.
     pub fn intersection_with(&mut self, that: RangeSetRef<T>) -> Result<(), AllocError>
         ensures changed { IsChangedByView T.cmp T.is_copy T.is_infallible intersection_table N
             self.old that.entry.boundaries.now self.new result }
@@ -53,6 +57,8 @@ impl<T: EntryClone + MadeWith<Global> + Drop, const N: usize> RangeSet<T, N> {
     }
 
     /// Adds the members of `that`.
+    ///
+    /// Of two equal boundaries this set's own stays. If an allocation or a copy fails, this set is as it was.
     pub fn union_with(&mut self, that: RangeSetRef<T>) -> Result<(), AllocError>
         ensures changed { IsChangedByView T.cmp T.is_copy T.is_infallible union_table N
             self.old that.entry.boundaries.now self.new result }
@@ -61,6 +67,8 @@ impl<T: EntryClone + MadeWith<Global> + Drop, const N: usize> RangeSet<T, N> {
     }
 
     /// Removes the members of `that`.
+    ///
+    /// Of two equal boundaries this set's own stays. If an allocation or a copy fails, this set is as it was.
     pub fn difference_with(&mut self, that: RangeSetRef<T>) -> Result<(), AllocError>
         ensures changed { IsChangedByView T.cmp T.is_copy T.is_infallible difference_table N
             self.old that.entry.boundaries.now self.new result }
@@ -69,6 +77,8 @@ impl<T: EntryClone + MadeWith<Global> + Drop, const N: usize> RangeSet<T, N> {
     }
 
     /// Leaves the elements that are members of exactly one of the sets.
+    ///
+    /// Of two equal boundaries this set's own stays. If an allocation or a copy fails, this set is as it was.
     pub fn symmetric_difference_with(&mut self, that: RangeSetRef<T>) -> Result<(), AllocError>
         ensures changed { IsChangedByView T.cmp T.is_copy T.is_infallible
             symmetric_difference_table N self.old that.entry.boundaries.now self.new result }
@@ -79,6 +89,8 @@ impl<T: EntryClone + MadeWith<Global> + Drop, const N: usize> RangeSet<T, N> {
 
 impl<T: Ord + MadeWith<Global> + Drop, const N: usize> RangeSet<T, N> {
     /// Changes this set to the operation's result. It counts its comparisons, at most twice the weight of the two lists.
+    ///
+    /// Of two equal boundaries this set's own stays. If an allocation fails, this set is as it was, and `that` comes back with the error.
     pub fn merge_owned<O: MergeOperation>(
         &mut self,
         that: Self,
@@ -100,6 +112,8 @@ impl<T: Ord + MadeWith<Global> + Drop, const N: usize> RangeSet<T, N> {
     }
 
     /// Keeps the elements that are members of both sets.
+    ///
+    /// Of two equal boundaries this set's own stays. If an allocation fails, this set is as it was, and `that` comes back with the error.
     pub fn bitand_assign(&mut self, that: Self) -> Result<(), (AllocError, Self)>
         ensures changed { IsChangedByOwned T.cmp intersection_table N
             self.old that self.new result }
@@ -108,6 +122,8 @@ impl<T: Ord + MadeWith<Global> + Drop, const N: usize> RangeSet<T, N> {
     }
 
     /// Adds the members of `that`.
+    ///
+    /// Of two equal boundaries this set's own stays. If an allocation fails, this set is as it was, and `that` comes back with the error.
     pub fn bitor_assign(&mut self, that: Self) -> Result<(), (AllocError, Self)>
         ensures changed { IsChangedByOwned T.cmp union_table N self.old that self.new result }
     {
@@ -115,6 +131,8 @@ impl<T: Ord + MadeWith<Global> + Drop, const N: usize> RangeSet<T, N> {
     }
 
     /// Removes the members of `that`.
+    ///
+    /// Of two equal boundaries this set's own stays. If an allocation fails, this set is as it was, and `that` comes back with the error.
     pub fn sub_assign(&mut self, that: Self) -> Result<(), (AllocError, Self)>
         ensures changed { IsChangedByOwned T.cmp difference_table N self.old that self.new result }
     {
@@ -122,6 +140,8 @@ impl<T: Ord + MadeWith<Global> + Drop, const N: usize> RangeSet<T, N> {
     }
 
     /// Leaves the elements that are members of exactly one of the sets.
+    ///
+    /// Of two equal boundaries this set's own stays. If an allocation fails, this set is as it was, and `that` comes back with the error.
     pub fn bitxor_assign(&mut self, that: Self) -> Result<(), (AllocError, Self)>
         ensures changed { IsChangedByOwned T.cmp symmetric_difference_table N
             self.old that self.new result }

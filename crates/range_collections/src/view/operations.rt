@@ -27,6 +27,8 @@ use std::default::MadeWith;
 
 impl<'a, T: EntryClone + MadeWith<Global> + Drop> RangeSetRef<'a, T> {
     /// The operation's result, counting the comparisons.
+    ///
+    /// Of two equal boundaries this set's is copied. It fails only if an allocation or a copy does. It makes at most twice the weight of the two lists in comparisons, even if it fails.
     pub fn merge_new<O: MergeOperation, const M: usize>(
         &self,
         alloc: Global,
@@ -84,6 +86,8 @@ impl<'a, T: EntryClone + MadeWith<Global> + Drop> RangeSetRef<'a, T> {
     }
 
     /// The union: the elements that are members of either set.
+    ///
+    /// Of two equal boundaries this set's is copied. It fails only if an allocation or a copy does, and makes at most twice the weight of the two lists in comparisons.
     pub fn union<const M: usize>(
         &self,
         alloc: Global,
@@ -96,6 +100,8 @@ impl<'a, T: EntryClone + MadeWith<Global> + Drop> RangeSetRef<'a, T> {
     }
 
     /// The intersection: the elements that are members of both sets.
+    ///
+    /// Of two equal boundaries this set's is copied. It fails only if an allocation or a copy does, and makes at most twice the weight of the two lists in comparisons.
     pub fn intersection<const M: usize>(
         &self,
         alloc: Global,
@@ -108,6 +114,8 @@ impl<'a, T: EntryClone + MadeWith<Global> + Drop> RangeSetRef<'a, T> {
     }
 
     /// The difference: the members of this set that aren't members of `that`.
+    ///
+    /// Of two equal boundaries this set's is copied. It fails only if an allocation or a copy does, and makes at most twice the weight of the two lists in comparisons.
     pub fn difference<const M: usize>(
         &self,
         alloc: Global,
@@ -120,6 +128,8 @@ impl<'a, T: EntryClone + MadeWith<Global> + Drop> RangeSetRef<'a, T> {
     }
 
     /// The symmetric difference: the elements that are members of exactly one of the sets.
+    ///
+    /// Of two equal boundaries this set's is copied. It fails only if an allocation or a copy does, and makes at most twice the weight of the two lists in comparisons.
     pub fn symmetric_difference<const M: usize>(
         &self,
         alloc: Global,

@@ -494,6 +494,8 @@ impl<T: Unsigned, const N: usize> RangeSet<T, N> {
 impl<T: EntryClone, const N: usize> RangeSet<T, N> {
     /// The operation's result, counting the comparisons.
     ///
+    /// Of two equal boundaries this set's is copied. It fails only if an allocation or a copy does. It makes at most twice the weight of the two lists in comparisons, even if it fails.
+    ///
     /// # Contract
     ///
     /// ```text
@@ -515,6 +517,8 @@ impl<T: EntryClone, const N: usize> RangeSet<T, N> {
 
     /// The union: the elements that are members of either set.
     ///
+    /// Of two equal boundaries this set's is copied. It fails only if an allocation or a copy does, and makes at most twice the weight of the two lists in comparisons.
+    ///
     /// # Contract
     ///
     /// ```text
@@ -529,6 +533,8 @@ impl<T: EntryClone, const N: usize> RangeSet<T, N> {
     }
 
     /// The intersection: the elements that are members of both sets.
+    ///
+    /// Of two equal boundaries this set's is copied. It fails only if an allocation or a copy does, and makes at most twice the weight of the two lists in comparisons.
     ///
     /// # Contract
     ///
@@ -545,6 +551,8 @@ impl<T: EntryClone, const N: usize> RangeSet<T, N> {
 
     /// The difference: the members of this set that aren't members of `that`.
     ///
+    /// Of two equal boundaries this set's is copied. It fails only if an allocation or a copy does, and makes at most twice the weight of the two lists in comparisons.
+    ///
     /// # Contract
     ///
     /// ```text
@@ -559,6 +567,8 @@ impl<T: EntryClone, const N: usize> RangeSet<T, N> {
     }
 
     /// The symmetric difference: the elements that are members of exactly one of the sets.
+    ///
+    /// Of two equal boundaries this set's is copied. It fails only if an allocation or a copy does, and makes at most twice the weight of the two lists in comparisons.
     ///
     /// # Contract
     ///

@@ -13,6 +13,8 @@ use crate::support::{AllocError, InPlaceMergeState, InPlaceMergeStateRef};
 impl<T: EntryClone, const N: usize> RangeSet<T, N> {
     /// Changes this set to the operation's result. It counts its comparisons, at most twice the weight of the two lists.
     ///
+    /// Of two equal boundaries this set's own stays. If an allocation or a copy fails, this set is as it was.
+    ///
     /// # Contract
     ///
     /// ```text
@@ -40,6 +42,8 @@ impl<T: EntryClone, const N: usize> RangeSet<T, N> {
 
     /// Keeps the elements that are members of both sets.
     ///
+    /// Of two equal boundaries this set's own stays. If an allocation or a copy fails, this set is as it was.
+    ///
     /// # Contract
     ///
     /// ```text
@@ -51,6 +55,8 @@ impl<T: EntryClone, const N: usize> RangeSet<T, N> {
     }
 
     /// Adds the members of `that`.
+    ///
+    /// Of two equal boundaries this set's own stays. If an allocation or a copy fails, this set is as it was.
     ///
     /// # Contract
     ///
@@ -64,6 +70,8 @@ impl<T: EntryClone, const N: usize> RangeSet<T, N> {
 
     /// Removes the members of `that`.
     ///
+    /// Of two equal boundaries this set's own stays. If an allocation or a copy fails, this set is as it was.
+    ///
     /// # Contract
     ///
     /// ```text
@@ -75,6 +83,8 @@ impl<T: EntryClone, const N: usize> RangeSet<T, N> {
     }
 
     /// Leaves the elements that are members of exactly one of the sets.
+    ///
+    /// Of two equal boundaries this set's own stays. If an allocation or a copy fails, this set is as it was.
     ///
     /// # Contract
     ///
@@ -89,6 +99,8 @@ impl<T: EntryClone, const N: usize> RangeSet<T, N> {
 
 impl<T: Ord, const N: usize> RangeSet<T, N> {
     /// Changes this set to the operation's result. It counts its comparisons, at most twice the weight of the two lists.
+    ///
+    /// Of two equal boundaries this set's own stays. If an allocation fails, this set is as it was, and `that` comes back with the error.
     ///
     /// # Contract
     ///
@@ -113,6 +125,8 @@ impl<T: Ord, const N: usize> RangeSet<T, N> {
 
     /// Keeps the elements that are members of both sets.
     ///
+    /// Of two equal boundaries this set's own stays. If an allocation fails, this set is as it was, and `that` comes back with the error.
+    ///
     /// # Contract
     ///
     /// ```text
@@ -123,6 +137,8 @@ impl<T: Ord, const N: usize> RangeSet<T, N> {
     }
 
     /// Adds the members of `that`.
+    ///
+    /// Of two equal boundaries this set's own stays. If an allocation fails, this set is as it was, and `that` comes back with the error.
     ///
     /// # Contract
     ///
@@ -135,6 +151,8 @@ impl<T: Ord, const N: usize> RangeSet<T, N> {
 
     /// Removes the members of `that`.
     ///
+    /// Of two equal boundaries this set's own stays. If an allocation fails, this set is as it was, and `that` comes back with the error.
+    ///
     /// # Contract
     ///
     /// ```text
@@ -145,6 +163,8 @@ impl<T: Ord, const N: usize> RangeSet<T, N> {
     }
 
     /// Leaves the elements that are members of exactly one of the sets.
+    ///
+    /// Of two equal boundaries this set's own stays. If an allocation fails, this set is as it was, and `that` comes back with the error.
     ///
     /// # Contract
     ///

@@ -15,6 +15,8 @@ use crate::support::{AllocError, Global, SmallVec};
 impl<'a, T: EntryClone> RangeSetRef<'a, T> {
     /// The operation's result, counting the comparisons.
     ///
+    /// Of two equal boundaries this set's is copied. It fails only if an allocation or a copy does. It makes at most twice the weight of the two lists in comparisons, even if it fails.
+    ///
     /// # Contract
     ///
     /// ```text
@@ -57,6 +59,8 @@ impl<'a, T: EntryClone> RangeSetRef<'a, T> {
 
     /// The union: the elements that are members of either set.
     ///
+    /// Of two equal boundaries this set's is copied. It fails only if an allocation or a copy does, and makes at most twice the weight of the two lists in comparisons.
+    ///
     /// # Contract
     ///
     /// ```text
@@ -72,6 +76,8 @@ impl<'a, T: EntryClone> RangeSetRef<'a, T> {
     }
 
     /// The intersection: the elements that are members of both sets.
+    ///
+    /// Of two equal boundaries this set's is copied. It fails only if an allocation or a copy does, and makes at most twice the weight of the two lists in comparisons.
     ///
     /// # Contract
     ///
@@ -89,6 +95,8 @@ impl<'a, T: EntryClone> RangeSetRef<'a, T> {
 
     /// The difference: the members of this set that aren't members of `that`.
     ///
+    /// Of two equal boundaries this set's is copied. It fails only if an allocation or a copy does, and makes at most twice the weight of the two lists in comparisons.
+    ///
     /// # Contract
     ///
     /// ```text
@@ -104,6 +112,8 @@ impl<'a, T: EntryClone> RangeSetRef<'a, T> {
     }
 
     /// The symmetric difference: the elements that are members of exactly one of the sets.
+    ///
+    /// Of two equal boundaries this set's is copied. It fails only if an allocation or a copy does, and makes at most twice the weight of the two lists in comparisons.
     ///
     /// # Contract
     ///
