@@ -55,7 +55,7 @@ use std::marker::Model;
 /// | `contains`, `range_at`, `split`, `next_member`, `next_gap` | `d(n)` | |
 /// | `contains_range`, `gaps`, `ranges_within` | `2 d(n) + 1` | |
 /// | `intersects_range` | `d(n) + 2` | |
-/// | `first_fit` | `d(n)`, then two numbers a boundary | |
+/// | `first_fit` | `2 d(n) + 1`, then two numbers a boundary | |
 /// | `iter`, `first`, `last`, `span`, `ranges_len`, `covered`, `is_empty`, `as_ref`, `boundaries` | none | |
 /// | `is_all` | one `is_min_value` | |
 /// | `==`, `eq_ref`, `new` | one a boundary | |
