@@ -13,9 +13,11 @@ from __future__ import annotations
 
 from array import array
 from itertools import zip_longest
+from operator import index
 from typing import Any, Iterator, Literal, Protocol, SupportsIndex, overload
 
 from . import _core
+from ._numbers import range_list
 
 
 class Buffer(Protocol):
@@ -33,6 +35,11 @@ def _array(items: memoryview) -> array[int]:
 
 def _written(answer: memoryview | int) -> array[int] | int:
     return answer if isinstance(answer, int) else _array(answer)
+
+
+def _range(start: SupportsIndex, end: SupportsIndex, a: Buffer) -> memoryview:
+    """The boundaries of a range, of the type of the numbers in a buffer."""
+    return range_list(index(start), index(end), not _core.is_signed(a))
 
 
 @overload
@@ -113,7 +120,7 @@ def insert(a: Buffer, start: SupportsIndex, end: SupportsIndex, *, out: Buffer |
     >>> insert(array("q", [0, 10]), 12, 14)
     array('q', [0, 10, 12, 14])
     """
-    return _written(_core.insert(a, start, end, out))
+    return _written(_core.union(a, _range(start, end, a), out))
 
 
 @overload
@@ -126,7 +133,7 @@ def remove(a: Buffer, start: SupportsIndex, end: SupportsIndex, *, out: Buffer |
     >>> remove(array("q", [0, 10]), 3, 7)
     array('q', [0, 3, 7, 10])
     """
-    return _written(_core.remove(a, start, end, out))
+    return _written(_core.difference(a, _range(start, end, a), out))
 
 
 @overload
@@ -139,7 +146,7 @@ def gaps(a: Buffer, start: SupportsIndex, end: SupportsIndex, *, out: Buffer | N
     >>> gaps(array("q", [0, 10, 20, 30]), 5, 25)
     array('q', [10, 20])
     """
-    return _written(_core.gaps(a, start, end, out))
+    return _written(_core.difference(_range(start, end, a), a, out))
 
 
 def from_ranges(numbers: Buffer) -> array[int]:

@@ -17,11 +17,11 @@ typedef struct {
     bool is_signed;
 } List;
 
-/* What a call is given: up to two lists, and up to two numbers of their type, as bits. */
+/* What a call is given: up to two lists, then up to two numbers of their type and a count, as bits. */
 typedef struct {
     List lists[2];
     int held;
-    uint64_t numbers[2];
+    uint64_t numbers[3];
 } Arguments;
 
 /* A list as a set. Operations and questions of two lists see first that they are sorted; searches don't, and stay within any list. */
@@ -33,7 +33,7 @@ typedef struct {
 #define LIST(type) SET(type, given->lists[0])
 #define LISTS(type) SET(type, given->lists[0]), SET(type, given->lists[1])
 #define LIST_AND_NUMBER(type) SET(type, given->lists[0]), given->numbers[0]
-#define LIST_AND_NUMBERS(type) SET(type, given->lists[0]), given->numbers[0], given->numbers[1]
+#define LIST_AND_NUMBERS(type) LIST_AND_NUMBER(type), given->numbers[1]
 
 /* ---- What a call is given ---- */
 
@@ -129,7 +129,8 @@ static bool read_arguments(Arguments *given, PyObject *const *args, Py_ssize_t n
         fits = borrow(args[given->held], &given->lists[given->held], false, false);
     if (fits && lists == 2 && given->lists[0].is_signed != given->lists[1].is_signed)
         fits = refuse(PyExc_TypeError, "signed and unsigned numbers don't mix: both lists have to be of one type");
-    for (int i = 0; fits && i < numbers; i++) fits = read_number(args[lists + i], given->lists[0].is_signed, &given->numbers[i]);
+    for (int i = 0; fits && i < numbers; i++)
+        fits = read_number(args[lists + i], given->lists[0].is_signed && i < 2, &given->numbers[i]);
     if (!fits) release_all(given);
     return fits;
 }
@@ -196,10 +197,10 @@ static range_set_status run(Operation *call, const Arguments *given, void *out, 
     return status;
 }
 
-/* The set as a new list. No result is longer than both lists together and a range. */
+/* The set as a new list. No result is longer than both lists together and one more. */
 static PyObject *write_new(const Arguments *given, Operation *call)
 {
-    size_t room = given->lists[0].len + given->lists[1].len + 2, written = 0;
+    size_t room = given->lists[0].len + given->lists[1].len + 1, written = 0;
     PyObject *bytes = PyBytes_FromStringAndSize(NULL, 8 * room);
     if (bytes == NULL) return NULL;
     range_set_status status = run(call, given, PyBytes_AS_STRING(bytes), room, &written);
@@ -225,11 +226,11 @@ static PyObject *write_into(const Arguments *given, Operation *call, PyObject *o
     return answer;
 }
 
-static PyObject *operate(PyObject *const *args, Py_ssize_t n, int lists, int numbers, Operation *call)
+static PyObject *operate(PyObject *const *args, Py_ssize_t n, int lists, Operation *call)
 {
     Arguments given;
-    if (!read_arguments(&given, args, n, lists, numbers, 1)) return NULL;
-    PyObject *out = n > lists + numbers ? args[n - 1] : Py_None;
+    if (!read_arguments(&given, args, n, lists, 0, 1)) return NULL;
+    PyObject *out = n > lists ? args[n - 1] : Py_None;
     PyObject *answer = out == Py_None ? write_new(&given, call) : write_into(&given, call, out);
     release_all(&given);
     return answer;
@@ -241,43 +242,20 @@ static PyObject *operate(PyObject *const *args, Py_ssize_t n, int lists, int num
     *written = set.len; \
     return status;
 
-#define OPERATION(name, list_count, number_count, arguments) \
+#define OPERATION(name, list_count, arguments) \
     static range_set_status write_##name(const Arguments *given, void *out, size_t room, size_t *written) \
     { \
         if (given->lists[0].is_signed) { WRITE(i64, name, arguments) } \
         WRITE(u64, name, arguments) \
     } \
     static PyObject *core_##name(PyObject *module, PyObject *const *args, Py_ssize_t n) \
-    { return operate(args, n, list_count, number_count, write_##name); }
+    { return operate(args, n, list_count, write_##name); }
 
-OPERATION(union, 2, 0, LISTS)
-OPERATION(intersection, 2, 0, LISTS)
-OPERATION(difference, 2, 0, LISTS)
-OPERATION(symmetric_difference, 2, 0, LISTS)
-OPERATION(negation, 1, 0, LIST)
-OPERATION(gaps, 1, 2, LIST_AND_NUMBERS)
-
-/* A list with the range between two numbers put in or taken out, as a new list: what the operation makes of it and of the set of
- * that range. */
-#define WITH_RANGE(type, number, operation) \
-    number ends[2] = {(number)given->numbers[0], (number)given->numbers[1]}; \
-    range_set_##type range = {NULL, 0}, set = {NULL, 0}; \
-    range_set_status status = range_set_##type##_from_ranges(ends, 1, &range); \
-    if (status == RANGE_SET_DONE) status = range_set_##type##_##operation(LIST(type), range, out, room, &set); \
-    *written = set.len; \
-    return status;
-
-#define OPERATION_WITH_RANGE(name, operation) \
-    static range_set_status write_##name(const Arguments *given, void *out, size_t room, size_t *written) \
-    { \
-        if (given->lists[0].is_signed) { WITH_RANGE(i64, int64_t, operation) } \
-        WITH_RANGE(u64, uint64_t, operation) \
-    } \
-    static PyObject *core_##name(PyObject *module, PyObject *const *args, Py_ssize_t n) \
-    { return operate(args, n, 1, 2, write_##name); }
-
-OPERATION_WITH_RANGE(insert, union)
-OPERATION_WITH_RANGE(remove, difference)
+OPERATION(union, 2, LISTS)
+OPERATION(intersection, 2, LISTS)
+OPERATION(difference, 2, LISTS)
+OPERATION(symmetric_difference, 2, LISTS)
+OPERATION(negation, 1, LIST)
 
 /* ---- Lists made of a copy, in its place ---- */
 
@@ -335,131 +313,69 @@ static PyObject *ask(PyObject *const *args, Py_ssize_t n, int lists, int numbers
     return status == RANGE_SET_DONE ? PyBool_FromLong(answer) : raise_status(status, 0);
 }
 
-#define QUESTION(name, list_count, number_count, arguments) \
-    static bool ask_##name(const Arguments *given) { return CALL(name, arguments); } \
+#define QUESTION(name, list_count, number_count, answer) \
+    static bool ask_##name(const Arguments *given) { return answer; } \
     static PyObject *core_##name(PyObject *module, PyObject *const *args, Py_ssize_t n) \
     { return ask(args, n, list_count, number_count, ask_##name); }
 
-QUESTION(is_empty, 1, 0, LIST)
-QUESTION(contains, 1, 1, LIST_AND_NUMBER)
-QUESTION(contains_range, 1, 2, LIST_AND_NUMBERS)
-QUESTION(is_disjoint, 2, 0, LISTS)
-QUESTION(intersects, 2, 0, LISTS)
-QUESTION(is_subset, 2, 0, LISTS)
-QUESTION(equal, 2, 0, LISTS)
+QUESTION(is_signed, 1, 0, given->lists[0].is_signed)
+QUESTION(is_sorted, 1, 0, check_sorted(given) == RANGE_SET_DONE)
+QUESTION(is_empty, 1, 0, CALL(is_empty, LIST))
+QUESTION(contains, 1, 1, CALL(contains, LIST_AND_NUMBER))
+QUESTION(contains_range, 1, 2, CALL(contains_range, LIST_AND_NUMBERS))
+QUESTION(is_disjoint, 2, 0, CALL(is_disjoint, LISTS))
+QUESTION(intersects, 2, 0, CALL(intersects, LISTS))
+QUESTION(is_subset, 2, 0, CALL(is_subset, LISTS))
+QUESTION(equal, 2, 0, CALL(equal, LISTS))
 
-static bool ask_is_sorted(const Arguments *given)
-{
-    return check_sorted(given) == RANGE_SET_DONE;
-}
+/* ---- Numbers and ranges ---- */
 
-static PyObject *core_is_sorted(PyObject *module, PyObject *const *args, Py_ssize_t n)
-{
-    return ask(args, n, 1, 0, ask_is_sorted);
-}
-
-static PyObject *number_of(uint64_t bits, bool is_signed)
-{
-    return is_signed ? PyLong_FromLongLong((int64_t)bits) : PyLong_FromUnsignedLongLong(bits);
-}
-
-#define RANGE_AT(type, found, start, end, has_end) \
-    range_set_##type##_range range = {0, 0, false}; \
-    *(found) = range_set_##type##_range_at(LIST_AND_NUMBER(type), &range); \
-    *(start) = (uint64_t)range.start, *(end) = (uint64_t)range.end, *(has_end) = range.has_end;
-
-static void find_range(const Arguments *given, bool *found, uint64_t *start, uint64_t *end, bool *has_end)
-{
-    if (given->lists[0].is_signed) {
-        RANGE_AT(i64, found, start, end, has_end)
-    } else {
-        RANGE_AT(u64, found, start, end, has_end)
+/* Each for a type of numbers, which `as_python` makes a number of Python's. */
+#define FINDS(type, number, as_python) \
+    static PyObject *find_range_at_##type(const Arguments *given) \
+    { \
+        range_set_##type##_range range; \
+        if (!range_set_##type##_range_at(LIST_AND_NUMBER(type), &range)) Py_RETURN_NONE; \
+        return Py_BuildValue("NN", as_python(range.start), range.has_end ? as_python(range.end) : Py_NewRef(Py_None)); \
+    } \
+    static PyObject *find_split_##type(const Arguments *given) \
+    { \
+        range_set_##type below, from; \
+        range_set_##type##_split(LIST_AND_NUMBER(type), &below, &from); \
+        return Py_BuildValue("nn", (Py_ssize_t)below.len, (Py_ssize_t)(given->lists[0].len - from.len)); \
+    } \
+    static PyObject *find_first_fit_##type(const Arguments *given) \
+    { \
+        number first; \
+        if (!range_set_##type##_first_fit(LIST_AND_NUMBERS(type), given->numbers[2], &first)) Py_RETURN_NONE; \
+        return as_python(first); \
+    } \
+    static PyObject *find_covered_##type(const Arguments *given) \
+    { \
+        uint64_t count; \
+        range_set_status status = check_sorted(given); \
+        if (status != RANGE_SET_DONE) return raise_status(status, 0); \
+        if (!range_set_##type##_covered(LIST(type), &count)) Py_RETURN_NONE; \
+        return PyLong_FromUnsignedLongLong(count); \
     }
-}
 
-static PyObject *core_range_at(PyObject *module, PyObject *const *args, Py_ssize_t n)
-{
-    Arguments given;
-    bool found = false, has_end = false;
-    uint64_t start = 0, end = 0;
-    if (!read_arguments(&given, args, n, 1, 1, 0)) return NULL;
-    bool is_signed = given.lists[0].is_signed;
-    find_range(&given, &found, &start, &end, &has_end);
-    release_all(&given);
-    if (!found) Py_RETURN_NONE;
-    return Py_BuildValue("NN", number_of(start, is_signed), has_end ? number_of(end, is_signed) : Py_NewRef(Py_None));
-}
+FINDS(i64, int64_t, PyLong_FromLongLong)
+FINDS(u64, uint64_t, PyLong_FromUnsignedLongLong)
 
-static bool count_members(const Arguments *given, uint64_t *count)
-{
-    return given->lists[0].is_signed ? range_set_i64_covered(LIST(i64), count) : range_set_u64_covered(LIST(u64), count);
-}
-
-static PyObject *core_covered(PyObject *module, PyObject *const *args, Py_ssize_t n)
-{
-    Arguments given;
-    uint64_t count = 0;
-    if (!read_arguments(&given, args, n, 1, 0, 0)) return NULL;
-    range_set_status status = check_sorted(&given);
-    bool has_end = status == RANGE_SET_DONE && count_members(&given, &count);
-    release_all(&given);
-    if (status != RANGE_SET_DONE) return raise_status(status, 0);
-    return has_end ? PyLong_FromUnsignedLongLong(count) : Py_NewRef(Py_None);
-}
-
-#define SPLIT(type, left_len, right_start) \
-    range_set_##type below, from; \
-    range_set_##type##_split(LIST_AND_NUMBER(type), &below, &from); \
-    *(left_len) = below.len, *(right_start) = given->lists[0].len - from.len;
-
-/* How many boundaries the part below the number has, and where the part from it on begins. */
-static void find_parts(const Arguments *given, size_t *left_len, size_t *right_start)
-{
-    if (given->lists[0].is_signed) {
-        SPLIT(i64, left_len, right_start)
-    } else {
-        SPLIT(u64, left_len, right_start)
+#define FIND(name, number_count) \
+    static PyObject *core_##name(PyObject *module, PyObject *const *args, Py_ssize_t n) \
+    { \
+        Arguments given; \
+        if (!read_arguments(&given, args, n, 1, number_count, 0)) return NULL; \
+        PyObject *found = given.lists[0].is_signed ? find_##name##_i64(&given) : find_##name##_u64(&given); \
+        release_all(&given); \
+        return found; \
     }
-}
 
-static PyObject *core_split(PyObject *module, PyObject *const *args, Py_ssize_t n)
-{
-    Arguments given;
-    size_t left_len = 0, right_start = 0;
-    if (!read_arguments(&given, args, n, 1, 1, 0)) return NULL;
-    find_parts(&given, &left_len, &right_start);
-    release_all(&given);
-    return Py_BuildValue("nn", (Py_ssize_t)left_len, (Py_ssize_t)right_start);
-}
-
-/* The first place from `at` on where `more` + 1 places lie in no range and not past `last`, or nothing. The ranges from the
- * i-th boundary on are looked at, and places are numbers from 0 on, which `flip` makes of bits. */
-static bool find_fit(const List *list, size_t i, uint64_t flip, uint64_t *at, uint64_t last, uint64_t more)
-{
-    const uint64_t *items = list->items;
-    while (*at <= last && last - *at >= more) {
-        if (i >= list->len || ((items[i] ^ flip) > *at && (items[i] ^ flip) - *at > more)) return true;
-        if (i + 1 >= list->len) return false;
-        if ((items[i + 1] ^ flip) > *at) *at = items[i + 1] ^ flip;
-        i += 2;
-    }
-    return false;
-}
-
-/* The first of `more` + 1 numbers in a row from a first to a last one that are no members. */
-static PyObject *core_first_fit(PyObject *module, PyObject *const *args, Py_ssize_t n)
-{
-    Arguments given;
-    size_t left_len = 0, i = 0;
-    uint64_t more = 0;
-    if (!read_arguments(&given, args, n, 1, 2, 1)) return NULL;
-    bool is_signed = given.lists[0].is_signed, is_length = read_number(args[n - 1], false, &more);
-    uint64_t flip = is_signed ? (uint64_t)1 << 63 : 0, at = given.numbers[0] ^ flip, last = given.numbers[1] ^ flip;
-    find_parts(&given, &left_len, &i);
-    bool fits = is_length && find_fit(&given.lists[0], i, flip, &at, last, more);
-    release_all(&given);
-    return !is_length ? NULL : fits ? number_of(at ^ flip, is_signed) : Py_NewRef(Py_None);
-}
+FIND(range_at, 1)
+FIND(split, 1)
+FIND(first_fit, 3)
+FIND(covered, 0)
 
 /* ---- The module ---- */
 
@@ -467,17 +383,14 @@ static PyObject *core_first_fit(PyObject *module, PyObject *const *args, Py_ssiz
 #define METHOD_OF_ONE(name) {#name, core_##name, METH_O, NULL}
 
 static PyMethodDef methods[] = {
-    METHOD(union), METHOD(intersection), METHOD(difference), METHOD(symmetric_difference), METHOD(negation), METHOD(insert),
-    METHOD(remove), METHOD(gaps), METHOD_OF_ONE(from_boundaries), METHOD_OF_ONE(from_unsorted), METHOD_OF_ONE(from_ranges),
-    METHOD(is_sorted), METHOD(is_empty), METHOD(contains), METHOD(contains_range), METHOD(is_disjoint), METHOD(intersects),
-    METHOD(is_subset), METHOD(equal), METHOD(range_at), METHOD(covered), METHOD(split), METHOD(first_fit),
-    {NULL, NULL, 0, NULL},
+    METHOD(union), METHOD(intersection), METHOD(difference), METHOD(symmetric_difference), METHOD(negation),
+    METHOD_OF_ONE(from_boundaries), METHOD_OF_ONE(from_unsorted), METHOD_OF_ONE(from_ranges), METHOD(is_signed), METHOD(is_sorted),
+    METHOD(is_empty), METHOD(contains), METHOD(contains_range), METHOD(is_disjoint), METHOD(intersects), METHOD(is_subset),
+    METHOD(equal), METHOD(range_at), METHOD(split), METHOD(first_fit), METHOD(covered), {NULL, NULL, 0, NULL},
 };
 
-static struct PyModuleDef definition = {
-    PyModuleDef_HEAD_INIT, "range_sets._core", "The calls of range_set.h over buffers.", 0, methods,
-    (PyModuleDef_Slot[]){{0, NULL}}, NULL, NULL, NULL,
-};
+static struct PyModuleDef definition = {PyModuleDef_HEAD_INIT, .m_name = "range_sets._core", .m_methods = methods,
+                                        .m_slots = (PyModuleDef_Slot[]){{0, NULL}}};
 
 PyMODINIT_FUNC PyInit__core(void)
 {

@@ -10,7 +10,8 @@ from pickle import PickleBuffer
 from typing import Any, Iterable, Iterator, Self, SupportsIndex, overload
 
 from . import _core, _svg, _text
-from ._sources import Pair, Source, boundaries_of, code_of, gather, least, most, number, open_list, two_ends, union_of
+from ._numbers import code_of, least, most, number, range_list
+from ._sources import Pair, Source, boundaries_of, gather, two_ends, union_of
 
 
 class AnyRangeSet:
@@ -59,7 +60,10 @@ class AnyRangeSet:
 
     @classmethod
     def parse(cls, text: str, *, unsigned: bool = False) -> Self:
-        """Reads what `str` writes: ranges in any order, with commas between them.
+        """Reads what `str` writes: ranges in any order, with commas between them. An empty or reversed range has no members.
+
+        A text that isn't one of ranges raises ParseError, with the `position` of the fault in characters from 0, and a number
+        that is out of range OverflowError.
 
         >>> RangeSet.parse("20.., 0..10")
         RangeSet([(0, 10), (20, None)])
@@ -120,7 +124,7 @@ class AnyRangeSet:
         if start < low or start > high or (end is not None and end > high + 1):
             return False
         if end is None or end > high:
-            return _core.is_subset(open_list(start, self.unsigned), self._list)
+            return _core.is_subset(range_list(start, None, self.unsigned), self._list)
         return _core.contains_range(self._list, start, end)
 
     def range_at(self, value: SupportsIndex) -> tuple[int, int | None] | None:
@@ -163,12 +167,13 @@ class AnyRangeSet:
         if count < 0:
             raise ValueError("a length from 0 on is wanted")
         first = least(unsigned) if start is None else number(start, unsigned)
-        last = most(unsigned) if end is None else number(end, unsigned) - 1
-        if count == 0:
-            return first if first <= last + 1 else None
-        if last < first or count > 2**64:
-            return None
-        return _core.first_fit(self._list, first, last, count - 1)
+        before = most(unsigned) if end is None else number(end, unsigned)
+        found = _core.first_fit(self._list, first, before, count) if count < 2**64 else None
+        if found is not None or end is not None:
+            return found
+        # Numbers up to the greatest one, which no end is above.
+        at = before - count + 1
+        return at if first <= at and not self.split(at)[1] else None
 
     # ---- The ranges ----
 
@@ -209,9 +214,7 @@ class AnyRangeSet:
         >>> RangeSet([(0, 10), (20, 30)]).gaps(5, 25)
         RangeSet([(10, 20)])
         """
-        if end is None:
-            return self._over(_core.difference(open_list(start, self.unsigned), self._list))
-        return self._over(_core.gaps(self._list, least(self.unsigned) if start is None else start, end))
+        return self._over(_core.difference(range_list(start, end, self.unsigned), self._list))
 
     def split(self, at: SupportsIndex) -> tuple[Self, Self]:
         """The members below a number, and those from it on. Nothing is copied unless a range goes over the number.
@@ -223,21 +226,15 @@ class AnyRangeSet:
         above = self._list[right_start:]
         if left_len <= right_start:
             return self._over(self._list[:right_start]), self._over(above)
-        upper = open_list(at, self.unsigned)
+        upper = range_list(at, None, self.unsigned)
         below = _core.difference(self._list[:left_len], upper)
         return self._over(below), self._over(_core.intersection(above, upper))
 
     def _joined(self, start: Any, end: Any) -> memoryview:
-        start, end = two_ends(start, end)
-        if end is None:
-            return _core.union(self._list, open_list(start, self.unsigned))
-        return _core.insert(self._list, least(self.unsigned) if start is None else start, end)
+        return _core.union(self._list, range_list(*two_ends(start, end), self.unsigned))
 
     def _without(self, start: Any, end: Any) -> memoryview:
-        start, end = two_ends(start, end)
-        if end is None:
-            return _core.difference(self._list, open_list(start, self.unsigned))
-        return _core.remove(self._list, least(self.unsigned) if start is None else start, end)
+        return _core.difference(self._list, range_list(*two_ends(start, end), self.unsigned))
 
     def _of(self, source: Source) -> memoryview:
         return gather(source, None if isinstance(source, AnyRangeSet) else self.unsigned)

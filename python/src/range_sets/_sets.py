@@ -6,7 +6,8 @@ from typing import Any, Self, SupportsIndex, overload
 
 from . import _core
 from ._ranges import AnyRangeSet
-from ._sources import Pair, Source, empty_list, union_of
+from ._numbers import empty_list
+from ._sources import Pair, Source, union_of
 
 
 class RangeSet(AnyRangeSet):

@@ -4,50 +4,17 @@ from __future__ import annotations
 
 import reprlib
 import struct
-import sys
 from array import array
 from itertools import chain
-from operator import index
 from typing import Any, Iterable, Literal, SupportsIndex, Union
 
 from . import _core, _ranges
+from ._numbers import code_of, empty_list, least, number, range_list
 
 # The start and the end of a range. None as a start is the least number, and as an end says that there is none.
 Pair = tuple["SupportsIndex | None", "SupportsIndex | None"]
 # What a set is made of. A table is a buffer with two columns, as a numpy array of starts and ends.
 Source = Union["_ranges.AnyRangeSet", range, Pair, "Iterable[_ranges.AnyRangeSet | range | Pair]"]
-
-
-def code_of(unsigned: bool) -> Literal["q", "Q"]:
-    return "Q" if unsigned else "q"
-
-
-def least(unsigned: bool) -> int:
-    return 0 if unsigned else -(2**63)
-
-
-def most(unsigned: bool) -> int:
-    return 2**64 - 1 if unsigned else 2**63 - 1
-
-
-def number(value: SupportsIndex, unsigned: bool) -> int:
-    """A whole number of the type, or the error that says what is wanted."""
-    found = index(value)
-    if not least(unsigned) <= found <= most(unsigned):
-        limits = "from 0 to 2**64 - 1" if unsigned else "from -2**63 to 2**63 - 1"
-        raise OverflowError(f"a number {limits} is wanted")
-    return found
-
-
-def empty_list(unsigned: bool) -> memoryview:
-    """The boundaries of the set of nothing."""
-    return memoryview(b"").cast(code_of(unsigned))
-
-
-def open_list(start: SupportsIndex | None, unsigned: bool) -> memoryview:
-    """The boundaries of the range from a number on, without an end."""
-    first = least(unsigned) if start is None else number(start, unsigned)
-    return memoryview(first.to_bytes(8, sys.byteorder, signed=not unsigned)).cast(code_of(unsigned))
 
 
 def two_ends(start: Any, end: Any) -> Pair:
@@ -164,7 +131,7 @@ def _gather_each(items: Iterable[Any], unsigned: bool) -> memoryview:
             continue
         start, end = ends_of(item, "a pair (start, end), a range or a set")
         if end is None:
-            lists.append(open_list(start, unsigned))
+            lists.append(range_list(start, None, unsigned))
         else:
             pairs.append(least(unsigned) if start is None else number(start, unsigned))
             pairs.append(number(end, unsigned))

@@ -6,7 +6,7 @@ import re
 from typing import Iterable
 
 from ._errors import ParseError
-from ._sources import number
+from ._numbers import number
 
 _BLANKS = re.compile(r"\s*")
 _NUMBER = re.compile(r"[+-]?[0-9]+")
