@@ -39,7 +39,7 @@ static inline bool is_array(const void *items, size_t len, size_t item_size)
     return len <= PTRDIFF_MAX / item_size && (items != NULL || len == 0);
 }
 
-/* malloc and its kin, as an allocator. */
+/* malloc, realloc and free, as an allocator. */
 static void *allocate(void *context, size_t size)
 {
     (void)context;

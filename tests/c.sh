@@ -201,9 +201,18 @@ uninstalls() {
     make -s -C "$work/c" uninstall PREFIX="$prefix" && [ -z "$(find "$prefix" -type f)" ]
 }
 
+# The layer in C as a compiler builds it with the sanitizers, and the proved code of dist/ under it: there the layer's own
+# names are hidden, and the proved ones made visible.
+sane_library() {
+    (cd "$work" && ar x "$OLDPWD/dist/librange_set.a" &&
+        objcopy -w --globalize-symbol='proved_*' --localize-symbol='range_set_*' range_set.o proved.o) &&
+        "$@" $strict -c c/range_set.c -o "$work/layer.o" && nm "$work/layer.o" | grep -q '__asan_'
+}
+
 # The tests under the sanitizers.
 is_sane() {
-    gcc -std=c99 -O1 -g -fsanitize=address,undefined $strict c/test.c "$archive" -o "$work/sane" && "$work/sane" 1000
+    local flags="-std=c99 -O1 -g -fsanitize=address,undefined -fno-sanitize-recover=all"
+    sane_library gcc $flags && gcc $flags $strict c/test.c "$work/layer.o" "$work/proved.o" -o "$work/sane" && "$work/sane" 1000
 }
 
 # The tests of one language as a compiler builds them.
@@ -214,15 +223,18 @@ builds_as() {
 
 # The tests under clang's sanitizers.
 is_sane_by_clang() {
-    clang -std=c11 -O1 -g -fsanitize=address,undefined -fno-sanitize-recover=all $strict c/test.c "$archive" -o "$work/sane" &&
-        "$work/sane" 1000 &&
-        clang++ -std=c++17 -O1 -g -fsanitize=address,undefined -fno-sanitize-recover=all $strict c/test.cpp "$archive" \
-            -o "$work/sane" && "$work/sane"
+    local flags="-O1 -g -fsanitize=address,undefined -fno-sanitize-recover=all"
+    sane_library clang -std=c11 $flags &&
+        clang -std=c11 $flags $strict c/test.c "$work/layer.o" "$work/proved.o" -o "$work/sane" && "$work/sane" 1000 &&
+        clang++ -std=c++17 $flags $strict c/test.cpp "$work/layer.o" "$work/proved.o" -o "$work/sane" && "$work/sane"
 }
 
+# The layer and the header for C++ under a fuzzer, which sees what they branch on.
 fuzzes() {
-    clang++ -std=c++17 -O1 -g -fsanitize=fuzzer,address,undefined -fno-sanitize-recover=all $strict c/fuzz.cpp "$archive" \
-        -o "$work/fuzz" && (cd "$work" && ./fuzz -max_total_time=60 -max_len=64 -verbosity=0 -print_final_stats=1)
+    local flags="-O1 -g -fsanitize=fuzzer,address,undefined -fno-sanitize-recover=all"
+    sane_library clang -std=c99 -O1 -g -fsanitize=fuzzer-no-link,address,undefined -fno-sanitize-recover=all &&
+        clang++ -std=c++17 $flags $strict c/fuzz.cpp "$work/layer.o" "$work/proved.o" -o "$work/fuzz" &&
+        (cd "$work" && ./fuzz -max_total_time=60 -max_len=64 -verbosity=0 -print_final_stats=1)
 }
 
 # Whether clang finds what a fuzzer is linked with.
@@ -271,7 +283,7 @@ step "the example" prints_its_lines example
 for page in README.md c/README.md; do
     step "the lines in C of $page" runs_page "$page"
 done
-step "the sanitizers" is_sane
+step_by objcopy binutils "the sanitizers" is_sane
 step_by g++ g++ "C++11" compiles_as_cpp
 step_by g++ g++ "the header for C++17" tests_cpp
 step_by g++ g++ "the lines in C++ of c/README.md" runs_cpp_page c/README.md
