@@ -1,6 +1,7 @@
 //! A cache of the parts of a file: which bytes are here, which a reader still waits for, and an index that a later run reads.
 
-use range_sets::RangeSet;
+use range_sets::{RangeSet, RangeSetRef};
+use std::error::Error;
 use std::ops::Range;
 
 /// Byte offsets. Up to four ranges lie in the value itself.
@@ -47,16 +48,20 @@ impl Cache {
         serde_json::to_string(&(self.length, &self.here))
     }
 
-    /// Reads an index, also one that someone wrote by hand: its boundaries may stand in any order.
-    fn of_index(text: &str) -> serde_json::Result<Self> {
-        let (length, here): (u64, Bytes) = serde_json::from_str(text)?;
-        let mut cache = Cache::new(length);
-        cache.here = here & Bytes::from(..length);
-        Ok(cache)
+    /// Reads an index. A damaged one is refused, since bytes that never came could count as here: its boundaries have to be
+    /// strictly sorted, and no range may go past the file's end.
+    fn of_index(text: &str) -> Result<Self, Box<dyn Error>> {
+        let (length, boundaries): (u64, Vec<u64>) = serde_json::from_str(text)?;
+        let here = RangeSetRef::new(&boundaries).ok_or("the boundaries aren't strictly sorted")?;
+        if !here.is_subset(&Bytes::from(..length)) {
+            return Err("a range goes past the end of the file".into());
+        }
+        let here = here.into();
+        Ok(Cache { length, here })
     }
 }
 
-fn main() -> serde_json::Result<()> {
+fn main() -> Result<(), Box<dyn Error>> {
     let mut cache = Cache::new(1000);
     cache.put(0..100);
     cache.put(300..400);
@@ -75,7 +80,13 @@ fn main() -> serde_json::Result<()> {
     let again = Cache::of_index(&index)?;
     assert_eq!((again.length, &again.here), (1000, &cache.here));
     assert_eq!(again.to_fetch(&(0..100)), [50..60]);
-    assert!(Cache::of_index("[1000, [0, \"ten\"]]").is_err());
-    assert!(Cache::of_index("[10, [5]]")?.to_fetch(&(5..10)).is_empty());
+    let damaged = [
+        r#"[1000, [0, "ten"]]"#,
+        "[1000, [100, 0]]",
+        "[1000, [0, 60, 100]]",
+    ];
+    for index in damaged {
+        assert!(Cache::of_index(index).is_err(), "{index}");
+    }
     Ok(())
 }

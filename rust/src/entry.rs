@@ -9,8 +9,8 @@ use core::num::{NonZeroU128, NonZeroU16, NonZeroU32, NonZeroU64, NonZeroU8, NonZ
 
 /// An element type that has a least value.
 ///
-/// "All values", `..end` and `!` ask for it: they need a boundary below which there is nothing. All other calls only
-/// ask for [`Ord`].
+/// "All values", `..end`, `!` and `combine` ask for it: they need a boundary below which there is nothing. Other calls
+/// ask for [`Ord`], and those that copy boundaries for [`Clone`].
 ///
 /// It is implemented for whole numbers, `NonZero` numbers without a sign, `char`, [`String`], `&str`, [`Vec`],
 /// slices and [`Option`].

@@ -295,6 +295,18 @@ fn copies_are_equal() {
 }
 
 #[test]
+fn views_become_sets() {
+    let texts = ["a", "ab", "b"].map(String::from);
+    let rows: [&[String]; 4] = [&[], &texts[..1], &texts[..2], &texts];
+    for row in rows {
+        let view = RangeSetRef::new(row).unwrap();
+        assert_eq!(view.to_owned().boundaries(), row);
+        assert_eq!(RangeSet::<[String; 1]>::from(view).boundaries(), row);
+        assert_eq!(RangeSet::<[String; 8]>::from(view).boundaries(), row);
+    }
+}
+
+#[test]
 fn least_values() {
     assert_eq!(String::min_value(), "");
     assert_eq!(Vec::<u8>::min_value(), []);

@@ -2,8 +2,9 @@
 
 use crate::array::Array;
 use crate::memory::{expect_memory, ByClone};
-use crate::range_set::RangeSet;
+use crate::range_set::{RangeSet, RangeSet2};
 use crate::view::RangeSetRef;
+use alloc::borrow::ToOwned;
 use core::borrow::Borrow;
 use core::cmp::Ordering;
 use core::hash::{Hash, Hasher};
@@ -44,6 +45,42 @@ where
 {
     fn clone(&self) -> Self {
         expect_memory::<A::Item, _, _>(Self::copied(self.view(), &ByClone))
+    }
+}
+
+/// A set of clones of a view's boundaries.
+///
+/// # Examples
+///
+/// ```
+/// use range_sets::{RangeSet, RangeSetRef};
+///
+/// let view = RangeSetRef::new(&[9, 11, 15, 18]).unwrap();
+/// let set: RangeSet<[i64; 4]> = view.into();
+/// assert_eq!(set, view);
+/// ```
+impl<T: Clone, A: Array<Item = T>> From<&RangeSetRef<T>> for RangeSet<A> {
+    fn from(view: &RangeSetRef<T>) -> Self {
+        expect_memory::<T, _, _>(Self::copied(view, &ByClone))
+    }
+}
+
+/// A set of clones of the view's boundaries. For more room in the value itself use `From`.
+///
+/// # Examples
+///
+/// ```
+/// use range_sets::RangeSetRef;
+///
+/// let mut busy = RangeSetRef::new(&[9, 11]).unwrap().to_owned();
+/// busy.insert(15..18);
+/// assert_eq!(busy.to_string(), "9..11, 15..18");
+/// ```
+impl<T: Clone> ToOwned for RangeSetRef<T> {
+    type Owned = RangeSet2<T>;
+
+    fn to_owned(&self) -> RangeSet2<T> {
+        self.into()
     }
 }
 
