@@ -133,6 +133,15 @@ class Reading(unittest.TestCase):
         self.assertEqual(RangeSet([(0, 4)], unsigned=True).first_fit(2**64 - 4), 4)
         self.assertIsNone(RangeSet([(0, 5)], unsigned=True).first_fit(2**64 - 4))
 
+    def test_where_numbers_fit_up_to_the_greatest(self):
+        for pairs, asked, answer in (
+            ([(0, MOST)], (1, 0), MOST), ([(0, MOST)], (2, 0), None), ([(0, None)], (1, 0), None), ([(0, None)], (0, 5), 5),
+            ([(5, 10)], (2**63 - 10, 0), 10), ([(5, 10)], (2**63 - 9, 0), None), ([(5, 10), (MOST, None)], (2**63 - 10, 0), None),
+            ([(5, 10), (MOST, None)], (2**63 - 11, 0), 10), ([(0, MOST)], (1, 0, MOST), None), ([], (1, MOST, MOST), None),
+        ):
+            with self.subTest(pairs=pairs, asked=asked):
+                self.assertEqual(RangeSet(pairs).first_fit(*asked), answer)
+
     def test_the_ranges(self):
         expected = [(0, 10), (20, 30), (40, None)]
         self.assertEqual((list(self.set), list(reversed(self.set))), (expected, expected[::-1]))
