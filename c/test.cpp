@@ -85,6 +85,9 @@ template <class T> static void rows()
     check(busy.covered() == 5u && !open->covered() && nothing.covered() == 0u, "covered");
     check(busy.range_at(12) == range<T>{12, 15, true} && !busy.range_at(15) && !open->range_at(20)->has_end, "range_at");
     check(busy.first() == range<T>{9, 11, true} && busy.last() == range<T>{12, 15, true} && !nothing.first(), "first and last");
+    check(open->last() == range<T>{20, 5, false} && open->last() != range<T>{20, 5, true}, "the end of a range that has none");
+    auto at = busy.begin();
+    check(*at++ == range<T>{9, 11, true} && *at == range<T>{12, 15, true} && ++at == busy.end(), "an iterator, read before it goes on");
     check(text<T>(busy.gaps(8, 20)) == "8..9 11..12 15..20", "gaps");
     check(busy.first_fit(9, 17, 1) == T(11) && busy.first_fit(9, 17, 2) == T(15) && !busy.first_fit(9, 17, 3), "first_fit");
     check(open->first_fit(5, 5, 0) == T(5) && !open->first_fit(0, 30, 11) && open->first_fit(0, 30, 10) == T(10), "first_fit, open");

@@ -553,6 +553,7 @@ static void TEST(owned)(void)
     NUMBER points[POINTS], list[POINTS], wanted[POINTS];
     bool on[POINTS] = {false}, next[POINTS];
     size_t p, from, to, steps;
+    const SET null_and_long = {NULL, SIZE_MAX};
     OWNED owned;
 
     for (p = 0; p < POINTS; p++) points[p] = LEAST + (NUMBER)p;
@@ -588,6 +589,9 @@ static void TEST(owned)(void)
         check(which != 3 || status != RANGE_SET_DONE || owned.in.room >= from, "owned: the room");
     }
     memory.left = 1;
+    check(CALL(owned_combine)(&owned, null_and_long, RANGE_SET_UNION) == RANGE_SET_DONE, "owned: with a null pointer and a length");
+    check(TEST(is)(owned.in.set, wanted, TEST(boundaries)(points, on, POINTS, wanted)), "owned: with a null pointer: the set");
+    memory.left = 1;
     check(CALL(owned_combine)(&owned, owned.in.set, RANGE_SET_SYMMETRIC_DIFFERENCE) == RANGE_SET_DONE, "owned: with itself");
     check(owned.in.set.len == 0, "owned: a set without itself has no member");
     CALL(owned_free)(&owned);
@@ -596,15 +600,25 @@ static void TEST(owned)(void)
     CALL(owned_free)(&owned);
 }
 
-/* An owned set by malloc, with many ranges. */
+/* An owned set by malloc, with many ranges, which takes a part of itself. One that grows doubles its room, so that it asks seldom. */
 static void TEST(owned_many)(void)
 {
+    struct memory memory = {0, 20};
+    const range_set_allocator allocator = {take, take_more, give_back, &memory};
     OWNED owned;
+    SET below, from;
     size_t p;
+    CALL(owned_init)(&owned, &allocator);
+    for (p = 0; p < 1000; p++)
+        check(CALL(owned_insert)(&owned, (NUMBER)(3 * p), (NUMBER)(3 * p + 1)) == RANGE_SET_DONE, "owned: twenty requests are enough");
+    CALL(owned_free)(&owned);
     CALL(owned_init)(&owned, NULL);
     for (p = 0; p < 1000; p++)
         check(CALL(owned_insert)(&owned, (NUMBER)(3 * p), (NUMBER)(3 * p + 1)) == RANGE_SET_DONE, "owned: by malloc");
     check(CALL(ranges_len)(owned.in.set) == 1000, "owned: many ranges");
+    CALL(split)(owned.in.set, 30, &below, &from);
+    check(CALL(owned_assign)(&owned, from) == RANGE_SET_DONE && CALL(ranges_len)(owned.in.set) == 990, "owned: a part of itself");
+    for (p = 0; p < 990; p++) check(owned.in.set.boundaries[2 * p] == (NUMBER)(3 * p + 30), "owned: a part of itself: the list");
     check(CALL(owned_insert)(&owned, 0, 3000) == RANGE_SET_DONE && CALL(ranges_len)(owned.in.set) == 1, "owned: all joined");
     CALL(owned_free)(&owned);
 }
@@ -735,6 +749,9 @@ static void TEST(bad_buffers)(void)
     NUMBER items[16] = {1, 2, 9, 9}, *last = items + 14;
     const BUFFER good = CALL(buffer_of)(items, 4);
     BUFFER it = good, *inside = (BUFFER *)(void *)items;
+    union { BUFFER buffer; NUMBER items[16]; } itself;
+    struct { BUFFER buffer; NUMBER items[4]; } beside;
+    SET within = {(const NUMBER *)(const void *)&it, 1};
     int which;
 
     check(CALL(buffer_view)(items, 2, 1, &it) == RANGE_SET_BAD_ARGUMENT, "buffer_view of more than the room");
@@ -742,6 +759,8 @@ static void TEST(bad_buffers)(void)
     check(CALL(buffer_view)(NULL, 0, 1, &it) == RANGE_SET_BAD_ARGUMENT, "buffer_view of null");
     check(CALL(buffer_view)(items, 2, SIZE_MAX, &it) == RANGE_SET_BAD_ARGUMENT, "buffer_view of too much room");
     check(CALL(buffer_view)(items, 2, 4, NULL) == RANGE_SET_BAD_ARGUMENT, "buffer_view into null");
+    check(CALL(buffer_view)(beside.items, 0, PTRDIFF_MAX / sizeof *items + 1, &beside.buffer) == RANGE_SET_BAD_ARGUMENT,
+          "buffer_view of a room that no array has");
     check(CALL(buffer_view)(items, 2, 16, inside) == RANGE_SET_BAD_ARGUMENT, "buffer_view into the items");
     check(memcmp(&it, &good, sizeof it) == 0, "what is refused writes a buffer");
     check(CALL(buffer_view)(items, 2, 3, &it) == RANGE_SET_DONE && TEST(is)(it.set, items, 2) && it.room == 3, "buffer_view");
@@ -757,10 +776,13 @@ static void TEST(bad_buffers)(void)
         check(change(&it, 1, 2) == RANGE_SET_BAD_ARGUMENT, "a buffer with a set longer than its room");
         it = good, it.set.boundaries = last;
         check(change(&it, 1, 2) == RANGE_SET_BAD_ARGUMENT, "a buffer with a set elsewhere");
+        itself.buffer = CALL(buffer_of)(itself.items, 16);
+        check(change(&itself.buffer, 1, 2) == RANGE_SET_BAD_ARGUMENT, "a buffer in its own items");
     }
     check(items[0] == 1 && items[1] == 2 && items[2] == 9, "what is refused changes the items");
     check(CALL(buffer_view)(items, 2, 16, &it) == RANGE_SET_DONE, "buffer_view");
     check(CALL(union_with)(&it, it.set) == RANGE_SET_BAD_ARGUMENT && it.set.len == 2, "a set with itself in its buffer");
+    check(CALL(union_with)(&it, within) == RANGE_SET_BAD_ARGUMENT, "a set whose list lies in the struct of the buffer");
     check(CALL(combine_with)(&it, CALL(buffer_of)(NULL, 0).set, RANGE_SET_NEITHER) == RANGE_SET_BAD_ARGUMENT, "neither in a buffer");
     check(CALL(union_with)(NULL, it.set) == RANGE_SET_BAD_ARGUMENT, "union_with a null buffer");
     it = CALL(buffer_of)(NULL, 0);

@@ -35,6 +35,8 @@ class Tokens(unittest.TestCase):
         kinds = [(token.text, token.kind) for token in tokens("a' 'b 'c' \"d\" b\"e\" ≡")[:-1]]
         expected = [("a'", "word"), ("'b", "life"), ("'c'", "char"), ('"d"', "str"), ('b"e"', "str"), ("≡", "punct")]
         self.assertEqual(kinds, expected)
+        quoted = [(token.text, token.kind) for token in tokens("'\\'' '\\\\' '\\u{41}' b")[:-1]]
+        self.assertEqual(quoted, [("'\\''", "char"), ("'\\\\'", "char"), ("'\\u{41}'", "char"), ("b", "word")])
 
     def test_lines(self):
         self.assertEqual([token.line for token in tokens("a\n/*\n*/ b\n// c\nd")], [1, 3, 5, 5])
@@ -157,6 +159,10 @@ impl T for u8 {
         text = "fn f(x: &[u8]) -> usize {\n    // Brings that the length is within usize.\n    let _len = x.len();\n    x.known();\n    R::keeps_own();\n    1\n}"
         self.assertEqual(rust(text), "fn f(x: &[u8]) -> usize {\n    1\n}")
 
+    def test_a_block_before_a_call_that_does_nothing_stays(self):
+        text = "fn f(x: &[u8]) -> usize {\n    if g() {\n        h();\n    }\n    x.known();\n    1\n}"
+        self.assertEqual(rust(text), "fn f(x: &[u8]) -> usize {\n    if g() {\n        h();\n    }\n    1\n}")
+
     def test_a_name_that_a_method_has_too_stays(self):
         self.assertEqual(rust("fn f(known: u8) -> u8 {\n    known\n}"), "fn f(known: u8) -> u8 {\n    known\n}")
 
@@ -240,6 +246,7 @@ class Refusals(unittest.TestCase):
     def test_ghosts(self):
         self.refused("\nghost fn f() {}", 2, "a ghost that is none of use, name: and name =: fn")
         self.refused("pub ghost fn f() {}", 1, "a public ghost that is no field")
+        self.refused("struct A {\n    pub ghost b: { p },\n    pub c: u8,\n}", 2, "a public ghost before other fields")
 
     def test_attributes(self):
         self.refused("fn f() -> u8 { 1 }\n#[cfg(test)]\nmod a;", 2, "the attribute cfg isn't known")
@@ -264,7 +271,7 @@ class Refusals(unittest.TestCase):
         self.refused('fn f() -> u8 {\n    println!("a")\n}', 2, "the macro println! isn't known")
         self.refused("fn f(x: &[u8]) -> u8 {\n    x.select_nth(3)\n}", 2, "the method select_nth isn't known")
         self.refused("fn f(x: u8) -> u8 {\n    let (a, b) = g(x) else { return 1; };\n    a\n}", 2, "an else of another form than let Name(name) = value else { .. };")
-        self.refused("fn f(x: u8) -> u8 {\n    let y = x.known() + 1;\n    y\n}", 2, "known_in_range as something else than a statement of its own".replace("_in_range", ""))
+        self.refused("fn f(x: u8) -> u8 {\n    let y = x.known() + 1;\n    y\n}", 2, "known as something else than a statement of its own")
         self.refused("fn f(x: u8) -> u8 {\n    // Brings that it fits.\n    g(x)\n}", 3, "'// Brings that' before something else than let _name")
 
     def test_paths(self):
@@ -344,9 +351,17 @@ class Writing(unittest.TestCase):
         expected = ["range_merge/b.rs isn't written by this script", "range_merge/a.rs differs", "range_merge/mod.rs is missing"]
         self.assertEqual(found, expected)
 
+    def test_who_sees_an_import_makes_a_difference_without_rustfmt(self):
+        folder = self.written()
+        file = folder / "range_merge" / "mod.rs"
+        file.write_text(file.read_text(encoding="utf-8").replace("pub use a::f;", "pub(crate) use a::f;"), encoding="utf-8")
+        with self.without_rustfmt():
+            self.assertEqual(writing.differences(self.root / "crates", folder)[0], ["range_merge/mod.rs differs"])
+
     @unittest.skipIf(writing.rustfmt() is None, f"{tables.RUSTFMT} isn't there")
     def test_layouts_are_compared_with_rustfmt(self):
         folder = self.root / "out"
+        writing.put(folder, {"range_merge/gone.rs": ""})
         writing.write(self.root / "crates", folder)
         self.assertEqual(writing.differences(self.root / "crates", folder), ([], True))
         file = folder / "range_merge" / "a.rs"

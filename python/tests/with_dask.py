@@ -85,6 +85,11 @@ class Keys(unittest.TestCase):
         pairs = [(1, RangeSet([(0, 10)])), (2, RangeSet([(5, None)])), (2, RangeSet([(0, 3)]))]
         self.assertEqual(covered_by_key([dask.delayed(pairs)]).compute(scheduler="sync"), {1: 10, 2: None})
 
+    def test_keys_whose_sets_are_empty(self):
+        pairs = [("a", RangeSet()), ("b", RangeSet([(0, 10)])), ("b", RangeSet())]
+        for cuts in ((), ("b",)):
+            self.assertEqual(covered_by_key([dask.delayed(pairs)], cuts=cuts).compute(scheduler="sync"), {"a": 0, "b": 10})
+
 
 if __name__ == "__main__":
     unittest.main()

@@ -131,6 +131,10 @@ class Sets(unittest.TestCase):
             with self.assertRaisesRegex(TypeError, text):
                 RangeSet(bad)
 
+    def test_a_table_by_columns(self):
+        with self.assertRaisesRegex(TypeError, "side by side"):
+            RangeSet.from_ranges(numpy.asfortranarray([[0, 10], [20, 30], [5, 12]]))
+
     def test_pairs_of_numpy_numbers(self):
         self.assertEqual(RangeSet([(numpy.int64(3), numpy.int16(9))]), RangeSet([(3, 9)]))
         self.assertEqual(RangeSet(list(i64(3, 9, 12, 14).reshape(2, 2))), RangeSet([(3, 9), (12, 14)]))

@@ -59,6 +59,12 @@ fn elements_of_other_types() {
 }
 
 #[test]
+fn elements_without_a_size() {
+    let set: RangeSet2<()> = from_str("[null, null]").unwrap();
+    assert_eq!(set.boundaries(), [()]);
+}
+
+#[test]
 fn faults_have_their_place() {
     let fault = |text: &str| {
         let error = from_str::<RangeSet2<u8>>(text).unwrap_err();

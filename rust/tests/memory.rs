@@ -477,6 +477,21 @@ fn questions_take_no_memory() {
     assert_eq!(refused, 0);
 }
 
+#[test]
+fn a_copy_that_fits_into_the_set_takes_no_memory() {
+    let set = RangeSet2::<u64>::try_from(5..9).unwrap();
+    assert!(refusing(Refusal::From(0), || set.try_clone()).0.is_ok());
+}
+
+/// A list that grows by one boundary at a time doubles its room.
+#[test]
+fn a_list_that_grows_asks_seldom() {
+    let (set, _) = refusing(Refusal::From(20), || {
+        RangeSet2::<u64>::from_unsorted(0..1000)
+    });
+    assert_eq!(set.unwrap().boundaries().len(), 1000);
+}
+
 /// Sets that aren't fallible end the process where memory is refused, and the message is std's.
 #[cfg(all(target_os = "linux", target_arch = "x86_64"))]
 #[test]
@@ -484,18 +499,30 @@ fn other_sets_end_the_process() {
     use std::os::unix::process::ExitStatusExt;
 
     const CHILD: &str = "RANGE_SETS_TEST_ENDS_THE_PROCESS";
-    if std::env::var_os(CHILD).is_some() {
-        let mut set: range_sets::RangeSet2<u64> = (0..10).into();
-        let that: range_sets::RangeSet2<u64> = (20..30).into();
-        refusing(Refusal::One(0), || set |= that);
+    let calls: [(&str, fn()); 2] = [
+        ("|=", || {
+            let mut set: range_sets::RangeSet2<u64> = (0..10).into();
+            let that: range_sets::RangeSet2<u64> = (20..30).into();
+            refusing(Refusal::One(0), || set |= that);
+        }),
+        ("parse", || {
+            let text = "1..2, 3..4, 5..6";
+            let parse = || text.parse::<range_sets::RangeSet2<u64>>();
+            let _ = refusing(Refusal::From(0), parse);
+        }),
+    ];
+    if let Some(wanted) = std::env::var_os(CHILD) {
+        calls.iter().find(|call| call.0 == wanted).unwrap().1();
         return;
     }
-    let this = std::env::current_exe().unwrap();
-    let child = std::process::Command::new(this)
-        .args(["--exact", "other_sets_end_the_process", "--nocapture"])
-        .env(CHILD, "1")
-        .output()
-        .unwrap();
-    assert_eq!(child.status.signal(), Some(6));
-    assert!(String::from_utf8_lossy(&child.stderr).contains("memory allocation of"));
+    for (name, _) in calls {
+        let this = std::env::current_exe().unwrap();
+        let child = std::process::Command::new(this)
+            .args(["--exact", "other_sets_end_the_process", "--nocapture"])
+            .env(CHILD, name)
+            .output()
+            .unwrap();
+        assert_eq!(child.status.signal(), Some(6), "{name}");
+        assert!(String::from_utf8_lossy(&child.stderr).contains("memory allocation of"));
+    }
 }

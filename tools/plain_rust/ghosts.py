@@ -29,8 +29,10 @@ def drop_ghost_field(found, at):
     for token in found[opening:at]:
         if token.text == "pub":
             token.text = "pub(crate)"
-    end = skipped_field(found, at)
-    del found[at:end]
+    line = found[at].line
+    del found[at : skipped_field(found, at)]
+    if found[at].text != "}":
+        raise Refused(line, "a public ghost before other fields")
     return at
 
 
