@@ -37,7 +37,7 @@ impl<T: Serialize, A: Array<Item = T>> Serialize for fallible::RangeSet<A> {
 
 /// Reads a sequence of boundaries in any order. Of those that come twice one stays, so no list of elements is refused.
 ///
-/// To refuse a damaged list, read a [`Vec`](alloc::vec::Vec) and use [`RangeSetRef::new`], which answers `None` for
+/// To refuse a damaged list, read a `Vec` and use [`RangeSetRef::new`], which answers `None` for
 /// boundaries that aren't strictly sorted.
 ///
 /// # Examples
