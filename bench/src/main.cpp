@@ -19,6 +19,8 @@ namespace {
 constexpr std::size_t rounds = 9;
 constexpr std::size_t grown = 131072;
 constexpr std::size_t longest_run = 65536;
+constexpr std::size_t fewest = 1024;
+constexpr std::size_t most = 16777216;
 
 // Ranges that come one by one: so many are timed, and the fewer are compared with a plain merge.
 constexpr std::size_t many_ranges = 100000;
@@ -70,8 +72,14 @@ std::vector<Line> checked_lines(const Peers& peers, const Job& job) {
     return lines;
 }
 
+// Two sets whose boundaries alternate in runs.
 Job growth_job(std::size_t run) {
     return {runs(grown, run), {Task::union_new}};
+}
+
+// Two sets of so many boundaries that alternate one by one.
+Job size_job(std::size_t size) {
+    return {runs(size, 1), {Task::union_new}};
 }
 
 void check(const Peers& peers) {
@@ -85,6 +93,7 @@ void check(const Peers& peers) {
     for (std::size_t run = 1; run <= longest_run; run *= 256) {
         compared += checked_lines(peers, growth_job(run)).size();
     }
+    compared += checked_lines(peers, size_job(fewest)).size();
     std::printf("%zu results compared with a plain merge, all right\n", compared);
 }
 
@@ -110,33 +119,41 @@ void time_commands(const Peers& peers, const std::string& csv) {
     }
 }
 
-// The union of two sets by the length of the runs in which their boundaries alternate.
-void time_growth(const Peers& peers, const std::string& csv) {
+// The union of two sets, as a number of the case grows.
+void time_unions(const Peers& peers, const std::string& csv, const char* number, std::size_t from, std::size_t to,
+                 Job job_of(std::size_t)) {
     std::ofstream file(csv);
     if (!file) {
         throw std::runtime_error("cannot write " + csv);
     }
-    file << "run,contender,least_ns,median_ns,comparisons\n";
-    std::printf("%8s %12s", "run", "comparisons");
+    file << number << ",contender,least_ns,median_ns,comparisons\n";
+    std::printf("%8s %12s", number, "comparisons");
     for (const auto& peer : peers) {
         std::printf(" %12.12s", peer->can(Task::union_new) ? peer->name().c_str() : "");
     }
     std::printf("\n");
-    for (std::size_t run = 1; run <= longest_run; run *= 4) {
-        Job job = growth_job(run);
+    for (std::size_t value = from; value <= to; value *= 4) {
+        Job job = job_of(value);
         std::vector<Line> lines = checked_lines(peers, job);
         time_all(lines, 1, rounds);
         const Pair& pair = job.that.pairs.front();
         auto comparisons = static_cast<unsigned long long>(range_bench_union_comparisons(
             pair.left.data(), pair.left.size(), pair.right.data(), pair.right.size()));
-        std::printf("%8zu %12llu", run, comparisons);
-        for (const Line& line : lines) {
-            std::printf(" %12.0f", line.least);
-            file << run << ',' << line.peer->name() << ',' << line.least << ',' << line.median << ',';
-            if (line.peer == peers.front().get()) {
+        std::printf("%8zu %12llu", value, comparisons);
+        auto line = lines.begin();
+        for (const auto& peer : peers) {
+            if (line == lines.end() || line->peer != peer.get()) {
+                // It has no such call, or can't hold so great numbers.
+                std::printf(" %12s", "");
+                continue;
+            }
+            std::printf(" %12.0f", line->least);
+            file << value << ',' << peer->name() << ',' << line->least << ',' << line->median << ',';
+            if (peer == peers.front()) {
                 file << comparisons;
             }
             file << '\n';
+            ++line;
         }
         std::printf("\n");
         std::fflush(stdout);
@@ -183,7 +200,7 @@ void count(const Peers& peers, const std::string& name, const std::string& shape
 }
 
 int usage() {
-    std::fprintf(stderr, "usage: driver check | times CSV | growth CSV | commands CSV | "
+    std::fprintf(stderr, "usage: driver check | times CSV | growth CSV | sizes CSV | commands CSV | "
                          "count CONTENDER SHAPE SIZE TASK\n");
     return 2;
 }
@@ -195,7 +212,9 @@ int run(const std::vector<std::string>& words) {
     } else if (words.size() == 2 && words[0] == "times") {
         time_jobs(peers, words[1]);
     } else if (words.size() == 2 && words[0] == "growth") {
-        time_growth(peers, words[1]);
+        time_unions(peers, words[1], "run", 1, longest_run, growth_job);
+    } else if (words.size() == 2 && words[0] == "sizes") {
+        time_unions(peers, words[1], "size", fewest, most, size_job);
     } else if (words.size() == 2 && words[0] == "commands") {
         time_commands(peers, words[1]);
     } else if (words.size() == 5 && words[0] == "count") {
