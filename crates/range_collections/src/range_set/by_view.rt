@@ -416,9 +416,7 @@ impl<T: EntryClone + MadeWith<Global> + Drop, const N: usize> RangeSet<T, N> {
         self.as_ref().merge_new(self.allocator(), that, op, count)
     }
 
-    /// The union: the elements that are members of either set.
-    ///
-    /// Of two equal boundaries this set's is copied. It fails only if an allocation or a copy does, and makes at most twice the weight of the two lists in comparisons.
+    /// The union: the elements that are members of either set. Of two equal boundaries this set's is copied. It fails only if an allocation or a copy does, and makes at most twice the weight of the two lists in comparisons.
     pub fn union<const M: usize>(&self, that: RangeSetRef<T>) -> Result<RangeSet<T, M>, AllocError>
         ensures gives { GivesOperation T.cmp T.is_copy T.is_infallible union_table M
             self.now that.entry.boundaries.now result }
@@ -426,9 +424,7 @@ impl<T: EntryClone + MadeWith<Global> + Drop, const N: usize> RangeSet<T, N> {
         self.as_ref().union(self.allocator(), that)
     }
 
-    /// The intersection: the elements that are members of both sets.
-    ///
-    /// Of two equal boundaries this set's is copied. It fails only if an allocation or a copy does, and makes at most twice the weight of the two lists in comparisons.
+    /// The intersection: the elements that are members of both sets. Of two equal boundaries this set's is copied. It fails only if an allocation or a copy does, and makes at most twice the weight of the two lists in comparisons.
     pub fn intersection<const M: usize>(
         &self,
         that: RangeSetRef<T>,
@@ -439,9 +435,7 @@ impl<T: EntryClone + MadeWith<Global> + Drop, const N: usize> RangeSet<T, N> {
         self.as_ref().intersection(self.allocator(), that)
     }
 
-    /// The difference: the members of this set that aren't members of `that`.
-    ///
-    /// Of two equal boundaries this set's is copied. It fails only if an allocation or a copy does, and makes at most twice the weight of the two lists in comparisons.
+    /// The difference: the members of this set that aren't members of `that`. Of two equal boundaries this set's is copied. It fails only if an allocation or a copy does, and makes at most twice the weight of the two lists in comparisons.
     pub fn difference<const M: usize>(
         &self,
         that: RangeSetRef<T>,
@@ -452,9 +446,7 @@ impl<T: EntryClone + MadeWith<Global> + Drop, const N: usize> RangeSet<T, N> {
         self.as_ref().difference(self.allocator(), that)
     }
 
-    /// The symmetric difference: the elements that are members of exactly one of the sets.
-    ///
-    /// Of two equal boundaries this set's is copied. It fails only if an allocation or a copy does, and makes at most twice the weight of the two lists in comparisons.
+    /// The symmetric difference: the elements that are members of exactly one of the sets. Of two equal boundaries this set's is copied. It fails only if an allocation or a copy does, and makes at most twice the weight of the two lists in comparisons.
     pub fn symmetric_difference<const M: usize>(
         &self,
         that: RangeSetRef<T>,

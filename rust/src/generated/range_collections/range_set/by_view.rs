@@ -515,9 +515,7 @@ impl<T: EntryClone, const N: usize> RangeSet<T, N> {
         self.as_ref().merge_new(self.allocator(), that, op, count)
     }
 
-    /// The union: the elements that are members of either set.
-    ///
-    /// Of two equal boundaries this set's is copied. It fails only if an allocation or a copy does, and makes at most twice the weight of the two lists in comparisons.
+    /// The union: the elements that are members of either set. Of two equal boundaries this set's is copied. It fails only if an allocation or a copy does, and makes at most twice the weight of the two lists in comparisons.
     ///
     /// # Contract
     ///
@@ -532,9 +530,7 @@ impl<T: EntryClone, const N: usize> RangeSet<T, N> {
         self.as_ref().union(self.allocator(), that)
     }
 
-    /// The intersection: the elements that are members of both sets.
-    ///
-    /// Of two equal boundaries this set's is copied. It fails only if an allocation or a copy does, and makes at most twice the weight of the two lists in comparisons.
+    /// The intersection: the elements that are members of both sets. Of two equal boundaries this set's is copied. It fails only if an allocation or a copy does, and makes at most twice the weight of the two lists in comparisons.
     ///
     /// # Contract
     ///
@@ -549,9 +545,7 @@ impl<T: EntryClone, const N: usize> RangeSet<T, N> {
         self.as_ref().intersection(self.allocator(), that)
     }
 
-    /// The difference: the members of this set that aren't members of `that`.
-    ///
-    /// Of two equal boundaries this set's is copied. It fails only if an allocation or a copy does, and makes at most twice the weight of the two lists in comparisons.
+    /// The difference: the members of this set that aren't members of `that`. Of two equal boundaries this set's is copied. It fails only if an allocation or a copy does, and makes at most twice the weight of the two lists in comparisons.
     ///
     /// # Contract
     ///
@@ -566,9 +560,7 @@ impl<T: EntryClone, const N: usize> RangeSet<T, N> {
         self.as_ref().difference(self.allocator(), that)
     }
 
-    /// The symmetric difference: the elements that are members of exactly one of the sets.
-    ///
-    /// Of two equal boundaries this set's is copied. It fails only if an allocation or a copy does, and makes at most twice the weight of the two lists in comparisons.
+    /// The symmetric difference: the elements that are members of exactly one of the sets. Of two equal boundaries this set's is copied. It fails only if an allocation or a copy does, and makes at most twice the weight of the two lists in comparisons.
     ///
     /// # Contract
     ///
