@@ -523,6 +523,7 @@ fn other_sets_end_the_process() {
             .output()
             .unwrap();
         assert_eq!(child.status.signal(), Some(6), "{name}");
-        assert!(String::from_utf8_lossy(&child.stderr).contains("memory allocation of"));
+        let said = String::from_utf8_lossy(&child.stderr);
+        assert!(said.contains("memory allocation of"), "{name}: {said}");
     }
 }

@@ -305,7 +305,7 @@ static PyObject *ask(PyObject *const *args, Py_ssize_t n, int lists, int numbers
     Arguments given;
     bool answer = false;
     if (!read_arguments(&given, args, n, lists, numbers, 0)) return NULL;
-    PyThreadState *thread = let_others_run(given.lists[1].len);
+    PyThreadState *thread = let_others_run(lists == 2 ? given.lists[0].len + given.lists[1].len : 0);
     range_set_status status = lists == 2 ? check_sorted(&given) : RANGE_SET_DONE;
     if (status == RANGE_SET_DONE) answer = call(&given);
     go_on(thread);
