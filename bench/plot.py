@@ -1,32 +1,58 @@
 #!/usr/bin/env python3
-"""Draws the CSV of growth as an SVG: time by the length of runs, both axes by powers.
+"""Draws a CSV of growth as an SVG, both axes by powers: of runs, or of ranges one by one.
 
-usage: plot.py GROWTH.csv OUT.svg
+usage: plot.py runs|ranges GROWTH.csv OUT.svg
 """
 
 import csv
 import math
 import sys
+from dataclasses import dataclass
 from html import escape
 
 WIDTH, HEIGHT = 760, 440
 LEFT, RIGHT, TOP, BOTTOM = 70, 130, 40, 60
-SHOWN = {"library": "#c1272d", "vector": "#1f5fa8", "linear C": "#3a7d34", "ICU": "#8a5a00"}
 
 
-def read(path):
-    """The points of each contender that is shown: run and milliseconds."""
+@dataclass
+class Plot:
+    """What is drawn: the columns, how many nanoseconds the unit has, the words, and a colour for each contender."""
+
+    number: str
+    time: str
+    unit: str
+    unit_ns: float
+    title: str
+    below: str
+    shown: dict
+
+
+PLOTS = {
+    "runs": Plot(
+        "run", "least_ns", "ms", 1e6, "Union of two sets of 131,072 boundaries each", "boundaries in a run",
+        {"library": "#c1272d", "vector": "#1f5fa8", "linear C": "#3a7d34", "ICU": "#8a5a00"},
+    ),
+    "ranges": Plot(
+        "ranges", "insert_ns", "ns", 1, "A range put in, in random order", "ranges in the end",
+        {"RangeSet": "#8a5a00", "ChunkedRangeSet": "#c1272d", "BTreeMap": "#1f5fa8", "Boost.ICL": "#3a7d34",
+         "CRoaring": "#666"},
+    ),
+}
+
+
+def read(plot, path):
+    """The points of each contender that is shown: number and time."""
     lines = {}
     with open(path, newline="", encoding="utf-8") as file:
         for row in csv.DictReader(file):
-            if row["contender"] in SHOWN:
-                point = int(row["run"]), float(row["least_ns"]) / 1e6
+            if row["contender"] in plot.shown:
+                point = int(row[plot.number]), float(row[plot.time]) / plot.unit_ns
                 lines.setdefault(row["contender"], []).append(point)
     return lines
 
 
 class Axes:
-    """Places of runs and milliseconds on the page."""
+    """Places of numbers and times on the page."""
 
     def __init__(self, lines):
         runs = [run for points in lines.values() for run, _ in points]
@@ -58,42 +84,53 @@ def line(x, y, to_x, to_y):
     return f'<path d="M{x:.1f} {y:.1f}L{to_x:.1f} {to_y:.1f}" stroke="#ddd" fill="none"/>'
 
 
-def grid(axes):
+def grid(plot, axes):
     for run in axes.runs:
         yield line(axes.x(run), TOP, axes.x(run), HEIGHT - BOTTOM)
         yield text(axes.x(run), HEIGHT - BOTTOM + 18, f"{run:,}")
     for time in axes.times():
         yield line(LEFT, axes.y(time), WIDTH - RIGHT, axes.y(time))
-        yield text(LEFT - 8, axes.y(time) + 4, f"{time:g} ms", "end")
+        yield text(LEFT - 8, axes.y(time) + 4, f"{time:,g} {plot.unit}", "end")
 
 
-def curve(axes, name, points):
-    colour = SHOWN[name]
+def labels(axes, lines):
+    """Where each name stands: beside its last point, and below the one above it."""
+    places, lowest = {}, {}
+    for name, points in sorted(lines.items(), key=lambda line: axes.y(line[1][-1][1])):
+        x, y = axes.x(points[-1][0]), axes.y(points[-1][1])
+        lowest[x] = max(y, lowest.get(x, TOP) + 14)
+        places[name] = x + 8, lowest[x] + 4
+    return places
+
+
+def curve(plot, axes, name, points):
+    colour = plot.shown[name]
     path = "L".join(f"{axes.x(run):.1f} {axes.y(time):.1f}" for run, time in points)
     yield f'<path d="M{path}" stroke="{colour}" stroke-width="2" fill="none"/>'
-    last_run, last_time = points[-1]
-    yield text(axes.x(last_run) + 8, axes.y(last_time) + 4, name, "start", colour)
 
 
-def picture(lines):
+def picture(plot, lines):
     axes = Axes(lines)
     yield (f'<svg xmlns="http://www.w3.org/2000/svg" viewBox="0 0 {WIDTH} {HEIGHT}" '
            'font-family="sans-serif" font-size="12">')
     yield f'<rect width="{WIDTH}" height="{HEIGHT}" fill="white"/>'
-    yield text(WIDTH / 2, 22, "Union of two sets of 131,072 boundaries each")
-    yield from grid(axes)
+    yield text(WIDTH / 2, 22, plot.title)
+    yield from grid(plot, axes)
     for name, points in lines.items():
-        yield from curve(axes, name, points)
-    yield text((LEFT + WIDTH - RIGHT) / 2, HEIGHT - 18, "boundaries in a run")
+        yield from curve(plot, axes, name, points)
+    for name, (x, y) in labels(axes, lines).items():
+        yield text(x, y, name, "start", plot.shown[name])
+    yield text((LEFT + WIDTH - RIGHT) / 2, HEIGHT - 18, plot.below)
     yield "</svg>"
 
 
 def main(words):
-    if len(words) != 2:
+    if len(words) != 3 or words[0] not in PLOTS:
         sys.exit(__doc__.strip().splitlines()[-1])
-    lines = read(words[0])
-    with open(words[1], "w", encoding="utf-8") as file:
-        file.write("\n".join(picture(lines)) + "\n")
+    plot = PLOTS[words[0]]
+    lines = read(plot, words[1])
+    with open(words[2], "w", encoding="utf-8") as file:
+        file.write("\n".join(picture(plot, lines)) + "\n")
 
 
 if __name__ == "__main__":

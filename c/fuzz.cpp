@@ -61,7 +61,7 @@ template <class T> static void sets(const std::uint8_t *bytes, std::size_t size)
         meets |= p && q, within &= !p || q, whole &= !in_range || p;
     }
     check(a->intersects(*b) == meets && a->is_subset(*b) == within && a->contains_range(start, end) == whole);
-    check((*a == *b) == (left == right) && a->covered().has_value() == (left.size() % 2 == 0));
+    check((*a == *b) == (left == right) && (*a < *b) == (left < right) && a->covered().has_value() == (left.size() % 2 == 0));
 }
 
 // Ranges in any order.

@@ -4,7 +4,9 @@
 
 /* The proved calls: a list is a pointer and a length. Those that write a list answer its length, and have written it where
  * that is at most the buffer's, and else, where they change a set in place, nothing. But `parse` may be called only with a text of
- * which `check_text` answered 0, and with room for as many numbers as that told. */
+ * which `check_text` answered 0, and with room for half as many ranges as that told numbers.
+ * A range is two numbers. `parse` and `union_from` answer how many ranges with an end their set has, and tell whether it has one
+ * without, and where that starts. */
 bool PROVED(is_sorted)(const NUMBER *a, size_t a_len);
 bool PROVED(contains)(const NUMBER *a, size_t a_len, NUMBER value);
 bool PROVED(contains_range)(const NUMBER *a, size_t a_len, NUMBER start, NUMBER end);
@@ -31,9 +33,10 @@ size_t PROVED(combine_within)(NUMBER *buffer, size_t room, size_t len, const NUM
 bool PROVED(first_fit)(const NUMBER *a, size_t a_len, NUMBER start, NUMBER end, COUNT count, NUMBER *first);
 size_t PROVED(print)(const NUMBER *a, size_t a_len, char *text, size_t room);
 uint32_t PROVED(check_text)(const char *text, size_t text_len, size_t *told);
-size_t PROVED(parse)(const char *text, size_t text_len, NUMBER *out, size_t room);
+size_t PROVED(parse)(const char *text, size_t text_len, NUMBER *ranges, size_t count, bool *is_open, NUMBER *open);
 size_t PROVED(from_unsorted)(NUMBER *items, size_t len);
 size_t PROVED(from_ranges)(NUMBER *ranges, size_t count);
+size_t PROVED(union_from)(NUMBER *ranges, size_t count, bool is_open, NUMBER *open);
 
 /* A null pointer is this address, of which nothing is read or written. */
 static NUMBER NAME(nothing);
@@ -243,11 +246,18 @@ static size_t NAME(longer)(size_t len, SET set)
     return more <= SIZE_MAX - len ? len + more : SIZE_MAX;
 }
 
-/* The ranges with an end are copied and joined. Of those without, the one that starts first stays: what lies below it is kept,
- * and where that has no member right below it its start. */
+/* The set of so many ranges at the front of a buffer, and of the numbers from `open` on: how many boundaries it has. The buffer has
+ * room for the last one. */
+static inline size_t NAME(opened)(NUMBER *out, size_t count, bool is_open, NUMBER open)
+{
+    if (is_open) out[2 * count] = open;
+    return 2 * count + is_open;
+}
+
+/* The ranges with an end are copied, and of those without the one that starts first is remembered. */
 range_set_status NAME(union_all)(const SET *sets, size_t count, NUMBER *out, size_t room, SET *result)
 {
-    size_t needed = 0, len = 0, left_len, right_start, i;
+    size_t needed = 0, len = 0, i;
     bool is_open = false;
     NUMBER open = 0;
     if (!is_array(sets, count, sizeof *sets) || !is_array(out, room, sizeof *out) || !NAME(is_result)(result, out, room)
@@ -268,13 +278,8 @@ range_set_status NAME(union_all)(const SET *sets, size_t count, NUMBER *out, siz
         open = is_open && open < list[closed] ? open : list[closed];
         is_open = true;
     }
-    len = 2 * PROVED(from_ranges)(ROOM(out, len / 2));
-    if (is_open) {
-        PROVED(split)(out, len, open, &left_len, &right_start);
-        len = left_len;
-        if (left_len % 2 == 0) out[len++] = open;
-    }
-    return NAME(written)(len, out, room, result);
+    len = PROVED(union_from)(ROOM(out, len / 2), is_open, &open);
+    return NAME(written)(NAME(opened)(out, len, is_open, open), out, room, result);
 }
 
 /* ---- Texts ---- */
@@ -310,11 +315,16 @@ static inline bool NAME(are_apart)(const char *text, size_t text_len, const NUMB
 range_set_status NAME(parse)(const char *text, size_t text_len, NUMBER *out, size_t room, SET *result, size_t *fault)
 {
     static const char no_text;
-    size_t told = 0;
+    size_t told = 0, count;
+    bool is_open = false;
+    NUMBER open = 0;
     if (!NAME(are_apart)(text, text_len, out, room, result, fault)) return RANGE_SET_BAD_ARGUMENT;
     if (text == NULL) text = &no_text;
     switch (PROVED(check_text)(text, text_len, &told)) {
-    case 0: return NAME(written)(told <= room ? PROVED(parse)(text, text_len, ROOM(out, room)) : told, out, room, result);
+    case 0:
+        if (told > room) return NAME(written)(told, out, room, result);
+        count = PROVED(parse)(text, text_len, ROOM(out, told / 2), &is_open, &open);
+        return NAME(written)(NAME(opened)(out, count, is_open, open), out, room, result);
     case 2: return RANGE_SET_OUT_OF_RANGE;
     default:
         if (fault != NULL) *fault = told;
@@ -390,6 +400,7 @@ static void NAME(release)(const OWNED *owned, NUMBER *items, size_t room)
 
 void NAME(owned_free)(OWNED *owned)
 {
+    if (owned == NULL) return;
     NAME(release)(owned, owned->in.items, owned->in.room);
     owned->in = NAME(buffer_of)(NULL, 0);
 }
@@ -414,19 +425,17 @@ range_set_status NAME(owned_reserve)(OWNED *owned, size_t room)
     return RANGE_SET_DONE;
 }
 
-/* Sees that there is room for two more boundaries. A set that grows doubles its room. */
-static range_set_status NAME(grow)(OWNED *owned)
+/* Sees that there is room for so many boundaries. A set that grows has room for half as many more, so that it asks seldom. */
+static range_set_status NAME(grow)(OWNED *owned, size_t needed)
 {
-    size_t len = owned->in.set.len, room = owned->in.room;
-    if (len + 2 <= room) return RANGE_SET_DONE;
-    return NAME(owned_reserve)(owned, room < 4 ? 8 : room > SIZE_MAX / 2 ? SIZE_MAX : 2 * room);
+    return needed <= owned->in.room ? RANGE_SET_DONE : NAME(owned_reserve)(owned, needed < 8 ? 8 : needed + needed / 2);
 }
 
 range_set_status NAME(owned_insert)(OWNED *owned, NUMBER start, NUMBER end)
 {
     range_set_status status = NAME(insert)(&owned->in, start, end);
     if (status != RANGE_SET_NO_ROOM) return status;
-    status = NAME(grow)(owned);
+    status = NAME(grow)(owned, owned->in.needed);
     return status == RANGE_SET_DONE ? NAME(insert)(&owned->in, start, end) : status;
 }
 
@@ -434,7 +443,7 @@ range_set_status NAME(owned_remove)(OWNED *owned, NUMBER start, NUMBER end)
 {
     range_set_status status = NAME(remove)(&owned->in, start, end);
     if (status != RANGE_SET_NO_ROOM) return status;
-    status = NAME(grow)(owned);
+    status = NAME(grow)(owned, owned->in.needed);
     return status == RANGE_SET_DONE ? NAME(remove)(&owned->in, start, end) : status;
 }
 
@@ -461,21 +470,23 @@ range_set_status NAME(owned_assign)(OWNED *owned, SET set)
     return RANGE_SET_DONE;
 }
 
+/* The set moves behind room for the longest result, which is written at the front. The other set may be a part of it, and moves
+ * with it then; it mustn't lie elsewhere in the buffer. */
 range_set_status NAME(owned_combine)(OWNED *owned, SET other, unsigned keep)
 {
-    size_t room = owned->in.set.len + (other.boundaries ? other.len : 0) + (keep & RANGE_SET_NEITHER ? 1 : 0);
-    NUMBER *items = NAME(allocated)(owned, room);
-    SET result;
+    SET set = owned->in.set;
+    size_t other_len = other.boundaries ? other.len : 0, other_size = other_len * sizeof(NUMBER);
+    size_t longest = set.len + other_len + (keep & RANGE_SET_NEITHER ? 1 : 0);
+    size_t at = ((uintptr_t)other.boundaries - (uintptr_t)owned->in.items) / sizeof(NUMBER);
+    bool is_part = overlap(owned->in.items, owned->in.room * sizeof(NUMBER), other.boundaries, other_size);
     range_set_status status;
-    if (items == NULL && room > 0) return RANGE_SET_NO_MEMORY;
-    status = NAME(combine)(owned->in.set, other, keep, items, room, &result);
-    if (status != RANGE_SET_DONE) {
-        NAME(release)(owned, items, room);
-        return status;
-    }
-    NAME(release)(owned, owned->in.items, owned->in.room);
-    NAME(replace)(owned, items, room, result.len);
-    return RANGE_SET_DONE;
+    if (overlap(owned, sizeof *owned, other.boundaries, other_size) || (is_part && (at > set.len || other_len > set.len - at)))
+        return RANGE_SET_BAD_ARGUMENT;
+    status = NAME(grow)(owned, longest + set.len);
+    if (status != RANGE_SET_DONE) return status;
+    if (set.len > 0) set.boundaries = memmove(owned->in.items + longest, owned->in.items, set.len * sizeof(NUMBER));
+    if (is_part) other.boundaries = set.boundaries + at;
+    return NAME(combine)(set, other, keep, owned->in.items, longest, &owned->in.set);
 }
 
 #undef LIST

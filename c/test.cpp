@@ -4,9 +4,13 @@
 #include <cstdio>
 #include <cstdlib>
 #include <iterator>
+#include <limits>
 #include <map>
 #include <set>
+#include <sstream>
 #include <string>
+#include <type_traits>
+#include <unordered_set>
 #include <vector>
 
 using range_sets::range;
@@ -17,21 +21,37 @@ static long checks;
 // So many requests for memory are met, where it isn't negative.
 static long left = -1;
 
+[[gnu::noinline]] void *operator new(std::size_t size)
+{
+    void *const memory = left == 0 ? nullptr : std::malloc(size > 0 ? size : 1);
+    if (memory == nullptr) throw std::bad_alloc();
+    if (left > 0) left--;
+    return memory;
+}
+
 [[gnu::noinline]] void *operator new[](std::size_t size)
 {
-    if (left == 0) throw std::bad_alloc();
-    if (left > 0) left--;
     return ::operator new(size);
+}
+
+[[gnu::noinline]] void operator delete(void *memory) noexcept
+{
+    std::free(memory);
+}
+
+[[gnu::noinline]] void operator delete(void *memory, std::size_t) noexcept
+{
+    std::free(memory);
 }
 
 [[gnu::noinline]] void operator delete[](void *memory) noexcept
 {
-    ::operator delete(memory);
+    std::free(memory);
 }
 
 [[gnu::noinline]] void operator delete[](void *memory, std::size_t) noexcept
 {
-    ::operator delete(memory);
+    std::free(memory);
 }
 
 static void check(bool holds, const char *what)
@@ -51,7 +71,7 @@ static unsigned random_below(unsigned n)
     return static_cast<unsigned>((state >> 11) % n);
 }
 
-template <class T> static std::string text(range_set_view<T> set)
+template <class T, class Set = range_set<T>> static std::string text(const Set &set)
 {
     std::string text;
     for (auto [start, end, has_end] : set) {
@@ -114,6 +134,151 @@ template <class T> static void rows()
     check(changed.empty() && changed.insert(1, 2).contains(1), "clear");
 }
 
+// Whether there is a view of what has this type: of a set with a name, and not of a temporary, which would be gone.
+template <class Set, class = void> constexpr bool has_view = false;
+template <class Set> constexpr bool has_view<Set, std::void_t<decltype(std::declval<Set>().view())>> = true;
+
+template <class T> static void views_of_temporaries()
+{
+    using view = range_set_view<T>;
+    using set = range_set<T>;
+    static_assert(has_view<set &> && has_view<const set &> && !has_view<set> && !has_view<const set>, "view()");
+    static_assert(std::is_constructible_v<view, set &> && std::is_constructible_v<view, const set &>, "a view of a set with a name");
+    static_assert(!std::is_constructible_v<view, set> && !std::is_constructible_v<view, const set>, "a view of a temporary");
+    static_assert(std::is_convertible_v<set &, view> && !std::is_convertible_v<set, view>, "a set as an argument");
+    static_assert(std::is_assignable_v<view &, set &> && !std::is_assignable_v<view &, set>, "a view that is assigned");
+    static_assert(std::is_constructible_v<std::optional<view>, set &> && !std::is_constructible_v<std::optional<view>, set>, "in an optional");
+    static_assert(std::is_constructible_v<set, view> && !std::is_convertible_v<view, set>, "a copy is asked for");
+    // Each call takes a temporary, on either side.
+    const set day = {{9, 17}}, busy = {{9, 11}, {12, 15}};
+    const view borrowed(day);
+    check(((day - busy) | borrowed) == (borrowed | (day - busy)) && (day - (day - busy)) == busy, "an operator of temporaries");
+    check((day - busy).is_subset(day & day) && day.is_superset(day - busy) && borrowed.is_superset(day - busy), "subset of a temporary");
+    check(busy.is_disjoint(day - busy) && day.intersects(day - busy) && borrowed.intersects(day - busy), "disjoint from a temporary");
+    check(set::combine(day - busy, ~day, RANGE_SET_UNION) == ~busy, "combine of temporaries");
+    set changed(day - busy);
+    check((changed |= day & busy) == day && (changed -= ~day) == day && (changed &= busy | busy) == busy && (changed ^= ~~day) == day - busy,
+          "assigned of temporaries");
+}
+
+// A list of sets in their order: by their boundaries, a list before one that goes on. Each is compared with each.
+template <class T> static void order()
+{
+    using limits = std::numeric_limits<T>;
+    const T least = limits::min(), greatest = limits::max();
+    const range_set<T> nothing;
+    const std::vector<range_set<T>> ordered = {nothing, ~nothing, {{least, 5}}, {{2, 7}}, {{3, 4}}, {{3, 4}, {5, 6}},
+                                               {{3, 4}, {5, greatest}}, {{3, 4}, {6, 7}}, {{3, 9}}, {{greatest - 1, greatest}}};
+    for (std::size_t i = 0; i < ordered.size(); i++)
+        for (std::size_t j = 0; j < ordered.size(); j++) {
+            const range_set<T> &a = ordered[i], &b = ordered[j];
+            const range_set_view<T> x = a, y = b;
+            check((a < b) == (i < j) && (x < b) == (i < j) && (a < y) == (i < j) && (x < y) == (i < j), "<");
+            check((a > b) == (i > j) && (x > y) == (i > j), ">");
+            check((a <= b) == (i <= j) && (x <= y) == (i <= j), "<=");
+            check((a >= b) == (i >= j) && (x >= y) == (i >= j), ">=");
+            check((a.compare(b) < 0) == (i < j) && (x.compare(y) > 0) == (i > j) && (a.compare(y) == 0) == (i == j), "compare");
+#ifdef __cpp_lib_three_way_comparison
+            check((a <=> b) == (i <=> j) && (x <=> b) == (i <=> j), "<=>");
+#endif
+        }
+#ifdef __cpp_lib_three_way_comparison
+    static_assert(std::three_way_comparable<range_set<T>, std::strong_ordering>, "of sets");
+    static_assert(std::three_way_comparable<range_set_view<T>, std::strong_ordering>, "of views");
+#endif
+    const std::set<range_set<T>> sorted(ordered.rbegin(), ordered.rend());
+    check(std::equal(sorted.begin(), sorted.end(), ordered.begin(), ordered.end()), "a std::set of sets");
+}
+
+// The hash is one of the members: of equal sets, however they were made, it is equal, and these others have others.
+template <class T> static void hashes()
+{
+    const range_set<T> busy = {{9, 11}, {12, 15}}, nothing;
+    range_set<T> grown;
+    grown.insert(12, 15).insert(10, 11).insert(9, 10);
+    const range_set_view<T> view = grown;
+    const auto hash = std::hash<range_set<T>>()(busy);
+    check(hash == std::hash<range_set<T>>()(grown) && hash == std::hash<range_set_view<T>>()(view), "the hash of equal sets");
+    check(hash == std::hash<range_set<T>>()(busy | busy), "the hash of a temporary");
+    check(std::hash<range_set<T>>()(nothing) == std::hash<range_set<T>>()(busy - busy), "the hash of the set without a member");
+    const std::vector<range_set<T>> others = {nothing, ~nothing, {{9, 11}}, {{9, 11}, {12, 16}}, {{10, 11}, {12, 15}}, ~busy};
+    for (const auto &other : others) check(std::hash<range_set<T>>()(other) != hash, "the hash of another set");
+    std::unordered_set<range_set<T>> set(others.begin(), others.end());
+    check(set.size() == others.size() && !set.insert(range_set<T>{{9, 11}}).second && set.insert(busy).second, "a std::unordered_set of sets");
+    std::unordered_set<range_set_view<T>> views(others.begin(), others.end());
+    check(views.size() == others.size() && views.count(busy) == 0 && views.count(others[2]) == 1, "a std::unordered_set of views");
+}
+
+// What a stream has after the set, and a width, which is that of the whole text.
+template <class T> static void printed()
+{
+    const range_set<T> busy = {{9, 11}, {12, 15}}, nothing;
+    const range_set_view<T> view = busy;
+    std::ostringstream out;
+    out << busy << ";" << view << ";" << nothing << ";" << range_set<T>{{1, 2}} << ";";
+    check(out.str() == "9..11, 12..15;9..11, 12..15;;1..2;", "<<");
+    out.str("");
+    out.width(15);
+    out << std::left << busy << ";";
+    check(out.str() == "9..11, 12..15  ;", "<< with a width");
+    out.str("");
+    out << std::hex << range_set<T>{{10, 11}};
+    check(out.str() == "10..11", "<< with other digits");
+    const range_set<T> longer = {{9, 11}, {12, 15}, {20, 21}, {30, 31}, {40, 41}};
+    std::ostringstream empty;
+    bool thrown = false;
+    left = 0;
+    try {
+        empty << longer;
+    } catch (const std::bad_alloc &) {
+        thrown = true;
+    }
+    left = -1;
+    check(thrown && empty.good() && empty.str().empty(), "<< where memory is refused");
+}
+
+// The ranges by iterators of random access, and by C++20's views, which clang can't compile below 16.
+template <class T> static void iterators()
+{
+    using iterator = typename range_set<T>::iterator;
+    const range_set<T> set = {{1, 2}, {4, 6}, {9, 11}, {12, 15}};
+    const iterator first = set.begin(), last = set.end();
+    check(last - first == 4 && first - last == -4 && first + 4 == last && 4 + first == last && last - 4 == first, "places of iterators");
+    check(first[2] == range<T>{9, 11, true} && last[-1] == range<T>{12, 15, true} && (first + 1)->start == 4, "[] and ->");
+    iterator it = first;
+    check((it += 3)->end == 15 && (it -= 2)->end == 6 && (++it)->end == 11 && (--it)->end == 6, "an iterator that moves");
+    check((it++)->end == 6 && it->end == 11 && (it--)->end == 11 && it->end == 6, "an iterator, read before it moves");
+    check(first < last && last > first && first <= first && last >= first && !(last < first) && !(first > first), "the order of iterators");
+    check(!(last <= first) && !(first >= last) && iterator() == iterator() && first != last, "iterators that aren't in order");
+    const auto found = [](iterator from, iterator to) { return std::find_if(from, to, [](range<T> it) { return it.start > 8; }); };
+    check(found(first, last) - first == 2, "a std::find_if");
+#ifdef __cpp_lib_ranges
+    using view = range_set_view<T>;
+    static_assert(std::random_access_iterator<iterator> && std::sized_sentinel_for<iterator, iterator>, "std::random_access_iterator");
+    static_assert(!std::contiguous_iterator<iterator> && !std::indirectly_writable<iterator, range<T>>, "ranges aren't changed so");
+    static_assert(std::ranges::random_access_range<range_set<T>> && std::ranges::random_access_range<const range_set<T>>, "of a set");
+    static_assert(std::ranges::random_access_range<view> && std::ranges::random_access_range<const view>, "of a view");
+    static_assert(std::ranges::sized_range<const range_set<T>> && std::ranges::sized_range<view>, "std::ranges::sized_range");
+    static_assert(std::ranges::common_range<range_set<T>> && std::ranges::viewable_range<range_set<T> &>, "std::ranges::viewable_range");
+    static_assert(std::ranges::view<view> && !std::ranges::view<range_set<T>>, "std::ranges::view");
+    static_assert(std::ranges::borrowed_range<view> && !std::ranges::borrowed_range<range_set<T>>, "std::ranges::borrowed_range");
+    check(std::ranges::lower_bound(set, T(5), {}, &range<T>::start) - first == 2, "std::ranges::lower_bound");
+    check(std::ranges::size(set) == 4 && std::ranges::distance(view(set)) == 4, "std::ranges::size");
+#if !defined(__clang__) || __clang_major__ >= 16
+    const auto ends = [](auto &&ranges) {
+        std::string text;
+        for (range<T> it : ranges) text += std::to_string(it.end) + " ";
+        return text;
+    };
+    namespace views = std::views;
+    check(ends(set | views::reverse) == "15 11 6 2 " && ends(view(set) | views::drop(1) | views::take(2)) == "6 11 ", "views of a set");
+    check(ends(set | views::filter([](range<T> it) { return it.end - it.start > 1; })) == "6 11 15 ", "a view by a condition");
+    check(ends((set - range_set<T>{{5, 10}}) | views::reverse) == "15 11 5 2 ", "a view of a temporary, which it owns");
+    check((set | views::transform([](range<T> it) { return it.start; }))[3] == 12, "a view of the starts");
+#endif
+#endif
+}
+
 // The members below 40 of made-up sets, against std::set.
 template <class T> static void made_up()
 {
@@ -135,6 +300,8 @@ template <class T> static void made_up()
         check((a | b).contains(x) == (p || q) && (a & b).contains(x) == (p && q), "made up: | and &");
         check((a - b).contains(x) == (p && !q) && (a ^ b).contains(x) == (p != q) && (~a).contains(x) == !p, "made up: -, ^ and ~");
     }
+    const auto boundaries = [](range_set_view<T> set) { return std::vector<T>(set.set().boundaries, set.set().boundaries + set.set().len); };
+    check((a < b) == (boundaries(a) < boundaries(b)) && (a.compare(b) > 0) == (boundaries(a) > boundaries(b)), "made up: the order");
     check(a.covered() == in_a.size() && a.intersects(b) == !(a & b).empty() && a.is_subset(b) == (a - b).empty(), "made up: questions");
 }
 
@@ -165,19 +332,40 @@ template <class T> static void refused()
         }
 }
 
+// The numbers at the ends of a type, and a number that its text can't have.
+template <class T> static void widest()
+{
+    using limits = std::numeric_limits<T>;
+    const T ends[] = {limits::min(), limits::max()};
+    const range_set<T> set = {{limits::min(), limits::max()}};
+    check(range_set_view<T>::of(ends, 2) == set && set.first() == range<T>{limits::min(), limits::max(), true}, "the numbers at the ends");
+    check((~set).first() == range<T>{limits::max(), 0, false} && (~set).contains(limits::max()) && !set.is_all(), "the greatest number");
+    check(set.text() == std::to_string(limits::min()) + ".." + std::to_string(limits::max()) && range_set<T>::parse(set.text()) == set, "their text");
+    check(set.covered() == std::uint64_t(limits::max()) - std::uint64_t(limits::min()), "how many numbers there are");
+}
+
 template <class T> static void all()
 {
+    widest<T>();
     rows<T>();
+    views_of_temporaries<T>();
+    order<T>();
+    hashes<T>();
+    printed<T>();
+    iterators<T>();
     refused<T>();
     for (int i = 0; i < 500; i++) made_up<T>();
 }
 
+// The fixed-width types are among these; of two with one width and sign, as long and long long, both have sets.
 int main()
 {
-    all<std::int32_t>();
-    all<std::uint32_t>();
-    all<std::int64_t>();
-    all<std::uint64_t>();
+    all<int>();
+    all<unsigned>();
+    all<long>();
+    all<unsigned long>();
+    all<long long>();
+    all<unsigned long long>();
     std::printf("test: %ld checks\n", checks);
     return 0;
 }

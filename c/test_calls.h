@@ -108,6 +108,35 @@ static void TEST(in_place)(const struct TEST(operation) *o, const NUMBER *wanted
     TEST(changed_with_room)(o, wanted, wanted_len, o->a.len + 3);
 }
 
+/* Whether exactly the points that are on are members: those with an odd number of boundaries at or below. */
+static bool TEST(has_members)(SET set, const NUMBER *points, const bool *on, size_t n)
+{
+    size_t p, i, below;
+    for (p = 0; p < n; p++) {
+        for (below = i = 0; i < set.len; i++) below += set.boundaries[i] <= points[p];
+        if ((below % 2 == 1) != on[p]) return false;
+    }
+    for (i = 1; i < set.len; i++)
+        if (set.boundaries[i - 1] >= set.boundaries[i]) return false;
+    return true;
+}
+
+/* An owned set with so much room, combined with another. Where it has room it takes no more memory, and it keeps what it has. */
+static void TEST(combined_by_owned)(const struct TEST(operation) *o, const NUMBER *points, const bool *on, size_t n, size_t room)
+{
+    struct memory memory = {0, 3};
+    const range_set_allocator allocator = {take, take_more, give_back, &memory};
+    OWNED owned;
+    CALL(owned_init)(&owned, &allocator);
+    check(CALL(owned_reserve)(&owned, room) == RANGE_SET_DONE && CALL(owned_assign)(&owned, o->a) == RANGE_SET_DONE, "owned_combine: the set before");
+    if (room >= 8 * POINTS) memory.left = 0;
+    check(CALL(owned_combine)(&owned, o->b, (unsigned)o->which) == RANGE_SET_DONE, "owned_combine: status");
+    check(TEST(has_members)(owned.in.set, points, on, n), "owned_combine: the members");
+    check(owned.in.room >= room && owned.in.set.boundaries == owned.in.items, "owned_combine: the room that it had");
+    CALL(owned_free)(&owned);
+    check(memory.out == 0, "owned_combine: what is freed has no memory");
+}
+
 /* The same of two sets, which needs room for the set and for what is left. */
 static void TEST(combined_with_room)(const struct TEST(operation) *o, const NUMBER *wanted, size_t wanted_len, size_t room)
 {
@@ -523,6 +552,9 @@ static void TEST(made_up)(void)
     for (o.which = 0; o.which < TEST(operations); o.which++) {
         for (p = 0; p < n; p++) on[p] = TEST(holds)(o.which, on_a[p], on_b[p], o.start <= points[p] && points[p] < o.end);
         TEST(with_rooms)(&o, wanted, TEST(boundaries)(points, on, n, wanted));
+        if (o.which >= 16) continue;
+        TEST(combined_by_owned)(&o, points, on, n, 0);
+        TEST(combined_by_owned)(&o, points, on, n, 1000);
     }
     check(CALL(is_empty)(o.a) == (a_len == 0), "is_empty");
     check(CALL(is_all)(o.a) == (a_len == 1 && a[0] == LEAST), "is_all");
@@ -621,6 +653,30 @@ static void TEST(owned_many)(void)
     for (p = 0; p < 990; p++) check(owned.in.set.boundaries[2 * p] == (NUMBER)(3 * p + 30), "owned: a part of itself: the list");
     check(CALL(owned_insert)(&owned, 0, 3000) == RANGE_SET_DONE && CALL(ranges_len)(owned.in.set) == 1, "owned: all joined");
     CALL(owned_free)(&owned);
+}
+
+/* An owned set combined with a part of itself, where it has room and where it grows, and with what isn't its set in its buffer or struct. */
+static void TEST(owned_with_its_part)(void)
+{
+    static const NUMBER items[] = {10, 20, 30, 40, 50}, neither[] = {LEAST, 10, 20};
+    SET set = TEST(set)(items, 5), part = {NULL, 77}, within;
+    OWNED owned;
+    size_t room;
+    for (room = 0; room <= 100; room += 100) {
+        CALL(owned_init)(&owned, NULL);
+        check(CALL(owned_reserve)(&owned, room) == RANGE_SET_DONE && CALL(owned_assign)(&owned, set) == RANGE_SET_DONE, "owned: a copy");
+        CALL(split)(owned.in.set, 35, NULL, &part);
+        check(CALL(owned_combine)(&owned, part, RANGE_SET_DIFFERENCE) == RANGE_SET_DONE && TEST(is)(owned.in.set, items, 2), "owned: without a part");
+        check(CALL(owned_combine)(&owned, owned.in.set, RANGE_SET_UNION) == RANGE_SET_DONE && TEST(is)(owned.in.set, items, 2), "owned: with itself");
+        within.boundaries = owned.in.items + 2, within.len = 1;
+        check(CALL(owned_combine)(&owned, within, RANGE_SET_UNION) == RANGE_SET_BAD_ARGUMENT, "owned: with what stands after it");
+        within.boundaries = (const NUMBER *)(const void *)&owned;
+        check(CALL(owned_combine)(&owned, within, RANGE_SET_UNION) == RANGE_SET_BAD_ARGUMENT, "owned: with what lies in its struct");
+        check(TEST(is)(owned.in.set, items, 2), "owned: what is refused changes the set");
+        check(CALL(owned_combine)(&owned, owned.in.set, RANGE_SET_NEITHER) == RANGE_SET_DONE && TEST(is)(owned.in.set, neither, 3), "owned: neither in itself");
+        CALL(owned_free)(&owned);
+    }
+    CALL(owned_free)(NULL);
 }
 
 /* Rows with their answers written out. */
@@ -891,6 +947,33 @@ static void TEST(many)(void)
     free(items);
 }
 
+/* A text of many ranges is read in about the same time whatever their order is, descending or made up. */
+static void TEST(parsed_in_any_order)(void)
+{
+    enum { MANY = 20000, ASCENDING = 0, DESCENDING = 1, ORDERS = 3 };
+    char *text = malloc(MANY * 24);
+    NUMBER *items = malloc(2 * MANY * sizeof *items);
+    clock_t taken[ORDERS];
+    size_t i, k;
+    int order;
+    SET set = {NULL, 77};
+    if (items == NULL || text == NULL) fail("no memory");
+    for (order = 0; order < ORDERS; order++) {
+        char *end = text;
+        for (i = 0; i < MANY; i++) {
+            k = order == ASCENDING ? i : order == DESCENDING ? MANY - 1 - i : i * 7919 % MANY;
+            end += sprintf(end, "%s%zu..%zu", i > 0 ? "," : "", 3 * k, 3 * k + 2);
+        }
+        taken[order] = clock();
+        check(CALL(parse)(text, (size_t)(end - text), items, 2 * MANY, &set, NULL) == RANGE_SET_DONE && set.len == 2 * MANY, "parse of many ranges");
+        taken[order] = clock() - taken[order];
+        for (i = 0; i < MANY; i++) check(items[2 * i] == (NUMBER)(3 * i) && items[2 * i + 1] == (NUMBER)(3 * i + 2), "parse of many ranges: the list");
+        check(taken[order] <= 6 * taken[ASCENDING] + CLOCKS_PER_SEC / 50, "parse of many ranges in another order takes longer");
+    }
+    free(text);
+    free(items);
+}
+
 static void TEST(all)(long cases)
 {
     long i;
@@ -899,6 +982,8 @@ static void TEST(all)(long cases)
     TEST(fits_far)();
     TEST(many)();
     TEST(owned_many)();
+    TEST(owned_with_its_part)();
+    TEST(parsed_in_any_order)();
     TEST(bad_lists)();
     TEST(bad_places)();
     TEST(bad_buffers)();

@@ -45,7 +45,7 @@ def prepare_metadata_for_build_wheel(metadata_directory, config_settings=None):
 def build_wheel(wheel_directory, config_settings=None, metadata_directory=None):
     """Writes the wheel, with the compiled module, and answers its name."""
     suffix = sysconfig.get_config_var("EXT_SUFFIX")
-    files = {f"{NAME}/{it.name}": it.read_bytes() for it in SOURCES if it.suffix != ".c"}
+    files = {f"{NAME}/{it.name}": it.read_bytes() for it in SOURCES if it.suffix not in (".c", ".h")}
     with tempfile.TemporaryDirectory() as work:
         files[f"{NAME}/_core{suffix}"] = compiled(library(config_settings, Path(work)), suffix)
     files |= metadata()
@@ -100,6 +100,8 @@ def headers():
         "Description-Content-Type": "text/markdown",
     }
     lines = [f"{name}: {text}\n" for name, text in fields.items()]
+    lines += [f"License-File: {it}\n" for it in LICENSES if beside(it)]
+    lines += [f"Classifier: {it}\n" for it in PROJECT["classifiers"]]
     for extra, needed in PROJECT["optional-dependencies"].items():
         lines += [f"Provides-Extra: {extra}\n", *(f'Requires-Dist: {it}; extra == "{extra}"\n' for it in needed)]
     return "".join([*lines, "\n", (HERE / PROJECT["readme"]).read_text(encoding="utf-8")]).encode()
@@ -159,7 +161,8 @@ def compiled(archive, suffix):
         module = Path(work, f"_core{suffix}")
         shared = ["-bundle", "-undefined", "dynamic_lookup"] if sys.platform == "darwin" else ["-shared", "-Wl,--exclude-libs,ALL"]
         flags = ["-std=c99", "-O2", "-DNDEBUG", "-fPIC", "-fvisibility=hidden", *shared]
-        words = [*compiler, *flags, f"-I{include}", f"-I{DIST}", HERE / "src" / NAME / "_core.c", archive, "-o", module]
+        sources = [it for it in SOURCES if it.suffix == ".c"]
+        words = [*compiler, *flags, f"-I{include}", f"-I{DIST}", *sources, archive, "-o", module]
         if subprocess.run(words).returncode:
-            sys.exit("range_sets: the C compiler refused _core.c; what it said stands above")
+            sys.exit("range_sets: the C compiler refused the extension; what it said stands above")
         return module.read_bytes()

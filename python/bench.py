@@ -2,8 +2,9 @@
 
     python3 bench.py [--pairs N]
 
-Each package makes a set of N pairs (100,000), the union of two such sets, and says whether numbers are members. Their answers are
-compared. A package that is missing is named and left out. Times are the least of some rounds.
+Each package makes a set of N pairs (100,000), the union of two such sets, and says whether numbers are members; then the same of
+N / 10 pairs of times; sets grow by N / 10 ranges one by one; and numpy and pandas do as much over arrays. Their answers are compared.
+A package that is missing is named and left out. Times are the least of some rounds.
 """
 
 import argparse
@@ -12,8 +13,10 @@ import random
 import sys
 import time
 from array import array
+from bisect import bisect_left, bisect_right
+from datetime import datetime, timedelta
 
-from range_sets import RangeSet, _core, union
+from range_sets import MutableRangeSet, RangeSet, _core, union
 
 SPACE = 100_000_000
 LONGEST = 1000
@@ -24,6 +27,12 @@ def made_up(count, seed):
     made = random.Random(seed)
     starts = (made.randrange(SPACE) for _ in range(count))
     return [(start, start + made.randrange(1, LONGEST)) for start in starts]
+
+
+def total(lengths):
+    """Their sum, also of lengths of time."""
+    first, *others = lengths
+    return sum(others, first)
 
 
 class OfRangeSet:
@@ -62,7 +71,7 @@ class OfIntervalTree:
         return made.overlaps_point(number)
 
     def covered(self, made):
-        return sum(it.end - it.begin for it in made)
+        return total(it.end - it.begin for it in made)
 
 
 class OfSortedDict:
@@ -90,7 +99,7 @@ class OfSortedDict:
         return at >= 0 and number < made.peekitem(at)[1]
 
     def covered(self, made):
-        return sum(end - start for start, end in made.items())
+        return total(end - start for start, end in made.items())
 
 
 class OfIPSet:
@@ -113,8 +122,27 @@ class OfIPSet:
         return made.size
 
 
-def peers():
-    for kind in (OfRangeSet, OfIntervalTree, OfSortedDict, OfIPSet):
+class OfPortion:
+    name = "portion"
+
+    def __init__(self):
+        self.portion = importlib.import_module("portion")
+
+    def build(self, pairs):
+        return self.portion.Interval(*(self.portion.closedopen(*it) for it in pairs))
+
+    def union(self, a, b):
+        return a | b
+
+    def has(self, made, number):
+        return number in made
+
+    def covered(self, made):
+        return total(it.upper - it.lower for it in made)
+
+
+def peers(kinds):
+    for kind in kinds:
         try:
             yield kind()
         except ImportError as missing:
@@ -150,10 +178,9 @@ def table(head, rows):
     print()
 
 
-def compare(count):
-    left, right, asked = made_up(count, 1), made_up(count, 2), [it for it, _ in made_up(1000, 3)]
+def compare(label, kinds, left, right, asked):
     results, answers = [], []
-    for peer in peers():
+    for peer in peers(kinds):
         building, a = least(lambda: peer.build(left))
         b = peer.build(right)
         joining, both = least(lambda: peer.union(a, b))
@@ -163,8 +190,96 @@ def compare(count):
     if any(it != answers[0] for it in answers):
         sys.exit("bench: the answers differ")
     names, *columns = zip(*results)
-    rows = [[label, *map(shown, column)] for label, column in zip((f"{count:,} pairs", "union of two", "`in`"), columns)]
+    rows = [[label, *map(shown, column)] for label, column in zip((label, "union of two", "`in`"), columns)]
     table(["", *names], rows)
+
+
+def numbers_and_times(count):
+    def timed(pairs):
+        first = datetime(2026, 1, 1)
+        return [tuple(first + timedelta(seconds=end) for end in pair) for pair in pairs]
+
+    lists = [made_up(count, 1), made_up(count, 2), made_up(1000, 3)]
+    compare(f"{count:,} pairs", (OfRangeSet, OfIntervalTree, OfSortedDict, OfIPSet), *lists[:2], [it for it, _ in lists[2]])
+    fewer = count // 10
+    kinds, times = (OfRangeSet, OfIntervalTree, OfSortedDict, OfPortion), [timed(it) for it in (lists[0][:fewer], lists[1][:fewer], lists[2])]
+    compare(f"{fewer:,} pairs of times", kinds, *times[:2], [it for it, _ in times[2]])
+
+
+def grown(pairs):
+    made = MutableRangeSet()
+    for start, end in pairs:
+        made.add(start, end)
+    return list(made)
+
+
+def grown_by_bisect(pairs):
+    """A sorted list of boundaries, each range put in its place."""
+    made = []
+    for start, end in pairs:
+        left, right = bisect_left(made, start), bisect_right(made, end)
+        made[left:right] = [start] * (left % 2 == 0) + [end] * (right % 2 == 0)
+    return list(zip(made[::2], made[1::2]))
+
+
+def grown_by_sorted_list(pairs):
+    """The same in a SortedList."""
+    made = importlib.import_module("sortedcontainers").SortedList()
+    for start, end in pairs:
+        left, right = made.bisect_left(start), made.bisect_right(end)
+        del made[left:right]
+        made.update([start] * (left % 2 == 0) + [end] * (right % 2 == 0))
+    return list(zip(made[::2], made[1::2]))
+
+
+def growth(count):
+    """What it takes to put ranges into a set one by one."""
+    pairs, row, answers = [(50 * start, 50 * start + 5) for start, _ in made_up(count, 4)], [f"{count:,} ranges put in one by one"], []
+    for call in (grown, grown_by_bisect, grown_by_sorted_list):
+        try:
+            taken, answer = least(lambda: call(pairs))
+        except ImportError:
+            row.append("")
+            continue
+        row.append(shown(taken))
+        answers.append(answer)
+    if any(it != answers[0] for it in answers):
+        sys.exit("bench: the answers differ")
+    table(["", "MutableRangeSet", "list and bisect", "sortedcontainers"], [row])
+
+
+def arrays(count):
+    """What numpy does by hand, and pandas, over arrays of as many pairs and numbers."""
+    try:
+        numpy, pandas = importlib.import_module("numpy"), importlib.import_module("pandas")
+    except ImportError as missing:
+        print(f"bench: arrays are left out: {missing.name} is missing", file=sys.stderr)
+        return
+    pairs = numpy.array(made_up(count, 1))
+    asked = numpy.array([it for it, _ in made_up(count, 3)])
+
+    def merged():
+        ordered = pairs[numpy.argsort(pairs[:, 0])]
+        ends = numpy.maximum.accumulate(ordered[:, 1])
+        begins = numpy.concatenate(([True], ordered[1:, 0] > ends[:-1]))
+        return numpy.column_stack([ordered[begins, 0], ends[numpy.concatenate((begins[1:], [True]))]]).ravel()
+
+    made = RangeSet(pairs)
+    flat = numpy.asarray(made)
+    index = pandas.IntervalIndex.from_arrays(flat[::2], flat[1::2], closed="left")
+    index.get_indexer(asked[:1])
+    calls = {
+        f"a set of a table of {count:,} pairs": (lambda: numpy.asarray(RangeSet(pairs)), merged, None),
+        f"which of {count:,} numbers are members": (
+            lambda: made.contains(asked), lambda: numpy.searchsorted(flat, asked, side="right") % 2 == 1, lambda: index.get_indexer(asked) >= 0),
+    }
+    rows = []
+    for label, row in calls.items():
+        results = [least(call) if call else None for call in row]
+        if any(it and not numpy.array_equal(it[1], results[0][1]) for it in results):
+            sys.exit("bench: the answers differ")
+        rows.append([label, *(shown(it[0]) if it else "" for it in results)])
+    table(["", "RangeSet", "numpy by hand", "pandas.IntervalIndex"], rows)
 
 
 def alone(count):
@@ -201,7 +316,9 @@ def main():
     parser.add_argument("--pairs", type=int, default=100_000, help="how many pairs a set is made of")
     count = parser.parse_args().pairs
     alone(count)
-    compare(count)
+    numbers_and_times(count)
+    growth(count // 10)
+    arrays(count)
 
 
 if __name__ == "__main__":

@@ -1,12 +1,12 @@
 #!/usr/bin/env bash
-# Compiles the header in dist/ as C99 and as C++11 without a warning, and runs the tests, the example and the lines of the
-# pages in C over the archive there, under valgrind too; the tests of the header for C++17; and the example against what
-# 'make install' leaves, found by pkg-config and by CMake. Then the same tests, example and installation over the library that
-# cargo builds of the Rust crate, without a network.
+# Compiles the layer in C, links it with the proved object of dist/, and runs the tests, the example and the lines of the pages in C
+# over it, under valgrind too; the tests of the header for C++17; and the header as C99 and as C++11 without a warning. Over the
+# archive in dist/ as it is it runs the tests, and the example against what 'make install' leaves, found by pkg-config and by CMake.
+# Then the same tests, example and installation over the library that cargo builds of the Rust crate, without a network.
 #
 #   tests/c.sh           these
 #   tests/c.sh --rust    those over the library that cargo builds alone
-#   tests/c.sh --more    the tests as each language by each compiler, under clang's sanitizers, and a fuzzer for a minute; and
+#   tests/c.sh --more    the tests as each language by each compiler, under both sanitizers, and a fuzzer for a minute; and
 #                        the library that cargo builds under valgrind
 #
 # Its last line is 'N passed, M failed, K skipped'. It ends with 77 where gcc is missing.
@@ -39,17 +39,43 @@ has_the_names_of() {
     cmp <(nm -g --defined-only "$archive" | awk 'NF == 3 { print $3 }' | sort) <(nm -g --defined-only "$1" | awk 'NF == 3 { print $3 }' | sort)
 }
 
-# Compiles a source in C with the archive, and the layer from its source where there are more words.
+# Takes the proved object out of dist/: there the layer's own names are hidden, and the proved ones made visible.
+takes_the_proved_object() {
+    (cd "$work" && ar x "$OLDPWD/dist/librange_set.a" &&
+        objcopy -w --globalize-symbol='proved_*' --localize-symbol='range_set_*' range_set.o proved.o)
+}
+
+# Compiles the layer as dist/make does, and makes an archive of it and the proved object, so that the tests see each edit of it.
+builds_the_layer() {
+    takes_the_proved_object && gcc -std=c99 -O2 -fPIC -ffunction-sections -fdata-sections $strict -c c/range_set.c -o "$work/layer.o" &&
+        rm -f "$work/built.a" && ar rcs "$work/built.a" "$work/layer.o" "$work/proved.o"
+}
+
+# Compiles a source in C with the archive.
 compiles() {
-    local source=$1 program=$2
-    shift 2
-    gcc -std=c99 -O2 -g $strict "$source" "$@" "$archive" -o "$work/$program"
+    gcc -std=c99 -O2 -g $strict "$1" "$archive" -o "$work/$2"
+}
+
+# The tests over dist/librange_set.a.
+tests_dist() {
+    compiles c/test.c of_dist && "$work/of_dist" 1000
 }
 
 # What the example prints.
 prints_its_lines() {
     "$work/$1" | cmp - <(printf '%s\n' ' 10%, next: 100 to 1000' ' 25%, next: 100 to 300' ' 35%, next: 200 to 300' \
         ' 40%, next: 200 to 300' ' 50%, next: 200 to 300' '100%')
+}
+
+# Compiles the statements and calls between backquotes in a page, one after the other, in C and in C++.
+compiles_statements() {
+    {
+        printf '#include "range_set.h"\nint main(void)\n{\n'
+        awk -F '`' '/^```/ { on = !on } !on { for (i = 2; i <= NF; i += 2) if ($i ~ /;$|^range_set_.*\)$/) print $i ";" }' "$1"
+        printf 'return 0;\n}\n'
+    } >"$work/lines.c"
+    grep -q '^range_set_' "$work/lines.c" && gcc -std=c99 $strict -c "$work/lines.c" -o "$work/lines.o" &&
+        g++ -std=c++17 $strict -x c++ -c "$work/lines.c" -o "$work/lines.o"
 }
 
 # Runs the lines in C of a page, word for word, as a program of their own.
@@ -201,12 +227,9 @@ uninstalls() {
     make -s -C "$work/c" uninstall PREFIX="$prefix" && [ -z "$(find "$prefix" -type f)" ]
 }
 
-# The layer in C as a compiler builds it with the sanitizers, and the proved code of dist/ under it: there the layer's own
-# names are hidden, and the proved ones made visible.
+# The layer in C as a compiler builds it with the sanitizers, and the proved code of dist/ under it.
 sane_library() {
-    (cd "$work" && ar x "$OLDPWD/dist/librange_set.a" &&
-        objcopy -w --globalize-symbol='proved_*' --localize-symbol='range_set_*' range_set.o proved.o) &&
-        "$@" $strict -c c/range_set.c -o "$work/layer.o" && nm "$work/layer.o" | grep -q '__asan_'
+    takes_the_proved_object && "$@" $strict -c c/range_set.c -o "$work/layer.o" && nm "$work/layer.o" | grep -q '__asan_'
 }
 
 # The tests under the sanitizers.
@@ -227,6 +250,13 @@ is_sane_by_clang() {
     sane_library clang -std=c11 $flags &&
         clang -std=c11 $flags $strict c/test.c "$work/layer.o" "$work/proved.o" -o "$work/sane" && "$work/sane" 1000 &&
         clang++ -std=c++17 $flags $strict c/test.cpp "$work/layer.o" "$work/proved.o" -o "$work/sane" && "$work/sane"
+}
+
+# The tests of the header in C++20, which has views of a set, under gcc's sanitizers.
+is_sane_in_cpp20() {
+    local flags="-O0 -g -fsanitize=address,undefined -fno-sanitize-recover=all"
+    sane_library gcc -std=c99 $flags &&
+        g++ -std=c++20 $flags $strict c/test.cpp "$work/layer.o" "$work/proved.o" -o "$work/sane" && "$work/sane"
 }
 
 # The layer and the header for C++ under a fuzzer, which sees what they branch on.
@@ -253,6 +283,7 @@ if [ "${1:-}" = --more ]; then
         step_by clang++ clang "$language by clang++" builds_as clang++ "$language" c/test.cpp
     done
     step_by clang++ clang "clang's sanitizers" is_sane_by_clang
+    step_by g++ g++ "gcc's sanitizers in C++20" is_sane_in_cpp20
     if has_fuzzer; then
         step "a fuzzer for a minute" fuzzes
     else
@@ -275,18 +306,20 @@ fi
 step_by python3 python3 "what stands once for each type is what tools/c-types writes" tools/c-types --check
 step "dist/ is what its checksums say" is_whole
 step_by nm binutils "the names in the library" has_only_its_names
-step "the layer compiles" gcc -std=c99 -O2 -fPIC $strict -c c/range_set.c -o "$work/range_set.o"
+step "the tests over it" tests_dist
+step_by objcopy binutils "the layer, and the proved object under it" builds_the_layer
+archive=$work/built.a
 step "the tests compile" compiles c/test.c test
 step "the tests" "$work/test"
 step "the example compiles" compiles c/example.c example
 step "the example" prints_its_lines example
-for page in README.md c/README.md; do
-    step "the lines in C of $page" runs_page "$page"
-done
+step "the lines in C of c/README.md" runs_page c/README.md
+step_by g++ g++ "the statements in c/README.md" compiles_statements c/README.md
 step_by objcopy binutils "the sanitizers" is_sane
 step_by g++ g++ "C++11" compiles_as_cpp
 step_by g++ g++ "the header for C++17" tests_cpp
 step_by g++ g++ "the lines in C++ of c/README.md" runs_cpp_page c/README.md
+archive=dist/librange_set.a
 step_by make make "make install" installs
 step_by pkg-config pkg-config "a program by pkg-config" is_found_by_pkg_config
 step_by cmake cmake "a program by CMake" is_found_by_cmake

@@ -12,12 +12,14 @@ no longer fits may still be true; so its answer is taken away, and the search mu
 the mutant took away, that shows nothing: such a goal counts only if values are found at which it is false. Nor does the
 search's failure show anything at a goal whose answer stands there under a name that the mutant changed.
 
-A file is an edit as 'rt must-fail' reads it, with a line 'function: PATH' more, or several.
+A file is an edit as 'rt must-fail' reads it, with a line 'function: PATH' more, or several. It may add files, code or
+proofs, each by 'add: PATH' and its lines, 'line: TEXT': so a mutant brings a function that it calls, which must be proved.
 
-    tests/mutants.py [--said FOLDER] [CRATE..]
+    tests/mutants.py [--said FOLDER] [--only WORD] [CRATE..]
 
 It begins with what 'rt check' or 'rt lib' kept in crates/*/out. It names the mutants that no clause refused, and ends with
-0 if there is no such. With --said it leaves all that the checks said in the folder.
+0 if there is no such. With --said it leaves all that the checks said in the folder; --only tries the mutants with WORD in
+their names.
 """
 
 import argparse
@@ -59,14 +61,18 @@ class BadEdit(Exception):
 
 @dataclass
 class Edit:
-    """A mutant: the functions of which it must leave a clause open, and what replaces which stretch of each file."""
+    """A mutant: the functions of which it must leave a clause open, what replaces which stretch of each file, and the files
+    that it adds."""
 
     name: str
     functions: list = field(default_factory=list)
     changes: dict = field(default_factory=dict)
+    added: dict = field(default_factory=dict)
 
     def collides(self, other):
-        return not set(self.functions).isdisjoint(other.functions) or any(
+        if not set(self.functions).isdisjoint(other.functions) or not set(self.added).isdisjoint(other.added):
+            return True
+        return any(
             start < other_end and other_start < end
             for path, changes in self.changes.items()
             for start, end, _ in changes
@@ -92,14 +98,20 @@ def read_edit(file, crate):
                 raise BadEdit(f"{edit.name}: an old text stands in {path} {text.count(old)} times, and not once")
             start = text.index(old)
             edit.changes.setdefault(path, []).append((start, start + len(old), value))
+        elif key == "add":
+            path = value
+            edit.added[path] = ""
+        elif key == "line":
+            edit.added[path] += value + "\n"
     if not edit.functions or not edit.changes:
         raise BadEdit(f"{edit.name}: it names no function, or changes nothing")
     return edit
 
 
-def edits_of(crate):
+def edits_of(crate, only=""):
     """The mutants of a crate, by name."""
-    files = sorted((file for folder in EDITS for file in (crate / folder).glob("*.edit")), key=lambda file: file.stem)
+    files = (file for folder in EDITS for file in (crate / folder).glob("*.edit") if only in file.stem)
+    files = sorted(files, key=lambda file: file.stem)
     return [read_edit(file, crate) for file in files]
 
 
@@ -140,6 +152,10 @@ def lay(crate, copy, edits):
         for start, end, new in sorted(made, reverse=True):
             text = text[:start] + new + text[end:]
         (copy / path).write_text(text, encoding="utf-8")
+    for edit in edits:
+        for path, text in edit.added.items():
+            (copy / path).parent.mkdir(parents=True, exist_ok=True)
+            (copy / path).write_text(text, encoding="utf-8")
 
 
 def copied(room):
@@ -351,10 +367,10 @@ class Crate:
         return True
 
 
-def tried(crate, said, flags):
+def tried(crate, only, said, flags):
     """Tries the mutants of a crate. Returns how many were refused, the processor seconds, and what failed."""
     try:
-        edits = edits_of(crate)
+        edits = edits_of(crate, only)
     except (BadEdit, OSError) as why:
         return 0, 0, [f"{crate.name}: {why}"]
     with tempfile.TemporaryDirectory(prefix="mutants-") as room:
@@ -375,6 +391,7 @@ def prepare(crate):
 def main():
     words = argparse.ArgumentParser(description="Tries mutants: each has to leave a clause open.")
     words.add_argument("crates", nargs="*", metavar="CRATE")
+    words.add_argument("--only", default="", metavar="WORD", help="tries the mutants with this in their names")
     words.add_argument("--said", type=Path, metavar="FOLDER", help="leaves what the checks said there")
     given = words.parse_args()
     crates = [it for it in sorted((ROOT / "crates").iterdir()) if any((it / folder).is_dir() for folder in EDITS)]
@@ -387,7 +404,7 @@ def main():
     flags = ["--jobs", str(max((os.cpu_count() or 1) // min(AT_ONCE, len(crates)), 1))]
     refused, failed = 0, []
     with ThreadPoolExecutor(AT_ONCE) as pool:
-        for count, used, found in pool.map(lambda crate: tried(crate, given.said, flags), crates):
+        for count, used, found in pool.map(lambda crate: tried(crate, given.only, given.said, flags), crates):
             refused, seconds, failed = refused + count, seconds + used, failed + found
     for failure in failed:
         print(f"mutants: FAILED: {failure}")

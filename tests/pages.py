@@ -1,6 +1,7 @@
 #!/usr/bin/env python3
 """Whether the pages are true of the tree: links lead somewhere, files and names that a page gives are there, a word of the
-model is defined, and what README quotes of a source stands there.
+model is defined, what CALLING and PROMISES quote of a source stands there, what there is to read for the headline has as
+many lines as PROMISES says, and each public call stands in CALLING, in PROMISES or on the page of its language.
 
     tests/pages.py
 
@@ -19,6 +20,21 @@ FENCED = re.compile(r"^```.*?^```", re.M | re.S)
 LINK = re.compile(r"\]\(([^)\s]+)\)")
 FILE = re.compile(r"[\w./-]*\w\.(?:rt|antt|py|sh|rs)\b")
 NAME = re.compile(r"[A-Za-z]\w*")
+# What PROMISES has one read for its headline: words, the file that defines them, how many lines that is; and all together.
+READING = re.compile(r"^(`.*`) \| (\S+) \| (\d+)$", re.M)
+READ = re.compile(r"(\d+) lines with their comments")
+MOST_TO_READ = 250
+# The crates whose public calls a page has to have.
+PROVED = ("range_merge", "range_entry", "range_collections", "range_chunks", "range_tracker", "range_calc_answers", "range_track_answers")
+# What a crate exports; what declares a call in Rattle: the type or trait that it belongs to, if any, and its name.
+EXPORTED = re.compile(r"^pub use [^;]*;", re.M)
+BLOCK = re.compile(r"^(?:impl\b(?P<impl>[^{;]*)\{|pub trait (?P<trait>\w+))|^(?P<indent> *)(?P<pub>pub )?(?:const )?fn (?P<name>\w+)", re.M)
+# What declares one in C, by one of the four types, and in C++.
+C_CALL = re.compile(r"\brange_set_(?:i64_)?(\w+)\(")
+CPP_CALL = re.compile(r"^    (?! |friend|return|explicit)[\w:<>,& *]*[ &*](?!operator\b)([a-z]\w*)\(", re.M)
+CPP_PRIVATE = re.compile(r"^ *private:.*?^\};", re.M | re.S)
+# The same of Python's classes and functions.
+PYTHON_CALL = re.compile(r"^(?:    )?def ([a-z]\w*)", re.M)
 # What stands in code on a page and is no name of the sources: variables, and words of a clause.
 PLAIN = {"a", "b", "d", "e", "i", "l", "n", "w", "x", "y", "N", "M", "length", "of"}
 
@@ -95,18 +111,102 @@ def undefined_words(page, specs):
                 yield f"no definition has the word {word[0]}"
 
 
-def wrong_quotes(page, sources):
-    """Functions in Rattle that the page quotes otherwise than they stand in their source."""
-    for block in re.findall(r"^```rust\n(.*?)^```", page.read_text(encoding="utf-8"), re.M | re.S):
-        if "ensures" in block and not any(block in text for text in sources):
-            yield f"no source has the quoted lines that begin with {block.splitlines()[0]}"
+def wrong_quotes(page, language, sources):
+    """Contracts and definitions in Rattle that the page quotes otherwise than they stand in their source."""
+    for block in re.findall(rf"^```{language}\n(.*?)^```", page.read_text(encoding="utf-8"), re.M | re.S):
+        for part in re.split(r"\n\n+", block.strip("\n")):
+            if re.search(r"ensures|record|struct|ghost is_", part) and not any(part in text for text in sources):
+                yield f"no source has the quoted lines that begin with {part.splitlines()[0]}"
+
+
+def definition(text, word):
+    """The lines that define the word: those between two blank ones, with the comment above it."""
+    declares = re.compile(rf"^ *(?:\w+ )?(?:pub (?:record |data |enum )?|ghost |fn ){word}\b", re.M)
+    return next((it.splitlines() for it in re.split(r"\n\n+", text) if declares.search(it)), [])
+
+
+def wrong_readings(page):
+    """Numbers of lines to read that the page gives otherwise than they are, and too many of them."""
+    total = 0
+    for words, file, lines in READING.findall(page.read_text(encoding="utf-8")):
+        text = (ROOT / "crates" / file).read_text(encoding="utf-8")
+        found = [definition(text, it) for it in re.findall(r"`(\w+)`", words)]
+        if not all(found):
+            yield f"{file} doesn't define each of {words}"
+        if sum(map(len, found)) != int(lines):
+            yield f"{words} in {file} have {sum(map(len, found))} lines"
+        total += int(lines)
+    if [int(it) for it in READ.findall(prose(page))] != [total] or total > MOST_TO_READ:
+        yield f"there are {total} lines to read for the headline"
+
+
+def words_in_code(pages):
+    """The names in the code of the pages, in blocks and in lines."""
+    text = "\n".join(it.read_text(encoding="utf-8") for it in pages)
+    code = FENCED.findall(text) + re.findall(r"`([^`\n]+)`", FENCED.sub("", text))
+    return set(NAME.findall("\n".join(code)))
+
+
+def type_of(header):
+    """The type that an `impl` is of, after its parameters; none if it implements a trait."""
+    depth = 0
+    for at, character in enumerate("" if " for " in header else header):
+        depth += (character == "<") - (character == ">")
+        if not depth and character != ">" and not character.isspace():
+            return NAME.match(header, at)[0]
+    return None
+
+
+def public_calls(text, exported):
+    """The public functions of exported types and traits, and the exported ones that stand alone."""
+    owner, in_trait = None, False
+    for found in BLOCK.finditer(text):
+        if found["impl"] is not None:
+            owner, in_trait = type_of(found["impl"]), False
+        elif found["trait"]:
+            owner, in_trait = found["trait"], True
+        elif not found["indent"]:
+            owner = None
+            if found["pub"] and found["name"] in exported:
+                yield found["name"]
+        elif owner in exported and (found["pub"] or in_trait):
+            yield found["name"]
+
+
+def calls_of_crate(crate, paths):
+    """The public calls of a proved crate, but for its laws, which do nothing."""
+    sources = texts([it for it in paths if it.startswith(f"crates/{crate}/src/") and "/laws" not in it], ".rt")
+    exported = set(NAME.findall("\n".join(it for text in sources for it in EXPORTED.findall(text))))
+    return {it for text in sources for it in public_calls(text, exported)}
+
+
+def calls_beyond_the_crates(paths):
+    """Of each other language its page, and its public calls."""
+    def read(path):
+        return (ROOT / path).read_text(encoding="utf-8")
+
+    layer = [it for it in paths if re.match(r"rust/src/(?!generated|support|c/|c\.rs)", it) and it.endswith(".rs")]
+    rust = {name for it in layer for name in re.findall(r"^ *pub fn (\w+)", read(it), re.M)}
+    ours = {it for it in C_CALL.findall(read("c/include/range_set.h")) if not re.match(r"[iu](32|64)_", it)}
+    python = [f"python/src/range_sets/{it}.py" for it in ("_buffers", "_ranges", "_sets", "dask")]
+    yield "rust/README.md", rust
+    yield "c/README.md", ours | set(CPP_CALL.findall(CPP_PRIVATE.sub("", read("c/include/range_set.hpp"))))
+    yield "python/README.md", {name for it in python for name in PYTHON_CALL.findall(read(it))}
+
+
+def missing_calls(calls, words):
+    """The calls that no page has. A form with a counter goes with the call that it is of."""
+    for call in sorted(calls):
+        if not words & {call, call.removesuffix("_counted"), f"range_set_{call}"}:
+            yield f"no page has the public call {call}"
 
 
 def main():
     paths = sorted(files())
     pages = [ROOT / it for it in paths if it.endswith(".md")]
     sources = texts(paths, ".rt")
-    defined = set(NAME.findall("\n".join(texts([it for it in paths if "/specs/" in it], ".antt"))))
+    specs = texts([it for it in paths if "/specs/" in it], ".antt")
+    defined = set(NAME.findall("\n".join(specs)))
     words = defined | set(NAME.findall("\n".join(sources)))
     beyond = words | names_beyond_the_crates(paths)
     docs = ROOT / "docs"
@@ -116,7 +216,17 @@ def main():
     checks += [(docs / "PROMISES.md", "names", list(wrong_names(docs / "PROMISES.md", words)))]
     checks += [(docs / "SECURITY.md", "names", list(wrong_names(docs / "SECURITY.md", beyond)))]
     checks += [(docs / "MODEL.md", "words", list(undefined_words(docs / "MODEL.md", defined)))]
-    checks += [(ROOT / "README.md", "quotes", list(wrong_quotes(ROOT / "README.md", sources)))]
+    calling = ROOT / "crates/range_collections/CALLING.md"
+    checks += [(calling, "quotes", list(wrong_quotes(calling, "rust", sources)))]
+    checks += [(docs / "PROMISES.md", "quotes", list(wrong_quotes(docs / "PROMISES.md", "antt", specs)))]
+    checks += [(docs / "PROMISES.md", "lines to read", list(wrong_readings(docs / "PROMISES.md")))]
+    shared = [ROOT / it for it in paths if it.endswith("CALLING.md")] + [docs / "PROMISES.md"]
+    for crate in PROVED:
+        own = [it for it in pages if it.parent == ROOT / "crates" / crate]
+        found = missing_calls(calls_of_crate(crate, paths), words_in_code(shared + own))
+        checks.append((ROOT / "crates" / crate, "public calls", list(found)))
+    for page, calls in calls_beyond_the_crates(paths):
+        checks.append((ROOT / page, "public calls", list(missing_calls(calls, words_in_code([*shared, ROOT / page])))))
     failed = 0
     for page, what, found in checks:
         failed += bool(found)

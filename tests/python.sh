@@ -61,19 +61,24 @@ prints_the_difference() {
     [ "$(cd "$work" && "$venv" -c "$line")" = "0..3, 5..10, 20.." ]
 }
 
-# When five people have time, of files in any form that the example allows.
-finds_a_meeting() {
-    local free="free from 10:00 to 11:00;free from 13:00 to 14:00;free from 14:15 to 15:30"
-    printf '14:00-14:15\n  12:00-13:00\n\n' >"$work/one" && printf '# late\n11:30-12:15\n11:00-11:45\n09:00-10:00\n15:30-18:00' >"$work/two"
-    [ "$("$venv" examples/meeting.py | paste -sd ';')" = "$free;60 minutes from 10:00" ] &&
-        [ "$("$venv" examples/meeting.py --minutes 70 "$work/one" "$work/two" | paste -sd ';')" = "$free;70 minutes from 14:15" ] &&
-        [ "$("$venv" examples/meeting.py --minutes 76 | tail -n 1)" = "no 76 minutes are free" ]
-}
-
 # The types of the package, and of a program that uses it.
 types_hold() {
     "$venv" -m mypy --cache-dir="$work/mypy" src/range_sets &&
         (cd "$work" && "$venv" -m mypy --cache-dir=mypy --config-file="$here/pyproject.toml" "$here/tests/typed.py")
+}
+
+# What the compiled module needs at run time, beside the interpreter that loads it.
+links_libc_alone() {
+    local module needed
+    module=$(cd "$work" && "$venv" -c 'import range_sets._core; print(range_sets._core.__file__)')
+    needed=$(readelf --dynamic --wide "$module" | sed -n 's/.*(NEEDED).*\[\(.*\)\]/\1/p')
+    echo "$needed"
+    [ "$needed" = libc.so.6 ]
+}
+
+# How the sources look: as flake8 has it, but for lines, which may be longer, and for slices and overloads, which stand close.
+looks_right() {
+    "$venv" -m flake8 --max-line-length=160 --extend-ignore=E203,E301,E302,E704 .
 }
 
 # Builds a wheel of the source distribution alone.
@@ -122,9 +127,11 @@ has "$python" "sysconfig, os; os.stat(sysconfig.get_path('include') + '/Python.h
 }
 step "it is installed" installs
 if [ "${1:-}" = --more ]; then
-    export RANGE_SETS_EXAMPLES=1000 RANGE_SETS_SECONDS=20
+    export RANGE_SETS_EXAMPLES=1000 RANGE_SETS_SECONDS=20 RANGE_SETS_TEXTS=400000 RANGE_SETS_PICKLES=185000
     step "threads and processes" tests -p test_processes.py
     step_with hypothesis python3-hypothesis "long runs of made-up cases" tests -p with_hypothesis.py
+    step "made-up texts" tests -p test_texts.py
+    step "damaged pickles" tests -p test_pickles.py
     step_with "dask.bag, distributed, numpy" "python3-dask python3-distributed python3-numpy" \
         "the example on two processes" "$venv" examples/received.py --ranges 100000
     step "a wheel of the source distribution" builds_from_source
@@ -138,13 +145,20 @@ if [ "${1:-}" = --more ]; then
         "the benchmark's answers" "$venv" bench.py --pairs 2000
     ended
 fi
+[ "$(uname)" != Linux ] || step_by readelf binutils "it links libc alone" links_libc_alone
 step "the first line of the page" prints_the_difference
 step "the tests" tests
-step "when five people have time" finds_a_meeting
 step_with numpy python3-numpy "the tests with numpy" tests -p with_numpy.py
+step_with pandas python3-pandas "the tests with pandas" tests -p with_pandas.py
+if command -v chromedriver >/dev/null; then
+    step_with selenium python3-selenium "pictures in Chromium" tests -p with_chromium.py
+else
+    step_by chromedriver chromium-driver "pictures in Chromium"
+fi
 step_with hypothesis python3-hypothesis "the tests with hypothesis" tests -p with_hypothesis.py
 step_with dask.bag python3-dask "the tests with dask" tests -p with_dask.py
 step_with mypy python3-mypy "the types" types_hold
+step_with flake8 python3-flake8 "the looks" looks_right
 for page in ../README.md README.md; do
     step "the lines in Python of $page" runs_page "$page" python
 done

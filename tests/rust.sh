@@ -1,6 +1,7 @@
 #!/usr/bin/env bash
 # Tests the Rust crate from a copy in a folder of its own: its tests, the program that was written for range-collections,
-# its documentation, its package, the lines in Rust of the pages, and its memory under valgrind.
+# its documentation, what clippy and rustfmt say of it, its package, the lines in Rust of the pages, and its memory under
+# valgrind.
 #
 #   tests/rust.sh                   all that
 #   tests/rust.sh --sanitizer       the tests under AddressSanitizer alone
@@ -28,7 +29,7 @@ work=$(mktemp -d) || exit 1
 trap 'rm -rf "$work"' EXIT
 export CARGO_TARGET_DIR=$work/built
 builds_quickly
-mkdir "$work/rust" && tar c --exclude=./target --exclude=./Cargo.lock . | tar x -C "$work/rust" || exit 1
+mkdir "$work/rust" && tar ch --exclude=./target --exclude=./Cargo.lock . | tar x -C "$work/rust" || exit 1
 host=$(rustc -vV | sed -n 's/^host: //p')
 
 # Calls cargo in the copy.
@@ -41,7 +42,8 @@ under_valgrind() {
     local runner
     runner=CARGO_TARGET_$(echo "$host" | tr a-z- A-Z_)_RUNNER
     export "$runner=valgrind -q --error-exitcode=9"
-    cargo_there test --quiet --test hostile -- --test-threads 2
+    # Sets of many chunks take too long for it: they have AddressSanitizer.
+    cargo_there test --quiet --test hostile -- --test-threads 2 --skip chunked::
 }
 
 # Runs the tests with the compiler's checks of every access.
@@ -59,6 +61,36 @@ runs_the_program() {
 runs_the_cache() {
     [ "$(cargo_there run --quiet --features serde --example cache)" = \
         "29% are here: 0..50, 60..100, 300..400, 900..1000, kept as [1000,[0,50,60,100,300,400,900,1000]]" ]
+}
+
+# Runs the allocator of addresses, which says what is free in ranges and in blocks.
+runs_the_addresses() {
+    [ "$(cargo_there run --quiet --example addresses)" = "768 of 1024 are free: 10.0.0.0..10.0.1.0, 10.0.2.0..10.0.4.0
+10.0.0.0 is taken
+left in blocks: 10.0.0.1/32 10.0.0.2/31 10.0.0.4/30 10.0.0.8/29 10.0.0.16/28 10.0.0.32/27 10.0.0.64/26 10.0.0.128/25 10.0.2.0/23" ]
+}
+
+# Runs the download of a million pieces, which says in how many ranges they lay.
+runs_the_torrent() {
+    [ "$(cargo_there run --quiet --example torrent)" = $'249665 ranges after half of the pieces\n1 range in the end' ]
+}
+
+# Has clippy look at all of it, with all features and without.
+lints() {
+    cargo_there clippy --quiet --all-targets --all-features -- -D warnings &&
+        cargo_there clippy --quiet --all-targets -- -D warnings
+}
+
+# Has rustfmt look at what is written by hand.
+is_formatted() {
+    find src tests examples -name '*.rs' -not -path 'src/generated/*' -print0 |
+        xargs -0 -I{} sh -c 'rustfmt --edition 2021 --check <"$1" || { echo "$1"; exit 1; }' sh {}
+}
+
+# Makes the package, which has its licences.
+packages() {
+    cargo_there package --quiet &&
+        [ "$(cargo_there package --list | grep '^LICENSE-')" = $'LICENSE-APACHE\nLICENSE-MIT' ]
 }
 
 documents() {
@@ -89,8 +121,12 @@ RUSTDOCFLAGS=$(links_quickly rustc) step "the tests" cargo_there test --quiet "$
 step "a build without std" cargo_there build --quiet --no-default-features --features serde
 step "the program written for range-collections" runs_the_program
 step "a cache of a file's parts" runs_the_cache
+step "a download of a million pieces" runs_the_torrent
+step "an allocator of addresses" runs_the_addresses
 step "the documentation, without a warning" documents
-step "the package" cargo_there package --quiet
+step_by cargo-clippy rust-clippy "what clippy says" lints
+step_by rustfmt rustfmt "the looks" is_formatted
+step "the package, with its licences" packages
 for page in ../README.md README.md; do
     step "the lines in Rust of $page" runs_page "$page"
 done

@@ -1,8 +1,9 @@
 #!/usr/bin/env bash
-# Tests the page: that it loads what web/build makes, asks nothing of a network, and shows in Chromium what it should.
+# Tests the page: that it loads what web/build makes, asks nothing of a network, and shows in
+# Chromium what it should.
 #
-# The interpreter is PYTHON, or else Debian's, for which Debian packages Selenium. The last line is 'N passed, M failed,
-# K skipped'.
+# The interpreter is PYTHON, or else Debian's, for which Debian packages Selenium. The last line is
+# 'N passed, M failed, K skipped'.
 set -u
 export LC_ALL=C.UTF-8
 cd "$(dirname "$0")/.." || exit 1
@@ -27,7 +28,8 @@ small() {
     [ "$(cat web/built/*.js | wc -c)" -lt 300000 ]
 }
 
-# Whether a page from disk can do without all that the scripts ask for: no module, no request, no other host.
+# Whether a page from disk can do without all that the scripts ask for: no module, no request, no
+# other host.
 needs_no_server() {
     ! grep -nE 'type="module"|^ *(import|export) |fetch\(|XMLHttpRequest|(src|href)="(https?:)?//' web/index.html web/js/*.js
 }
@@ -43,8 +45,8 @@ made_by() {
     head -n 2 "$1" | grep -oE 'with rustc [0-9.]+|version: "[0-9.]+"'
 }
 
-# Compares a file that was just built with the one that lies there. Another compiler writes other bytes for the same source,
-# and another Unicode has other classes.
+# Compares a file that was just built with the one that lies there. Another compiler writes other
+# bytes for the same source, and another Unicode has other classes.
 same_as_built() {
     local file=$1 here there
     here=$(made_by "$work/built/$file")

@@ -1,4 +1,5 @@
 // Boost.ICL's interval_set: a tree of ranges.
+#include "grown.hpp"
 #include "held.hpp"
 #include "peers.hpp"
 
@@ -12,6 +13,18 @@ using Range = Intervals::interval_type;
 
 Range range(std::int64_t start, std::int64_t end) {
     return icl::interval<std::int64_t>::right_open(start, end);
+}
+
+void put_all(Intervals& set, const Commands& commands) {
+    for (std::size_t i = 0; i < commands.starts.size(); i++) {
+        set.insert(range(commands.starts[i], commands.ends[i]));
+    }
+}
+
+void take_all(Intervals& set, const Commands& commands) {
+    for (std::size_t i = 0; i < commands.starts.size(); i++) {
+        set.erase(range(commands.starts[i], commands.ends[i]));
+    }
 }
 
 std::size_t given(const Intervals& set, Boundaries* out) {
@@ -115,22 +128,30 @@ struct Icl {
 
     static std::size_t insert(const Set& left, const Commands& commands, Boundaries* out) {
         Intervals set = left;
-        for (std::size_t i = 0; i < commands.starts.size(); i++) {
-            set.insert(range(commands.starts[i], commands.ends[i]));
-        }
+        put_all(set, commands);
         return given(set, out);
     }
 
     static std::size_t remove(const Set& left, const Commands& commands, Boundaries* out) {
         Intervals set = left;
-        for (std::size_t i = 0; i < commands.starts.size(); i++) {
-            set.erase(range(commands.starts[i], commands.ends[i]));
-        }
+        take_all(set, commands);
         return given(set, out);
     }
+
+    static constexpr bool has_ranges = true;
+
+    static void put_in(Set& set, const Commands& commands) { put_all(set, commands); }
+
+    static void take_out(Set& set, const Commands& commands) { take_all(set, commands); }
+
+    static void boundaries_of(const Set& set, Boundaries* out) { given(set, out); }
 };
 
 } // namespace
+
+GrowingKind growing_icl() {
+    return growing_kind<Icl>(Icl::name);
+}
 
 std::unique_ptr<Peer> icl_peer() {
     return std::make_unique<Held<Icl>>();

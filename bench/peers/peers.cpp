@@ -21,3 +21,17 @@ Peers all_peers() {
     peers.push_back(lower_bound_peer());
     return peers;
 }
+
+std::vector<GrowingKind> growing_kinds() {
+    std::vector<GrowingKind> kinds;
+#ifdef WITH_PLAIN_RUST
+    kinds = growing_in_rust();
+#endif
+#ifdef WITH_ICL
+    kinds.push_back(growing_icl());
+#endif
+#ifdef WITH_ROARING
+    kinds.push_back(growing_roaring());
+#endif
+    return kinds;
+}

@@ -1,6 +1,7 @@
 // The contenders, one a file.
 #pragma once
 
+#include "growing.hpp"
 #include "peer.hpp"
 
 std::unique_ptr<Peer> library_peer();
@@ -12,3 +13,8 @@ std::unique_ptr<Peer> icu_peer();
 std::unique_ptr<Peer> icl_peer();
 std::unique_ptr<Peer> roaring_peer();
 std::unique_ptr<Peer> lower_bound_peer();
+
+// Of ranges one by one.
+std::vector<GrowingKind> growing_in_rust();
+GrowingKind growing_icl();
+GrowingKind growing_roaring();

@@ -1,5 +1,6 @@
 // The plain Rust crate, through the exports of plain_rust/.
 #include "exported.hpp"
+#include "grown.hpp"
 #include "peers.hpp"
 
 extern "C" {
@@ -17,6 +18,21 @@ decltype(range_bench_union_len) plain_rust_union_len;
 decltype(range_bench_contains) plain_rust_contains;
 decltype(range_bench_split) plain_rust_split;
 decltype(range_bench_iter) plain_rust_iter;
+
+// Sets that stay, behind pointers.
+using growing_new = void*();
+using growing_free = void(void* set);
+using growing_change = void(void* set, const std::int64_t* starts, const std::int64_t* ends, std::size_t len);
+using growing_contains = std::size_t(const void* set, const std::int64_t* values, std::size_t len);
+using growing_iter = std::int64_t(const void* set);
+using growing_boundaries = std::size_t(const void* set, std::int64_t* out, std::size_t out_len);
+growing_new growing_list_new, growing_chunks_new, growing_tree_new;
+growing_free growing_list_free, growing_chunks_free, growing_tree_free;
+growing_change growing_list_insert, growing_chunks_insert, growing_tree_insert;
+growing_change growing_list_remove, growing_chunks_remove, growing_tree_remove;
+growing_contains growing_list_contains, growing_chunks_contains, growing_tree_contains;
+growing_iter growing_list_iter, growing_chunks_iter, growing_tree_iter;
+growing_boundaries growing_list_boundaries, growing_chunks_boundaries, growing_tree_boundaries;
 }
 
 namespace {
@@ -43,7 +59,74 @@ struct PlainRust {
     static constexpr auto* ranges = plain_rust_iter;
 };
 
+struct List {
+    static constexpr auto* make = growing_list_new;
+    static constexpr auto* drop = growing_list_free;
+    static constexpr auto* insert = growing_list_insert;
+    static constexpr auto* remove = growing_list_remove;
+    static constexpr auto* members = growing_list_contains;
+    static constexpr auto* ranges = growing_list_iter;
+    static constexpr auto* list = growing_list_boundaries;
+};
+
+struct Chunks {
+    static constexpr auto* make = growing_chunks_new;
+    static constexpr auto* drop = growing_chunks_free;
+    static constexpr auto* insert = growing_chunks_insert;
+    static constexpr auto* remove = growing_chunks_remove;
+    static constexpr auto* members = growing_chunks_contains;
+    static constexpr auto* ranges = growing_chunks_iter;
+    static constexpr auto* list = growing_chunks_boundaries;
+};
+
+struct Tree {
+    static constexpr auto* make = growing_tree_new;
+    static constexpr auto* drop = growing_tree_free;
+    static constexpr auto* insert = growing_tree_insert;
+    static constexpr auto* remove = growing_tree_remove;
+    static constexpr auto* members = growing_tree_contains;
+    static constexpr auto* ranges = growing_tree_iter;
+    static constexpr auto* list = growing_tree_boundaries;
+};
+
+template <class Exports> struct Behind {
+    static constexpr bool has_ranges = true;
+
+    struct Free {
+        void operator()(void* set) const { Exports::drop(set); }
+    };
+
+    using Set = std::unique_ptr<void, Free>;
+
+    static Set made(const Boundaries&) { return Set(Exports::make()); }
+
+    static void put_in(const Set& set, const Commands& commands) {
+        Exports::insert(set.get(), commands.starts.data(), commands.ends.data(), commands.starts.size());
+    }
+
+    static void take_out(const Set& set, const Commands& commands) {
+        Exports::remove(set.get(), commands.starts.data(), commands.ends.data(), commands.starts.size());
+    }
+
+    static std::size_t contains(const Set& set, const Boundaries& values) {
+        return Exports::members(set.get(), values.data(), values.size());
+    }
+
+    static std::size_t iter(const Set& set) { return static_cast<std::size_t>(Exports::ranges(set.get())); }
+
+    static void boundaries_of(const Set& set, Boundaries* out) {
+        std::int64_t nowhere;
+        out->resize(Exports::list(set.get(), &nowhere, 0));
+        Exports::list(set.get(), out->data(), out->size());
+    }
+};
+
 } // namespace
+
+std::vector<GrowingKind> growing_in_rust() {
+    return {growing_kind<Behind<List>>("RangeSet"), growing_kind<Behind<Chunks>>("ChunkedRangeSet"),
+            growing_kind<Behind<Tree>>("BTreeMap")};
+}
 
 std::unique_ptr<Peer> plain_rust_peer() {
     return std::make_unique<Held<Exported<PlainRust>>>();

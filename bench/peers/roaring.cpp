@@ -1,4 +1,5 @@
 // CRoaring: a set of uint32 in containers of bits, numbers or runs. It has no list of ranges.
+#include "grown.hpp"
 #include "held.hpp"
 #include "peers.hpp"
 
@@ -130,20 +131,32 @@ struct Roaring {
 
     static std::size_t insert(const Set& left, const Commands& commands, Boundaries* out) {
         Bitmap set = copy(left);
-        for (std::size_t i = 0; i < commands.starts.size(); i++) {
-            add(set, commands.starts[i], commands.ends[i]);
-        }
+        put_in(set, commands);
         return given(set, out);
     }
 
     static std::size_t remove(const Set& left, const Commands& commands, Boundaries* out) {
         Bitmap set = copy(left);
+        take_out(set, commands);
+        return given(set, out);
+    }
+
+    static constexpr bool has_ranges = false;
+
+    static void put_in(const Bitmap& set, const Commands& commands) {
+        for (std::size_t i = 0; i < commands.starts.size(); i++) {
+            add(set, commands.starts[i], commands.ends[i]);
+        }
+    }
+
+    static void take_out(const Bitmap& set, const Commands& commands) {
         for (std::size_t i = 0; i < commands.starts.size(); i++) {
             roaring_bitmap_remove_range(set.get(), static_cast<std::uint64_t>(commands.starts[i]),
                                         static_cast<std::uint64_t>(commands.ends[i]));
         }
-        return given(set, out);
     }
+
+    static void boundaries_of(const Bitmap& set, Boundaries* out) { given(set, out); }
 
 private:
     static Bitmap copy(const Bitmap& set) { return granted(roaring_bitmap_copy(set.get())); }
@@ -154,6 +167,10 @@ private:
 };
 
 } // namespace
+
+GrowingKind growing_roaring() {
+    return growing_kind<Roaring>(Roaring::name);
+}
 
 std::unique_ptr<Peer> roaring_peer() {
     return std::make_unique<Held<Roaring>>();

@@ -44,6 +44,7 @@ inline Group group_of(Task task) {
     case Task::union_len:
         return Group::lengths;
     case Task::contains:
+    case Task::contains_waiting:
         return Group::contains;
     case Task::contains_text:
         return Group::texts;
@@ -176,6 +177,12 @@ private:
             if (task == Task::contains) {
                 return run([this](const Sides& sides, Boundaries*) {
                     return Kind::contains(sides.first, values);
+                });
+            }
+            if (task == Task::contains_waiting) {
+                return run([this](const Sides& sides, Boundaries*) {
+                    return asked_one_by_one(
+                        values, [&](const Boundaries& one) { return Kind::contains(sides.first, one); });
                 });
             }
         }

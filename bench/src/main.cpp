@@ -1,4 +1,5 @@
 // The benchmark's driver: it compares all contenders with a plain merge, and times them.
+#include "growing.hpp"
 #include "library.h"
 #include "peers.hpp"
 #include "plain.hpp"
@@ -25,6 +26,9 @@ constexpr std::size_t most = 16777216;
 // Ranges that come one by one: so many are timed, and the fewer are compared with a plain merge.
 constexpr std::size_t many_ranges = 100000;
 constexpr std::size_t compared_ranges = 2000;
+
+// So many ranges are the most that sets grow to, one by one.
+constexpr std::size_t most_ranges = 1000000;
 
 bool contains(const std::vector<Task>& tasks, Task task) {
     for (Task each : tasks) {
@@ -94,6 +98,7 @@ void check(const Peers& peers) {
         compared += checked_lines(peers, growth_job(run)).size();
     }
     compared += checked_lines(peers, size_job(fewest)).size();
+    compared += check_growing(growing_kinds(), compared_ranges);
     std::printf("%zu results compared with a plain merge, all right\n", compared);
 }
 
@@ -201,7 +206,7 @@ void count(const Peers& peers, const std::string& name, const std::string& shape
 
 int usage() {
     std::fprintf(stderr, "usage: driver check | times CSV | growth CSV | sizes CSV | commands CSV | "
-                         "count CONTENDER SHAPE SIZE TASK\n");
+                         "ranges CSV | count CONTENDER SHAPE SIZE TASK\n");
     return 2;
 }
 
@@ -217,6 +222,9 @@ int run(const std::vector<std::string>& words) {
         time_unions(peers, words[1], "size", fewest, most, size_job);
     } else if (words.size() == 2 && words[0] == "commands") {
         time_commands(peers, words[1]);
+    } else if (words.size() == 2 && words[0] == "ranges") {
+        check_growing(growing_kinds(), compared_ranges);
+        time_growing(growing_kinds(), most_ranges, words[1]);
     } else if (words.size() == 5 && words[0] == "count") {
         count(peers, words[1], words[2], words[3], words[4]);
     } else {

@@ -21,6 +21,7 @@ constexpr const char* names[] = {
     "is_subset",
     "union length",
     "contains",
+    "contains, one by one",
     "contains, texts",
     "split",
     "iter",

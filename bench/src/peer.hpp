@@ -28,6 +28,7 @@ enum class Task {
     is_subset,
     union_len,
     contains,
+    contains_waiting,
     contains_text,
     split,
     iter,

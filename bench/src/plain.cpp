@@ -50,6 +50,10 @@ std::size_t right_answer(Task task, const Pair& pair, const Case& that) {
             sum += is_member(pair.left, value);
         }
         return sum;
+    case Task::contains_waiting:
+        return asked_one_by_one(that.values, [&](const Boundaries& one) -> std::size_t {
+            return is_member(pair.left, one.front());
+        });
     case Task::split:
         // The least set with the same members below the value has the boundaries below it.
         for (std::int64_t value : that.values) {

@@ -62,6 +62,23 @@ Pair run_pair(std::size_t boundaries, std::size_t run) {
     return pair;
 }
 
+// Runs of 1 to 16 boundaries, as long as chance has it. Each set has an end, since ICU's have one.
+Pair mixed_pair(std::size_t boundaries) {
+    Random random(boundaries);
+    std::uniform_int_distribution<std::size_t> length(1, 16);
+    Pair pair;
+    bool on_left = true;
+    for (std::size_t i = 0; i < 2 * boundaries; on_left = !on_left) {
+        for (std::size_t end = std::min(2 * boundaries, i + length(random)); i < end; i++) {
+            (on_left ? pair.left : pair.right).push_back(static_cast<std::int64_t>(i) * 4 + 4);
+        }
+    }
+    for (Boundaries* side : {&pair.left, &pair.right}) {
+        side->resize(side->size() / 2 * 2);
+    }
+    return pair;
+}
+
 Case one(const char* shape, std::size_t size, Pair pair) {
     Case that;
     that.shape = shape;
@@ -169,12 +186,15 @@ std::vector<Job> all_jobs() {
     }
     add_shapes(jobs, 4096);
     add_tests(jobs, 4096);
+    jobs.push_back({one("runs of 4", 4096, run_pair(4096, 4)), joined({new_sets, changes})});
+    jobs.push_back({one("runs of 8", 4096, run_pair(4096, 8)), joined({new_sets, changes})});
+    jobs.push_back({one("runs of 1 to 16", 4096, mixed_pair(4096)), joined({new_sets, changes})});
     jobs.push_back({one("interleaved", 65536, run_pair(65536, 1)), joined({new_sets, changes})});
     jobs.push_back({one("blocks of 64", 65536, run_pair(65536, 64)), joined({new_sets, changes})});
     jobs.push_back({one("one range", 65536, one_range(65536)), joined({new_sets, changes})});
     jobs.push_back({random_case(65536), joined({new_sets, changes})});
-    for (std::size_t size : {10, 1000, 1000000}) {
-        jobs.push_back({asked("one set", size), {Task::contains, Task::split}});
+    for (std::size_t size : {2, 10, 1000, 100000, 1000000}) {
+        jobs.push_back({asked("one set", size), {Task::contains, Task::contains_waiting, Task::split}});
     }
     for (std::size_t size : {1000, 10000}) {
         jobs.push_back({asked(texts_shape, size), {Task::contains_text}});

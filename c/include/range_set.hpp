@@ -1,14 +1,16 @@
-// Sets of whole numbers for C++17, over the calls of range_set.h: int32_t, uint32_t, int64_t and uint64_t.
+// Sets of whole numbers for C++17 and later, over the calls of range_set.h: of the integer types with 32 or 64 bits.
 //
 //     using range_sets::range_set;
 //     const range_set<int64_t> day = {{9, 17}}, busy = {{9, 11}, {12, 15}};
 //     auto free = day - busy;                              // 11 to 12, and 15 to 17
 //     for (auto [start, end, has_end] : free) std::cout << start << ".." << end << '\n';
+//     std::cout << free << '\n';                           // 11..12, 15..17
 //     if (free.contains(16)) std::cout << "free at four\n";
 //
-// range_set owns its boundaries. range_set_view borrows them: it is cheap to copy, and takes any range_set of its type; what it
-// borrows from has to outlive it. Where memory is refused std::bad_alloc is thrown, and a set that was to change is as it was.
-// No other call throws.
+// range_set owns its boundaries. range_set_view borrows them: it is cheap to copy, and takes any range_set of its type that has a
+// name. What it borrows from has to outlive it. A view of a temporary set doesn't compile, but each call takes such a set. Where
+// memory is refused std::bad_alloc is thrown, and a set that was to change is as it was. Nothing else is thrown, but by the stream
+// of a <<. std::format doesn't take sets: gcc 12 and clang 14 don't have it.
 #ifndef RANGE_SET_HPP
 #define RANGE_SET_HPP
 
@@ -17,15 +19,26 @@
 #include <algorithm>
 #include <cstddef>
 #include <cstdint>
+#include <functional>
 #include <initializer_list>
 #include <iterator>
 #include <memory>
 #include <new>
 #include <optional>
+#include <ostream>
 #include <string>
 #include <string_view>
 #include <type_traits>
 #include <utility>
+#if __has_include(<version>)
+#include <version>
+#endif
+#ifdef __cpp_lib_three_way_comparison
+#include <compare>
+#endif
+#ifdef __cpp_lib_ranges
+#include <ranges>
+#endif
 
 namespace range_sets {
 
@@ -47,11 +60,12 @@ template <class T> struct range {
 
 namespace detail {
 
-// The calls of the header for a type of numbers.
-template <class T> struct calls;
+// The calls of the header for one of its types of numbers.
+template <class T> struct calls_of;
 
 #define RANGE_SET_CALLS(number, T) \
-    template <> struct calls<T> { \
+    template <> struct calls_of<T> { \
+        using value = T; \
         using set = range_set_##number; \
         using part = range_set_##number##_range; \
         using buffer = range_set_##number##_buffer; \
@@ -87,15 +101,54 @@ RANGE_SET_CALLS(i64, std::int64_t)
 RANGE_SET_CALLS(u64, std::uint64_t)
 #undef RANGE_SET_CALLS
 
+// Whether it is an integer type of 32 or 64 bits. One of them may be another than the header's, as long long is where int64_t is long.
+template <class T>
+constexpr bool is_number = (std::is_same_v<T, int> || std::is_same_v<T, unsigned> || std::is_same_v<T, long> || std::is_same_v<T, unsigned long>
+                            || std::is_same_v<T, long long> || std::is_same_v<T, unsigned long long>) && (sizeof(T) == 4 || sizeof(T) == 8);
+
+// The header's type of the same width and sign.
+template <class T>
+using number_of = std::conditional_t<sizeof(T) == 4, std::conditional_t<std::is_signed_v<T>, std::int32_t, std::uint32_t>,
+                                     std::conditional_t<std::is_signed_v<T>, std::int64_t, std::uint64_t>>;
+
+// The calls for an integer type.
+template <class T> struct calls : calls_of<number_of<T>> {
+    static_assert(is_number<T>, "there are sets of integers of 32 and of 64 bits");
+};
+
+// A set of either kind that a call takes. It may be a temporary, which lives until the call has ended.
+template <class T> struct operand {
+    operand(range_set_view<T> from) noexcept : set(from.set()) {}
+    operand(const range_set<T> &from) noexcept : set(from.view().set()) {}
+
+    typename calls<T>::set set;
+};
+
 // The operators, which both kinds of sets have: two of them may be of either kind.
 template <class T> struct operators {
-    friend range_set<T> operator|(range_set_view<T> a, range_set_view<T> b) { return range_set<T>::combine(a, b, RANGE_SET_UNION); }
-    friend range_set<T> operator&(range_set_view<T> a, range_set_view<T> b) { return range_set<T>::combine(a, b, RANGE_SET_INTERSECTION); }
-    friend range_set<T> operator-(range_set_view<T> a, range_set_view<T> b) { return range_set<T>::combine(a, b, RANGE_SET_DIFFERENCE); }
-    friend range_set<T> operator^(range_set_view<T> a, range_set_view<T> b) { return range_set<T>::combine(a, b, RANGE_SET_SYMMETRIC_DIFFERENCE); }
-    friend range_set<T> operator~(range_set_view<T> a) { return a.negation(); }
-    friend bool operator==(range_set_view<T> a, range_set_view<T> b) noexcept { return calls<T>::equal(a.set(), b.set()); }
-    friend bool operator!=(range_set_view<T> a, range_set_view<T> b) noexcept { return !(a == b); }
+    friend range_set<T> operator|(operand<T> a, operand<T> b) { return combined(a, b, RANGE_SET_UNION); }
+    friend range_set<T> operator&(operand<T> a, operand<T> b) { return combined(a, b, RANGE_SET_INTERSECTION); }
+    friend range_set<T> operator-(operand<T> a, operand<T> b) { return combined(a, b, RANGE_SET_DIFFERENCE); }
+    friend range_set<T> operator^(operand<T> a, operand<T> b) { return combined(a, b, RANGE_SET_SYMMETRIC_DIFFERENCE); }
+    friend range_set<T> operator~(operand<T> a) { return viewed(a).negation(); }
+    friend bool operator==(operand<T> a, operand<T> b) noexcept { return calls<T>::equal(a.set, b.set); }
+    friend bool operator!=(operand<T> a, operand<T> b) noexcept { return !calls<T>::equal(a.set, b.set); }
+
+    // The order of `compare`, which is that of sets in Rust. No order says which set lies in another: `is_subset` does.
+    friend bool operator<(operand<T> a, operand<T> b) noexcept { return viewed(a).compare(b) < 0; }
+    friend bool operator>(operand<T> a, operand<T> b) noexcept { return viewed(a).compare(b) > 0; }
+    friend bool operator<=(operand<T> a, operand<T> b) noexcept { return viewed(a).compare(b) <= 0; }
+    friend bool operator>=(operand<T> a, operand<T> b) noexcept { return viewed(a).compare(b) >= 0; }
+#ifdef __cpp_lib_three_way_comparison
+    friend std::strong_ordering operator<=>(operand<T> a, operand<T> b) noexcept { return viewed(a).compare(b) <=> 0; }
+#endif
+
+    // Writes what `text` returns, as one text for a width. Where memory for it is refused nothing is written.
+    friend std::ostream &operator<<(std::ostream &out, operand<T> a) { return out << viewed(a).text(); }
+
+private:
+    static range_set_view<T> viewed(operand<T> a) noexcept { return range_set_view<T>(a.set); }
+    static range_set<T> combined(operand<T> a, operand<T> b, unsigned keep) { return range_set<T>::combine(a, b, keep); }
 };
 
 } // namespace detail
@@ -103,18 +156,30 @@ template <class T> struct operators {
 // A set that is borrowed.
 template <class T> class range_set_view : detail::operators<T> {
     using calls = detail::calls<T>;
+    using number = typename calls::value;
 
 public:
     using value_type = range<T>;
 
-    // Goes over the ranges of a set, from the lowest on, by index.
+    // Goes over the ranges of a set, by index. It makes each range that it is asked for, so it satisfies
+    // std::random_access_iterator, and for algorithms before C++20 it is an input iterator. It stays good after the
+    // view that it comes from, until the set changes.
     class iterator {
     public:
+        using iterator_concept = std::random_access_iterator_tag;
         using iterator_category = std::input_iterator_tag;
         using value_type = range<T>;
         using difference_type = std::ptrdiff_t;
-        using pointer = const range<T> *;
         using reference = range<T>;
+        // What `->` answers: it holds the range that it leads to.
+        class pointer {
+        public:
+            explicit pointer(const range<T> &it) noexcept : it_(it) {}
+            const range<T> *operator->() const noexcept { return &it_; }
+
+        private:
+            range<T> it_;
+        };
 
         iterator() noexcept = default;
         iterator(typename calls::set set, std::size_t index) noexcept : set_(set), index_(index) {}
@@ -125,14 +190,38 @@ public:
             calls::get(set_, index_, &part);
             return {part.start, part.end, part.has_end};
         }
-        iterator &operator++() noexcept
+        pointer operator->() const noexcept { return pointer(**this); }
+        reference operator[](difference_type by) const noexcept { return *(*this + by); }
+
+        iterator &operator+=(difference_type by) noexcept
         {
-            ++index_;
+            index_ += static_cast<std::size_t>(by);
             return *this;
         }
+        iterator &operator-=(difference_type by) noexcept
+        {
+            index_ -= static_cast<std::size_t>(by);
+            return *this;
+        }
+        iterator &operator++() noexcept { return *this += 1; }
+        iterator &operator--() noexcept { return *this -= 1; }
         iterator operator++(int) noexcept { return iterator(set_, index_++); }
+        iterator operator--(int) noexcept { return iterator(set_, index_--); }
+        friend iterator operator+(iterator it, difference_type by) noexcept { return it += by; }
+        friend iterator operator+(difference_type by, iterator it) noexcept { return it += by; }
+        friend iterator operator-(iterator it, difference_type by) noexcept { return it -= by; }
+        friend difference_type operator-(const iterator &a, const iterator &b) noexcept
+        {
+            return static_cast<difference_type>(a.index_) - static_cast<difference_type>(b.index_);
+        }
+
+        // Of two iterators of one set.
         friend bool operator==(const iterator &a, const iterator &b) noexcept { return a.index_ == b.index_; }
         friend bool operator!=(const iterator &a, const iterator &b) noexcept { return a.index_ != b.index_; }
+        friend bool operator<(const iterator &a, const iterator &b) noexcept { return a.index_ < b.index_; }
+        friend bool operator>(const iterator &a, const iterator &b) noexcept { return a.index_ > b.index_; }
+        friend bool operator<=(const iterator &a, const iterator &b) noexcept { return a.index_ <= b.index_; }
+        friend bool operator>=(const iterator &a, const iterator &b) noexcept { return a.index_ >= b.index_; }
 
     private:
         typename calls::set set_ = {};
@@ -148,7 +237,7 @@ public:
     static std::optional<range_set_view> of(const T *boundaries, std::size_t len) noexcept
     {
         typename calls::set set = {};
-        if (calls::view(boundaries, len, &set) != RANGE_SET_DONE) return std::nullopt;
+        if (calls::view(reinterpret_cast<const number *>(boundaries), len, &set) != RANGE_SET_DONE) return std::nullopt;
         return range_set_view(set);
     }
 
@@ -156,10 +245,20 @@ public:
     bool contains_range(T start, T end) const noexcept { return calls::contains_range(set_, start, end); }
     bool empty() const noexcept { return calls::is_empty(set_); }
     bool is_all() const noexcept { return calls::is_all(set_); }
-    bool is_disjoint(range_set_view other) const noexcept { return calls::is_disjoint(set_, other.set_); }
-    bool intersects(range_set_view other) const noexcept { return !is_disjoint(other); }
-    bool is_subset(range_set_view other) const noexcept { return calls::is_subset(set_, other.set_); }
-    bool is_superset(range_set_view other) const noexcept { return other.is_subset(*this); }
+    bool is_disjoint(detail::operand<T> other) const noexcept { return calls::is_disjoint(set_, other.set); }
+    bool intersects(detail::operand<T> other) const noexcept { return !is_disjoint(other); }
+    bool is_subset(detail::operand<T> other) const noexcept { return calls::is_subset(set_, other.set); }
+    bool is_superset(detail::operand<T> other) const noexcept { return calls::is_subset(other.set, set_); }
+
+    // Below 0 where this set comes first, above 0 where the other does, and 0 where they are equal. The first boundaries
+    // that differ decide, and where there are none, the fewer boundaries. Compares at most the boundaries of the shorter set.
+    int compare(detail::operand<T> other) const noexcept
+    {
+        const number *const end = set_.boundaries + set_.len, *const other_end = other.set.boundaries + other.set.len;
+        const auto [it, that] = std::mismatch(set_.boundaries, end, other.set.boundaries, other_end);
+        if (it == end || that == other_end) return static_cast<int>(it != end) - static_cast<int>(that != other_end);
+        return *it < *that ? -1 : 1;
+    }
 
     // How many numbers are members, or nothing where the set has no end.
     std::optional<std::uint64_t> covered() const noexcept
@@ -197,9 +296,9 @@ public:
     // The least number from which on `count` numbers lie in `start` to below `end` and none is a member, or nothing.
     std::optional<T> first_fit(T start, T end, std::make_unsigned_t<T> count) const noexcept
     {
-        T first = start;
+        number first = start;
         if (!calls::first_fit(set_, start, end, count, &first)) return std::nullopt;
-        return first;
+        return static_cast<T>(first);
     }
 
     // The ranges as a text, "0..10, 20..".
@@ -228,6 +327,7 @@ private:
 // A set that owns its boundaries.
 template <class T> class range_set : detail::operators<T> {
     using calls = detail::calls<T>;
+    using number = typename calls::value;
 
 public:
     using value_type = range<T>;
@@ -252,7 +352,7 @@ public:
     {
         const auto count = static_cast<std::size_t>(std::distance(first, last));
         auto items = room_for(2 * count);
-        T *next = items.get();
+        number *next = items.get();
         for (; first != last; ++first) {
             *next++ = first->first;
             *next++ = first->second;
@@ -277,17 +377,18 @@ public:
     }
     ~range_set() = default;
 
-    // The numbers in any of these sets, which may be a std::vector of either kind.
+    // The numbers in any of these sets, which may be a std::vector of either kind. Sets that each exist only while they are
+    // looked at don't compile.
     template <class Sets> static range_set union_all(const Sets &sets)
     {
         const auto count = static_cast<std::size_t>(std::distance(sets.begin(), sets.end()));
         std::unique_ptr<typename calls::set[]> each(count > 0 ? new typename calls::set[count] : nullptr);
         std::size_t room = 0, i = 0;
-        for (const auto &it : sets) {
-            each[i] = range_set_view<T>(it).set();
+        for (auto &&it : sets) {
+            each[i] = range_set_view<T>(std::forward<decltype(it)>(it)).set();
             room += each[i++].len;
         }
-        return written(room, [&](T *out, std::size_t of, auto *set) { return calls::union_all(each.get(), count, out, of, set); });
+        return written(room, [&](number *out, std::size_t of, auto *set) { return calls::union_all(each.get(), count, out, of, set); });
     }
     // The set of a text of ranges, "0..10, 20..", or nothing where it isn't one or a number doesn't fit the type. `fault`, where it
     // isn't null, is then the byte at which the text stops being one of ranges; of a number that doesn't fit it is as it was.
@@ -296,13 +397,13 @@ public:
         typename calls::set set = {};
         const auto status = calls::parse(text.data(), text.size(), nullptr, 0, &set, fault);
         if (status == RANGE_SET_MALFORMED || status == RANGE_SET_OUT_OF_RANGE) return std::nullopt;
-        return written(set.len, [&](T *out, std::size_t room, auto *result) { return calls::parse(text.data(), text.size(), out, room, result, fault); });
+        return written(set.len, [&](number *out, std::size_t room, auto *result) { return calls::parse(text.data(), text.size(), out, room, result, fault); });
     }
     // The numbers that `keep` names of two sets, as RANGE_SET_LEFT | RANGE_SET_BOTH.
-    static range_set combine(range_set_view<T> a, range_set_view<T> b, unsigned keep)
+    static range_set combine(detail::operand<T> a, detail::operand<T> b, unsigned keep)
     {
-        return written(a.set().len + b.set().len + (keep & RANGE_SET_NEITHER ? 1 : 0),
-                       [&](T *out, std::size_t room, auto *set) { return calls::combine(a.set(), b.set(), keep, out, room, set); });
+        return written(a.set.len + b.set.len + (keep & RANGE_SET_NEITHER ? 1 : 0),
+                       [&](number *out, std::size_t room, auto *set) { return calls::combine(a.set, b.set, keep, out, room, set); });
     }
 
     void swap(range_set &other) noexcept
@@ -311,17 +412,21 @@ public:
         std::swap(in_, other.in_);
     }
 
-    operator range_set_view<T>() const noexcept { return view(); }
-    range_set_view<T> view() const noexcept { return range_set_view<T>(in_.set); }
+    // The set borrowed, until it changes or is gone. A temporary is gone at once, so there is no view of one.
+    operator range_set_view<T>() const & noexcept { return view(); }
+    operator range_set_view<T>() const && = delete;
+    range_set_view<T> view() const & noexcept { return range_set_view<T>(in_.set); }
+    range_set_view<T> view() const && = delete;
 
     bool contains(T value) const noexcept { return view().contains(value); }
     bool contains_range(T start, T end) const noexcept { return view().contains_range(start, end); }
     bool empty() const noexcept { return view().empty(); }
     bool is_all() const noexcept { return view().is_all(); }
-    bool is_disjoint(range_set_view<T> other) const noexcept { return view().is_disjoint(other); }
-    bool intersects(range_set_view<T> other) const noexcept { return view().intersects(other); }
-    bool is_subset(range_set_view<T> other) const noexcept { return view().is_subset(other); }
-    bool is_superset(range_set_view<T> other) const noexcept { return view().is_superset(other); }
+    bool is_disjoint(detail::operand<T> other) const noexcept { return view().is_disjoint(other); }
+    bool intersects(detail::operand<T> other) const noexcept { return view().intersects(other); }
+    bool is_subset(detail::operand<T> other) const noexcept { return view().is_subset(other); }
+    bool is_superset(detail::operand<T> other) const noexcept { return view().is_superset(other); }
+    int compare(detail::operand<T> other) const noexcept { return view().compare(other); }
     std::optional<std::uint64_t> covered() const noexcept { return view().covered(); }
     std::optional<range<T>> range_at(T value) const noexcept { return view().range_at(value); }
     std::optional<range<T>> first() const noexcept { return view().first(); }
@@ -339,17 +444,17 @@ public:
     range_set &remove(T start, T end) { return change(calls::remove, start, end); }
     void clear() noexcept { in_.set.len = 0; }
 
-    range_set &operator|=(range_set_view<T> other) { return *this = combine(*this, other, RANGE_SET_UNION); }
-    range_set &operator&=(range_set_view<T> other) { return *this = combine(*this, other, RANGE_SET_INTERSECTION); }
-    range_set &operator-=(range_set_view<T> other) { return *this = combine(*this, other, RANGE_SET_DIFFERENCE); }
-    range_set &operator^=(range_set_view<T> other) { return *this = combine(*this, other, RANGE_SET_SYMMETRIC_DIFFERENCE); }
+    range_set &operator|=(detail::operand<T> other) { return *this = combine(*this, other, RANGE_SET_UNION); }
+    range_set &operator&=(detail::operand<T> other) { return *this = combine(*this, other, RANGE_SET_INTERSECTION); }
+    range_set &operator-=(detail::operand<T> other) { return *this = combine(*this, other, RANGE_SET_DIFFERENCE); }
+    range_set &operator^=(detail::operand<T> other) { return *this = combine(*this, other, RANGE_SET_SYMMETRIC_DIFFERENCE); }
 
 private:
     friend class range_set_view<T>;
 
-    using items = std::unique_ptr<T[]>;
+    using items = std::unique_ptr<number[]>;
 
-    static items room_for(std::size_t len) { return items(len > 0 ? new T[len] : nullptr); }
+    static items room_for(std::size_t len) { return items(len > 0 ? new number[len] : nullptr); }
 
     void adopt(items from, std::size_t room, std::size_t len) noexcept
     {
@@ -385,14 +490,30 @@ private:
 
 template <class T> range_set<T> range_set_view<T>::gaps(T start, T end) const
 {
-    return range_set<T>::written(set_.len + 2, [&](T *out, std::size_t room, auto *set) { return calls::gaps(set_, start, end, out, room, set); });
+    return range_set<T>::written(set_.len + 2, [&](number *out, std::size_t room, auto *set) { return calls::gaps(set_, start, end, out, room, set); });
 }
 
 template <class T> range_set<T> range_set_view<T>::negation() const
 {
-    return range_set<T>::written(set_.len + 1, [&](T *out, std::size_t room, auto *set) { return calls::negation(set_, out, room, set); });
+    return range_set<T>::written(set_.len + 1, [&](number *out, std::size_t room, auto *set) { return calls::negation(set_, out, room, set); });
 }
 
 } // namespace range_sets
+
+// Equal sets have the same hash, also where one is a view. Goes over the boundaries once, and takes no memory.
+template <class T> struct std::hash<range_sets::range_set_view<T>> {
+    std::size_t operator()(range_sets::detail::operand<T> set) const noexcept
+    {
+        const std::string_view bytes(reinterpret_cast<const char *>(set.set.boundaries), set.set.len * sizeof(T));
+        return std::hash<std::string_view>()(bytes);
+    }
+};
+template <class T> struct std::hash<range_sets::range_set<T>> : std::hash<range_sets::range_set_view<T>> {};
+
+#ifdef __cpp_lib_ranges
+// A view of C++20 too, whose iterators outlive it.
+template <class T> inline constexpr bool std::ranges::enable_view<range_sets::range_set_view<T>> = true;
+template <class T> inline constexpr bool std::ranges::enable_borrowed_range<range_sets::range_set_view<T>> = true;
+#endif
 
 #endif

@@ -1,13 +1,19 @@
 """Each error's type and text, word for word."""
 
+import importlib.util
 import pickle
 import subprocess
 import sys
 import unittest
 from array import array
+from datetime import date, datetime, timedelta
+from ipaddress import IPv4Address
 
 import range_sets as sets
-from range_sets import MutableRangeSet, NoRoom, NotSorted, ParseError, RangeSet
+from range_sets import MutableRangeSet, NoRoom, NotSorted, ParseError, RangeSet, _core
+
+if importlib.util.find_spec("_testcapi"):
+    import _testcapi
 
 FORMAT = (
     "64-bit whole numbers in this machine's order of bytes are wanted, as array('q') and numpy's int64 and uint64 have them, "
@@ -18,8 +24,10 @@ SIDE = "numbers that lie side by side are wanted: copy the buffer first, as nump
 SIGNED = "a number from -2**63 to 2**63 - 1 is wanted"
 UNSIGNED = "a number from 0 to 2**64 - 1 is wanted"
 MIXED = "signed and unsigned numbers don't mix"
+NAN = "NaN is in no order, and no element of a set"
+ONE_BY_ONE = "floats aren't counted one by one: a start and an end are wanted"
 PAIR = "a pair (start, end), a range or a set is wanted, not"
-ENDS = "a start and an end, a pair or a range is wanted, not"
+ENDS = "a number, a start and an end, a pair or a range is wanted, not"
 FLOAT = "'float' object cannot be interpreted as an integer"
 TABLE = "a table with two columns is wanted; RangeSet.from_boundaries reads a list of boundaries"
 A = RangeSet([(0, 10)])
@@ -58,9 +66,11 @@ class Texts(unittest.TestCase):
             (lambda: RangeSet("0..3"), TypeError, "pairs, ranges or sets are wanted, not a text; RangeSet.parse reads one"),
             (lambda: RangeSet(q(0, 10)), TypeError, TABLE),
             (lambda: RangeSet(range(0, 10, 2)), ValueError, "a range with step 1 is wanted, not range(0, 10, 2)"),
-            (lambda: RangeSet([(0.5, 2)]), TypeError, FLOAT),
-            (lambda: RangeSet([(float("nan"), None)]), TypeError, FLOAT),
-            (lambda: RangeSet([("0", 2)]), TypeError, "'str' object cannot be interpreted as an integer"),
+            (lambda: RangeSet([(0, 2.5)]), TypeError, FLOAT),
+            (lambda: RangeSet([(0.5, 2)], kind=int), TypeError, FLOAT),
+            (lambda: RangeSet([(float("nan"), None)]), ValueError, NAN),
+            (lambda: RangeSet([("0", 2)]), TypeError, "a text is no element of a set: give the place of each in a sorted list of them"),
+            (lambda: RangeSet([(0, "2")]), TypeError, "'str' object cannot be interpreted as an integer"),
             (lambda: RangeSet([(0, 2**63)]), OverflowError, SIGNED),
             (lambda: RangeSet([(-(2**63) - 1, None)]), OverflowError, SIGNED),
             (lambda: RangeSet([(-1, 5)], unsigned=True), OverflowError, UNSIGNED),
@@ -73,8 +83,14 @@ class Texts(unittest.TestCase):
             (lambda: RangeSet.from_boundaries([0, 1.5]), TypeError, FLOAT),
             (lambda: RangeSet.from_boundaries([0, 2**63]), OverflowError, SIGNED),
             (lambda: RangeSet.from_boundaries(7), TypeError, "'int' object is not iterable"),
-            (lambda: RangeSet.from_boundaries(array("d", [0.0])), TypeError, f"{FORMAT} 'd'"),
+            (lambda: RangeSet.from_boundaries(array("d", [0.0]), kind=int), TypeError, f"{FORMAT} 'd'"),
+            (lambda: RangeSet.from_boundaries(array("u", "a")), TypeError, f"{FORMAT} 'w'"),
             (lambda: RangeSet.from_boundaries(q(1), unsigned=True), TypeError, f"{MIXED}: a set of unsigned ones is wanted"),
+            (lambda: RangeSet.from_values([0, 1.5]), TypeError, FLOAT),
+            (lambda: RangeSet.from_values([2**63]), OverflowError, SIGNED),
+            (lambda: RangeSet.from_values(array("b", [-1]), unsigned=True), OverflowError, UNSIGNED),
+            (lambda: RangeSet.from_values(q(1), unsigned=True), TypeError, f"{MIXED}: a set of unsigned ones is wanted"),
+            (lambda: RangeSet.from_values(array("d", [0.0])), TypeError, ONE_BY_ONE),
             (lambda: RangeSet.from_ranges(q(1, 2, 3)), ValueError, "a start and an end each are wanted"),
             (lambda: RangeSet.from_ranges([(1, 2)]), TypeError, f"{BUFFER} list"),
         ))
@@ -109,57 +125,66 @@ class Texts(unittest.TestCase):
             (lambda: 1.5 in A, TypeError, FLOAT),
             (lambda: "1" in A, TypeError, "'str' object cannot be interpreted as an integer"),
             (lambda: (0, 1) in A, TypeError, "'tuple' object cannot be interpreted as an integer"),
-            (lambda: A.covers(5), TypeError, f"{ENDS} 5"),
-            (lambda: A.insert(5), TypeError, f"{ENDS} 5"),
+            (lambda: A.covers("5"), TypeError, f"{ENDS} '5'"),
+            (lambda: A.insert(5.0), TypeError, FLOAT),
+            (lambda: A.insert(2**63), OverflowError, SIGNED),
+            (lambda: A.overlapping(None), TypeError, f"{ENDS} None"),
             (lambda: A.insert(0, "5"), TypeError, "'str' object cannot be interpreted as an integer"),
             (lambda: A.insert(5, 2**63), OverflowError, SIGNED),
             (lambda: A.split(2**63), OverflowError, SIGNED),
             (lambda: A.first_fit(-1), ValueError, "a length from 0 on is wanted"),
             (lambda: A.first_fit(1.0), TypeError, FLOAT),
+            (lambda: RangeSet((5, None)).bounded(), ValueError, "a set with an end is wanted, and this has none from 5 on"),
             (lambda: A[1], IndexError, "there is no such range: the set has 1"),
             (lambda: A[-(10**5000)], IndexError, "there is no such range: the set has 1"),
             (lambda: RangeSet.union_all([A, 5]), TypeError, "pairs, ranges or sets are wanted, not 5"),
-            (lambda: A | RangeSet(unsigned=True), TypeError, f"{MIXED}: both lists have to be of one type"),
+            (lambda: A | RangeSet(unsigned=True), TypeError, f"{MIXED}: both sets have to be of one kind"),
             (lambda: RangeSet.union_all([A], unsigned=True), TypeError, f"{MIXED}: a set of unsigned ones is wanted"),
             (lambda: A | [(1, 2)], TypeError, "unsupported operand type(s) for |: 'RangeSet' and 'list'"),
             (lambda: hash(MutableRangeSet()), TypeError, "unhashable type: 'MutableRangeSet'"),
         ))
 
     def test_texts(self):
-        at = "the number at position"
         for text, expected, position in (
             ("x", "a number", 0), ("  ,", "a number", 2), ("0", "a dot", 1), ("0.", "a dot", 2), ("0.5", "a dot", 2),
             ("0 ..5", "a dot", 1), ("0..x", "a number", 3), ("0..5x", "a comma or the end", 4), ("0.. x", "a comma or the end", 4),
             ("0..5 6..7", "a comma or the end", 5), ("0..5,", "a number", 5), ("0..5, ", "a number", 6), ("0..5,,", "a number", 5),
             ("-", "a number", 1), ("+x", "a number", 1), ("0..-", "a number", 4), ("0..-,", "a number", 4), ("0..٣", "a number", 3),
-            ("..5", "a number", 0), ("0...5", "a number", 3),
+            ("..5", "a number", 0), ("0...5", "a number", 3), ("0..9223372036854775808", "a number from -2**63 to 2**63 - 1", 3),
         ):
             with self.subTest(text=text):
                 with self.assertRaises(ParseError) as raised:
                     RangeSet.parse(text)
                 self.assertEqual((raised.exception.expected, raised.exception.position), (expected, position))
                 self.assertEqual(str(raised.exception), f"{expected} was expected at position {position}")
+        unsigned = "a number from 0 to 2**64 - 1 was expected at position 2"
         self.tell((
-            (lambda: RangeSet.parse(f"0..{2**63}"), OverflowError, f"{at} 3 is out of range: {SIGNED}"),
-            (lambda: RangeSet.parse("-1..0", unsigned=True), OverflowError, f"{at} 0 is out of range: {UNSIGNED}"),
-            (lambda: RangeSet.parse("0..1, 1" + 5000 * "0" + ".."), OverflowError, f"{at} 6 is out of range: it has 5001 digits"),
+            (lambda: RangeSet.parse("0.-1", unsigned=True), ParseError, "a dot was expected at position 2"),
+            (lambda: RangeSet.parse("  -1..0", unsigned=True), ParseError, unsigned),
+            (lambda: RangeSet.parse(b"0..5"), TypeError, "a text is wanted, not bytes"),
         ))
 
 
 # A million ranges, then calls for which the process has no memory, then the set once more.
 IN_LITTLE_MEMORY = """
+import pickle
 import resource
+from array import array
 from pathlib import Path
 from range_sets import MutableRangeSet, RangeSet
 
 least, most = 0, 2_000_000
 s = MutableRangeSet.from_boundaries(range(least, most))
 more = RangeSet([(-2, -1)])
+text, packed, values = str(s), pickle.dumps(s), array("q", range(least, most, 2))
 pages = int(Path("/proc/self/statm").read_text().split()[0])
 limits = resource.getrlimit(resource.RLIMIT_AS)
 resource.setrlimit(resource.RLIMIT_AS, (pages * resource.getpagesize() + 4_000_000, limits[1]))
 refused = 0
-for call in (lambda: s | more, lambda: ~s, lambda: s.gaps(least, most), lambda: s.add(-2, -1), lambda: s.__ior__(more)):
+for call in (
+    lambda: s | more, lambda: ~s, lambda: s.gaps(least, most), lambda: s.add(-2, -1), lambda: s.__ior__(more), lambda: s.add(-1),
+    lambda: str(s), lambda: pickle.dumps(s), lambda: pickle.loads(packed), lambda: RangeSet.parse(text), lambda: RangeSet.from_values(values),
+):
     try:
         call()
     except MemoryError:
@@ -173,7 +198,59 @@ class Memory(unittest.TestCase):
     def test_refused_memory_changes_nothing(self):
         """In a process of its own, since it takes memory away."""
         said = subprocess.run([sys.executable, "-c", IN_LITTLE_MEMORY], capture_output=True, text=True, check=True).stdout
-        self.assertEqual(said, "5 True 1000001\n")
+        self.assertEqual(said, "11 True 1000001\n")
+
+
+@unittest.skipUnless(importlib.util.find_spec("_testcapi"), "this Python comes without _testcapi, which refuses memory")
+class EachRequest(unittest.TestCase):
+    def setUp(self):
+        # Python tells of what it can't end in full where it has no memory.
+        hook, sys.unraisablehook = sys.unraisablehook, lambda it: None
+        self.addCleanup(setattr, sys, "unraisablehook", hook)
+
+    def refuse_each(self, call, see):
+        """Refuses each request for memory of a call in turn, and sees what stands after it, until the call goes through."""
+        for count in range(2000):
+            _testcapi.set_nomemory(count, count + 1)
+            try:
+                return call()
+            except (MemoryError, RuntimeError) as error:
+                refused = error
+            finally:
+                _testcapi.remove_mem_hooks()
+            # Python's own locks say it like this.
+            self.assertIn(str(refused), ("", "can't allocate lock"))
+            see()
+        self.fail("there is no end of requests")
+
+    def test_of_the_compiled_module(self):
+        a, b, packed = q(0, 10, 20), q(5, 15), _core.pack(q(0, 10, 20))
+        for call, given in (
+            (_core.union, (a, b)), (_core.negation, (a,)), (_core.from_boundaries, (a,)), (_core.from_ranges, (b,)), (_core.from_values, (b,)),
+            (_core.contains_each, (a, b)), (_core.range_at, (a, 5)), (_core.parse, (b"0..10, 20..", False)), (_core.print, (a,)), (_core.pack, (a,)),
+            (_core.unpack, (packed,)), (_core.union, (memoryview(b"." + bytes(16))[1:].cast("q")[:1], b)), (_core.from_values, (q(2**63 - 1),)),
+        ):
+            expected = call(*given)
+            self.assertEqual(self.refuse_each(lambda: call(*given), lambda: None), expected)
+        self.assertEqual((a, b), (q(0, 10, 20), q(5, 15)))
+
+    # Later Pythons may end with a segmentation fault where a request of their own is refused, also in a generator of one line.
+    @unittest.skipIf(sys.version_info >= (3, 12), "Pythons from 3.12 on don't outlive that a request of theirs is refused")
+    def test_it_is_refused_and_nothing_changes(self):
+        for start, end, more in (
+            (0, 10, 20), (0.5, 1.5, 2.5), (date(2026, 5, 1), date(2026, 5, 3), date(2026, 5, 9)),
+            (IPv4Address("10.0.0.0"), IPv4Address("10.0.0.9"), IPv4Address("10.0.1.0")),
+            (datetime(2026, 5, 1), datetime(2026, 5, 2), datetime(2026, 5, 3)), (timedelta(1), timedelta(2), timedelta(4)),
+        ):
+            made, kept, other = MutableRangeSet((start, end)), RangeSet((start, end)), RangeSet((end, more))
+            for call in (
+                lambda: made | other, lambda: made.add(end, more), lambda: made.discard(start, end), lambda: made.__ior__(other),
+                lambda: made.update([(end, more)]), lambda: made.__ixor__(other), lambda: made.intersection_update([(end, more)]), lambda: ~made,
+                lambda: made.copy(), lambda: made.gaps(start, more), lambda: repr(made), lambda: list(made), lambda: str(made),
+                lambda: RangeSet([(start, end), (end, more)]), lambda: made.split(end),
+            ):
+                self.refuse_each(call, lambda: self.assertEqual((made, made.kind, list(made)), (kept, kept.kind, list(kept))))
+                made = MutableRangeSet(kept)
 
 
 class Pickles(unittest.TestCase):

@@ -32,6 +32,11 @@ class Installed(unittest.TestCase):
         metadata = self.distribution.metadata
         self.assertEqual((metadata["Name"], metadata["License"], metadata["Requires-Python"]), ("range-sets", "MIT OR Apache-2.0", ">=3.11"))
         self.assertEqual(self.distribution.requires, ['numpy; extra == "numpy"', 'dask[distributed]; extra == "dask"'])
+        self.assertIn("Typing :: Typed", metadata.get_all("Classifier"))
+        licenses = metadata.get_all("License-File")
+        self.assertEqual(licenses, ["LICENSE-MIT", "LICENSE-APACHE"])
+        for it in licenses:
+            self.assertIn(f"range_sets-{self.distribution.version}.dist-info/licenses/{it}", self.names)
 
     def test_the_tag(self):
         version = f"cp{sys.version_info.major}{sys.version_info.minor}"

@@ -28,6 +28,23 @@ class Changes(unittest.TestCase):
         self.set.clear()
         self.is_now()
 
+    def test_numbers(self):
+        for n in (12, 11, 30, -1, 12):
+            self.set.add(n)
+        self.is_now((-1, 10), (11, 13), (20, 31))
+        for n in (12, 5, 20, 50):
+            self.set.discard(n)
+        self.is_now((-1, 5), (6, 10), (11, 12), (21, 31))
+        most = 2**63 - 1
+        self.set.add(most)
+        self.is_now((-1, 5), (6, 10), (11, 12), (21, 31), (most, None))
+        self.set.discard(6, None)
+        self.set.add(most - 1)
+        self.set.add(most)
+        self.is_now((-1, 5), (most - 1, None))
+        self.set.discard(most)
+        self.is_now((-1, 5), (most - 1, most))
+
     def test_operators(self):
         self.set |= RangeSet([(10, 12)])
         self.is_now((0, 12), (20, 30))
@@ -59,7 +76,8 @@ class Changes(unittest.TestCase):
         for call in (
             lambda: self.set.update([(3, 5)], ["x"]),
             lambda: self.set.add(0, 2**70),
-            lambda: self.set.add(3),
+            lambda: self.set.add("3"),
+            lambda: self.set.add(2**63),
             lambda: self.set.add(1, 2, 3),
             lambda: self.set.add("1", 2),
             lambda: self.set.__ior__(RangeSet(unsigned=True)),

@@ -3,9 +3,11 @@
 RANGE_SETS_SECONDS says how long threads run in each test.
 """
 
+import copy
 import multiprocessing
 import os
 import random
+import sys
 import threading
 import time
 import unittest
@@ -115,12 +117,12 @@ class Threads(unittest.TestCase):
                 left_len, right_start = sets.split(shaken, value)
                 self.assertTrue(0 <= left_len <= len(shaken) and 0 <= right_start <= len(shaken))
 
-        def copy():
+        def copy_it():
             made = RangeSet.from_boundaries(shaken)
             self.assertTrue(sets.is_sorted(made.boundaries))
             self.assertTrue(sets.is_sorted(sets.from_unsorted(shaken)) and sets.is_sorted(sets.from_ranges(shaken)))
 
-        self.run_together(change, (call, ask, search, copy))
+        self.run_together(change, (call, ask, search, copy_it))
         self.assertEqual((guarded[:50], guarded[-50:]), (array("q", [7]) * 50,) * 2)
 
     def test_a_buffer_can_not_shrink_meanwhile(self):
@@ -146,6 +148,72 @@ class Threads(unittest.TestCase):
 
         answers = self.run_together(add, (add, read))
         self.assertEqual(answers[1], 0)
+
+    def test_no_change_is_lost(self):
+        many = RangeSet.from_values(range(10**7, 10**7 + 10**4, 2))
+        for start in (RangeSet(), many):
+            shared, count = MutableRangeSet(start), 300
+            shared.add(-count, 0)
+
+            def change(first):
+                for n in range(first, 60 * count, 60):
+                    shared.add(n)
+                    shared.add(n + 10, n + 11)
+                    shared.update([(n + 20, n + 21)])
+                    shared.__ior__(RangeSet((n + 30, n + 31)))
+                    shared.__ixor__(RangeSet((n + 40, n + 41)))
+                    shared.symmetric_difference_update([(n + 50, n + 51)])
+                    shared.discard(-1 - n // 60)
+                    shared.difference_update([(n + 10, n + 11)])
+                    shared.__isub__(RangeSet((n + 20, n + 21)))
+                    shared.intersection_update([(None, n + 30), (n + 31, None)])
+                    shared.__iand__(~RangeSet((n + 40, n + 41)))
+
+            threads = [threading.Thread(target=change, args=(first,)) for first in range(4)]
+            before = sys.getswitchinterval()
+            sys.setswitchinterval(1e-6)
+            try:
+                for it in threads:
+                    it.start()
+                for it in threads:
+                    it.join()
+            finally:
+                sys.setswitchinterval(before)
+            expected = {n + more for first in range(4) for n in range(first, 60 * count, 60) for more in (0, 50)}
+            self.assertEqual(shared, RangeSet.from_values(expected) | start)
+
+    def test_each_answer_is_of_one_moment(self):
+        shared, some, none = MutableRangeSet(), RangeSet([(0, 10), (20, None)]), RangeSet()
+        questions = [
+            RangeSet.span, repr, str, len, list, lambda it: it[-1:], lambda it: it[-1], lambda it: list(it.bounded()), lambda it: it.split(25),
+            lambda it: it.split(5), lambda it: it.first_fit(5, 0), lambda it: it.overlapping(5, 25), lambda it: it == some, lambda it: it < some,
+            lambda it: it > none, lambda it: it._repr_svg_(), copy.copy, lambda it: it.covers(3, 10), lambda it: list(it[::-1]),
+        ]
+
+        def answer(question, it):
+            try:
+                return question(it)
+            except (ValueError, IndexError) as error:
+                return str(error)
+
+        known = [[answer(it, MutableRangeSet(made)) for made in (some, none)] for it in questions]
+
+        def change():
+            shared.update(some)
+            shared.clear()
+
+        def ask():
+            for question, answers in zip(questions, known):
+                found = answer(question, shared)
+                if found not in answers:
+                    raise AssertionError((found, answers))
+
+        before = sys.getswitchinterval()
+        sys.setswitchinterval(1e-6)
+        try:
+            self.run_together(change, (ask, ask))
+        finally:
+            sys.setswitchinterval(before)
 
 
 if __name__ == "__main__":

@@ -1,10 +1,10 @@
 """RangeSet: how it is made, what it answers, its operators and its other forms."""
 
 import copy
-import pickle
 import unittest
 import xml.etree.ElementTree
 from array import array
+from itertools import islice
 
 from range_sets import AnyRangeSet, MutableRangeSet, NotSorted, RangeSet
 
@@ -23,6 +23,7 @@ class Making(unittest.TestCase):
         self.assertEqual(pairs(RangeSet(((0, 5), (8, 9)))), [(0, 5), (8, 9)])
         self.assertEqual(pairs(RangeSet((n, n + 1) for n in (4, 2, 3))), [(2, 5)])
         self.assertEqual(pairs(RangeSet({(0, 1)})), [(0, 1)])
+        self.assertEqual(pairs(RangeSet([iter((0, 5)), map(int, "79")])), [(0, 5), (7, 9)])
 
     def test_no_numbers(self):
         for nothing in (RangeSet(), RangeSet([]), RangeSet([(5, 5), (9, 3)]), RangeSet(range(3, 3)), RangeSet([[]][:0])):
@@ -85,6 +86,26 @@ class Making(unittest.TestCase):
         self.assertTrue(RangeSet.union_all([], unsigned=True).unsigned)
         self.assertTrue(RangeSet.union_all([RangeSet(unsigned=True)]).unsigned)
 
+    def test_the_intersection_of_many(self):
+        parts = [RangeSet([(n, n + 10), (20 + n, 22 + n)]) for n in range(4)]
+        for count, expected in ((0, [(LEAST, None)]), (1, [(0, 10), (20, 22)]), (2, [(1, 10), (21, 22)]), (3, [(2, 10)]), (4, [(3, 10)])):
+            self.assertEqual(pairs(RangeSet.intersection_all(parts[:count])), expected)
+        self.assertEqual(pairs(RangeSet.intersection_all([range(9), (5, None), [(0, 6), (7, 20)]])), [(5, 6), (7, 9)])
+        self.assertEqual(pairs(RangeSet.intersection_all([], unsigned=True)), [(0, None)])
+        self.assertTrue(RangeSet.intersection_all([RangeSet(unsigned=True)]).unsigned)
+
+    def test_single_numbers(self):
+        for values, expected in (
+            ([], []), ([5], [(5, 6)]), ((7, 3, 5, 4, 3), [(3, 6), (7, 8)]), (range(9, 0, -2), [(n, n + 1) for n in (1, 3, 5, 7, 9)]),
+            ({MOST, MOST - 1, LEAST}, [(LEAST, LEAST + 1), (MOST - 1, None)]), ([MOST], [(MOST, None)]), (iter([0, MOST]), [(0, 1), (MOST, None)]),
+            (array("q", [2, 1]), [(1, 3)]), (array("b", [-1, 0]), [(-1, 1)]), (b"\1\0", [(0, 2)]),
+        ):
+            with self.subTest(values=values):
+                self.assertEqual(pairs(RangeSet.from_values(values)), expected)
+        self.assertEqual(pairs(RangeSet.from_values([2**64 - 1, 0], unsigned=True)), [(0, 1), (2**64 - 1, None)])
+        kinds = [RangeSet.from_values(array(code, [1]), unsigned=told).unsigned for code in "hH" for told in (None, False, True)]
+        self.assertEqual(kinds, [False, False, True, True, False, True])
+
 
 class Reading(unittest.TestCase):
     def setUp(self):
@@ -112,6 +133,36 @@ class Reading(unittest.TestCase):
     def test_the_range_at_a_number(self):
         self.assertEqual([self.set.range_at(x) for x in (0, 9, 10, 25, 99, 2**70)], [(0, 10), (0, 10), None, (20, 30), (40, None), None])
 
+    def test_overlapping(self):
+        every = [(0, 10), (20, 30), (40, None)]
+        for ends, expected in (
+            ((5, 25), every[:2]), ((10, 20), []), ((9, 10), every[:1]), ((9, 21), every[:2]), ((10, 21), every[1:2]), ((0, 1), every[:1]),
+            ((-9, 0), []), ((29, 40), every[1:2]), ((29, 41), every[1:]), ((50, 60), every[2:]), ((None, None), every), ((None, 20), every[:1]),
+            ((30, None), every[2:]), ((25, 25), []), ((25, 5), []), ((-(2**70), 2**70), every), ((2**63, None), []), ((MOST, 2**63), every[2:]),
+            ((None, LEAST), []), ((-(2**70), -(2**69)), []),
+        ):
+            with self.subTest(ends=ends):
+                self.assertEqual(pairs(self.set.overlapping(*ends)), expected)
+        found = [pairs(self.set.overlapping(it)) for it in (9, 10, (9, 10), range(10, 21), 2**70)]
+        self.assertEqual(found, [every[:1], [], every[:1], every[1:2], []])
+        self.assertIs(self.set.overlapping(5, 25).boundaries.obj, self.set.boundaries.obj)
+        self.assertEqual(pairs(RangeSet([(0, 5)], unsigned=True).overlapping(-3, 1)), [(0, 5)])
+
+    def test_one_by_one(self):
+        self.assertEqual(list(RangeSet([(-2, 1), (7, 9)]).members()), [-2, -1, 0, 7, 8])
+        self.assertEqual(list(islice(self.set.members(), 19, 23)), [29, 40, 41, 42])
+        self.assertEqual((list(RangeSet().members()), list(RangeSet((MOST - 1, None)).members())), ([], [MOST - 1, MOST]))
+        self.assertEqual(list(RangeSet((2**64 - 1, None), unsigned=True).members()), [2**64 - 1])
+
+    def test_ranges_with_an_end(self):
+        self.assertEqual(list(self.set[:2].bounded()), [(0, 10), (20, 30)])
+        self.assertEqual(list(RangeSet().bounded()), [])
+        with self.assertRaises(ValueError):
+            self.set.bounded()
+
+    def test_whether_a_number_is_covered(self):
+        self.assertEqual([self.set.covers(n) for n in (9, 10, MOST, 2**63, -(2**70))], [True, False, True, False, False])
+
     def test_how_many(self):
         self.assertEqual((len(self.set), bool(self.set), len(RangeSet()), bool(RangeSet())), (3, True, 0, False))
         self.assertEqual((self.set.covered(), RangeSet([(0, 10), (20, 30)]).covered(), RangeSet().covered()), (None, 20, 0))
@@ -138,6 +189,17 @@ class Reading(unittest.TestCase):
             ([(0, MOST)], (1, 0), MOST), ([(0, MOST)], (2, 0), None), ([(0, None)], (1, 0), None), ([(0, None)], (0, 5), 5),
             ([(5, 10)], (2**63 - 10, 0), 10), ([(5, 10)], (2**63 - 9, 0), None), ([(5, 10), (MOST, None)], (2**63 - 10, 0), None),
             ([(5, 10), (MOST, None)], (2**63 - 11, 0), 10), ([(0, MOST)], (1, 0, MOST), None), ([], (1, MOST, MOST), None),
+        ):
+            with self.subTest(pairs=pairs, asked=asked):
+                self.assertEqual(RangeSet(pairs).first_fit(*asked), answer)
+
+    def test_where_more_numbers_fit_than_there_are_of_either_sign(self):
+        for pairs, asked, answer in (
+            ([], (2**63,), LEAST), ([], (2**63, LEAST, 0), LEAST), ([], (2**63, LEAST, -1), None), ([], (2**63, -5), -5),
+            ([], (2**63 + 5, -5), -5), ([], (2**63 + 6, -5), None), ([], (2**64 - 1, LEAST, MOST), LEAST),
+            ([(0, None)], (2**63,), LEAST), ([(0, None)], (2**63 + 1,), None), ([(-5, 5)], (2**63,), None),
+            ([(LEAST, LEAST + 3)], (2**64 - 4,), LEAST + 3), ([(LEAST, LEAST + 3)], (2**64 - 3,), LEAST + 3),
+            ([(LEAST, LEAST + 3)], (2**64 - 2,), None),
         ):
             with self.subTest(pairs=pairs, asked=asked):
                 self.assertEqual(RangeSet(pairs).first_fit(*asked), answer)
@@ -267,29 +329,14 @@ class OtherForms(unittest.TestCase):
         self.assertEqual(repr(self.made[3]), "RangeSet([(0, 18446744073709551615)], unsigned=True)")
         self.assertEqual(f"{self.made[2]}", "-5..10, 20..")
 
-    def test_pickles(self):
-        for it in (*self.made, RangeSet([(0, 5), (8, 9)])[1:], MutableRangeSet([(0, 5)])):
-            for protocol in range(pickle.HIGHEST_PROTOCOL + 1):
-                with self.subTest(it=it, protocol=protocol):
-                    again = pickle.loads(pickle.dumps(it, protocol))
-                    self.assertEqual((again, type(again), again.unsigned), (it, type(it), it.unsigned))
-
-    def test_pickles_with_memory_beside_them(self):
-        beside = []
-        data = pickle.dumps(self.made[2], 5, buffer_callback=beside.append)
-        self.assertEqual(len(beside), 1)
-        self.assertEqual(pickle.loads(data, buffers=beside), self.made[2])
-
-    def test_a_pickle_of_the_other_order_of_bytes(self):
-        call, (cls, memory, unsigned, order) = self.made[2].__reduce_ex__(4)
-        other = array("q", memory)
-        other.byteswap()
-        self.assertEqual(call(cls, other.tobytes(), unsigned, {"little": "big", "big": "little"}[order]), self.made[2])
-
-    def test_a_pickle_that_is_no_set(self):
-        call, (cls, memory, unsigned, order) = RangeSet([(0, 10)]).__reduce_ex__(4)
-        with self.assertRaises(NotSorted):
-            call(cls, memory[8:] + memory[:8], unsigned, order)
+    def test_a_long_set_is_written_in_short(self):
+        made = RangeSet.from_values(range(0, 2000, 2))
+        self.assertEqual(eval(repr(made)), made)
+        made |= RangeSet([(2000, None)])
+        self.assertEqual(repr(made), "RangeSet([(0, 1), (2, 3), (4, 5), ..., (1996, 1997), (1998, 1999), (2000, None)])")
+        with self.assertRaises(TypeError):
+            eval(repr(made))
+        self.assertEqual(RangeSet.parse(str(made)), made)
 
     def test_copies(self):
         for it in self.made:
@@ -300,17 +347,34 @@ class OtherForms(unittest.TestCase):
             return xml.etree.ElementTree.fromstring(made._repr_svg_())
 
         def fills(picture):
-            return [it.get("fill") == "white" for it in picture if it.tag.endswith("circle")]
+            return [it.get("fill") == "none" for it in picture if it.tag.endswith("circle")]
+
+        def words(picture):
+            return [it.text for it in picture if it.tag.endswith("text")]
+
+        def arrows(picture):
+            return len([it for it in picture if it.tag.endswith("path")])
 
         for it in self.made:
             drawn(it)
         picture = drawn(RangeSet([(0, 10), (20, None)]))
         self.assertEqual(fills(picture), [False, True, False])
-        self.assertEqual([it.text for it in picture if it.tag.endswith("text")], ["0", "10", "20"])
-        self.assertEqual(len([it for it in picture if it.tag.endswith("path")]), 1)
+        self.assertEqual((words(picture), arrows(picture), picture[0].text), (["0", "10", "20"], 1, "0..10, 20.."))
+        self.assertTrue(picture[0].tag.endswith("title"))
+        picture = drawn(~RangeSet([(0, 10), (20, 30)]))
+        self.assertEqual((words(picture), arrows(picture), fills(picture)), (["0", "10", "20", "30"], 2, [True, False, True, False]))
+        picture = drawn(RangeSet())
+        self.assertEqual((words(picture), arrows(picture), picture[0].text), (["no numbers"], 0, "no numbers"))
+        picture = drawn(RangeSet((None, None)))
+        self.assertEqual((words(picture), arrows(picture), fills(picture)), (["all numbers"], 2, []))
+        picture = drawn(RangeSet([(0, 5)], unsigned=True))
+        self.assertEqual((words(picture), arrows(picture), fills(picture)), (["0", "5"], 0, [False, True]))
+        picture = drawn(RangeSet((n, n + 1) for n in range(0, 20, 2)))
+        self.assertEqual(picture[0].text, "0..1, 2..3, 4..5, 6..7, 8..9, 10..11, 12..13, 14..15, ...")
+        self.assertNotIn("#", "".join(it.get("fill", "") for it in picture if it.tag.endswith("text")))
         many = drawn(RangeSet((2 * n, 2 * n + 1) for n in range(1000)))
         self.assertEqual(len(fills(many)), 200)
-        self.assertIn("and 900 more", [it.text for it in many])
+        self.assertIn("and 900 more", words(many))
 
     def test_nothing_changes_a_set(self):
         a = RangeSet([(0, 10)])
@@ -328,6 +392,11 @@ class OtherForms(unittest.TestCase):
 
         self.assertIs(type(Hours([(9, 12)]) | RangeSet([(13, 17)])), Hours)
         self.assertIsInstance(Hours(), AnyRangeSet)
+        self.assertIs(copy.copy(Hours()).__class__, Hours)
+        for call in (RangeSet, MutableRangeSet, Hours):
+            with self.assertRaises(TypeError) as raised:
+                call([(0, 5)], unsinged=True)
+            self.assertEqual(str(raised.exception), f"{call.__name__}() got an unexpected keyword argument 'unsinged'")
 
 
 if __name__ == "__main__":

@@ -1,6 +1,8 @@
 """What mypy is to know of a program that uses the package. It is checked, and not run."""
 
 from array import array
+from datetime import date, datetime, timedelta
+from ipaddress import IPv4Address, IPv4Network
 from typing import Any, assert_type
 
 import range_sets
@@ -9,17 +11,30 @@ from range_sets.dask import covered_by_key, union_all
 
 made = RangeSet([(0, 10), range(20, 30), RangeSet((40, None))])
 assert_type(made | made, RangeSet)
-assert_type(made[0], "tuple[int, int | None]")
+assert_type(made[0], tuple[Any, Any])
 assert_type(made[1:], RangeSet)
 assert_type(made.split(5), tuple[RangeSet, RangeSet])
-assert_type(made.covered(), "int | None")
-assert_type([end for start, end in made], "list[int | None]")
+hours: timedelta = RangeSet([(datetime.min, datetime.max)]).covered()
+count_of_many: int = made.covered()
+assert_type(made.kind, "str | None")
+assert_type(RangeSet([(0.5, 2.0), (date.min, None)], kind="float"), RangeSet)
+assert_type(RangeSet([IPv4Network("10.0.0.0/8"), (IPv4Address("10.0.0.0"), None)], kind=IPv4Address), RangeSet)
 assert_type(5 in made, bool)
 
 received = MutableRangeSet(made)
 received.add(0, None)
 received.add((5, 6))
 received.discard(range(3))
+received.add(9)
+assert_type(made.insert(9), RangeSet)
+assert_type(made.overlapping(0, 5), RangeSet)
+assert_type(list(made.bounded()), list[tuple[Any, Any]])
+lengths: list[int] = [end - start for start, end in made.bounded()]
+received.discard(timedelta(1), None)
+received.add(IPv4Network("10.0.0.0/8"))
+made.insert(datetime.now())
+assert_type(RangeSet.from_values([5, 7]), RangeSet)
+assert_type(MutableRangeSet.intersection_all([made, received]), MutableRangeSet)
 assert_type(received & made, MutableRangeSet)
 
 
@@ -33,7 +48,11 @@ assert_type(range_sets.union(array("q"), array("q"), out=array("q")), int)
 assert_type(union_all([]), Any)
 assert_type(covered_by_key([]), Any)
 
+RangeSet([], unsinged=True)  # type: ignore[arg-type]
 RangeSet(5)  # type: ignore[arg-type]
+RangeSet([("a", "b")])  # type: ignore[list-item]
+made.insert("a")  # type: ignore[call-overload]
+"a" in made  # type: ignore[operator]
 made.add(0, 5)  # type: ignore[attr-defined]
 made | [(0, 5)]  # type: ignore[operator]
 range_sets.union([0], [5])  # type: ignore[call-overload]

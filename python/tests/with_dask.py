@@ -2,6 +2,8 @@
 
 import random
 import unittest
+from datetime import date, datetime, timedelta, timezone
+from ipaddress import IPv4Address
 
 import dask
 import dask.bag
@@ -45,6 +47,19 @@ class Unions(unittest.TestCase):
             self.assertEqual(union_all(parts, 2, cuts).compute(scheduler="sync"), RangeSet([(0, 2**63)], unsigned=True))
         self.assertEqual(union_all([]).compute(scheduler="sync"), RangeSet())
         self.assertTrue(union_all([dask.delayed(RangeSet(unsigned=True))]).compute(scheduler="sync").unsigned)
+
+    def test_other_elements(self):
+        for elements in (
+            [datetime(2026, 5, 4, tzinfo=timezone.utc) + n * timedelta(hours=1) for n in range(9)], [date(2026, 5, 1 + n) for n in range(9)],
+            [0.5 * n - 2 for n in range(9)], [IPv4Address(2**32 - 9 + n) for n in range(9)],
+        ):
+            parts = [RangeSet(), RangeSet((elements[0], elements[2])), RangeSet((elements[1], elements[5])), RangeSet([(elements[6], elements[8])])]
+            expected = RangeSet([(elements[0], elements[5]), (elements[6], elements[8])])
+            for cuts in ((), elements[1:5:3], elements):
+                got = union_all(dask.bag.from_sequence(parts, npartitions=4), 2, cuts).compute(scheduler="sync")
+                self.assertEqual((got, got.kind), (expected, expected.kind))
+            counts = covered_by_key(dask.bag.from_sequence([("a", it) for it in parts], npartitions=2)).compute(scheduler="sync")
+            self.assertEqual(counts, {"a": expected.covered()})
 
     def test_a_cut_copies_nothing(self):
         from range_sets.dask import _cut_set

@@ -3,16 +3,21 @@
 RANGE_SETS_EXAMPLES says how many cases each test makes up.
 """
 
+import importlib
+import math
 import os
 import pickle
 import unittest
 from array import array
+from datetime import date, datetime, timedelta, timezone
+from ipaddress import IPv4Address
 
 from hypothesis import given, settings
 from hypothesis import strategies as some
 
 import range_sets
 from range_sets import MutableRangeSet, RangeSet
+from range_sets._kinds import told
 
 settings.register_profile("tests", max_examples=int(os.environ.get("RANGE_SETS_EXAMPLES", "60")), deadline=None, database=None)
 settings.load_profile("tests")
@@ -67,6 +72,17 @@ class AgainstSets(unittest.TestCase):
             self.assertEqual(found is not None, n in expected)
             self.assertTrue(found is None or found in list(made))
 
+    @given(small_lists, some.integers(SMALL[0], SMALL[-1]), small_ends)
+    def test_overlapping(self, pairs, start, end):
+        made, inside = RangeSet(pairs), points_of([(start, end)])
+        self.assertEqual(list(made.overlapping(start, end)), [it for it in made if points_of([it]) & inside])
+
+    @given(some.lists(some.sampled_from(SMALL)), some.lists(small_lists, max_size=5))
+    def test_numbers_and_many_sets(self, values, lists):
+        made = RangeSet.from_values(values)
+        self.assertEqual((members(made), list(made.members())), (set(values), sorted(set(values))))
+        self.assertEqual(members(RangeSet.intersection_all(map(RangeSet, lists))), set(POINTS).intersection(*map(points_of, lists)))
+
     @given(small_lists, small_lists)
     def test_operators(self, left, right):
         a, b, x, y = RangeSet(left), RangeSet(right), points_of(left), points_of(right)
@@ -120,6 +136,105 @@ class AgainstSets(unittest.TestCase):
                 made ^= RangeSet(given_pairs)
                 expected ^= y
             self.assertEqual(members(made), expected)
+
+
+# Some elements of each kind from the least on, in order, which Python's sets can hold. The last is never an end, and tells whether a set has one.
+NOON = datetime(2026, 5, 4, 12)
+ZONES = [timezone(timedelta(hours=hours)) for hours in (-12, 0, 5)]
+ELEMENTS = {
+    "float": [-math.inf, -1e300, -1.5, -5e-324, 0.0, 5e-324, 0.1, 1.0, math.nextafter(1.0, 2), 1e300, math.inf],
+    "datetime": [datetime.min, *(NOON + n * timedelta(microseconds=1) for n in range(-3, 4)), NOON + timedelta(hours=1), datetime.max],
+    "datetime[UTC]": [it.replace(tzinfo=timezone.utc) for it in (datetime.min, *(NOON + timedelta(hours=n) for n in range(-8, 9)))],
+    "date": [date.min, *(date(2024, 2, 26) + timedelta(days=n) for n in range(8)), date.max],
+    "timedelta": [timedelta(microseconds=it) for it in (-(2**63), -(2**63) + 1, -2, -1, 0, 1, 2, 10**12, 2**63 - 2, 2**63 - 1)],
+    "IPv4Address": [IPv4Address(it) for it in (0, 1, 2, 255, 256, 257, 2**31, 2**32 - 2, 2**32 - 1)],
+}
+VALUES = {
+    "float": some.floats(allow_nan=False), "datetime": some.datetimes(), "date": some.dates(),
+    "datetime[UTC]": some.datetimes(datetime(2, 1, 1), datetime(9998, 1, 1), timezones=some.sampled_from(ZONES)),
+    "timedelta": some.integers(-(2**63), 2**63 - 1).map(lambda it: timedelta(microseconds=it)), "IPv4Address": some.ip_addresses(v=4),
+}
+
+
+def of_a_kind(count):
+    """A kind, and so many lists of pairs of the places of its elements. None stands for no end, as a start for the least."""
+
+    def of_kind(name):
+        places = some.integers(0, len(ELEMENTS[name]) - 2)
+        pairs = some.tuples(some.one_of(some.none(), places), some.one_of(some.none(), places))
+        return some.tuples(some.just(name), *[some.lists(pairs, max_size=6)] * count)
+
+    return some.sampled_from(sorted(ELEMENTS)).flatmap(of_kind)
+
+
+def pairs_of(name, places):
+    elements = ELEMENTS[name]
+    shown = (lambda it: it) if name != "datetime[UTC]" else lambda it: it.astimezone(ZONES[it.hour % 3]) if it.year > 1 else it
+    return [tuple(None if it is None else shown(elements[it]) for it in pair) for pair in places]
+
+
+def members_of_pairs(name, pairs):
+    return {it for it in ELEMENTS[name] for start, end in pairs if (start is None or start <= it) and (end is None or it < end)}
+
+
+def members_of_kind(name, made):
+    return {it for it in ELEMENTS[name] if it in made}
+
+
+class EachKind(unittest.TestCase):
+    @given(of_a_kind(2))
+    def test_operators_and_comparisons(self, drawn):
+        name, left, right = drawn
+        x, y = pairs_of(name, left), pairs_of(name, right)
+        a, b, every = RangeSet(x, kind=name), RangeSet(y, kind=name), set(ELEMENTS[name])
+        x, y = members_of_pairs(name, x), members_of_pairs(name, y)
+        for got, expected in ((a, x), (a | b, x | y), (a & b, x & y), (a - b, x - y), (a ^ b, x ^ y), (~a, every - x), (RangeSet([a, b]), x | y)):
+            self.assertEqual((members_of_kind(name, got), members_of_pairs(name, list(got)), got.kind), (expected, expected, name))
+        self.assertEqual((a <= b, a < b, a == b, a.isdisjoint(b)), (x <= y, x < y, x == y, x.isdisjoint(y)))
+        self.assertEqual((~~a, (a - b) | (a & b), RangeSet.from_boundaries([end for pair in a for end in pair if end is not None], kind=name)), (a, a, a))
+
+    @given(of_a_kind(1), some.data())
+    def test_ranges(self, drawn, data):
+        name, places = drawn
+        made, elements = RangeSet(pairs_of(name, places), kind=name), ELEMENTS[name]
+        x = members_of_kind(name, made)
+        start, end = (elements[data.draw(some.integers(0, len(elements) - 2))] for _ in range(2))
+        inside = members_of_pairs(name, [(start, end)])
+        for got, expected in (
+            (made.insert(start, end), x | inside), (made.remove((start, end)), x - inside), (made.gaps(start, end), inside - x),
+            (made.split(start)[0], {it for it in x if it < start}), (made.split(start)[1], {it for it in x if it >= start}),
+        ):
+            self.assertEqual((members_of_kind(name, got), got.kind), (expected, name))
+        changing = MutableRangeSet(made)
+        changing.add(start, end)
+        changing.discard(None, start)
+        self.assertEqual(members_of_kind(name, changing), {it for it in x | inside if it >= start})
+        self.assertEqual(made.covers(start, end), end <= start or RangeSet([(start, end)]) <= made)
+        self.assertEqual(list(made.overlapping(start, end)), [it for it in made if start < end and RangeSet([it]) & RangeSet([(start, end)])])
+        self.assertEqual(made.range_at(start), next((it for it in made if it[0] <= start and (it[1] is None or start < it[1])), None))
+
+    @given(of_a_kind(1))
+    def test_other_forms(self, drawn):
+        name, places = drawn
+        made = RangeSet(pairs_of(name, places), kind=name)
+        again = eval(repr(made), {"RangeSet": RangeSet, "datetime": importlib.import_module("datetime"), "IPv4Address": IPv4Address})
+        for it in (again, pickle.loads(pickle.dumps(made)), RangeSet(reversed(list(made)), kind=name), made[:], made[::-1]):
+            self.assertEqual((it, it.kind, hash(it)), (made, name, hash(made)))
+        pairs = list(made)
+        ends = [end for _, end in pairs]
+        nothing = {"float": 0.0, "IPv4Address": 0}.get(name, timedelta(0))
+        lengths = [int(end) - int(start) if name == "IPv4Address" else end - start for start, end in pairs if end is not None]
+        self.assertEqual(made.covered(), None if None in ends else math.inf if math.inf in lengths else sum(lengths, nothing))
+        made._repr_svg_()
+
+    @given(some.one_of(some.tuples(some.just(name), values) for name, values in VALUES.items()))
+    def test_numbers_read_back(self, drawn):
+        name, value = drawn
+        kind = told(name)
+        code = kind.number(value)
+        self.assertEqual(kind.value(code), value)
+        for other in ELEMENTS[name]:
+            self.assertEqual((code < kind.code(other), code == kind.code(other)), (value < other, value == other))
 
 
 class Laws(unittest.TestCase):

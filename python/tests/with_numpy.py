@@ -4,6 +4,8 @@ import random
 import threading
 import time
 import unittest
+from datetime import date, datetime, timedelta, timezone
+from ipaddress import IPv4Address
 
 import numpy
 
@@ -59,18 +61,27 @@ class Lists(unittest.TestCase):
     def test_other_arrays(self):
         for given, text in (
             (numpy.array([0, 1], dtype=">i8"), f"{FORMAT} '>q'"),
-            (numpy.array([0, 1], dtype=numpy.int32), f"{FORMAT} 'i'"),
             (numpy.array([True, False]), f"{FORMAT} '?'"),
-            (numpy.array([0.0, 1.0]), f"{FORMAT} 'd'"),
-            (numpy.array([float("nan")]), f"{FORMAT} 'd'"),
+            (numpy.array([0j, 1j]), f"{FORMAT} 'Zd'"),
             (numpy.array([1, "x"], dtype=object), f"{FORMAT} 'O'"),
-            (i64(0, 1, 2, 3)[::2], SIDE),
-            (i64(3, 2, 1)[::-1], SIDE),
             (i64(0, 1, 2, 3).reshape(2, 2), "a list is wanted, with one dimension"),
             (numpy.int64(3), "a list is wanted, with one dimension"),
         ):
             with self.subTest(text=text):
                 for call in (lambda: sets.union(given, i64(0)), lambda: RangeSet.from_boundaries(given), lambda: sets.from_unsorted(given)):
+                    with self.assertRaises(TypeError) as raised:
+                        call()
+                    self.assertEqual(str(raised.exception), text)
+
+    def test_what_sets_are_made_of_and_functions_refuse(self):
+        for given, text, boundaries in (
+            (numpy.array([0, 1], dtype=numpy.int32), f"{FORMAT} 'i'", [0, 1]),
+            (i64(0, 1, 2, 3)[::2], SIDE, [0, 2]),
+            (i64(4, 3, 2, 1)[::-1], SIDE, [1, 2, 3, 4]),
+        ):
+            with self.subTest(text=text):
+                self.assertEqual(RangeSet.from_boundaries(given).boundaries.tolist(), boundaries)
+                for call in (lambda: sets.union(given, i64(0)), lambda: sets.from_unsorted(given), lambda: sets.from_ranges(given)):
                     with self.assertRaises(TypeError) as raised:
                         call()
                     self.assertEqual(str(raised.exception), text)
@@ -122,23 +133,156 @@ class Sets(unittest.TestCase):
         self.assertTrue(RangeSet(table.astype(numpy.uint64)).unsigned)
         self.assertEqual(RangeSet(table[:0]), RangeSet())
         for bad, text in (
-            (table[:, ::-1], "numbers that lie side by side are wanted"),
             (table.reshape(2, 3), "or a table with two columns"),
             (table.ravel(), "a table with two columns is wanted"),
-            (table.astype(float), "64-bit whole numbers"),
+            (table.astype(numpy.int32).reshape(2, 3), "or a table with two columns"),
+            (table.astype(complex), "64-bit whole numbers"),
             (table > 3, "64-bit whole numbers"),
         ):
             with self.assertRaisesRegex(TypeError, text):
                 RangeSet(bad)
 
-    def test_a_table_by_columns(self):
-        with self.assertRaisesRegex(TypeError, "side by side"):
-            RangeSet.from_ranges(numpy.asfortranarray([[0, 10], [20, 30], [5, 12]]))
+    def test_tables_whose_numbers_lie_elsewhere(self):
+        wide = numpy.arange(24).reshape(4, 6)
+        starts, ends = i64(0, 20, 5), i64(10, 30, 12)
+        for table in (
+            numpy.asfortranarray([[0, 10], [20, 30], [5, 12]]), numpy.array([starts, ends]).T, numpy.stack([starts, ends], axis=1)[::-1],
+            numpy.array([ends, starts]).T[:, ::-1], numpy.array([[0, 7, 10], [20, 7, 30], [5, 7, 12]])[:, ::2],
+        ):
+            for made in (RangeSet(table), RangeSet.from_ranges(table)):
+                self.assertEqual(list(made), [(0, 12), (20, 30)])
+        self.assertEqual(list(RangeSet(wide[:, 1:3])), [(1, 2), (7, 8), (13, 14), (19, 20)])
+        self.assertEqual(list(RangeSet(wide[:, [0, 5]])), [(0, 5), (6, 11), (12, 17), (18, 23)])
+        self.assertEqual(RangeSet(wide[:0, ::5]), RangeSet())
+        self.assertTrue(RangeSet(wide.astype(numpy.uint64)[:, ::5]).unsigned)
+
+    def test_smaller_numbers(self):
+        for dtype in (numpy.int8, numpy.int16, numpy.int32, numpy.uint8, numpy.uint16, numpy.uint32):
+            table = numpy.array([[20, 30], [0, 5], [3, 8]], dtype=dtype)
+            unsigned = numpy.dtype(dtype).kind == "u"
+            for told in (None, False, True):
+                made = RangeSet(table, unsigned=told)
+                self.assertEqual((list(made), made.unsigned), ([(0, 8), (20, 30)], unsigned if told is None else told))
+                self.assertEqual(RangeSet.from_values(table[:, 0], unsigned=told).unsigned, made.unsigned)
+            self.assertEqual(list(RangeSet(table[::2])), [(3, 8), (20, 30)])
+            least, most = int(numpy.iinfo(dtype).min), int(numpy.iinfo(dtype).max)
+            self.assertEqual(list(RangeSet(numpy.array([[least, most]], dtype=dtype))), [(least, most)])
+            for call in (RangeSet.from_values, RangeSet.from_boundaries):
+                for bad in (table, table.astype(numpy.int64), numpy.asfortranarray(table)):
+                    with self.assertRaisesRegex(TypeError, "a list is wanted, with one dimension"):
+                        call(bad)
+        with self.assertRaisesRegex(OverflowError, "a number from 0 to 2"):
+            RangeSet(numpy.array([[-1, 5]], dtype=numpy.int32), unsigned=True)
+        with self.assertRaisesRegex(TypeError, "64-bit whole numbers"):
+            RangeSet(numpy.array([[1, 5]], dtype=">i4"))
+
+    def test_which_of_many_numbers_are_members(self):
+        made = RangeSet([(-3, 2), (5, 9), (2**63 - 2, None)])
+        for values in (numpy.arange(-5, 12), numpy.arange(-5, 11, dtype=numpy.int8).reshape(4, 4)[:, ::2], i64(), i64(2**63 - 1), numpy.int64(6), [7, 9]):
+            found = made.contains(values)
+            expected = [n in made for n in numpy.asarray(values).ravel().tolist()]
+            self.assertEqual((found.ravel().tolist(), found.shape, found.dtype), (expected, numpy.shape(values), numpy.dtype(bool)))
+        unsigned = numpy.array([0, 6, 9, 2**63 - 1, 2**63, 2**64 - 3, 2**64 - 1], dtype=numpy.uint64)
+        self.assertEqual(made.contains(unsigned).tolist(), [True, True, False, True, False, False, False])
+        of_unsigned = RangeSet([(0, 3), (2**63, None)], unsigned=True)
+        self.assertEqual(of_unsigned.contains(unsigned).tolist(), [True, False, False, False, True, True, True])
+        self.assertEqual(of_unsigned.contains(i64(-1, 0, 2, 3, -(2**63))).tolist(), [False, True, True, False, False])
+        self.assertEqual(sets.contains(i64(0, 10), i64(9, 10, -1)).tolist(), [True, False, False])
+        for bad in (numpy.array([1.0]), numpy.array([True]), ["x"]):
+            with self.assertRaisesRegex(TypeError, "whole numbers are wanted"):
+                made.contains(bad)
+
+    def test_many_numbers_are_members(self):
+        some = numpy.random.default_rng(3)
+        for _ in range(20):
+            values = some.integers(-50, 50, 400)
+            made = RangeSet.from_values(values)
+            self.assertEqual(list(made.members()), sorted(set(values.tolist())))
+            asked = some.integers(-60, 60, 5000)
+            self.assertEqual(made.contains(asked).tolist(), numpy.isin(asked, values).tolist())
+
+    def test_times(self):
+        days = numpy.array(["2026-05-01", "2026-05-04", "2026-05-03", "2026-05-09"], dtype="M8[D]")
+        table = days.reshape(2, 2)
+        made = RangeSet(table)
+        self.assertEqual((list(made), made.kind, made.covered()), ([(days[0], days[3])], "datetime64[D]", numpy.timedelta64(8, "D")))
+        for other in (table.astype(">M8[D]"), numpy.asfortranarray(table), numpy.column_stack([table[:, 0], table[:, 1], table[:, 1]])[:, ::2]):
+            self.assertEqual((RangeSet(other), RangeSet.from_ranges(other)), (made, made))
+        other = table.astype(">M8[D]")
+        self.assertEqual(RangeSet([(other[0, 0], other[1, 1])]) | made, made)
+        for dtype in ("M8[h]", "M8[ns]", "M8[25s]"):
+            self.assertEqual(RangeSet(table.astype(dtype)).kind, f"datetime64[{dtype[3:-1]}]")
+            with self.assertRaises(TypeError):
+                made | RangeSet(table.astype(dtype))
+            with self.assertRaises(TypeError):
+                table.astype(dtype)[0, 0] in made
+        values = RangeSet.from_values(days)
+        self.assertEqual([*values.members()], sorted(days))
+        self.assertEqual(made.contains(days).tolist(), [True, True, True, False])
+        self.assertEqual(numpy.asarray(made).tolist(), [days[0].item(), days[3].item()])
+        self.assertTrue(numpy.shares_memory(numpy.asarray(made), numpy.asarray(made)))
+        self.assertEqual(RangeSet.from_boundaries(numpy.asarray(made)), made)
+        self.assertEqual(made.gaps(days[0], numpy.datetime64("2026-05-12")), RangeSet((days[3], numpy.datetime64("2026-05-12"))))
+        for length in (numpy.timedelta64(2, "D"), numpy.timedelta64(48, "h"), timedelta(days=2)):
+            self.assertEqual(made.first_fit(length, days[0]), days[3])
+        for length, error in ((numpy.timedelta64(25, "h"), ValueError), (numpy.timedelta64("NaT"), ValueError), (2, TypeError)):
+            with self.assertRaises(error):
+                made.first_fit(length)
+
+    def test_what_is_no_time(self):
+        nat = numpy.datetime64("NaT", "D")
+        made = RangeSet([(numpy.datetime64("2026-05-01"), None)])
+        for call in (
+            lambda: RangeSet(numpy.array([["2026-05-01", "NaT"]], dtype="M8[D]")), lambda: RangeSet([(nat, None)]), lambda: nat in made,
+            lambda: made.contains(numpy.array(["NaT"], dtype="M8[D]")), lambda: RangeSet.from_values(numpy.array(["NaT"], dtype="M8[s]")),
+        ):
+            with self.assertRaisesRegex(ValueError, "NaT is in no order"):
+                call()
+        for call in (
+            lambda: RangeSet([(numpy.datetime64(5, "s"), numpy.datetime64(5, "ms"))]), lambda: RangeSet(numpy.zeros((2, 2), dtype="M8")),
+            lambda: RangeSet(numpy.zeros((2, 3), dtype="M8[s]")), lambda: RangeSet.from_values(numpy.zeros((2, 2), dtype="M8[s]")),
+            lambda: RangeSet(numpy.zeros((2, 2), dtype="M8[s]"), kind="date"), lambda: RangeSet(numpy.zeros((2, 2), dtype="m8[s]")),
+            lambda: RangeSet(numpy.zeros((2, 2), dtype="M8[s]"), unsigned=True), lambda: RangeSet([(numpy.timedelta64(5, "s"), None)]),
+            lambda: made.contains(numpy.array([5])), lambda: datetime(2026, 5, 1) in made, lambda: numpy.array(["2026-05-01"], dtype="M8[D]") in made,
+        ):
+            with self.assertRaises(TypeError):
+                call()
+        for bad in ([0, 2**62], [-(2**62), 0]):
+            with self.assertRaises(OverflowError):
+                RangeSet(numpy.array([bad], dtype="M8[us]"), kind="datetime")
+
+    def test_arrays_of_pythons_own_elements(self):
+        day, zone = datetime(2026, 5, 4), timezone.utc
+        for elements in (
+            [day, day + timedelta(hours=5)], [day.replace(tzinfo=zone), day.replace(hour=3, tzinfo=zone)], [day.date(), date(2026, 5, 9)],
+            [timedelta(0), timedelta(3)], [0.5, 2.5], [IPv4Address("10.0.0.0"), IPv4Address("10.0.0.9")],
+        ):
+            made = RangeSet([(elements[0], elements[1])])
+            self.assertEqual(made.contains(elements).tolist(), [True, False])
+            self.assertEqual(RangeSet(numpy.array([elements])), made)
+            self.assertEqual(made.contains(numpy.array(elements).reshape(2, 1)).shape, (2, 1))
+        beyond = datetime.max.replace(tzinfo=timezone(timedelta(hours=-1)))
+        with self.assertRaisesRegex(OverflowError, "a datetime with a time zone is wanted"):
+            RangeSet([(day.replace(tzinfo=zone), None)]).contains([beyond])
+        kinds = {"M8[us]": ("datetime", "datetime[UTC]"), "M8[D]": ("date",), "m8[us]": ("timedelta",)}
+        for dtype, names in kinds.items():
+            for name in names:
+                made = RangeSet(numpy.array([[5, 9], [20, 30]], dtype=dtype), kind=name)
+                self.assertEqual((made.kind, made.boundaries.tolist(), numpy.asarray(made).dtype), (name, [5, 9, 20, 30], numpy.dtype(dtype)))
+                self.assertEqual(made.contains(numpy.array([5, 9], dtype=dtype)).tolist(), [True, False])
+        with self.assertRaisesRegex(ValueError, "its number is NaT's"):
+            numpy.asarray(~RangeSet(kind="timedelta"))
+        floats = RangeSet([(0.5, 2.5), (3.0, numpy.inf)])
+        self.assertEqual(numpy.asarray(floats).tolist(), [0.5, 2.5, 3.0, numpy.inf])
+        self.assertEqual(RangeSet(numpy.array([[0.5, 2.5], [1.0, 2.0]], dtype=numpy.float32)), floats[:1])
+        self.assertEqual(floats.contains(numpy.array([0.25, 0.5, 2.75])).tolist(), [False, True, False])
+        with self.assertRaisesRegex(ValueError, "an array of floats is a copy"):
+            floats.__array__(copy=False)
 
     def test_pairs_of_numpy_numbers(self):
         self.assertEqual(RangeSet([(numpy.int64(3), numpy.int16(9))]), RangeSet([(3, 9)]))
         self.assertEqual(RangeSet(list(i64(3, 9, 12, 14).reshape(2, 2))), RangeSet([(3, 9), (12, 14)]))
-        with self.assertRaisesRegex(TypeError, "integer"):
+        with self.assertRaisesRegex(ValueError, "NaN"):
             RangeSet([(numpy.float64(0), numpy.float64("nan"))])
 
     def test_arrays_of_sets(self):

@@ -61,6 +61,8 @@ impl Cache {
     }
 }
 
+// Lists of one range are meant.
+#[allow(clippy::single_range_in_vec_init)]
 fn main() -> Result<(), Box<dyn Error>> {
     let mut cache = Cache::new(1000);
     cache.put(0..100);

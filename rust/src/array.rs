@@ -1,15 +1,18 @@
 //! Arrays that say how many boundaries lie in a set itself, and what a set asks of its list.
 
 use crate::entry::RangeSetEntry;
+use crate::generated::range_chunks::ChunkedRangeSet;
 use crate::generated::range_collections::range_set::splicing::set_range;
 use crate::generated::range_collections::{self as proved, Comparisons, WholeNumber};
 use crate::generated::range_merge::{
-    Copier, InPlaceMergeState, InPlaceMergeStateRef, MergeOperation, SmallVecMergeState,
+    Copier, DiffOp, InPlaceMergeState, InPlaceMergeStateRef, MergeOperation, SmallVecMergeState,
+    UnionOp,
 };
 use crate::memory::AllocError;
 use crate::range::RangeSetRange;
 use crate::support::{self, Global};
-use core::ops::{Range, RangeTo};
+use core::mem;
+use core::ops::RangeTo;
 use proved::{EntryClone, ParseError};
 use smallvec::SmallVec;
 
@@ -65,7 +68,8 @@ impl<T, const N: usize> Storage for [T; N] {
 pub trait List: Sized {
     type Item;
 
-    fn new() -> Self;
+    /// The empty list.
+    const EMPTY: Self;
 
     fn with_capacity(n: usize) -> Result<Self, AllocError>;
 
@@ -93,6 +97,11 @@ pub trait List: Sized {
     fn of_all() -> Result<Self, AllocError>
     where
         Self::Item: RangeSetEntry;
+
+    /// Sorts the items. Equal ones stay in the order in which they stood. A refusal of memory ends the process.
+    fn sort(&mut self)
+    where
+        Self::Item: Ord;
 
     /// The distinct items in order: of equal ones the first.
     fn sorted(self) -> Result<Self, AllocError>
@@ -140,18 +149,51 @@ pub trait List: Sized {
         O: MergeOperation;
 
     /// Puts a range in, or takes it out.
-    fn set_range(&mut self, range: Range<Self::Item>, inside: bool) -> Result<(), AllocError>
+    fn set_range(
+        &mut self,
+        range: RangeSetRange<Self::Item>,
+        inside: bool,
+    ) -> Result<(), AllocError>
     where
         Self::Item: Ord;
+
+    /// The set in chunks with these boundaries. If memory is refused, they are dropped.
+    fn into_chunks(self) -> Result<ChunkedRangeSet<Self::Item>, AllocError>
+    where
+        Self::Item: Ord;
+
+    /// The boundaries of a set in chunks, or the set as it was.
+    fn of_chunks(
+        set: ChunkedRangeSet<Self::Item>,
+    ) -> Result<Self, (AllocError, ChunkedRangeSet<Self::Item>)>
+    where
+        Self::Item: Ord;
+
+    fn capacity(&self) -> usize;
+
+    /// Makes room for `n` more items.
+    fn reserve(&mut self, n: usize) -> Result<(), AllocError>;
+
+    /// Gives back the room that the items don't need. What the allocator doesn't take back stays.
+    fn shrink_to_fit(&mut self);
+
+    /// Drops all items. The list is left empty, also if a drop panics.
+    fn clear(&mut self);
+
+    /// Takes the first range out.
+    fn take_first(&mut self) -> Option<RangeSetRange<Self::Item>>;
+
+    /// Takes the last range out.
+    fn take_last(&mut self) -> Option<RangeSetRange<Self::Item>>;
+
+    /// Leaves the ranges for which `keep` is true. The list is left empty if `keep` or a drop panics.
+    fn retain(&mut self, keep: impl FnMut(RangeSetRange<&Self::Item>) -> bool);
 }
 
 impl<T, const N: usize> List for support::SmallVec<T, N> {
     type Item = T;
 
-    #[inline(always)]
-    fn new() -> Self {
-        support::SmallVec::new(Global)
-    }
+    const EMPTY: Self = support::SmallVec::new(Global);
 
     fn with_capacity(n: usize) -> Result<Self, AllocError> {
         support::SmallVec::with_capacity(Global, n)
@@ -166,7 +208,7 @@ impl<T, const N: usize> List for support::SmallVec<T, N> {
             copier.append(&mut list, items)?;
             return Ok(support::SmallVec::from_vec(list));
         }
-        let mut list: Self = List::new();
+        let mut list = Self::EMPTY;
         for item in items {
             list.push_reserved(copier.copy(item)?);
         }
@@ -207,6 +249,13 @@ impl<T, const N: usize> List for support::SmallVec<T, N> {
         proved::RangeSet::all(Global).map(proved::RangeSet::into_inner)
     }
 
+    fn sort(&mut self)
+    where
+        T: Ord,
+    {
+        self.as_mut_slice().sort();
+    }
+
     fn sorted(self) -> Result<Self, AllocError>
     where
         T: Ord,
@@ -236,7 +285,7 @@ impl<T, const N: usize> List for support::SmallVec<T, N> {
         O: MergeOperation,
     {
         let count = &mut Comparisons::new();
-        let mut list = SmallVecMergeState::<T, P, N>::merge(List::new(), a, b, copier, op, count)?;
+        let mut list = SmallVecMergeState::<T, P, N>::merge(Self::EMPTY, a, b, copier, op, count)?;
         proved::lists::give_back_room(&mut list);
         Ok(list)
     }
@@ -260,10 +309,89 @@ impl<T, const N: usize> List for support::SmallVec<T, N> {
         InPlaceMergeState::<T, N>::merge(self, that, op, &mut Comparisons::new())
     }
 
-    fn set_range(&mut self, range: Range<T>, inside: bool) -> Result<(), AllocError>
+    #[inline]
+    fn set_range(&mut self, range: RangeSetRange<T>, inside: bool) -> Result<(), AllocError>
     where
         T: Ord,
     {
-        set_range(self, range, inside, &mut Comparisons::new())
+        match range {
+            RangeSetRange::Range(range) => set_range(self, range, inside, &mut Comparisons::new()),
+            RangeSetRange::RangeFrom(_) => {
+                let that = Self::of_range(range)?;
+                let merged = if inside {
+                    self.merge_owned(that, &UnionOp)
+                } else {
+                    self.merge_owned(that, &DiffOp)
+                };
+                merged.map_err(|(refused, _)| refused)
+            }
+        }
+    }
+
+    fn into_chunks(self) -> Result<ChunkedRangeSet<T>, AllocError>
+    where
+        T: Ord,
+    {
+        ChunkedRangeSet::from_set(proved::RangeSet::new_unchecked(self))
+    }
+
+    fn of_chunks(set: ChunkedRangeSet<T>) -> Result<Self, (AllocError, ChunkedRangeSet<T>)>
+    where
+        T: Ord,
+    {
+        set.into_set().map(proved::RangeSet::<T, N>::into_inner)
+    }
+
+    fn capacity(&self) -> usize {
+        support::SmallVec::capacity(self)
+    }
+
+    fn reserve(&mut self, n: usize) -> Result<(), AllocError> {
+        support::SmallVec::reserve(self, n)
+    }
+
+    fn shrink_to_fit(&mut self) {
+        support::SmallVec::shrink_to_fit(self);
+    }
+
+    fn clear(&mut self) {
+        let len = self.len();
+        self.drain(0..len);
+    }
+
+    fn take_first(&mut self) -> Option<RangeSetRange<T>> {
+        let both = self.len().min(2);
+        let mut items = self.as_inner_mut().drain(..both);
+        Some(RangeSetRange::of_ends(items.next()?, items.next()))
+    }
+
+    fn take_last(&mut self) -> Option<RangeSetRange<T>> {
+        let list = self.as_inner_mut();
+        let is_odd = list.len() % 2 == 1;
+        let last = list.pop()?;
+        Some(if is_odd {
+            RangeSetRange::of_ends(last, None)
+        } else {
+            RangeSetRange::of_ends(list.pop()?, Some(last))
+        })
+    }
+
+    fn retain(&mut self, mut keep: impl FnMut(RangeSetRange<&T>) -> bool) {
+        // A panic drops this list, whose items may be out of order by then.
+        let mut list = mem::replace(self, Self::EMPTY);
+        let (mut kept, mut at) = (0, 0);
+        while at < list.len() {
+            let next = list.len().min(at + 2);
+            if keep(RangeSetRange::of_ends(&list[at], list.get(at + 1))) {
+                for i in at..next {
+                    list.as_mut_slice().swap(kept, i);
+                    kept += 1;
+                }
+            }
+            at = next;
+        }
+        let len = list.len();
+        list.drain(kept..len);
+        *self = list;
     }
 }

@@ -1,11 +1,16 @@
 //! Element types with a least value.
 
+#[cfg(feature = "std")]
+use crate::generated::range_collections::Countable;
 use crate::generated::range_entry;
 use crate::memory::AllocError;
 use crate::support::Global;
 use alloc::string::String;
 use alloc::vec::Vec;
 use core::num::{NonZeroU128, NonZeroU16, NonZeroU32, NonZeroU64, NonZeroU8, NonZeroUsize};
+use core::time::Duration;
+#[cfg(feature = "std")]
+use std::net::{Ipv4Addr, Ipv6Addr};
 
 /// An element type that has a least value.
 ///
@@ -13,7 +18,9 @@ use core::num::{NonZeroU128, NonZeroU16, NonZeroU32, NonZeroU64, NonZeroU8, NonZ
 /// ask for [`Ord`], and those that copy boundaries for [`Clone`].
 ///
 /// It is implemented for whole numbers, `NonZero` numbers without a sign, `char`, [`String`], `&str`, [`Vec`],
-/// slices and [`Option`].
+/// slices, [`Option`] and [`Duration`], and with the feature `std` for `Ipv4Addr` and `Ipv6Addr`. What the impls here
+/// say is tested, and no contract is proved of it. Floats have no order of their own: a wrapper with `Ord`, as
+/// `OrderedFloat` of the crate ordered-float, can be an element.
 ///
 /// # Examples
 ///
@@ -110,6 +117,85 @@ impl RangeSetEntry for char {
     #[inline]
     fn is_min_value(&self) -> bool {
         *self == '\0'
+    }
+}
+
+/// A nanosecond is the least step between two.
+impl RangeSetEntry for Duration {
+    #[inline]
+    fn min_value() -> Self {
+        Duration::ZERO
+    }
+
+    #[inline]
+    fn is_min_value(&self) -> bool {
+        self.is_zero()
+    }
+}
+
+/// The addresses from 0.0.0.0 on, in the order of their numbers.
+///
+/// A block up to the greatest address has no end: 224.0.0.0/3 is `insert(first..)` or `insert(first..=last)`. The set
+/// that has it has no end either, so its [`covered`](crate::RangeSetRef::covered) is `None`. Its size is that of what
+/// lies below the greatest address, plus 1.
+///
+/// # Examples
+///
+/// ```
+/// use range_sets::RangeSet2;
+/// use std::net::Ipv4Addr;
+///
+/// let (first, last) = (Ipv4Addr::new(224, 0, 0, 0), Ipv4Addr::BROADCAST);
+/// let mut set = RangeSet2::from(first..=last);
+/// assert_eq!(set.covered(), None);
+///
+/// let has_last = set.remove_changed(last..);
+/// assert_eq!(set.covered().unwrap() + u128::from(has_last), 1 << 29);
+/// ```
+#[cfg(feature = "std")]
+#[cfg_attr(docsrs, doc(cfg(feature = "std")))]
+impl RangeSetEntry for Ipv4Addr {
+    #[inline]
+    fn min_value() -> Self {
+        Ipv4Addr::UNSPECIFIED
+    }
+
+    #[inline]
+    fn is_min_value(&self) -> bool {
+        self.is_unspecified()
+    }
+}
+
+/// The addresses from :: on, in the order of their numbers.
+#[cfg(feature = "std")]
+#[cfg_attr(docsrs, doc(cfg(feature = "std")))]
+impl RangeSetEntry for Ipv6Addr {
+    #[inline]
+    fn min_value() -> Self {
+        Ipv6Addr::UNSPECIFIED
+    }
+
+    #[inline]
+    fn is_min_value(&self) -> bool {
+        self.is_unspecified()
+    }
+}
+
+/// Its place is its number.
+#[cfg(feature = "std")]
+impl Countable for Ipv4Addr {
+    #[inline]
+    fn place(&self) -> u128 {
+        u32::from(*self).into()
+    }
+}
+
+/// Its place is its number.
+#[cfg(feature = "std")]
+impl Countable for Ipv6Addr {
+    #[inline]
+    fn place(&self) -> u128 {
+        u128::from(*self)
     }
 }
 

@@ -16,6 +16,14 @@
 //! # Ok::<(), AllocError>(())
 //! ```
 //!
+//! A refusal that nobody looks at is a warning, and this is no program:
+//!
+//! ```compile_fail
+//! #![deny(unused_must_use)]
+//! let mut busy = range_sets::fallible::RangeSet2::try_from(540..600).unwrap();
+//! busy.insert(720..780);
+//! ```
+//!
 //! [`RangeSet`] here has the calls of [`crate::RangeSet`] under the same names. It dereferences to [`RangeSetRef`] for
 //! the questions, none of which takes memory, and a set goes either way by `into` without a copy. A view has operations
 //! of its own, which end the process: [`RangeSet::copied`] makes a set of it first.
@@ -25,9 +33,15 @@
 //! [`RangeSetRef`]: crate::RangeSetRef
 
 mod changes;
+mod chunked;
 mod conversions;
 mod operations;
+#[cfg(feature = "serde")]
+#[cfg_attr(docsrs, doc(cfg(feature = "serde")))]
+pub mod pairs;
 mod ranges;
+mod room;
+mod taking;
 mod traits;
 
 use crate::array::{Array, List};
@@ -37,6 +51,8 @@ use crate::range::RangeSetRange;
 use crate::range_set::{self, Joining};
 use crate::view::RangeSetRef;
 use smallvec::SmallVec;
+
+pub use chunked::ChunkedRangeSet;
 
 /// It is implemented for numbers, `char`, references to texts and slices, `String`, `Vec` and `Option`.
 ///
@@ -111,6 +127,7 @@ impl<T, A: Array<Item = T>> RangeSet<A> {
     /// let set: RangeSet<[i32; 4]> = RangeSet::new(smallvec![0, 10, 20]).unwrap();
     /// assert!(set.contains(&25));
     /// ```
+    #[must_use]
     pub fn new(boundaries: SmallVec<A>) -> Option<Self>
     where
         T: Ord,
@@ -118,16 +135,18 @@ impl<T, A: Array<Item = T>> RangeSet<A> {
         range_set::RangeSet::new(boundaries).map(RangeSet)
     }
 
-    /// Returns the empty set. It takes no memory.
+    /// Returns the empty set. It takes no memory, and can be a constant.
     ///
     /// # Examples
     ///
     /// ```
     /// use range_sets::fallible::RangeSet2;
     ///
-    /// assert!(RangeSet2::<i32>::empty().is_empty());
+    /// static NOTHING: RangeSet2<i32> = RangeSet2::empty();
+    /// assert!(NOTHING.is_empty());
     /// ```
-    pub fn empty() -> Self {
+    #[must_use]
+    pub const fn empty() -> Self {
         RangeSet(range_set::RangeSet::empty())
     }
 
@@ -171,7 +190,7 @@ impl<T, A: Array<Item = T>> RangeSet<A> {
     where
         T: Ord,
     {
-        let mut list = A::List::new();
+        let mut list = A::List::EMPTY;
         for boundary in boundaries {
             list.push(boundary)?;
         }
@@ -179,6 +198,8 @@ impl<T, A: Array<Item = T>> RangeSet<A> {
     }
 
     /// Returns the set of the values that lie in one of the ranges at least.
+    ///
+    /// A borrowed `&Range` is cloned by its own `Clone`, which answers no error.
     ///
     /// # Errors
     ///

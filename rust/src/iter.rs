@@ -3,6 +3,7 @@
 use crate::array::Array;
 use crate::generated::range_collections as proved;
 use crate::range::RangeSetRange;
+use core::fmt;
 use core::iter::FusedIterator;
 use smallvec::SmallVec;
 
@@ -38,6 +39,13 @@ pub use crate::generated::range_collections::Gaps;
 /// ```
 pub use crate::generated::range_collections::RangesWithin;
 
+/// The parts that are left.
+impl<T: fmt::Debug> fmt::Debug for RangesWithin<'_, T> {
+    fn fmt(&self, f: &mut fmt::Formatter<'_>) -> fmt::Result {
+        f.debug_list().entries(self.clone()).finish()
+    }
+}
+
 /// An iterator over the ranges of a set, from the lowest on.
 ///
 /// It also runs from the highest range down, and knows how many are left. [`RangeSetRef::iter`] makes it.
@@ -53,9 +61,12 @@ pub use crate::generated::range_collections::RangesWithin;
 /// let mut ranges = set.iter();
 /// assert_eq!(ranges.len(), 2);
 /// assert_eq!(format!("{:?}", ranges.next_back().unwrap()), "20..");
+/// assert_eq!(format!("{:?}", ranges), "[0..10]");
+/// assert_eq!(ranges.clone().count(), 1);
 /// assert_eq!(format!("{:?}", ranges.next().unwrap()), "0..10");
 /// assert!(ranges.next().is_none());
 /// ```
+#[must_use = "iterators are lazy and do nothing unless consumed"]
 pub struct Iter<'a, T>(proved::Iter<'a, T>);
 
 impl<'a, T> Iter<'a, T> {
@@ -94,6 +105,19 @@ impl<T> ExactSizeIterator for Iter<'_, T> {}
 
 impl<T> FusedIterator for Iter<'_, T> {}
 
+impl<T> Clone for Iter<'_, T> {
+    fn clone(&self) -> Self {
+        Iter(self.0.clone())
+    }
+}
+
+/// The ranges that are left.
+impl<T: fmt::Debug> fmt::Debug for Iter<'_, T> {
+    fn fmt(&self, f: &mut fmt::Formatter<'_>) -> fmt::Result {
+        f.debug_list().entries(self.clone()).finish()
+    }
+}
+
 /// An iterator over the ranges of a set that was taken by value. `into_iter` makes it.
 ///
 /// # Examples
@@ -106,6 +130,7 @@ impl<T> FusedIterator for Iter<'_, T> {}
 ///     assert_eq!(format!("{range:?}"), r#""a".."#);
 /// }
 /// ```
+#[must_use = "iterators are lazy and do nothing unless consumed"]
 pub struct IntoIter<A: Array>(smallvec::IntoIter<A>);
 
 impl<A: Array> IntoIter<A> {
@@ -118,11 +143,7 @@ impl<T, A: Array<Item = T>> Iterator for IntoIter<A> {
     type Item = RangeSetRange<T>;
 
     fn next(&mut self) -> Option<Self::Item> {
-        let start = self.0.next()?;
-        Some(match self.0.next() {
-            Some(end) => RangeSetRange::Range(start..end),
-            None => RangeSetRange::RangeFrom(start..),
-        })
+        Some(RangeSetRange::of_ends(self.0.next()?, self.0.next()))
     }
 
     fn size_hint(&self) -> (usize, Option<usize>) {
@@ -149,3 +170,25 @@ impl<T, A: Array<Item = T>> DoubleEndedIterator for IntoIter<A> {
 impl<A: Array> ExactSizeIterator for IntoIter<A> {}
 
 impl<A: Array> FusedIterator for IntoIter<A> {}
+
+impl<A: Array> Clone for IntoIter<A>
+where
+    A::Item: Clone,
+{
+    fn clone(&self) -> Self {
+        // smallvec's own asks for a `Clone` of the array type too.
+        IntoIter::new(self.0.as_slice().iter().cloned().collect())
+    }
+}
+
+/// The ranges that are left.
+impl<A: Array> fmt::Debug for IntoIter<A>
+where
+    A::Item: fmt::Debug,
+{
+    fn fmt(&self, f: &mut fmt::Formatter<'_>) -> fmt::Result {
+        f.debug_list()
+            .entries(Iter::new(self.0.as_slice()))
+            .finish()
+    }
+}

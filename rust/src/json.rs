@@ -1,9 +1,10 @@
 //! Sets as sequences of boundaries, by serde.
 
 use crate::array::{Array, List};
+use crate::chunked::ChunkedRangeSet;
 use crate::fallible;
 use crate::memory::{expect_memory, AllocError};
-use crate::range_set::RangeSet;
+use crate::range_set::{RangeSet, RangeSet2};
 use crate::view::RangeSetRef;
 use core::fmt;
 use core::marker::PhantomData;
@@ -35,6 +36,20 @@ impl<T: Serialize, A: Array<Item = T>> Serialize for fallible::RangeSet<A> {
     }
 }
 
+/// A sequence of the boundaries.
+impl<T: Ord + Serialize> Serialize for ChunkedRangeSet<T> {
+    fn serialize<S: Serializer>(&self, serializer: S) -> Result<S::Ok, S::Error> {
+        serializer.collect_seq(self.boundaries())
+    }
+}
+
+/// A sequence of the boundaries.
+impl<T: Ord + Serialize> Serialize for fallible::ChunkedRangeSet<T> {
+    fn serialize<S: Serializer>(&self, serializer: S) -> Result<S::Ok, S::Error> {
+        (**self).serialize(serializer)
+    }
+}
+
 /// Reads a sequence of boundaries in any order. Of those that come twice one stays, so no list of elements is refused.
 ///
 /// To refuse a damaged list, read a `Vec` and use [`RangeSetRef::new`], which answers `None` for
@@ -56,7 +71,7 @@ impl<T: Serialize, A: Array<Item = T>> Serialize for fallible::RangeSet<A> {
 impl<'de, T: Deserialize<'de> + Ord, A: Array<Item = T>> Deserialize<'de> for RangeSet<A> {
     fn deserialize<D: Deserializer<'de>>(deserializer: D) -> Result<Self, D::Error> {
         let list = deserializer.deserialize_seq(Boundaries::<A>(PhantomData))?;
-        Ok(Self::of_list(expect_memory::<T, _, _>(list)))
+        Ok(Self::of_unsorted(expect_memory::<T, _, _>(list)))
     }
 }
 
@@ -66,11 +81,27 @@ impl<'de, T: Deserialize<'de> + Ord, A: Array<Item = T>> Deserialize<'de>
 {
     fn deserialize<D: Deserializer<'de>>(deserializer: D) -> Result<Self, D::Error> {
         let list = deserializer.deserialize_seq(Boundaries::<A>(PhantomData))?;
-        Ok(RangeSet::of_list(list.map_err(D::Error::custom)?).into())
+        let sorted = list.and_then(List::sorted).map_err(D::Error::custom)?;
+        Ok(RangeSet::of_list(sorted).into())
     }
 }
 
-/// Reads the list of a set. A refusal of memory is told apart from the format's errors.
+/// Reads a sequence of boundaries in any order and with repeats.
+impl<'de, T: Deserialize<'de> + Ord> Deserialize<'de> for ChunkedRangeSet<T> {
+    fn deserialize<D: Deserializer<'de>>(deserializer: D) -> Result<Self, D::Error> {
+        RangeSet2::deserialize(deserializer).map(Self::from)
+    }
+}
+
+/// Reads a sequence of boundaries in any order and with repeats. An allocation failure of the set is an error.
+impl<'de, T: Deserialize<'de> + Ord> Deserialize<'de> for fallible::ChunkedRangeSet<T> {
+    fn deserialize<D: Deserializer<'de>>(deserializer: D) -> Result<Self, D::Error> {
+        let set = fallible::RangeSet2::deserialize(deserializer)?;
+        Self::try_from(set).map_err(D::Error::custom)
+    }
+}
+
+/// Reads the list of a set, in any order. A refusal of memory is told apart from the format's errors.
 struct Boundaries<A>(PhantomData<A>);
 
 impl<'de, T: Deserialize<'de> + Ord, A: Array<Item = T>> Visitor<'de> for Boundaries<A> {
@@ -91,6 +122,6 @@ impl<'de, T: Deserialize<'de> + Ord, A: Array<Item = T>> Visitor<'de> for Bounda
                 return Ok(Err(refused));
             }
         }
-        Ok(list.sorted())
+        Ok(Ok(list))
     }
 }

@@ -11,6 +11,7 @@
 //! ```
 //!
 //! - [`RangeSet`] owns its boundaries, and [`RangeSetRef`] borrows them, as `String` and `str` do.
+//! - [`ChunkedRangeSet`] is changed one range at a time, and grows to millions of ranges.
 //! - Union, intersection, difference, complement, as operators and by name; ranges put in and taken out; gaps; counts.
 //! - The calls are those of the crate range-collections 0.4.6, so a program changes its `use` lines and compiles.
 //! - [`fallible`] has the same calls for those who can't let memory run out.
@@ -19,7 +20,7 @@
 //! # Features
 //!
 //! - `std` (on by default): `std::error::Error` for the error types. Without it the crate asks for `alloc` alone.
-//! - `serde`: sets are written and read as sequences of boundaries.
+//! - `serde`: sets are written and read as sequences of boundaries, and by the module `pairs` as pairs of them.
 //! - `new_unchecked`: `new_unchecked` of sets and views.
 //! - `c`: the functions of the header `range_set.h`, for a library that C links.
 #![cfg_attr(not(feature = "std"), no_std)]
@@ -29,10 +30,12 @@
 
 extern crate alloc;
 
+mod any_range;
 mod array;
 #[cfg(feature = "c")]
 #[allow(unsafe_code)]
 mod c;
+pub mod chunked;
 mod entry;
 pub mod fallible;
 // Its names are told by the modules beside it.
@@ -43,6 +46,9 @@ mod iter;
 mod json;
 mod memory;
 mod operation;
+#[cfg(feature = "serde")]
+#[cfg_attr(docsrs, doc(cfg(feature = "serde")))]
+pub mod pairs;
 mod range;
 pub mod range_set;
 #[allow(dead_code, unsafe_code)]
@@ -51,7 +57,9 @@ mod text;
 pub mod tracker;
 mod view;
 
+pub use any_range::{AnyRange, NextValue, PartsFrom, PartsWithin, Within};
 pub use array::Array;
+pub use chunked::ChunkedRangeSet;
 pub use entry::RangeSetEntry;
 /// # Examples
 ///

@@ -4,6 +4,8 @@ mod conversions;
 mod in_place;
 mod joining;
 mod operators;
+mod room;
+mod taking;
 mod traits;
 
 pub use crate::array::Array;
@@ -83,6 +85,7 @@ impl<T, A: Array<Item = T>> RangeSet<A> {
     /// assert!(set.contains(&25));
     /// assert!(RangeSet::<[i32; 4]>::new(smallvec![10, 0]).is_none());
     /// ```
+    #[must_use]
     pub fn new(boundaries: SmallVec<A>) -> Option<Self>
     where
         A::Item: Ord,
@@ -106,6 +109,7 @@ impl<T, A: Array<Item = T>> RangeSet<A> {
     /// ```
     #[cfg(feature = "new_unchecked")]
     #[cfg_attr(docsrs, doc(cfg(feature = "new_unchecked")))]
+    #[must_use]
     pub fn new_unchecked(boundaries: SmallVec<A>) -> Self {
         Self::of_inner(boundaries)
     }
@@ -120,25 +124,29 @@ impl<T, A: Array<Item = T>> RangeSet<A> {
     /// let set: RangeSet2<i32> = RangeSet2::from_unsorted([20, 0, 10, 0]);
     /// assert_eq!(set.boundaries(), [0, 10, 20]);
     /// ```
+    #[must_use]
     pub fn from_unsorted(boundaries: impl IntoIterator<Item = T>) -> Self
     where
         T: Ord,
     {
-        let list = A::list(boundaries.into_iter().collect());
-        Self::of_list(expect_memory::<T, _, _>(list.sorted()))
+        Self::of_unsorted(A::list(boundaries.into_iter().collect()))
     }
 
-    /// Returns the empty set. It takes no memory.
+    /// Returns the empty set. It takes no memory, and can be a constant.
     ///
     /// # Examples
     ///
     /// ```
     /// use range_sets::RangeSet2;
     ///
-    /// assert!(RangeSet2::<i32>::empty().is_empty());
+    /// static NOTHING: RangeSet2<i32> = RangeSet2::empty();
+    /// assert!(NOTHING.is_empty());
     /// ```
-    pub fn empty() -> Self {
-        Self::of_list(A::List::new())
+    #[must_use]
+    pub const fn empty() -> Self {
+        RangeSet {
+            list: A::List::EMPTY,
+        }
     }
 
     /// Returns the set of all values.
@@ -152,6 +160,7 @@ impl<T, A: Array<Item = T>> RangeSet<A> {
     /// assert!(all.contains(&-128));
     /// assert_eq!(!all, RangeSet2::empty());
     /// ```
+    #[must_use]
     pub fn all() -> Self
     where
         T: RangeSetEntry,
@@ -161,7 +170,8 @@ impl<T, A: Array<Item = T>> RangeSet<A> {
 
     /// Returns the set of the values that lie in one of the ranges at least.
     ///
-    /// The ranges stand in any order, and may overlap, touch or be empty. It makes *O*(*n* log *n*) comparisons. Sorted
+    /// The ranges are of any kind that becomes a [`RangeSetRange`] by `into`, as those of std do. They stand in any
+    /// order, and may overlap, touch or be empty. It makes *O*(*n* log *n*) comparisons. Sorted
     /// ranges are appended one after the other; others are joined in pairs. `collect` does the same.
     ///
     /// # Examples
@@ -172,6 +182,7 @@ impl<T, A: Array<Item = T>> RangeSet<A> {
     /// let busy: RangeSet2<u32> = RangeSet2::from_ranges([15..18, 11..12, 12..13]);
     /// assert_eq!(busy.to_string(), "11..13, 15..18");
     /// ```
+    #[must_use]
     pub fn from_ranges<R>(ranges: impl IntoIterator<Item = R>) -> Self
     where
         T: Ord,
@@ -194,6 +205,7 @@ impl<T, A: Array<Item = T>> RangeSet<A> {
     /// let busy: RangeSet2<u32> = RangeSet2::union_all([&mine, yours]);
     /// assert_eq!(busy.to_string(), "9..12, 15..18");
     /// ```
+    #[must_use]
     pub fn union_all<S>(sets: impl IntoIterator<Item = S>) -> Self
     where
         T: Ord + Clone,
@@ -237,6 +249,16 @@ impl<T, A: Array<Item = T>> RangeSet<A> {
         RangeSet { list }
     }
 
+    /// The set of the distinct boundaries. They are sorted here by std: what `sorted` does with a list that isn't takes
+    /// longer, since it may be refused memory.
+    pub(crate) fn of_unsorted(mut list: A::List) -> Self
+    where
+        T: Ord,
+    {
+        list.sort();
+        Self::of_list(expect_memory::<T, _, _>(list.sorted()))
+    }
+
     #[inline(always)]
     pub(crate) fn of_inner(boundaries: SmallVec<A>) -> Self {
         Self::of_list(A::list(boundaries))
@@ -245,6 +267,11 @@ impl<T, A: Array<Item = T>> RangeSet<A> {
     #[inline(always)]
     pub(crate) fn into_list(self) -> A::List {
         self.list
+    }
+
+    #[inline(always)]
+    pub(crate) fn list(&self) -> &A::List {
+        &self.list
     }
 
     #[inline(always)]

@@ -5,7 +5,7 @@ use crate::generated::range_collections::{EntryClone, WholeNumber};
 use crate::memory::expect_memory;
 use crate::range_set::RangeSet;
 use crate::view::RangeSetRef;
-use core::fmt;
+use core::fmt::{self, Write};
 use core::str::FromStr;
 
 /// # Examples
@@ -26,17 +26,11 @@ pub use crate::generated::range_collections::Expected;
 /// ```
 pub use crate::generated::range_collections::ParseError;
 
-/// As `RangeSet{0..10, 20..}`, by the elements' own `Debug`.
+/// As `RangeSet{0..10, 20..}`, by the elements' own `Debug`. Flags as those of `{:#?}` and `{:x?}` hold as for std's sets.
 impl<T: fmt::Debug, A: Array<Item = T>> fmt::Debug for RangeSet<A> {
     fn fmt(&self, f: &mut fmt::Formatter<'_>) -> fmt::Result {
-        f.write_str("RangeSet{")?;
-        for (i, range) in self.iter().enumerate() {
-            if i > 0 {
-                f.write_str(", ")?;
-            }
-            write!(f, "{range:?}")?;
-        }
-        f.write_str("}")
+        f.write_str("RangeSet")?;
+        f.debug_set().entries(self.iter()).finish()
     }
 }
 
@@ -47,11 +41,49 @@ impl<T: Ord + WholeNumber, A: Array<Item = T>> fmt::Display for RangeSet<A> {
     }
 }
 
-/// As `0..10, 20..`.
+/// As `0..10, 20..`. A width is that of the whole text, with the fill and the alignment that a text has; other flags change
+/// nothing.
 impl<T: Ord + WholeNumber> fmt::Display for RangeSetRef<T> {
     fn fmt(&self, f: &mut fmt::Formatter<'_>) -> fmt::Result {
-        self.proved().fmt(f)
+        padded(f, &self.proved())
     }
+}
+
+/// Writes a text with the width, the fill and the alignment that are asked for.
+pub(crate) fn padded(f: &mut fmt::Formatter<'_>, text: &impl fmt::Display) -> fmt::Result {
+    let missing = match f.width() {
+        Some(width) => width.saturating_sub(len_of(text)?),
+        None => 0,
+    };
+    let before = match f.align() {
+        Some(fmt::Alignment::Right) => missing,
+        Some(fmt::Alignment::Center) => missing / 2,
+        Some(fmt::Alignment::Left) | None => 0,
+    };
+    fill(f, before)?;
+    write!(f, "{text}")?;
+    fill(f, missing - before)
+}
+
+fn fill(f: &mut fmt::Formatter<'_>, n: usize) -> fmt::Result {
+    let fill = f.fill();
+    (0..n).try_for_each(|_| f.write_char(fill))
+}
+
+/// How many bytes a text has. No memory is taken for it, since a set of `fallible` is written here too.
+fn len_of(text: &impl fmt::Display) -> Result<usize, fmt::Error> {
+    struct Bytes(usize);
+
+    impl fmt::Write for Bytes {
+        fn write_str(&mut self, text: &str) -> fmt::Result {
+            self.0 += text.len();
+            Ok(())
+        }
+    }
+
+    let mut bytes = Bytes(0);
+    write!(bytes, "{text}")?;
+    Ok(bytes.0)
 }
 
 /// Reads the union of the ranges of a text: in any order, with commas between them, and with white space around each.

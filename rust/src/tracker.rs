@@ -4,11 +4,14 @@
 //! missing, and never keeps more boundaries than its limit, so that a peer who sends pieces far apart can't make it
 //! grow. A refusal is an error, and leaves the tracker as it was.
 
+use crate::any_range::{AnyRange, Within};
 use crate::generated::range_tracker;
-use crate::iter::{Gaps, Iter};
-use crate::memory::AllocError;
+use crate::iter::Iter;
+use crate::memory::{expect_memory, AllocError};
+use crate::range::RangeSetRange;
 use crate::range_set::RangeSet2;
 use crate::support::Global;
+use crate::view::RangeSetRef;
 use core::fmt;
 use core::ops::Range;
 
@@ -32,6 +35,8 @@ pub use crate::generated::range_tracker::Command;
 pub use crate::generated::range_tracker::TrackError;
 
 /// Which offsets are there, in at most as many ranges as a limit allows.
+///
+/// Offsets are the numbers below `u64::MAX`: a range without an end, as `20..`, ends there.
 ///
 /// # Examples
 ///
@@ -63,6 +68,7 @@ impl Tracker {
     ///
     /// assert_eq!(Tracker::new(64).covered(), 0);
     /// ```
+    #[must_use]
     pub fn new(limit: usize) -> Self {
         assert!(
             limit <= usize::MAX - 2,
@@ -71,7 +77,31 @@ impl Tracker {
         Tracker(range_tracker::Tracker::new(Global, limit))
     }
 
-    /// Records that the offsets of a range are there. An empty or a reversed range changes nothing.
+    /// Returns a copy of the tracker, with the same limit. `clone` does the same, and ends the process if memory is
+    /// refused.
+    ///
+    /// # Errors
+    ///
+    /// If memory is refused.
+    ///
+    /// # Examples
+    ///
+    /// ```
+    /// use range_sets::tracker::Tracker;
+    ///
+    /// let mut file = Tracker::new(4);
+    /// file.record(0..10).unwrap();
+    /// let before = file.try_clone().unwrap();
+    /// file.record(20..30).unwrap();
+    /// assert_eq!((before.covered(), file.covered()), (10, 20));
+    /// ```
+    pub fn try_clone(&self) -> Result<Self, AllocError> {
+        let mut copy = Self::new(self.0.limit);
+        copy.0.set = self.0.set.try_clone()?;
+        Ok(copy)
+    }
+
+    /// Records that the offsets of a range [of any kind](AnyRange) are there. An empty or a reversed range changes nothing.
     ///
     /// # Errors
     ///
@@ -84,14 +114,15 @@ impl Tracker {
     ///
     /// let mut file = Tracker::new(2);
     /// file.record(5..10)?;
-    /// assert_eq!(file.record(20..30), Err(TrackError::TooMany { boundaries: 4 }));
+    /// file.record(10..=19)?;
+    /// assert_eq!(file.record(21..30), Err(TrackError::TooMany { boundaries: 4 }));
     /// # Ok::<(), TrackError>(())
     /// ```
-    pub fn record(&mut self, range: Range<u64>) -> Result<(), TrackError> {
-        self.0.record(range)
+    pub fn record(&mut self, range: impl AnyRange<u64>) -> Result<(), TrackError> {
+        self.0.record(ended(range))
     }
 
-    /// Records that the offsets of a range aren't there. An empty or a reversed range changes nothing.
+    /// Records that the offsets of a range [of any kind](AnyRange) aren't there. An empty or a reversed range changes nothing.
     ///
     /// # Errors
     ///
@@ -108,8 +139,8 @@ impl Tracker {
     /// assert!(!file.has(0..10));
     /// # Ok::<(), TrackError>(())
     /// ```
-    pub fn forget(&mut self, range: Range<u64>) -> Result<(), TrackError> {
-        self.0.forget(range)
+    pub fn forget(&mut self, range: impl AnyRange<u64>) -> Result<(), TrackError> {
+        self.0.forget(ended(range))
     }
 
     /// Takes each command in turn, goes on after a refusal, and puts each answer at its command's place.
@@ -147,8 +178,8 @@ impl Tracker {
     /// assert!(!Tracker::new(4).has(0..1));
     /// assert!(Tracker::new(4).has(7..7));
     /// ```
-    pub fn has(&self, range: Range<u64>) -> bool {
-        self.0.has(range)
+    pub fn has(&self, range: impl AnyRange<u64>) -> bool {
+        self.0.has(ended(range))
     }
 
     /// Returns the set of the offsets below `len` that aren't there.
@@ -172,7 +203,8 @@ impl Tracker {
             .map(|set| RangeSet2::of_list(set.into_inner()))
     }
 
-    /// Returns an iterator over the parts of a range that aren't there, from the lowest on. It takes no memory.
+    /// Returns an iterator over the parts of a range [of any kind](Within) that aren't there, from the lowest on. It takes
+    /// no memory.
     ///
     /// # Examples
     ///
@@ -182,9 +214,11 @@ impl Tracker {
     /// let mut file = Tracker::new(4);
     /// file.record(5..10).unwrap();
     /// assert_eq!(file.gaps(&0..&20).next(), Some(&0..&5));
+    /// assert_eq!(file.gaps(&7..).next(), Some((&10..).into()));
     /// ```
-    pub fn gaps<'a>(&'a self, within: Range<&'a u64>) -> Gaps<'a, u64> {
-        self.0.gaps(within)
+    pub fn gaps<'a, R: Within<'a, u64>>(&'a self, within: R) -> R::Parts {
+        let set = self.0.set.as_ref();
+        within.parts_of(RangeSetRef::over(set.boundaries()), false)
     }
 
     /// Returns an iterator over the ranges of the offsets that are there, from the lowest on. Each has an end.
@@ -217,6 +251,20 @@ impl Tracker {
         self.0
             .covered()
             .expect("no command makes a range without an end")
+    }
+}
+
+impl Clone for Tracker {
+    fn clone(&self) -> Self {
+        expect_memory::<u64, _, _>(self.try_clone())
+    }
+}
+
+/// The range with an end, where it has none: no offset is above it.
+fn ended(range: impl AnyRange<u64>) -> Range<u64> {
+    match range.into() {
+        RangeSetRange::Range(range) => range,
+        RangeSetRange::RangeFrom(range) => range.start..u64::MAX,
     }
 }
 

@@ -1,6 +1,7 @@
 //! A borrowed set: its boundaries as a slice.
 
 mod operations;
+mod operators;
 mod parts;
 mod questions;
 
@@ -37,6 +38,7 @@ impl<T> RangeSetRef<T> {
     /// const NOTHING: &RangeSetRef<u8> = RangeSetRef::empty();
     /// assert!(!NOTHING.contains(&0));
     /// ```
+    #[must_use]
     pub const fn empty() -> &'static Self {
         Self::over(&[])
     }
@@ -52,6 +54,7 @@ impl<T> RangeSetRef<T> {
     /// assert!(late.contains(&18));
     /// assert!(!late.contains(&17));
     /// ```
+    #[must_use]
     pub const fn single(value: &T) -> &Self {
         Self::over(core::slice::from_ref(value))
     }
@@ -69,6 +72,7 @@ impl<T> RangeSetRef<T> {
     /// assert!(RangeSetRef::new(&[0, 10, 10]).is_none());
     /// assert!(RangeSetRef::new(&[10, 0]).is_none());
     /// ```
+    #[must_use]
     pub fn new(boundaries: &[T]) -> Option<&Self>
     where
         T: Ord,
@@ -90,6 +94,7 @@ impl<T> RangeSetRef<T> {
     /// ```
     #[cfg(feature = "new_unchecked")]
     #[cfg_attr(docsrs, doc(cfg(feature = "new_unchecked")))]
+    #[must_use]
     pub const fn new_unchecked(boundaries: &[T]) -> &Self {
         Self::over(boundaries)
     }

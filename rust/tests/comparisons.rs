@@ -5,7 +5,7 @@ use std::cell::Cell;
 use std::cmp::Ordering;
 
 thread_local! {
-    static MADE: Cell<usize> = Cell::new(0);
+    static MADE: Cell<usize> = const { Cell::new(0) };
 }
 
 /// A number whose comparisons are counted.
@@ -99,6 +99,85 @@ fn blocks() {
     each_operation(&a, &b, 64 * 2 * digits(64));
 }
 
+/// Whose a boundary is.
+#[derive(Clone, Copy, PartialEq, Eq, Debug)]
+enum Owner {
+    Left,
+    Right,
+    Both,
+}
+
+const OWNERS: [Owner; 3] = [Owner::Left, Owner::Right, Owner::Both];
+
+/// The two sets of boundaries with these owners.
+fn owned_by(owners: &[Owner]) -> (RangeSet2<Counted>, RangeSet2<Counted>) {
+    let of = |other: Owner| {
+        set((0u32..)
+            .zip(owners)
+            .filter(|it| *it.1 != other)
+            .map(|it| it.0))
+    };
+    (of(Owner::Right), of(Owner::Left))
+}
+
+/// The binary digits of the lengths of the runs, added up. A boundary that both have is a run of its own.
+fn weight(owners: &[Owner]) -> usize {
+    let mut runs: Vec<usize> = Vec::new();
+    let mut before = Owner::Both;
+    for &owner in owners {
+        match runs.last_mut() {
+            Some(run) if owner == before && owner != Owner::Both => *run += 1,
+            _ => runs.push(1),
+        }
+        before = owner;
+    }
+    runs.into_iter().map(digits).sum()
+}
+
+/// Calls of each operation on two such sets make at most twice their weight in comparisons, also those that stop.
+fn within_the_weight(owners: &[Owner]) {
+    let (a, b) = owned_by(owners);
+    each_operation(&a, &b, 2 * weight(owners));
+}
+
+#[test]
+fn the_weight_of_runs() {
+    let (left, right, both) = (Owner::Left, Owner::Right, Owner::Both);
+    assert_eq!(weight(&[]), 0);
+    assert_eq!(
+        weight(&[left, left, left, right, both, both, right]),
+        2 + 1 + 1 + 1 + 1
+    );
+}
+
+#[test]
+fn all_pairs_of_few_boundaries() {
+    let mut lists: Vec<Vec<Owner>> = vec![Vec::new()];
+    for _ in 0..7 {
+        lists = lists
+            .iter()
+            .flat_map(|list| OWNERS.map(|owner| [&list[..], &[owner]].concat()))
+            .collect();
+        lists.iter().for_each(|list| within_the_weight(list));
+    }
+}
+
+#[test]
+fn runs_of_all_lengths_about_powers_of_two() {
+    const LENGTHS: [usize; 12] = [0, 1, 2, 3, 4, 5, 6, 7, 8, 15, 16, 17];
+    for between in [None, Some(Owner::Both)] {
+        for places in 0..LENGTHS.len().pow(4) {
+            let (mut owners, mut rest) = (Vec::new(), places);
+            for side in [Owner::Left, Owner::Right, Owner::Left, Owner::Right] {
+                owners.extend(vec![side; LENGTHS[rest % LENGTHS.len()]]);
+                owners.extend(between);
+                rest /= LENGTHS.len();
+            }
+            within_the_weight(&owners);
+        }
+    }
+}
+
 #[test]
 fn searches() {
     let many = set((0..4096).map(|i| 10 * i));
@@ -116,6 +195,14 @@ fn searches() {
         let (start, end) = (Counted(value), Counted(value + 99));
         assert!(count(|| many.gaps(&start..&end).count()) <= 2 * digits(4096) + 1);
         assert!(count(|| many.contains_range(start.clone()..end.clone())) <= 2 * digits(4096) + 1);
+        assert!(count(|| many.overlapping(&start..&end).count()) <= 2 * digits(4096) + 1);
+        assert!(count(|| many.ranges_within(&start..=&end).count()) <= 2 * digits(4096) + 1);
+        assert!(count(|| many.gaps(&start..).count()) <= digits(4096));
+        assert!(count(|| many.contains_range(start.clone()..)) <= digits(4096));
+        assert!(count(|| many.intersects_range(start.clone()..)) <= digits(4096));
+        // Such a range is one boundary beside many.
+        assert!(count(|| changed.remove(start.clone()..)) <= 2 * (2 * digits(4096) + 1));
+        assert!(count(|| changed.insert(start..)) <= 2 * (2 * digits(4096) + 1));
     }
 }
 

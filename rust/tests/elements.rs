@@ -6,6 +6,7 @@ use common::{boundaries, pairs, Bitmap, Operation, OPERATIONS};
 use range_sets::{fallible, Array, RangeSet, RangeSet2, RangeSetEntry, RangeSetRef};
 use std::cmp::Ordering;
 use std::num::NonZeroU8;
+use std::time::Duration;
 
 /// The element that stands for a place.
 type Element<'a, T> = &'a dyn Fn(u8) -> T;
@@ -142,7 +143,7 @@ fn lists_and_slices() {
     };
     copies(&list);
     values(&list);
-    let longest = vec![1u16; 64];
+    let longest = [1u16; 64];
     copies(&|i| &longest[..usize::from(i)]);
     values(&|i| &longest[..usize::from(i)]);
 }
@@ -243,6 +244,76 @@ fn a_wild_order() {
             Wild(63 - 2 * (i - 32))
         }
     });
+}
+
+/// A number with a fraction, in the total order of such numbers. The crate ordered-float has such wrappers.
+#[derive(Clone, Copy, PartialEq)]
+struct Level(f64);
+
+impl Eq for Level {}
+
+impl PartialOrd for Level {
+    fn partial_cmp(&self, other: &Self) -> Option<Ordering> {
+        Some(self.cmp(other))
+    }
+}
+
+impl Ord for Level {
+    fn cmp(&self, other: &Self) -> Ordering {
+        self.0.total_cmp(&other.0)
+    }
+}
+
+#[test]
+fn floats_in_an_order() {
+    clones(&|i| Level(f64::from(i) / 8.0 - 3.0));
+    let mut safe: RangeSet2<Level> = (Level(-0.5)..Level(1.25)).into();
+    safe.insert(Level(7.5)..);
+    safe.remove(Level(1.0)..Level(1.125));
+    for (level, is_safe) in [
+        (f64::NEG_INFINITY, false),
+        (-0.5, true),
+        (0.0, true),
+        (1.0, false),
+        (1.125, true),
+        (1.25, false),
+        (1e300, true),
+        (f64::INFINITY, true),
+    ] {
+        assert_eq!(safe.contains(&Level(level)), is_safe, "{level}");
+    }
+}
+
+#[test]
+fn durations() {
+    let duration = |i: u8| Duration::new(u64::from(i / 2), u32::from(i % 2) * 999_999_999);
+    copies(&duration);
+    values(&duration);
+}
+
+#[test]
+#[cfg(feature = "std")]
+fn addresses() {
+    use std::net::{Ipv4Addr, Ipv6Addr};
+    copies(&|i| Ipv4Addr::from(u32::from(i)));
+    values(&|i| Ipv4Addr::from(u32::from(i)));
+    copies(&|i| Ipv6Addr::from(u128::from(i)));
+    values(&|i| Ipv6Addr::from(u128::from(i)));
+
+    let last = Ipv4Addr::BROADCAST;
+    let private = Ipv4Addr::new(10, 0, 0, 0)..Ipv4Addr::new(11, 0, 0, 0);
+    let mut set: RangeSet2<Ipv4Addr> = private.into();
+    set.insert(Ipv4Addr::new(192, 168, 0, 0)..=Ipv4Addr::new(192, 168, 255, 255));
+    assert_eq!(set.covered(), Some((1 << 24) + (1 << 16)));
+    // A block up to the greatest address has no end, and so has the set.
+    set.insert(Ipv4Addr::new(224, 0, 0, 0)..=last);
+    assert_eq!((set.covered(), set.contains(&last)), (None, true));
+    assert_eq!(
+        (!set).covered(),
+        Some((1 << 32) - (1 << 24) - (1 << 16) - (1 << 29))
+    );
+    let six: RangeSet2<Ipv6Addr> = (..Ipv6Addr::from(1 << 100)).into();
+    assert_eq!(six.covered(), Some(1 << 100));
 }
 
 #[test]

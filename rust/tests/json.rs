@@ -28,6 +28,71 @@ fn what_is_written_is_read_back() {
     }
 }
 
+/// A set as pairs, both ways, with and without an allocation failure.
+fn pairs_of(text: &str) -> serde_json::Result<RangeSet2<u8>> {
+    let set: RangeSet2<u8> = range_sets::pairs::deserialize(&mut json(text))?;
+    let same: fallible::RangeSet2<u8> = fallible::pairs::deserialize(&mut json(text))?;
+    assert_eq!(set, same);
+    assert_eq!(as_pairs(&set), as_pairs(&same));
+    assert_eq!(as_pairs(&set), as_pairs(&*set));
+    Ok(set)
+}
+
+fn json(text: &str) -> serde_json::Deserializer<serde_json::de::StrRead<'_>> {
+    serde_json::Deserializer::from_str(text)
+}
+
+fn as_pairs<R: AsRef<RangeSetRef<u8>> + ?Sized>(set: &R) -> String {
+    let written = range_sets::pairs::serialize(set, serde_json::value::Serializer);
+    written.unwrap().to_string()
+}
+
+#[test]
+fn pairs_that_are_written_are_read_back() {
+    for (a, _) in pairs().step_by(11) {
+        let set: RangeSet2<u8> = set(a);
+        let ends = boundaries(a);
+        let expected: Vec<_> = ends.chunks(2).map(|it| (it[0], it.get(1))).collect();
+        let text = as_pairs(&set);
+        assert_eq!(text, to_string(&expected).unwrap());
+        assert_eq!(pairs_of(&text).unwrap(), set);
+        let backwards: Vec<_> = expected.iter().rev().chain(&expected).collect();
+        assert_eq!(pairs_of(&to_string(&backwards).unwrap()).unwrap(), set);
+    }
+}
+
+#[test]
+fn pairs_of_all_kinds() {
+    let rows: [(&str, &[u8]); 5] = [
+        ("[]", &[]),
+        ("[[5,5]]", &[]),
+        ("[[20,null],[0,4],[4,9]]", &[0, 9, 20]),
+        ("[[0,9],[3,null]]", &[0]),
+        ("[[7,null],[9,null]]", &[7]),
+    ];
+    for (text, boundaries) in rows {
+        assert_eq!(pairs_of(text).unwrap().boundaries(), boundaries, "{text}");
+    }
+    let reversed = "a range whose end is below its start";
+    let refused = [
+        ("[[9,5]]", reversed),
+        ("[[1,2],[9,0],[3,4]]", reversed),
+        ("[[1]]", "invalid length 1"),
+        ("[[1,2,3]]", "trailing characters"),
+        ("[1,2]", "invalid type: integer `1`"),
+        ("[[null,3]]", "invalid type: null"),
+        ("[[1,256]]", "invalid value: integer `256`"),
+        ("7", "expected a sequence of pairs"),
+    ];
+    for (text, why) in refused {
+        let said = pairs_of(text).unwrap_err().to_string();
+        assert!(said.contains(why), "{text}: {said}");
+        let read: serde_json::Result<fallible::RangeSet2<u8>> =
+            fallible::pairs::deserialize(&mut json(text));
+        assert_eq!(read.unwrap_err().to_string(), said);
+    }
+}
+
 /// More boundaries than are sorted without memory, in order, in the opposite order, and each twice.
 #[test]
 fn long_lists_in_any_order() {

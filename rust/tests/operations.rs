@@ -183,6 +183,9 @@ fn lengths_of_results_without_a_start_panic() {
     }
 }
 
+/// Whether a value is a member, by whether it is one of each side.
+type Member = fn(bool, bool) -> bool;
+
 #[test]
 fn long_lists_of_far_and_near_boundaries() {
     let mut random = common::Random(77);
@@ -192,7 +195,7 @@ fn long_lists_of_far_and_near_boundaries() {
         let inside = |list: &[i64], x: i64| list.partition_point(|&y| y <= x) % 2 == 1;
         let left: RangeSet<[i64; 4]> = RangeSet::new(a.iter().copied().collect()).unwrap();
         let right: RangeSet<[i64; 4]> = RangeSet::new(b.iter().copied().collect()).unwrap();
-        let results: [(RangeSet<[i64; 4]>, fn(bool, bool) -> bool); 4] = [
+        let results: [(RangeSet<[i64; 4]>, Member); 4] = [
             (&left | &right, |a, b| a || b),
             (&left & &right, |a, b| a && b),
             (&left - &right, |a, b| a && !b),
@@ -226,6 +229,26 @@ fn a_short_result_of_long_sets_lies_in_the_set_itself() {
         assert_eq!(result.boundaries(), [5000]);
         assert!(!result.into_inner().spilled());
     }
+}
+
+/// The same where it is too long for the set itself: it has room for twice its boundaries at most.
+#[test]
+fn a_short_result_of_long_sets_has_little_room() {
+    fn little_room<A: Array<Item = u32>>(result: RangeSet<A>, boundaries: &[u32]) {
+        assert_eq!(result.boundaries(), boundaries);
+        assert!(result.into_inner().capacity() <= 2 * boundaries.len());
+    }
+    let long: RangeSet2<u32> = (0..1000).map(|n| 2 * n..2 * n + 1).collect();
+    let few: RangeSet2<u32> = (0..5).map(|n| 200 * n..200 * n + 1).collect();
+    let boundaries = [0, 1, 200, 201, 400, 401, 600, 601, 800, 801];
+    little_room(&long & &few, &boundaries);
+    little_room::<[u32; 4]>(long.intersection(&few), &boundaries);
+    little_room::<[u32; 4]>(long.combine(&few, Connective::INTERSECTION), &boundaries);
+    let fallible = fallible::RangeSet::from(long);
+    little_room::<[u32; 4]>(fallible.intersection(&few).unwrap().into(), &boundaries);
+    let mut roomy = few.into_inner();
+    roomy.grow(1000);
+    little_room(!RangeSet2::new(roomy).unwrap(), &boundaries[1..]);
 }
 
 /// A strictly sorted list in blocks, some near to each other and some far apart.

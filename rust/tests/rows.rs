@@ -223,8 +223,11 @@ fn of_two_equal_boundaries_the_sets_own_stays() {
         RangeSet::from_unsorted([Named(5, 'a'), Named(1, 'a'), Named(5, 'b')]);
     assert_eq!(names(&first), [(1, 'a'), (5, 'a')]);
     let many = (0..90).map(|i| Named(29 - i % 30, ['a', 'b', 'c'][usize::from(i / 30)]));
-    let first: RangeSet2<Named> = RangeSet::from_unsorted(many);
-    assert_eq!(names(&first), (0..30).map(|i| (i, 'a')).collect::<Vec<_>>());
+    let firsts: Vec<_> = (0..30).map(|i| (i, 'a')).collect();
+    let first: RangeSet2<Named> = RangeSet::from_unsorted(many.clone());
+    assert_eq!(names(&first), firsts);
+    let first = fallible::RangeSet2::<Named>::from_unsorted(many).unwrap();
+    assert_eq!(names(&first), firsts);
 }
 
 #[test]
@@ -256,6 +259,15 @@ fn everything_and_nothing() {
         assert!(all.is_all());
     }
     assert!(RangeSet2::<u8>::from(false).boundaries().is_empty());
+    for all in [
+        fallible::RangeSet2::<u8>::all(),
+        fallible::RangeSet::try_from(..),
+        fallible::RangeSet::try_from(true),
+    ] {
+        assert_eq!(all.unwrap().boundaries(), [0]);
+    }
+    let nothing = fallible::RangeSet2::<u8>::try_from(false).unwrap();
+    assert!(nothing.boundaries().is_empty());
     assert!(!RangeSetRef::new(&[0u8, 5]).unwrap().is_all());
     assert!(!RangeSetRef::<u8>::empty().is_all());
 }

@@ -3,6 +3,8 @@
 use range_sets::{
     fallible, Expected, NoRoom, ParseError, RangeSet, RangeSet2, RangeSetRange, RangeSetRef,
 };
+use std::collections::HashSet;
+use std::iter::once;
 
 #[test]
 fn debug_text_is_made_of_the_elements_own() {
@@ -20,14 +22,56 @@ fn debug_text_is_made_of_the_elements_own() {
         "RangeSet{1..2}"
     );
     assert_eq!(
-        format!("{:#?}", RangeSet2::from(Some(1)..Some(20))),
-        "RangeSet{Some(1)..Some(20)}"
+        format!("{:#?}", RangeSet2::from(1..20)),
+        "RangeSet{\n    1..20,\n}"
     );
     assert_eq!(
         format!("{:?}", RangeSetRef::new(&[1, 2]).unwrap()),
         "RangeSetRef([1, 2])"
     );
     assert_eq!(format!("{:?}", RangeSetRange::from(3..)), "3..");
+}
+
+/// As a set of std's, whose name isn't written.
+#[test]
+fn the_flags_of_debug_reach_the_elements() {
+    let (set, std) = (
+        RangeSet2::from(10..31),
+        once(10..31).collect::<HashSet<_>>(),
+    );
+    macro_rules! alike {
+        ($($format:literal)*) => {$(
+            assert_eq!(format!($format, set), format!(concat!("RangeSet", $format), std));
+            assert_eq!(
+                format!($format, fallible::RangeSet2::try_from(10..31).unwrap()),
+                format!(concat!("RangeSet", $format), std)
+            );
+        )*};
+    }
+    alike!("{:?}" "{:#?}" "{:x?}" "{:X?}" "{:#x?}" "{:4?}" "{:<4?}" "{:04?}" "{:+?}");
+    let nothing = RangeSet2::<i32>::empty();
+    assert_eq!(format!("{nothing:#?}"), "RangeSet{}");
+}
+
+/// The width, the fill and the alignment are those of the whole text, as they are of a text.
+#[test]
+fn a_width_is_that_of_the_whole_text() {
+    let set: RangeSet2<i8> = RangeSet::from_unsorted([-5, 0, 10]);
+    let text = "-5..0, 10..";
+    let fallible = fallible::RangeSet::from(set.clone());
+    macro_rules! alike {
+        ($($format:literal)*) => {$(
+            assert_eq!(format!($format, set), format!($format, text));
+            assert_eq!(format!($format, &*set), format!($format, text));
+            assert_eq!(format!($format, fallible), format!($format, text));
+        )*};
+    }
+    alike!("{}" "{:20}" "{:<20}" "{:>20}" "{:^20}" "{:^19}" "{:é>20}" "{:020}" "{:3}" "{:>11}" "{:>12}" "{:#}");
+    assert_eq!(format!("{set:>14}|"), "   -5..0, 10..|");
+    assert_eq!(format!("{:>3}|", RangeSet2::<i8>::empty()), "   |");
+    // A text that is cut short, or has signs that were asked for, would be another one.
+    assert_eq!(format!("{set:.3}"), text);
+    assert_eq!(format!("{set:+}"), text);
 }
 
 #[test]

@@ -3,7 +3,7 @@
 from plain_rust import tables
 from plain_rust.contracts import with_contract
 from plain_rust.items import items
-from plain_rust.tokens import Refused, made, stands
+from plain_rust.tokens import Refused, closing_angle, made, stands, text_of
 
 
 class Shaping:
@@ -14,6 +14,7 @@ class Shaping:
         self.kept = tables.ITEMS_KEPT.get(file)
         self.wanted = set(tables.ITEMS_LEFT_OUT.get(file, ())) | (self.kept or set())
         self.hidden = set(tables.SHOWN.get(file, ()))
+        self.cloned = set(tables.CLONED.get(file, ()))
         self.shown = set()
 
     def file_of(self, module):
@@ -36,6 +37,9 @@ class Shaping:
             return cloning(item)
         if item.kind in ("impl", "trait"):
             return self.with_members(item)
+        if item.kind == "struct" and item.name in self.cloned:
+            self.cloned.remove(item.name)
+            return with_clone(item)
         return item.found[item.start : item.end]
 
     def with_members(self, item):
@@ -96,7 +100,7 @@ class Shaping:
 
     def refuse_what_is_left(self):
         """Refuses names of the tables that the file hasn't."""
-        left = sorted(self.wanted | self.hidden - self.shown)
+        left = sorted(self.wanted | self.hidden - self.shown | self.cloned)
         if left:
             raise Refused(1, f"the tables name what isn't there: {', '.join(left)}")
 
@@ -109,6 +113,17 @@ def needs_size(item):
         return False
     own = (at for at in range(item.body, item.end) if found[at].text == "Self")
     return any(not stands(found, at + 1, ":", ":") for at in own)
+
+
+def with_clone(item):
+    """A struct with a `Clone` that asks nothing of its parameters."""
+    found = item.found
+    of = text_of(found[item.word + 2 : closing_angle(found, item.word + 2) + 1])
+    starts = (at for at in range(item.body + 1, item.end) if found[at - 1].text in ("{", ",") and stands(found, at + 1, ":"))
+    fields = [found[at].text for at in starts]
+    clones = ", ".join(f"{field}: Clone::clone(&self.{field})" for field in fields)
+    put = f"impl{of} Clone for {item.name}{of} {{ #[inline] fn clone(&self) -> Self {{ {item.name} {{ {clones} }} }} }}"
+    return [*found[item.start : item.end], *made(put, "\n\n", found[item.start].line)]
 
 
 def cloning(item):

@@ -3,7 +3,7 @@
 import re
 
 # The crates that are written, each as a module, and where.
-CRATES = ("range_merge", "range_entry", "range_collections", "range_tracker", "range_c")
+CRATES = ("range_merge", "range_entry", "range_collections", "range_chunks", "range_tracker", "range_c")
 ROOT = ("crate", "generated")
 SUPPORT = ("crate", "support")
 # Crates that are compiled with a feature alone.
@@ -18,6 +18,7 @@ CORE = {"cmp", "fmt", "iter", "marker", "mem", "num", "ops", "slice", "str"}
 MOVED = {("std", "alloc", "AllocError"), ("std", "alloc", "Global"), ("std", "error", "Error"), ("smallvec", "SmallVec")} | {
     ("itoa", "Buffer"),
     ("itoa", "Integer"),
+    ("std", "hint", "select_unpredictable"),
 }
 # Names of std that only proofs have a use for.
 GHOSTLY = {("std", "marker", "Model"), ("std", "default", "MadeWith")}
@@ -42,12 +43,12 @@ RENAMED = {
 SAME = set(
     """
     abs_diff all allocator as_array as_bytes as_mut_slice as_ref as_slice bitand bitor bitxor capacity char_indices
-    checked_add chunks chunks_exact cmp contains copied copy_from_slice copy_within dedup drain enumerate eq expect
+    checked_add chunks chunks_exact clear cmp contains copied copy_from_slice copy_within dedup drain enumerate eq expect
     extend_from_slice filter_map first fmt format from get insert into_iter into_vec is_ascii_digit is_empty is_eq is_err
     is_ge is_gt is_le is_lt is_ne is_none is_ok is_some is_whitespace iter iter_mut last leading_zeros len map max min
     next next_back not ok parse pop position push_reserved remove reserve rev reverse rotate_left rotate_right
     saturating_add saturating_mul saturating_sub shrink_to_fit size_hint sort_unstable sort_unstable_by_key split
-    split_at split_at_mut split_first split_last split_once strip_prefix sub swap swap_with_slice take then_some
+    split_at split_at_mut split_first split_last split_off split_once strip_prefix sub swap swap_with_slice take then_some
     trailing_zeros trim truncate unwrap_or valid_up_to windows with_capacity wrapping_sub write_str zip
     """.split()
 )
@@ -97,12 +98,17 @@ ITEMS_LEFT_OUT = {
     "range_collections/range_set_range": {"impl fmt::Debug for RangeSetRange"},
     # Rust drops a set's list by itself.
     "range_collections/range_set": {"impl Drop for RangeSet"},
+    "range_chunks/set": {"impl Drop for ChunkedRangeSet"},
 }
 # Names that support has in place of what is left out.
 BY_SUPPORT = {"InPlaceMergeState", "InPlaceMergeStateRef"}
 # Traits whose impls are left out: the crate has a trait of its own for its users, and one impl for all of them.
 IMPLS_LEFT_OUT = {"MadeWith", "Model", "RangeSetEntry"}
-# Private fields and functions that support uses, by their file.
+# Private fields and functions that support and the layer use, by their file.
 SHOWN = {
     "range_merge/merge_state/in_place_ref": {"over"},
+    "range_chunks/set": {"chunks"},
+    "range_tracker/tracker": {"set", "limit"},
 }
+# Structs that are cloned in Rust whatever their elements are, by their file: their fields are references.
+CLONED = {"range_collections/iter": {"Iter", "RangesWithin", "Unread"}}

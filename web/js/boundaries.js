@@ -5,7 +5,10 @@
     const { element, grouped } = Daleribbon.tools;
     const MOST = 48;
 
-    /** Options: `name`, `format`, `onLink(value or null)`, `onProbe(value)`, and where they can be moved `onMove(from, to)`. */
+    /**
+     * Options: `name`, `format`, `onLink(value or null)`, `onProbe(value)`, and where they can be
+     * moved `onMove(from, to)`.
+     */
     class BoundaryList {
         constructor(options) {
             Object.assign(this, { format: String, linked: null }, options);

@@ -3,10 +3,9 @@
 // Two classes of characters, and the result of an operation on them.
 {
     const { element, grouped } = Daleribbon.tools;
-    const { Board, OperationChooser, Scale, SetRow, pairs } = Daleribbon;
+    const { Board, INTERSECTION, OperationChooser, Past, Scale, SetRow, pairs } = Daleribbon;
 
     const CODE_POINTS = 0x110000n;
-    const INTERSECTION = 8;
     /** How many characters are shown at first, and with each more that are asked for. */
     const CELLS = 256;
     const HAS_NO_SHAPE = /[\p{C}\p{Z}]/u;
@@ -34,7 +33,7 @@
         return members;
     }
 
-    /** What is seen of a character: nothing of controls and spaces, and marks on a dotted circle. */
+    /** What is seen of a character: nothing of a control or space, a mark on a dotted circle. */
     function glyph(value) {
         const character = String.fromCodePoint(Number(value));
         if (HAS_NO_SHAPE.test(character)) {
@@ -48,15 +47,35 @@
             this.scale = new Scale(0n, CODE_POINTS, { last: CODE_POINTS, binary: true });
             this.board = new Board({ scale: this.scale, fit: () => this.fit() });
             this.universe = library.newSet(`0..${CODE_POINTS}`);
-            this.operation = new OperationChooser({ id: "characters", answers: INTERSECTION, onChange: () => this.update() });
+            this.operation = new OperationChooser({ id: "characters", answers: INTERSECTION, onChange: () => this.changed() });
             this.a = this.classRow(library, "A", "Grek");
             this.b = this.classRow(library, "B", "Lu");
             this.result = this.row(library, "result", "A ∩ B", "The result");
             this.board.rows = [this.a, this.b, this.result];
             this.board.value = 0x391n;
             this.board.rows.forEach((row) => { row.line.probe = 0x391n; });
+            this.past = new Past(this);
             this.build();
             this.update();
+        }
+
+        /** The classes and the operation. A class that isn't known leaves the one before. */
+        get state() {
+            return { a: this.a.select.value, b: this.b.select.value, op: this.operation.state };
+        }
+
+        set state({ a, b, op }) {
+            for (const [row, id] of [[this.a, a], [this.b, b]]) {
+                row.select.value = classOf(id) ? id : row.select.value;
+                row.read();
+            }
+            this.operation.state = op;
+            this.update();
+        }
+
+        changed() {
+            this.update();
+            this.past.note();
         }
 
         row(library, id, name, label, head) {
@@ -74,11 +93,12 @@
             }
             select.value = id;
             const row = this.row(library, name.toLowerCase(), name, `Class ${name}`, element("div", { class: "field" }, select));
-            const read = () => row.set.parse(textOf(classOf(select.value)));
-            read();
+            row.select = select;
+            row.read = () => row.set.parse(textOf(classOf(select.value)));
+            row.read();
             select.addEventListener("change", () => {
-                read();
-                this.update();
+                row.read();
+                this.changed();
             });
             return row;
         }
@@ -91,12 +111,12 @@
             this.node = element("div", {},
                 element("div", { class: "card" }, this.operation.node),
                 element("div", { class: "card board" },
-                    element("div", { class: "toolbar" }, element("span", { class: "version" }, `Unicode ${Daleribbon.unicode.version}`), this.board.buttons()),
+                    element("div", { class: "toolbar" }, element("span", { class: "version" }, `Unicode ${Daleribbon.unicode.version}`), this.past.buttons(), this.board.buttons()),
                     this.a.node, this.b.node, this.result.node),
                 element("div", { class: "card characters" }, this.count, this.cells, this.more));
         }
 
-        /** Shows the result from its first to its last boundary, or everything where it is empty. */
+        /** Shows the result from its first to its last boundary, or everything if it's empty. */
         fit() {
             const ends = this.result.set.ends();
             if (ends === null) {

@@ -1,6 +1,7 @@
 "use strict";
 
-// A field for the text of a set. What is wrong with a text is said below the character where it was typed.
+// A field for the text of a set. What is wrong with a text is said below the character where it was
+// typed.
 {
     const { element } = Daleribbon.tools;
     const canvas = document.createElement("canvas").getContext("2d");
@@ -15,14 +16,11 @@
     /** What stands at a place of a text. */
     const found = (text, at) => (at < text.length ? `, and there is “${String.fromCodePoint(text.codePointAt(at))}”` : ", and the text ends");
 
-    function sentence({ at, expected }, text) {
-        if (at === null) {
-            return "A number is larger than 18446744073709551615.";
-        }
-        return `Character ${[...text.slice(0, at)].length + 1}: ${expected} was expected${found(text, at)}.`;
+    function sentence({ at, expected, said }, text) {
+        return said ?? `Character ${[...text.slice(0, at)].length + 1}: ${expected} was expected${found(text, at)}.`;
     }
 
-    /** Tells `onText(text, event)` what is typed. */
+    /** Calls `onText(text, event)` for what is typed. */
     class TextField {
         constructor({ id, name, onText }) {
             this.input = element("input", {

@@ -1,10 +1,37 @@
 "use strict";
 
-// The library, as the page calls it. Every answer about a set comes from here; numbers are BigInt, since they are u64.
+// The library, as the page calls it. Every answer about a set comes from here; numbers are BigInt,
+// since they are u64.
 {
     const EXPECTED = { 1: "a number", 2: "a dot", 3: "a comma or the end" };
+    const NO_MEMORY = 6;
+    const TOO_LARGE = "A number is larger than 18446744073709551615.";
     const encoder = new TextEncoder();
     const decoder = new TextDecoder();
+
+    /**
+     * The first minus up to some place, as what is wrong with a text; or null. It stands before a
+     * number: none of u64.
+     */
+    function minusBefore(text, end) {
+        const at = text.slice(0, end).indexOf("-");
+        return at === -1 ? null : { at, expected: "a number from 0 on" };
+    }
+
+    /**
+     * What is said of a number that stands alone before some place of a text; or null if none does.
+     */
+    function numberAlone(text, at) {
+        const word = text.slice(0, at).split(",").at(-1);
+        if (!/^\s*\d+\s*$/.test(word) || !/^\s*(,|$)/.test(text.slice(at))) {
+            return null;
+        }
+        const number = BigInt(word.trim());
+        if (number > Daleribbon.LAST) {
+            return { at: null, said: TOO_LARGE };
+        }
+        return { at, said: `For one number write ${number}..${number < Daleribbon.LAST ? number + 1n : ""} instead.` };
+    }
 
     const bytesOf = (base64) => Uint8Array.from(atob(base64), (character) => character.charCodeAt(0));
 
@@ -40,8 +67,9 @@
         }
 
         /**
-         * Reads a text. Returns null, or what is wrong: what was expected instead of the character `at`. Where a number
-         * is too large, there is no such character. The set then stays as it was.
+         * Reads a text. Returns null, or what is wrong: what was `expected` instead of the
+         * character `at`, or what is `said` instead of that. If a number is too large, or memory
+         * ran out, `at` is null. The set then stays as it was.
          */
         parse(text) {
             const bytes = this.memory.write(text);
@@ -49,18 +77,21 @@
             if (status === 0) {
                 return null;
             }
+            if (status === NO_MEMORY) {
+                return { at: null, said: "There is no memory for this set." };
+            }
             if (!(status in EXPECTED)) {
-                return { at: null, expected: null };
+                return minusBefore(text) ?? { at: null, said: TOO_LARGE };
             }
             const at = decoder.decode(bytes.subarray(0, this.calls.fault())).length;
-            return { at, expected: EXPECTED[status] };
+            return minusBefore(text, at) ?? numberAlone(text, at) ?? { at, expected: EXPECTED[status] };
         }
 
         copyFrom(other) {
             this.calls.copy(other.place, this.place);
         }
 
-        /** Becomes the result of an operation, told by its four answers, on two sets. */
+        /** Becomes the result of an operation, given by its four answers, on two sets. */
         combine(left, right, answers) {
             this.calls.combine(left.place, right.place, answers, this.place);
         }
@@ -125,7 +156,10 @@
             return this.memory.numbers(this.calls.part(this.place, start, end));
         }
 
-        /** The range that has a value as [start, end], with an end of null where there is none; or null. */
+        /**
+         * The range that has a value as [start, end], with an end of null where there is none; or
+         * null.
+         */
         rangeAt(value) {
             const [start, end = null] = this.memory.numbers(this.calls.range_at(this.place, value));
             return start === undefined ? null : [start, end];
@@ -136,7 +170,10 @@
             return this.memory.numbers(this.calls.gaps(this.place, start, end));
         }
 
-        /** For each column of a window whether none (0), some (1) or all (2) of its values are members. */
+        /**
+         * For each column of a window whether none (0), some (1) or all (2) of its values are
+         * members.
+         */
         shades(start, end, columns) {
             return this.memory.numbers(this.calls.shades(this.place, start, end, BigInt(columns)));
         }

@@ -1,7 +1,7 @@
 "use strict";
 
-// A set drawn on a number line: a ribbon where values are members, a filled dot where a range starts, an open one where
-// it ends, an arrow where it has no end.
+// A set drawn on a number line: a ribbon where values are members, a filled dot where a range
+// starts, an open one where it ends, an arrow where it has no end.
 {
     const { shape, counted } = Daleribbon.tools;
     const { MARGIN } = Daleribbon;
@@ -18,7 +18,7 @@
 
     const crisp = (x) => Math.round(x) + 0.5;
 
-    /** The ends of the ranges whose boundaries these are, with an end of null where there is none. */
+    /** The start and end of each range between boundaries; an end is null if there's none. */
     function* pairs(boundaries) {
         for (let i = 0; i < boundaries.length; i += 2) {
             yield [boundaries[i], i + 1 < boundaries.length ? boundaries[i + 1] : null];
@@ -26,10 +26,11 @@
     }
 
     /**
-     * Options: `set`, `scale`, `name` for screen readers, `format` of values, `tickFormat` of those at the axis, `endless`
-     * whether a range without an end can be drawn. Callbacks: `onProbe(value)`, `onLink(value or null)`, `onWindow(what)`;
-     * where the set can be changed `onPaint(start, end, inside, done)`, and where its boundaries can be moved
-     * `onMove(from, to, done)`.
+     * Options: `set`, `scale`, `name` for screen readers, `format` of values, `tickFormat` of those
+     * at the axis, `endless` whether a range without an end can be drawn. Callbacks:
+     * `onProbe(value)`, `onLink(value or null)`, `onWindow(what)`; where the set can be changed
+     * `onPaint(start, end, inside, done)`, and where its boundaries can be moved `onMove(from, to,
+     * done)`.
      */
     class NumberLine {
         constructor(options) {
@@ -50,7 +51,10 @@
             return this.onPaint !== undefined;
         }
 
-        /** Draws what there is. The width is told by the page: to ask for it would lay the whole page out for each line. */
+        /**
+         * Draws what there is. The page gives the width: to ask for it would lay the whole
+         * page out for each line.
+         */
         draw() {
             if (this.width === 0) {
                 return;
@@ -107,7 +111,10 @@
             return [shape("rect", { class: "on", x: left, width: Math.max(0, right - left), y: RIBBON - 4, height: 8 })];
         }
 
-        /** Too many ranges to tell apart: each column is shaded by whether none, some or all of its values are members. */
+        /**
+         * Too many ranges to tell apart: each column is shaded by whether none, some or all of its
+         * values are members.
+         */
         columns() {
             const wide = this.width - 2 * MARGIN;
             const many = Math.floor(wide / COLUMN);
@@ -145,7 +152,10 @@
             return [shape("rect", { class: name, x: left, width: Math.max(2, right - left), y: 4, height: AXIS - 8, rx: 4 })];
         }
 
-        /** Lines down through the picture: at the value that is asked about, and at the boundary that is pointed at. */
+        /**
+         * Lines down through the picture: at the value that is asked about, and at the boundary
+         * that is pointed at.
+         */
         guides() {
             const guide = (value, name) => {
                 const x = crisp(this.x(value));
@@ -174,7 +184,10 @@
             return shape("circle", { class: names.join(" ").trim(), "data-value": value, cx: x, cy: RIBBON, r: radius, "stroke-width": radius / 2 });
         }
 
-        /** Counts the boundaries at or below the probe, above them: so one sees whether there is an odd number. */
+        /**
+         * Counts the boundaries at or below the probe, above them: so one sees whether there is an
+         * odd number.
+         */
         numbers(shown) {
             const texts = [];
             let number = this.set.boundariesUpTo(this.probe);
@@ -191,7 +204,9 @@
             return texts;
         }
 
-        /** Lets the dots of boundaries that are gone fade, where some are gone and not merely moved. */
+        /**
+         * Lets the dots of boundaries that are gone fade, where some are gone and not merely moved.
+         */
         fadeOut(part) {
             const now = new Set(part);
             if (now.size < this.drawn.size && this.drawnAt === this.scale.start && this.drawnTo === this.scale.end) {
@@ -275,7 +290,7 @@
             this.draw();
         }
 
-        /** What the pointer has done so far: it moves a boundary, or puts a range in or takes it out. */
+        /** What the pointer has done so far: it moves a boundary, or draws a range in or out. */
         go(done) {
             if (!this.gesture?.begun) {
                 return;
@@ -346,7 +361,7 @@
         }
     }
 
-    /** Tells a screen reader what a slider stands at. */
+    /** Says for a screen reader where a slider stands. */
     function withValue(svg, scale, value, text) {
         svg.setAttribute("aria-valuemin", scale.start);
         svg.setAttribute("aria-valuemax", scale.end);

@@ -4,11 +4,15 @@
 {
     const { element } = Daleribbon.tools;
 
-    /** The answers for values in neither set, in the left alone, in the right alone, and in both. */
-    const NEITHER = 1;
-    const LEFT = 2;
-    const RIGHT = 4;
-    const BOTH = 8;
+    /**
+     * The answers for values in the left set alone, in the right alone, in both, and in neither:
+     * the bits of the library for C.
+     */
+    const LEFT = 1;
+    const RIGHT = 2;
+    const BOTH = 4;
+    const NEITHER = 8;
+    const WORDS = { left: LEFT, right: RIGHT, both: BOTH, neither: NEITHER };
 
     const NAMED = [
         { answers: LEFT | RIGHT | BOTH, sign: "A ∪ B", name: "union" },
@@ -20,10 +24,10 @@
 
     /** What each of the sixteen takes, by its answers. */
     const MEANINGS = [
-        "nothing", "what is in neither", "what is in A alone", "what isn’t in B",
-        "what is in B alone", "what isn’t in A", "what is in one of them alone", "what isn’t in both",
-        "what is in both", "what is in both or in neither", "what is in A", "what is in A, or not in B",
-        "what is in B", "what is in B, or not in A", "what is in A, in B, or in both", "everything",
+        "nothing", "what is in A alone", "what is in B alone", "what is in one of them alone",
+        "what is in both", "what is in A", "what is in B", "what is in A, in B, or in both",
+        "what is in neither", "what isn’t in B", "what isn’t in A", "what isn’t in both",
+        "what is in both or in neither", "what is in A, or not in B", "what is in B, or not in A", "everything",
     ];
 
     const CELLS = [
@@ -31,7 +35,10 @@
         [{ answer: RIGHT, label: "not in A, in B" }, { answer: NEITHER, label: "neither in A nor in B" }],
     ];
 
-    /** Tells `onChange(answers)` when the operation changes. `id` tells one chooser's parts from another's. */
+    /**
+     * Calls `onChange(answers)` if the operation changes. `id` tells one chooser's parts from
+     * another's.
+     */
     class OperationChooser {
         constructor({ id, onChange, answers = NAMED[0].answers }) {
             Object.assign(this, { id, onChange, answers });
@@ -78,8 +85,32 @@
 
         show() {
             this.radios.forEach((radio) => { radio.checked = Number(radio.value) === this.answers; });
-            this.boxes.forEach((box) => { box.checked = (Number(box.value) & this.answers) !== 0; });
+            this.boxes.forEach((box) => { box.checked = this.takes(Number(box.value)); });
             this.meaning.textContent = `The result takes ${MEANINGS[this.answers]}.`;
+        }
+
+        /** The answers as words, as they stand in an address. Other words give no answer. */
+        get state() {
+            return Object.keys(WORDS).filter((word) => this.takes(WORDS[word])).join(", ");
+        }
+
+        set state(words) {
+            this.answers = words.split(/,\s*/).reduce((answers, word) => answers | WORDS[word], 0);
+            this.show();
+        }
+
+        takes(answer) {
+            return (this.answers & answer) !== 0;
+        }
+
+        /** Whether some value's membership in A alone changes the result. */
+        get dependsOnA() {
+            return this.takes(NEITHER) !== this.takes(LEFT) || this.takes(RIGHT) !== this.takes(BOTH);
+        }
+
+        /** Whether some value's membership in B alone changes the result. */
+        get dependsOnB() {
+            return this.takes(NEITHER) !== this.takes(RIGHT) || this.takes(LEFT) !== this.takes(BOTH);
         }
 
         /** The operation as a sign, where it has one. */
@@ -88,5 +119,5 @@
         }
     }
 
-    Daleribbon.OperationChooser = OperationChooser;
+    Object.assign(Daleribbon, { OperationChooser, INTERSECTION: BOTH });
 }

@@ -1,9 +1,10 @@
 "use strict";
 
-// A file whose pieces arrive in any order, in a tracker that keeps no more boundaries than its limit.
+// A file whose pieces arrive in any order, in a tracker that keeps no more boundaries than its
+// limit.
 {
     const { element, grouped, counted } = Daleribbon.tools;
-    const { Board, Scale, SetRow } = Daleribbon;
+    const { Board, Past, Scale, SetRow } = Daleribbon;
 
     const PIECE = 1024n;
     const PIECES = 64;
@@ -25,7 +26,26 @@
             this.there = this.row(library, "there", "There", { onPaint: (start, end, inside, done) => this.painted(start, end, inside, done) });
             this.missing = this.row(library, "missing", "Missing", {});
             this.board.rows = [this.there, this.missing];
+            this.limit = element("input", { type: "range", id: "pieces-limit", min: 2, max: MOST_LIMIT, value: LIMIT });
+            this.past = new Past(this);
             this.build();
+            this.begin();
+        }
+
+        /**
+         * The limit and the commands: a piece that arrived is its range, and one that was lost has
+         * a minus before it.
+         */
+        get state() {
+            return { limit: this.limit.value, did: this.commands.map(({ records, start, end }) => `${records ? "" : "-"}${start}..${end}`).join(", ") };
+        }
+
+        /** Ranges that aren't of the file are left out. */
+        set state({ limit, did }) {
+            this.limit.value = limit;
+            this.commands = [...did.matchAll(/(-?)\b(\d+)\.\.(\d+)/g)]
+                .map(([, minus, start, end]) => ({ records: minus === "", start: BigInt(start), end: BigInt(end) }))
+                .filter(({ start, end }) => start < end && end <= LENGTH);
             this.begin();
         }
 
@@ -46,7 +66,7 @@
             this.node = element("div", {},
                 element("div", { class: "card controls" }, this.buttons(), this.limitField()),
                 element("div", { class: "card progress" }, this.progress, this.percent),
-                element("div", { class: "card board" }, element("div", { class: "toolbar" }, element("span"), this.board.buttons()), this.there.node, this.missing.node),
+                element("div", { class: "card board" }, element("div", { class: "toolbar" }, this.past.buttons(), this.board.buttons()), this.there.node, this.missing.node),
                 element("div", { class: "card meter" }, element("h3", {}, "Boundaries"), this.slots, this.used, this.answer, this.log));
         }
 
@@ -63,9 +83,11 @@
         }
 
         limitField() {
-            this.limit = element("input", { type: "range", id: "pieces-limit", min: 2, max: MOST_LIMIT, value: LIMIT });
             this.limitText = element("output", { for: "pieces-limit" }, String(LIMIT));
-            this.limit.addEventListener("input", () => this.begin());
+            this.limit.addEventListener("input", () => {
+                this.begin();
+                this.past.note("limit");
+            });
             return element("label", { class: "limit" }, "Limit", this.limit, this.limitText);
         }
 
@@ -81,11 +103,13 @@
             return records ? this.tracker.record(start, end) : this.tracker.forget(start, end);
         }
 
-        command(records, start, end) {
+        /** Takes a command. Those of one kind in a row are undone together. */
+        command(records, start, end, kind = null) {
             const command = { records, start, end };
             command.needed = this.take(command);
             this.commands.push(command);
             this.show();
+            this.past.note(kind);
         }
 
         painted(start, end, inside, done) {
@@ -100,20 +124,20 @@
             return starts.filter((start) => this.tracker.has(start, start + PIECE) === there);
         }
 
-        arrive(start) {
+        arrive(start, kind) {
             if (start === undefined) {
                 this.answer.textContent = "Every piece is there.";
                 return;
             }
-            this.command(true, start, start + PIECE);
+            this.command(true, start, start + PIECE, kind);
         }
 
         next() {
             this.arrive(this.pieces(false)[0]);
         }
 
-        random() {
-            this.arrive(anyOf(this.pieces(false)));
+        random(kind) {
+            this.arrive(anyOf(this.pieces(false)), kind);
         }
 
         lose() {
@@ -128,11 +152,13 @@
         again() {
             this.commands = [];
             this.begin();
+            this.past.note();
         }
 
         /** Lets random pieces arrive until every one is there. */
         toggle() {
             clearInterval(this.timer);
+            this.past.rest();
             const plays = this.timer === undefined;
             this.timer = plays ? setInterval(() => this.tick(), PAUSE) : undefined;
             this.play.textContent = plays ? "Pause" : "Play";
@@ -142,7 +168,7 @@
             if (this.pieces(false).length === 0) {
                 this.toggle();
             } else {
-                this.random();
+                this.random("play");
             }
         }
 
@@ -160,7 +186,10 @@
             this.showLog();
         }
 
-        /** A place for each boundary that the limit allows, and those that a refused command would have taken beyond it. */
+        /**
+         * A place for each boundary that the limit allows, and those that a refused command would
+         * have taken beyond it.
+         */
         showSlots(last) {
             const limit = Number(this.limit.value);
             const used = this.there.set.boundariesLength();

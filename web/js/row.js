@@ -1,20 +1,21 @@
 "use strict";
 
-// One set on a board: its name, what it is chosen by, its picture, its boundaries, and what is so at the probe.
+// One set on a board: its name, what it is chosen by, its picture, its boundaries, and what is so
+// at the probe.
 {
     const { element, counted } = Daleribbon.tools;
     const { NumberLine, BoundaryList } = Daleribbon;
 
     /**
-     * Options: `id`, `name`, `set`, `scale`, `board`, `head` the node beside the name, and what a line takes. The board
-     * is told of what is pointed at by `probe(value)`, `link(value)` and `look(what)`.
+     * Options: `id`, `name`, `set`, `scale`, `board`, `head` the node beside the name, and what a
+     * line takes. Calls the board's `probe(value)`, `link(value)` and `look(what)`.
      */
     class SetRow {
         constructor({ id, name, label = `Set ${name}`, set, scale, board, head = "", onPaint, onMove, ...drawing }) {
             Object.assign(this, { id, name, set, scale });
-            const told = { onProbe: (value) => board.probe(value), onLink: (value) => board.link(value), onWindow: (what) => board.look(what) };
-            this.line = new NumberLine({ ...drawing, ...told, set, scale, onPaint, onMove, name: `${label} on a number line` });
-            this.list = new BoundaryList({ ...told, onMove: onMove && ((from, to) => onMove(from, to, true)), format: drawing.format ?? String, name: `Boundaries of ${label}` });
+            const calls = { onProbe: (value) => board.probe(value), onLink: (value) => board.link(value), onWindow: (what) => board.look(what) };
+            this.line = new NumberLine({ ...drawing, ...calls, set, scale, onPaint, onMove, name: `${label} on a number line` });
+            this.list = new BoundaryList({ ...calls, onMove: onMove && ((from, to) => onMove(from, to, true)), format: drawing.format ?? String, name: `Boundaries of ${label}` });
             this.list.list.id = `${id}-boundaries`;
             this.badge = element("h3", { class: "badge" }, name);
             this.readout = element("p", { class: "readout", id: `${id}-readout` });
@@ -22,6 +23,18 @@
                 element("div", { class: "head" }, this.badge, head),
                 element("div", { class: "picture" }, this.line.svg, this.readout),
                 this.list.node);
+        }
+
+        /**
+         * Whether the set is an old one, since the text beside it has a fault, or since it was made
+         * of an old one.
+         */
+        get stale() {
+            return this.node.classList.contains("stale");
+        }
+
+        set stale(isOld) {
+            this.node.classList.toggle("stale", isOld);
         }
 
         draw() {

@@ -6,7 +6,7 @@
     const LAST = 2n ** 64n - 1n;
     /** Room at both sides for dots and arrows, in pixels. */
     const MARGIN = 22;
-    /** How far ticks stand apart at least, and how wide a character of their numbers is, in pixels. */
+    /** How far ticks stand apart at least, and how wide a digit of theirs is, in pixels. */
     const APART = 58;
     const CHARACTER = 7;
 
@@ -22,7 +22,7 @@
             return this.end - this.start;
         }
 
-        /** Where a value stands on a line of some width. A value far outside stands just outside. */
+        /** Where a value stands on a line of some width; if far outside, just outside. */
         x(value, width) {
             const share = Number(value - this.start) / Number(this.span);
             return MARGIN + clamp(share, -0.5, 1.5) * (width - 2 * MARGIN);

@@ -3,14 +3,27 @@
 // Two sets that are typed or drawn, and the result of an operation on them.
 {
     const { element, grouped } = Daleribbon.tools;
-    const { Board, OperationChooser, Scale, SetRow, TextField, pairs } = Daleribbon;
+    const { Board, OperationChooser, Past, Scale, SetRow, TextField, pairs } = Daleribbon;
 
     const USUAL = 24n;
     const LONGEST_TEXT = 1200;
     const MOST_GAPS = 40;
     /** Up to so many ranges the text follows each move of the pointer. */
     const FEW = 200;
-    const EXAMPLES = ["0..5, 5..10", "0..5, 6..10", "3..8, 4..6, 20..", "12..4", "1..2, 3..4, 5..6, 7..8"];
+    /** Texts for A, and what each shows. */
+    const EXAMPLES = [
+        ["0..5, 5..10", "touching: one range"],
+        ["0..5, 6..10", "5 is left out"],
+        ["3..8, 4..6, 20..", "overlapping; no end"],
+        ["12..4", "ends before it starts: empty"],
+        ["1..2, 3..4, 5..6, 7..8", "four single numbers"],
+    ];
+    /** What to try first: the link that does it, the words of the link, and what is to be seen. */
+    const STEPS = [
+        ["#sets&a=0..5,5..10&b=&op=left,right,both", "Ranges that touch", "become one: no boundary is left at 5."],
+        ["#sets&a=2..5,10..14&b=5..8,12..&op=left,right", "A △ B", "keeps each boundary that one of them alone has: 5 goes."],
+        ["#sets&a=2..5,10..14&b=&op=right,neither", "not A", "has one boundary more, at 0, so that what was odd is even."],
+    ];
 
     /** The text of 10,000 ranges with gaps between them. */
     function manyRanges() {
@@ -28,16 +41,18 @@
             this.scale = new Scale(0n, USUAL);
             this.board = new Board({ scale: this.scale, fit: () => this.fit() });
             this.before = library.newSet();
-            this.operation = new OperationChooser({ id: "sets", onChange: () => this.update() });
+            this.operation = new OperationChooser({ id: "sets", onChange: () => this.operated() });
             this.a = this.typedRow(library, "A", "2..5, 10..14");
             this.b = this.typedRow(library, "B", "5..8, 12..");
             this.result = new SetRow({ id: "sets-result", name: "A ∪ B", label: "The result", set: library.newSet(), scale: this.scale, board: this.board });
             this.board.rows = [this.a, this.b, this.result];
             this.board.onLook = () => this.showFacts();
+            this.past = new Past(this);
+            this.factsCard = this.facts();
             this.node = element("div", {},
                 element("div", { class: "card" }, this.operation.node),
-                element("div", { class: "card board" }, this.toolbar(), this.a.node, this.b.node, this.result.node),
-                this.facts());
+                element("div", { class: "card board" }, this.steps(), this.toolbar(), this.a.node, this.b.node, this.result.node),
+                this.factsCard);
             this.board.value = 7n;
             this.board.rows.forEach((row) => { row.line.probe = 7n; });
         }
@@ -49,47 +64,102 @@
                 id: `${id}`, name, set: library.newSet(text), scale: this.scale, board: this.board, head: field.node, endless: true,
                 onPaint: (...range) => this.painted(row, ...range), onMove: (...move) => this.movedBoundary(row, ...move),
             });
+            row.line.svg.setAttribute("aria-describedby", "sets-keys");
+            field.input.addEventListener("blur", () => this.past.rest());
             row.field = field;
-            field.text = text;
+            row.text = field.text = text;
             return row;
         }
 
-        toolbar() {
-            const examples = EXAMPLES.map((text) => this.example(text, text));
-            const many = this.example("10,000 ranges", manyRanges());
-            return element("div", { class: "toolbar" }, element("div", { class: "examples", role: "group", "aria-label": "Examples for A" }, ...examples, many), this.board.buttons());
+        /** The texts of both sets, as they were last read or drawn, and the operation. */
+        get state() {
+            return { a: this.a.text, b: this.b.text, op: this.operation.state };
         }
 
-        example(label, text) {
-            const button = element("button", { type: "button", class: "example" }, label);
+        set state({ a, b, op }) {
+            this.a.field.text = a;
+            this.b.field.text = b;
+            this.operation.state = op;
+            this.read(this.a, a);
+            this.read(this.b, b);
+            this.fitAndUpdate();
+        }
+
+        /** Whether a field has a text that isn't read as a set. */
+        get faulty() {
+            return this.a.stale || this.b.stale;
+        }
+
+        operated() {
+            this.update();
+            this.past.note();
+        }
+
+        steps() {
+            const steps = STEPS.map(([href, words, seen]) => element("li", {}, element("a", { href }, words), ` ${seen}`));
+            return element("div", { class: "steps" }, element("h2", {}, "Try it"), element("ol", {}, ...steps));
+        }
+
+        toolbar() {
+            const examples = EXAMPLES.map(([text, shows]) => this.example(text, shows, text));
+            const many = this.example("10,000 ranges", "drawn as shades", manyRanges());
+            return element("div", { class: "toolbar" },
+                element("div", { class: "examples", role: "group", "aria-labelledby": "sets-examples" }, element("span", { id: "sets-examples" }, "Set A to"), ...examples, many),
+                this.hints(), this.past.buttons(), this.board.buttons());
+        }
+
+        example(label, shows, text) {
+            const button = element("button", { type: "button", class: "example" }, element("code", {}, label), " ", element("small", {}, shows));
             button.addEventListener("click", (event) => {
                 this.a.field.text = text;
                 this.typed(this.a, text, event);
+                this.past.rest();
             });
             return button;
         }
 
+        hints() {
+            return element("div", { class: "hints" },
+                element("p", {}, element("b", {}, "Draw"), " on A or B: drag to put a range in, drag from a member to take one out, drag a dot to move it, drag past the right edge for no end."),
+                element("details", {}, element("summary", {}, "By keys"),
+                    element("p", { id: "sets-keys" }, "On a line the arrows move the number that is asked about, and select with Shift; in a list they move a boundary. Enter puts the selection in, Delete takes it out, Escape drops it. + and − change the window, Ctrl+Z undoes.")));
+        }
+
         facts() {
-            const fact = (id, name, told = false) => {
-                this[id] = element("dd", { id: `sets-${id}`, "aria-live": told ? "polite" : null });
+            const fact = (id, name, isLive = false) => {
+                this[id] = element("dd", { id: `sets-${id}`, "aria-live": isLive ? "polite" : null });
                 return [element("dt", {}, name), this[id]];
             };
             return element("dl", { class: "card facts" },
                 ...fact("text", "Text", true), ...fact("members", "Members"), ...fact("ranges", "Ranges"), ...fact("gaps", "Gaps in the window"));
         }
 
-        /** Reads what was typed. A text with a fault leaves the set as it was. */
-        typed(row, text, event) {
+        /** Reads a text into a set. One with a fault leaves the set as it was. */
+        read(row, text) {
             const fault = row.set.parse(text);
             row.field.fault(fault);
-            row.node.classList.toggle("stale", fault !== null);
-            if (fault === null) {
-                if (this.board.follows) {
-                    this.fit();
-                }
-                this.update();
+            row.stale = fault !== null;
+            if (!row.stale) {
+                row.text = text;
             }
+        }
+
+        typed(row, text, event) {
+            this.read(row, text);
+            if (row.stale) {
+                this.showStale();
+            } else {
+                this.fitAndUpdate();
+            }
+            this.past.note(row.id);
             Daleribbon.time(event);
+        }
+
+        fitAndUpdate() {
+            if (this.board.follows) {
+                this.fit();
+            }
+            this.update();
         }
 
         /** Keeps the set as it is before a gesture, to which each step of the gesture goes back. */
@@ -127,10 +197,13 @@
 
         changed(row, done) {
             if (done || row.set.rangesLength() <= FEW) {
-                row.field.text = row.set.toString();
-                row.node.classList.remove("stale");
+                row.text = row.field.text = row.set.toString();
+                row.stale = false;
             }
             this.update();
+            if (done) {
+                this.past.note();
+            }
         }
 
         /** Shows both sets, from the lowest boundary to the highest. */
@@ -153,6 +226,14 @@
             result.badge.textContent = operation.sign;
             this.board.draw();
             this.showFacts();
+            this.showStale();
+        }
+
+        /** Dims the result where it depends on a set whose text has a fault. */
+        showStale() {
+            const { a, b, result, operation } = this;
+            result.stale = (a.stale && operation.dependsOnA) || (b.stale && operation.dependsOnB);
+            this.factsCard.classList.toggle("stale", result.stale);
         }
 
         showFacts() {

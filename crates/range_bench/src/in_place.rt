@@ -1,4 +1,5 @@
-//! Sets changed in place. Each export copies what it changes or gives away: `range_bench_copy` and `range_bench_copies` do that alone, so that their time can be taken off.
+//! Sets changed in place. Each export copies what it changes or gives away: `range_bench_copy` and
+//! `range_bench_copies` do that alone, so that their time can be taken off.
 ghost use Rattle.std.specs.Prelude.{◌≡◌, false};
 ghost use Rattle.std.specs.Ordering.{int_cmp};
 ghost use Rattle.range_collections.specs.Boundaries.{IsAscending};

@@ -73,7 +73,9 @@ pub extern "C" fn range_bench_contains(set: &[i64], values: &[i64]) -> usize
     members
 }
 
-/// How many of the values are members of the set of these texts, or `usize::MAX` if memory runs out or the texts aren't strictly sorted. Each text and each value has 32 bytes, and comes right after the one before.
+/// How many of the values are members of the set of these texts, or `usize::MAX` if memory runs out
+/// or the texts aren't strictly sorted. Each text and each value has 32 bytes, and comes right
+/// after the one before.
 #[unsafe(no_mangle)]
 pub extern "C" fn range_bench_contains_text(alloc: Global, texts: &[u8], values: &[u8]) -> usize {
     match texts_of(alloc, texts) {
@@ -104,7 +106,8 @@ fn texts_among(texts: &[&[u8]], values: &[u8]) -> usize {
     members
 }
 
-/// The set split at each of the values: how many boundaries the left parts have together, up to 2 to the power 64.
+/// The set split at each of the values: how many boundaries the left parts have together, up to 2
+/// to the power 64.
 #[unsafe(no_mangle)]
 pub extern "C" fn range_bench_split(set: &[i64], values: &[i64]) -> usize
     requires { IsAscending int_cmp set.now }

@@ -1,4 +1,5 @@
--- What a connective makes of two sets from the least number on: what it is there, and what changes after it.
+-- What a connective makes of two sets from the least number on: what it is there, and what changes
+-- after it.
 use Rattle.std.proofs.Common.{◌≡◌, refl, sym, ap, ap₂, ◌∙◌, ℕ, ◌≤◌, ◌+◌, Bool, true, false, List, [], ◌∷◌, length, take, drop, All, arith, true≢false}
 use Rattle.std.specs.List.{AllWithin}
 use Rattle.std.proofs.lemmas.List.{take-append-drop, length-take-le, length-map}

@@ -20,7 +20,8 @@ use Rattle.range_collections.proofs.Shortest.{is_le-cases, Less-from_le, Less-th
 use Rattle.range_c.specs.Ranges.{is_within, ends_of, IsUnionOf}
 use Rattle.range_c.specs.Joining.{IsPut}
 
--- the front of now holds the numbers of the first i ranges of was, of which none starts above a later one, and from i on both are one
+-- the front of now holds the numbers of the first i ranges of was, of which none starts above a
+-- later one, and from i on both are one
 pub record IsJoined {P K : Type 0} (order : K → K → Ordering) (first last : P → K) (was : List P) (i : ℕ) (now : List P) (kept : ℕ) : Type 0 where
   pub in_front : kept ≤ i
   pub as_was : drop i now ≡ drop i was
@@ -39,7 +40,7 @@ item-was {P} xs ys i x e is = is ∙ sym (here xs) ∙ ap (λ us. get_or us 0 x)
     here zs = get_or-drop i zs 0 x ∙ ap (λ n. get_or zs n x) none
 
 -- a front by its last item
-front-by_last : {P : Type 0} (xs : List P) (n : ℕ) (b : P) → 0 < n → n < length xs → b ≡ get_or xs (n - 1) b → take n xs ≡ take (n - 1) xs ++ b ∷ []
+pub front-by_last : {P : Type 0} (xs : List P) (n : ℕ) (b : P) → 0 < n → n ≤ length xs → b ≡ get_or xs (n - 1) b → take n xs ≡ take (n - 1) xs ++ b ∷ []
 front-by_last xs n b some within is =
     let back : (n - 1) + 1 ≡ n = omega (arith, some) in
     sym (ap (λ m. take m xs) back) ∙ take_more xs (n - 1) b (omega (arith, some, within)) ∙ ap (λ y. take (n - 1) xs ++ y ∷ []) (sym is)
@@ -61,7 +62,7 @@ and-false : (a : Bool) → (a && false) ≡ false
 and-false true = refl
 and-false false = refl
 
-or-false : (a : Bool) → (a || false) ≡ a
+pub or-false : (a : Bool) → (a || false) ≡ a
 or-false true = refl
 or-false false = refl
 
@@ -92,13 +93,13 @@ All-other_end F (y ∷ ys) z w h g =
     All-cons F y (ys ++ w ∷ []) (All-head F y (ys ++ z ∷ []) h) (All-other_end F ys z w (All-tail F y (ys ++ z ∷ []) h) g)
 
 module _ {K : Type 0} {order : K → K → Ordering} (o : IsTotalOrder order) where
-  ascending-one : (z : K) → IsAscending order (z ∷ [])
+  pub ascending-one : (z : K) → IsAscending order (z ∷ [])
   ascending-one z = IsAscending-cons order z [] (All-nil (λ y. order z y ≡ Less)) (IsAscending-nil order)
 
   ascending-two : (s e : K) → order s e ≡ Less → IsAscending order (s ∷ e ∷ [])
   ascending-two s e less = IsAscending-cons order s (e ∷ []) (All-cons (λ y. order s y ≡ Less) e [] less (All-nil (λ y. order s y ≡ Less))) (ascending-one e)
 
-  below_end : (ys : List K) (z s : K) → IsAscending order (ys ++ z ∷ []) → order z s ≡ Less → All (λ y. order y s ≡ Less) (ys ++ z ∷ [])
+  pub below_end : (ys : List K) (z s : K) → IsAscending order (ys ++ z ∷ []) → order z s ≡ Less → All (λ y. order y s ≡ Less) (ys ++ z ∷ [])
   below_end [] z s up h = All-cons (λ y. order y s ≡ Less) z [] h (All-nil (λ y. order y s ≡ Less))
   below_end (y ∷ ys) z s up h =
       All-cons (λ w. order w s ≡ Less) y (ys ++ z ∷ [])
@@ -117,36 +118,41 @@ module _ {K : Type 0} {order : K → K → Ordering} (o : IsTotalOrder order) wh
     abbrev holds : K → P → Bool
     holds x r = is_within order first last x r
 
-    ends_of-append : (rs ts : List P) → ends_of first last (rs ++ ts) ≡ ends_of first last rs ++ ends_of first last ts
+    pub ends_of-append : (rs ts : List P) → ends_of first last (rs ++ ts) ≡ ends_of first last rs ++ ends_of first last ts
     ends_of-append [] ts = refl
     ends_of-append (r ∷ rs) ts = ap (λ us. first r ∷ last r ∷ us) (ends_of-append rs ts)
 
     -- the ends of one more range, its end apart
-    ends_of-push : (rs : List P) (r : P) → ends_of first last (rs ++ r ∷ []) ≡ (ends_of first last rs ++ first r ∷ []) ++ last r ∷ []
+    pub ends_of-push : (rs : List P) (r : P) → ends_of first last (rs ++ r ∷ []) ≡ (ends_of first last rs ++ first r ∷ []) ++ last r ∷ []
     ends_of-push rs r = ends_of-append rs (r ∷ []) ∙ sym (append_assoc (ends_of first last rs) (first r ∷ []) (last r ∷ []))
 
-    -- the members of the set whose boundaries the ends are
-    pub member-ends_of : (rs : List P) (x : K) → IsAscending order (ends_of first last rs) → member order (ends_of first last rs) x ≡ list_any (holds x) rs
-    member-ends_of [] x up = member-nil order x
-    member-ends_of (r ∷ rs) x up =
+    -- the members of the set whose boundaries are the ends of a range and others above it
+    pub member-range_and : (r : P) (rest : List K) (x : K) (truth : Bool) → IsAscending order (first r ∷ last r ∷ rest) → member order rest x ≡ truth →
+        member order (first r ∷ last r ∷ rest) x ≡ (holds x r || truth)
+    member-range_and r rest x truth up others =
         let s = first r in
         let e = last r in
-        let rest = ends_of first last rs in
         let tail = IsAscending-tail order s (e ∷ rest) up in
         let above : All (λ y. order e y ≡ Less) rest = IsAscending-head order e rest tail in
         let less : order s e ≡ Less = All-head (λ y. order s y ≡ Less) e rest (IsAscending-head order s (e ∷ rest) up) in
-        let others = member-ends_of rs x (IsAscending-tail order e rest tail) in
         member-cons order s (e ∷ rest) x ∙ ap (differ (is_le (order s x))) (member-cons order e rest x)
         ∙ is_le-cases (order e x)
         (λ at.
         let low : is_le (order s x) ≡ true = ap is_le (Less-then_le o s e x less at) in
         ap₂ (λ a b. differ a (differ b (member order rest x))) low at ∙ twice (member order rest x) ∙ others
-        ∙ sym (ap₂ (λ a l. (a && l) || list_any (holds x) rs) low (ap is_lt (o.antisymm x e) ∙ is_lt-reverse (order e x) at)))
+        ∙ sym (ap₂ (λ a l. (a && l) || truth) low (ap is_lt (o.antisymm x e) ∙ is_lt-reverse (order e x) at)))
         (λ past.
         let below : order x e ≡ Less = Less-from_greater o e x past in
         let none : member order rest x ≡ false = member-above order rest x (λ k d within. Greater-from_less o x _ (o.trans x e _ below (above k d within))) in
         ap₂ (λ b m. differ (is_le (order s x)) (differ b m)) (ap is_le past) none ∙ once (is_le (order s x))
         ∙ sym (ap₂ (λ l n. (is_le (order s x) && l) || n) (ap is_lt below) (sym others ∙ none)))
+
+    -- the members of the set whose boundaries the ends are
+    pub member-ends_of : (rs : List P) (x : K) → IsAscending order (ends_of first last rs) → member order (ends_of first last rs) x ≡ list_any (holds x) rs
+    member-ends_of [] x up = member-nil order x
+    member-ends_of (r ∷ rs) x up =
+        let rest = ends_of first last rs in
+        member-range_and r rest x (list_any (holds x) rs) up (member-ends_of rs x (IsAscending-tail order (last r) rest (IsAscending-tail order (first r) (last r ∷ rest) up)))
 
     abbrev starts_low : P → List P → Type 0
     starts_low r rs = All (λ t. is_le (order (first t) (first r)) ≡ true) rs
@@ -284,7 +290,7 @@ module _ {K : Type 0} {order : K → K → Ordering} (o : IsTotalOrder order) wh
     module _ (xs : List P) (n : ℕ) (b r : P) (some : 0 < n) (within : n < length xs) (is : b ≡ get_or xs (n - 1) b)
         (up : IsAscending order (ends_of first last (take n xs))) (low : starts_low r (take n xs)) where
       shown : take n xs ≡ take (n - 1) xs ++ b ∷ []
-      shown = front-by_last xs n b some within is
+      shown = front-by_last xs n b some (omega (arith, within)) is
 
       shown_up : IsAscending order (ends_of first last (take (n - 1) xs ++ b ∷ []))
       shown_up = subst (λ us. IsAscending order (ends_of first last us)) shown up

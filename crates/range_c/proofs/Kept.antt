@@ -1,4 +1,5 @@
--- A loop that moves each item that differs from the one kept last to the front leaves what `dedup` does.
+-- A loop that moves each item that differs from the one kept last to the front leaves what `dedup`
+-- does.
 use Rattle.std.proofs.Common.{◌≡◌, refl, sym, ap, ap₂, ◌∙◌, ℕ, ◌<◌, ◌≤◌, ◌+◌, ◌-◌, Bool, true, false, cond, List, [], ◌∷◌, ◌++◌, length, get_or, set, take, drop, arith, append_assoc, get_or-set_same}
 use Rattle.std.specs.List.{dedup, dedup_from}
 use Rattle.std.proofs.lemmas.List.{drop_more, drop_all, take_more, take-set, drop-set-lt}

@@ -1,8 +1,10 @@
 pub mod Kept
 pub mod Joined
+pub mod Opened
 pub mod RangesFrom
 pub mod Room
 pub mod Meant
 pub mod FromLeast
 pub mod Put
 pub mod Read
+pub mod Fitted

@@ -1,48 +1,30 @@
--- Sets read range by range: what a step over the parts of a text leaves, and a range that is put in.
-use Rattle.std.proofs.Common.{◌≡◌, sym, ap, ap₂, ◌∙◌, subst, ℕ, ◌+◌, ◌≤◌, Bool, true, false, true≢false, cond, ◌||◌, Option, Some, None, List, [], ◌∷◌, ◌++◌, length, take, drop, get_or, All, length-append, append_assoc, arith, refl, lit<}
+-- Ranges read one by one: what a step over the parts of a text leaves, and the ranges that are
+-- read.
+use Rattle.std.proofs.Common.{◌≡◌, sym, ap, ap₂, ◌∙◌, ℕ, ◌+◌, ◌*◌, ◌≤◌, Bool, true, false, ◌&&◌, ◌||◌, Option, Some, None, List, [], ◌∷◌, ◌++◌, length, length-append, append_assoc, subst, arith, refl, lit<}
 use Rattle.std.specs.Borrow.{Bor}
 use Rattle.std.specs.Cmp.{IsTotalOrder}
 use Rattle.std.specs.Iterator.{AlwaysYields}
-use Rattle.std.specs.List.{cons_option, flat_map, filter_map}
+use Rattle.std.specs.List.{cons_option, flat_map, filter_map, list_any}
 use Rattle.std.specs.Option.{option_to_list}
 use Rattle.std.specs.Ordering.{is_le, is_lt}
 use Rattle.std.specs.Str.Iter.{split_steps, split_text, split_has_more, split_pattern}
 use Rattle.std.specs.Str.Pattern.{FindsChar}
 use Rattle.std.specs.declared.cmp.Ordering.{Ordering}
 use Rattle.std.specs.declared.str.Split.{Split}
-use Rattle.std.specs.declared.cmp.Ordering.TheVariants.{Less, Equal, Greater}
 use Rattle.std.proofs.lemmas.Iterator.Splits.{YieldsList-from_str_split}
-use Rattle.std.proofs.lemmas.List.{length-take-le, take-take, take_at}
-use Rattle.std.proofs.lemmas.List.Elements.{All-nil, All-cons, All-append, All-take, All-weaker}
 use Rattle.std.proofs.lemmas.Grind.{flat_map-append}
+use Rattle.std.proofs.lemmas.List.{append-nil}
 use Rattle.std.proofs.lemmas.List.Folds.{list_any-append}
-use Rattle.range_merge.specs.Boundaries.{IsAscending, count_up_to, member, is_odd}
-use Rattle.range_merge.specs.Connective.{Means, union_table}
-use Rattle.range_merge.specs.Changes.{changes, taken_items}
-use Rattle.range_merge.proofs.ChangesLemmas.{Means-changes}
-use Rattle.range_merge.proofs.Members.{member-nil, by_Ordering}
-use Rattle.range_merge.proofs.OwnersLemmas.{IsOwners-owners}
-use Rattle.range_merge.proofs.Orders.{Greater-from_less, Less-from_greater, Equal-self}
-use Rattle.range_collections.specs.Ranges.{range_boundaries, range_ends, range_items}
-use Rattle.range_collections.specs.Reading.{parts_of, range_in}
-use Rattle.range_collections.specs.Splicing.{IsCut}
-use Rattle.range_collections.specs.Unions.{IsUnionOf}
+use Rattle.range_collections.specs.Boundaries.{member}
+use Rattle.range_collections.specs.Ranges.{range_boundaries, range_ends}
+use Rattle.range_collections.specs.Reading.{parts_of, range_in, ranges_in}
+use Rattle.range_collections.specs.Unions.{is_in_one}
 use Rattle.range_collections.specs.declared.range_set_range.RangeSetRange.{RangeSetRange}
-use Rattle.range_collections.proofs.Ascending.{IsAscending-nil, IsAscending-cons, Less-from_is_lt}
-use Rattle.range_collections.proofs.Cut.{IsAscending-take, count_up_to-front, All-take_within, All-drop_within}
-use Rattle.range_collections.proofs.Insertion.{IsAscending-append}
-use Rattle.range_collections.proofs.Shortest.{is_le-cases, count_up_to-append, count_up_to-all, count_up_to-none, Less-then_le, le-trans}
-use Rattle.range_collections.proofs.Unions.{length-union}
-use Rattle.range_collections.proofs.Values.{IsAscending-one, member-one}
-use Rattle.range_c.specs.InPlace.{ChangesList}
-
-or_true : (b : Bool) → (b || true) ≡ true
-or_true true = refl
-or_true false = refl
-
-or_false : (b : Bool) → (b || false) ≡ b
-or_false true = refl
-or_false false = refl
+use Rattle.range_collections.specs.declared.range_set_range.RangeSetRange.TheVariants.{Range, RangeFrom}
+use Rattle.range_collections.proofs.PartsLaws.{member-range_items}
+use Rattle.range_collections.proofs.Values.{member-one}
+use Rattle.range_c.specs.Ranges.{is_from, is_within}
+use Rattle.range_c.specs.Reading.{numbers_in}
 
 -- ---- a step of an iterator that gives a list of items
 
@@ -54,124 +36,6 @@ module _ {S A B : Type 0} (steps : S → Option A → S → Type 0) (v : A → B
   pub yielded-none : (s t : S) (ys : List B) → AlwaysYields steps v s ys → steps s None t → ys ≡ []
   yielded-none s t [] h k = refl
   yielded-none s t (y ∷ ys) h k = absurd (h.0 t k)
-
--- ---- a range without an end
-
-module _ {K : Type 0} {order : K → K → Ordering} (o : IsTotalOrder order) where
-  module _ (a : List K) (start : K) (n : ℕ) (put : Option K) (up : IsAscending order a) (p : IsCut order true a start n put) where
-    abbrev kept : List K
-    kept = take n a
-
-    abbrev front : List K
-    front = take n a ++ option_to_list put
-
-    pub length-front : length front ≡ n + length (option_to_list put)
-    length-front = omega (arith, length-append (take n a) (option_to_list put), length-take-le n a p.within)
-
-    put_is : (P : K → Type 0) → P start → All P (option_to_list put)
-    put_is P h = All-weaker (λ y. (y ≡ start) × All (λ x. order x start ≡ Equal → ⊥) a) P (λ y w. subst P (sym w.0) h) (option_to_list put) p.is_put
-
-    kept_low : All (λ y. is_le (order y start) ≡ true) kept
-    kept_low = All-take_within order (λ y. is_le (order y start) ≡ true) n a p.within p.before
-
-    front_low : All (λ y. is_le (order y start) ≡ true) front
-    front_low =
-        All-append (λ y. is_le (order y start) ≡ true) kept (option_to_list put) kept_low
-        (put_is (λ y. is_le (order y start) ≡ true) (ap is_le (Equal-self o start)))
-
-    put_above : All (λ x. All (λ y. order x y ≡ Less) (option_to_list put)) kept
-    put_above k d within =
-        All-weaker (λ y. (y ≡ start) × All (λ x. order x start ≡ Equal → ⊥) a) (λ y. order (get_or kept k d) y ≡ Less)
-        (λ y w.
-        subst (λ z. order (get_or kept k d) z ≡ Less) (sym w.0)
-        (by_Ordering (order (get_or kept k d) start) (λ l. l)
-        (λ e. absurd (All-take (λ x. order x start ≡ Equal → ⊥) n a w.1 k d within e))
-        (λ g. absurd (true≢false (sym (kept_low k d within) ∙ ap is_le g)))))
-        (option_to_list put) p.is_put
-
-    ascending_one : (one : Option K) → IsAscending order (option_to_list one)
-    ascending_one None = IsAscending-nil order
-    ascending_one (Some y) = IsAscending-one o y
-
-    IsAscending-front : IsAscending order front
-    IsAscending-front = IsAscending-append o kept (option_to_list put) (IsAscending-take order n a up) (ascending_one put) put_above
-
-    member-from : (x : K) → is_le (order start x) ≡ true → member order front x ≡ true
-    member-from x far =
-        ap is_odd (count_up_to-all order x front (λ k d within. le-trans o (get_or front k d) start x (front_low k d within) far) ∙ length-front) ∙ p.parity
-
-    member-below : (x : K) → order x start ≡ Less → member order front x ≡ member order a x
-    member-below x low =
-        let none : count_up_to order (option_to_list put) x ≡ 0 =
-        count_up_to-none order x (option_to_list put) (put_is (λ y. order y x ≡ Greater) (Greater-from_less o x start low)) in
-        let rest : count_up_to order (drop n a) x ≡ 0 =
-        count_up_to-none order x (drop n a)
-        (All-drop_within order (λ y. order y x ≡ Greater) n a p.within
-        (λ k d more high. Greater-from_less o x (get_or a k d) (Less-then_le o x start (get_or a k d) low (p.from k d more high)))) in
-        ap is_odd (omega (arith, count_up_to-append order kept (option_to_list put) x, none, count_up_to-front order n a x, rest))
-
-    -- what stands before the cut, and the start where it is put, is the set with all from the start on
-    pub Means-front : Means order union_table front a (start ∷ [])
-    Means-front = record {
-      sorted = IsAscending-front;
-      members = λ x.
-          is_le-cases (order start x)
-          (λ t. member-from x t ∙ sym (ap (λ b. member order a x || b) (member-one o start x ∙ t) ∙ or_true (member order a x)))
-          (λ g. member-below x (Less-from_greater o start x g) ∙ sym (ap (λ b. member order a x || b) (member-one o start x ∙ ap is_le g) ∙ or_false (member order a x)));
-    }
-
-  -- ---- a set with one range more
-
-  ascending_range : (start end : K) → IsAscending order (range_items order start end)
-  ascending_range start end = by_test (is_lt (order start end)) refl
-    where
-      by_test : (b : Bool) → is_lt (order start end) ≡ b → IsAscending order (cond b (start ∷ end ∷ []) [])
-      by_test true e = IsAscending-cons order start (end ∷ []) (All-cons (λ y. order start y ≡ Less) end [] (Less-from_is_lt (order start end) e) (All-nil (λ y. order start y ≡ Less))) (IsAscending-one o end)
-      by_test false e = IsAscending-nil order
-
-  few_items : (start end : K) → length (range_items order start end) ≤ 2
-  few_items start end = by_test (is_lt (order start end))
-    where
-      by_test : (b : Bool) → length (cond b (start ∷ end ∷ []) []) ≤ 2
-      by_test true = omega arith
-      by_test false = omega arith
-
-  -- a range put into a buffer with room for two more is there, and the set has two boundaries more at most
-  pub room_for_two : (a old new : List K) (start end : K) (n : ℕ) → IsAscending order a → ChangesList order union_table a (range_items order start end) old new n →
-      length a + 2 ≤ length old → (n ≤ length a + 2) × Means order union_table (take n new) a (range_items order start end)
-  room_for_two a old new start end n up r room =
-      let b : List K = range_items order start end in
-      let items : List K = taken_items (changes order union_table a b) in
-      let means : Means order union_table items a b = Means-changes o union_table a b refl up (ascending_range start end) (IsOwners-owners o a b up (ascending_range start end)) in
-      let few : n ≤ length a + 2 = omega (arith, r.counted items means, length-union o items a b up (ascending_range start end) means, few_items start end) in
-      (few, r.means (omega (arith, few, room)))
-
-  -- the union of ranges, and of these and one more
-  pub IsUnionOf-none : IsUnionOf order (range_boundaries order) [] []
-  IsUnionOf-none = record { sorted = IsAscending-nil order; members = λ x. member-nil order x }
-
-  pub IsUnionOf-more : (ranges : List (RangeSetRange K)) (range : RangeSetRange K) (a items : List K) → IsUnionOf order (range_boundaries order) ranges a →
-      Means order union_table items a (range_boundaries order range) → IsUnionOf order (range_boundaries order) (ranges ++ range ∷ []) items
-  IsUnionOf-more ranges range a items union means = record {
-    sorted = means.sorted;
-    members = λ x.
-        means.members x
-        ∙ ap₂ ◌||◌ (union.members x) (sym (or_false (member order (range_boundaries order range) x)))
-        ∙ sym (list_any-append (λ part. member order (range_boundaries order part) x) ranges (range ∷ []));
-  }
-
-  -- a buffer whose set is cut at a start, which is put there
-  pub Means-opened : (buffer new : List K) (len n m : ℕ) (start : K) (put : Option K) → len ≤ length buffer → IsAscending order (take len buffer) →
-      IsCut order true (take len buffer) start n put → new ≡ take n buffer ++ (option_to_list put ++ drop m buffer) → m ≡ n + length (option_to_list put) →
-      Means order union_table (take m new) (take len buffer) (start ∷ [])
-  Means-opened buffer new len n m start put room up p is count =
-      let a : List K = take len buffer in
-      let same : take n a ≡ take n buffer = take-take n len buffer (omega (arith, p.within, length-take-le len buffer room)) in
-      let whole : new ≡ (take n a ++ option_to_list put) ++ drop m buffer =
-      is ∙ sym (append_assoc (take n buffer) (option_to_list put) (drop m buffer)) ∙ ap (λ xs. (xs ++ option_to_list put) ++ drop m buffer) (sym same) in
-      let long : length (take n a ++ option_to_list put) ≡ m = length-front a start n put up p ∙ sym count in
-      let told : take m new ≡ take n a ++ option_to_list put = ap (take m) whole ∙ take_at (take n a ++ option_to_list put) (drop m buffer) m long in
-      rw told (Means-front a start n put up p)
 
 -- ---- the parts of a text
 
@@ -220,6 +84,56 @@ length-one_more done range =
       length-append (range_ends range) [],
     )
 
+-- ---- the ranges that are read
+
+-- the front has the ranges with an end, and the others begin at `from`
+pub record AreRead {P K : Type 0} (order : K → K → Ordering) (first last : P → K) (done : List (RangeSetRange K)) (front : List P) (from : Option K) : Type 0 where
+  pub few : 2 * length front + length (option_to_list from) ≤ length (flat_map range_ends done)
+  pub members : (x : K) → (list_any (is_within order first last x) front || is_from order from x) ≡ is_in_one order (range_boundaries order) done x
+
+one_more : (a b c d : Bool) → ((a || (c || false)) || b) ≡ ((a || b) || (c || false))
+one_more true b c d = refl
+one_more false true true d = refl
+one_more false true false d = refl
+one_more false false c d = by_truth c
+  where
+    by_truth : (c : Bool) → ((c || false) || false) ≡ (c || false)
+    by_truth true = refl
+    by_truth false = refl
+
+from_more : (a b c : Bool) → (a || (b || c)) ≡ ((a || b) || (c || false))
+from_more true b c = refl
+from_more false true c = refl
+from_more false false true = refl
+from_more false false false = refl
+
+module _ {P K : Type 0} {order : K → K → Ordering} (o : IsTotalOrder order) (first last : P → K) where
+  pub AreRead-none : AreRead order first last [] [] None
+  AreRead-none = record { few = omega arith; members = λ x. refl }
+
+  pub AreRead-range : (done : List (RangeSetRange K)) (front : List P) (from : Option K) (r : P) (start end : K) → first r ≡ start → last r ≡ end → AreRead order first last done front from →
+      AreRead order first last (done ++ Range (record { start = start; end = end }) ∷ []) (front ++ r ∷ []) from
+  AreRead-range done front from r start end starts ends h = record {
+    few = omega (arith, h.few, length-append front (r ∷ []), length-one_more done (Range (record { start = start; end = end })));
+    members = λ x.
+        ap (λ b. b || is_from order from x) (list_any-append (is_within order first last x) front (r ∷ []))
+        ∙ one_more (list_any (is_within order first last x) front) (is_from order from x) (is_within order first last x r) false
+        ∙ ap₂ (λ b c. b || (c || false)) (h.members x) (ap₂ (λ s e. is_le (order s x) && is_lt (order x e)) starts ends ∙ sym (member-range_items o start end x))
+        ∙ sym (list_any-append (λ part. member order (range_boundaries order part) x) done (Range (record { start = start; end = end }) ∷ []));
+  }
+
+  pub AreRead-from : (done : List (RangeSetRange K)) (front : List P) (from : Option K) (start low : K) →
+      ((x : K) → is_le (order low x) ≡ (is_from order from x || is_le (order start x))) → AreRead order first last done front from →
+      AreRead order first last (done ++ RangeFrom (record { start = start }) ∷ []) front (Some low)
+  AreRead-from done front from start low lowest h = record {
+    few = omega (arith, h.few, length-one_more done (RangeFrom (record { start = start })));
+    members = λ x.
+        ap (λ b. list_any (is_within order first last x) front || b) (lowest x)
+        ∙ from_more (list_any (is_within order first last x) front) (is_from order from x) (is_le (order start x))
+        ∙ ap₂ (λ b c. b || (c || false)) (h.members x) (sym (member-one o start x))
+        ∙ sym (list_any-append (λ part. member order (range_boundaries order part) x) done (RangeFrom (record { start = start }) ∷ []));
+  }
+
 -- what splitting a text at its commas gives, and one part of it
 module _ (s : Split ℕ) where
   pub yields-parts : (text : List ℕ) → split_text s ≡ text → split_has_more s ≡ true → split_pattern s ≡ 44 →
@@ -237,3 +151,69 @@ module _ (s : Split ℕ) where
 
 pub none_before : (n : ℕ) → 0 + n ≡ n
 none_before n = omega arith
+
+-- ---- a text whose ranges are read
+
+-- the parts that are left of a text, and what is read of those before
+pub record IsReading {P K : Type 0} (order : K → K → Ordering) (number : List ℕ → Option K) (first last : P → K) (text : List ℕ) (s : Split ℕ) (front : List P) (from : Option K) : Type 0 where
+  pub left : List (List ℕ)
+  pub yields : AlwaysYields (split_steps FindsChar (λ a b. b ≡ a)) (λ x. x.now) s left
+  pub done : List (RangeSetRange K)
+  pub parts : done ++ filter_map (range_in number) left ≡ ranges_in number text
+  pub read : AreRead order first last done front from
+
+module _ {P K : Type 0} {order : K → K → Ordering} (o : IsTotalOrder order) (number : List ℕ → Option K) (first last : P → K) (text : List ℕ) (s : Split ℕ) where
+  pub IsReading-start : split_text s ≡ text → split_has_more s ≡ true → split_pattern s ≡ 44 → IsReading order number first last text s [] None
+  unfolding ranges_in
+  IsReading-start is more pattern = record { left = parts_of text; yields = yields-parts s text is more pattern; done = []; parts = refl; read = AreRead-none o first last }
+
+  module _ (front : List P) (from : Option K) (h : IsReading order number first last text s front from) where
+    pub AreRead-all : (t : Split ℕ) → split_steps FindsChar (λ a b. b ≡ a) s None t → AreRead order first last (ranges_in number text) front from
+    AreRead-all t k =
+        let none = no_part s t h.left h.yields k in
+        subst (λ done. AreRead order first last done front from)
+        (sym (append-nil h.done) ∙ ap (λ xs. h.done ++ filter_map (range_in number) xs) (sym none) ∙ h.parts) h.read
+
+    module _ (t : Split ℕ) (x : Bor (List ℕ)) (k : split_steps FindsChar (λ a b. b ≡ a) s (Some x) t) where
+      pub IsReading-none : range_in number x.now ≡ None → IsReading order number first last text t front from
+      IsReading-none found =
+          let next = next-part s t x h.left h.yields k in
+          record {
+            left = next.rest;
+            yields = next.yields;
+            done = h.done;
+            parts = ranges-step_none number h.done (ranges_in number text) x.now h.left next.rest next.is found h.parts;
+            read = h.read;
+          }
+
+      -- a part with a range has its numbers beside those before
+      pub fits-more : (range : RangeSetRange K) → range_in number x.now ≡ Some range →
+          2 * length front + length (option_to_list from) + length (range_ends range) ≤ numbers_in number text
+      fits-more range found =
+          let next = next-part s t x h.left h.yields k in
+          let all = ranges-step_some number h.done (ranges_in number text) range x.now h.left next.rest next.is found h.parts in
+          omega (arith, h.read.few, length-next h.done (filter_map (range_in number) next.rest) (ranges_in number text) range all)
+
+      more : (range : RangeSetRange K) (front_after : List P) (from_after : Option K) → range_in number x.now ≡ Some range → AreRead order first last (h.done ++ range ∷ []) front_after from_after →
+          IsReading order number first last text t front_after from_after
+      more range front_after from_after found read =
+          let next = next-part s t x h.left h.yields k in
+          record {
+            left = next.rest;
+            yields = next.yields;
+            done = h.done ++ range ∷ [];
+            parts =
+                append_assoc h.done (range ∷ []) (filter_map (range_in number) next.rest)
+                ∙ ranges-step_some number h.done (ranges_in number text) range x.now h.left next.rest next.is found h.parts;
+            read = read;
+          }
+
+      pub IsReading-range : (r : P) (start end : K) → range_in number x.now ≡ Some (Range (record { start = start; end = end })) → first r ≡ start → last r ≡ end →
+          IsReading order number first last text t (front ++ r ∷ []) from
+      IsReading-range r start end found starts ends =
+          more (Range (record { start = start; end = end })) (front ++ r ∷ []) from found (AreRead-range o first last h.done front from r start end starts ends h.read)
+
+      pub IsReading-from : (start low : K) → range_in number x.now ≡ Some (RangeFrom (record { start = start })) →
+          ((y : K) → is_le (order low y) ≡ (is_from order from y || is_le (order start y))) → IsReading order number first last text t front (Some low)
+      IsReading-from start low found lowest =
+          more (RangeFrom (record { start = start })) front (Some low) found (AreRead-from o first last h.done front from start low lowest h.read)

@@ -33,7 +33,8 @@ module _ {K : Type 0} where
       ∙ take-append-le from (take at xs) (take n s) (omega (arith, h, length-take-le at xs within))
       ∙ take-take from at xs h
 
-  -- what stands after `to` among the first `len`, moved to `after`, and the start and the end put before it
+  -- what stands after `to` among the first `len`, moved to `after`, and the start and the end put
+  -- before it
   pub spliced-in_room : (xs ys zs : List K) (len from to after : ℕ) (s e : Option K) → from ≤ to → to ≤ len → len ≤ length xs →
       after ≡ from + length (option_to_list s) + length (option_to_list e) → after + (len - to) ≤ length xs →
       ys ≡ paste xs after (drop to xs) (len - to) → zs ≡ spliced ys from after s e →

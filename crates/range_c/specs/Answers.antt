@@ -8,7 +8,8 @@ use Rattle.range_collections.specs.Boundaries.{IsAscending, is_odd}
 use Rattle.range_collections.specs.Changes.{changes, taken_items}
 use Rattle.range_collections.specs.Connective.{Table, Means, table_of}
 
--- 1 stands for the left side alone, 2 for the right alone, 4 for both and 8 for neither: the connective is on where the number has its summand
+-- 1 stands for the left side alone, 2 for the right alone, 4 for both and 8 for neither: the
+-- connective is on where the number has its summand
 abbrev pub connective_of : ℕ → Table
 connective_of n = table_of (is_odd (n / 8)) (is_odd n) (is_odd (n / 2)) (is_odd (n / 4))
 
@@ -17,7 +18,9 @@ module _ {K : Type 0} (order : K → K → Ordering) where
   abbrev pub AreAscending : List K → List K → Type 0
   AreAscending a b = IsAscending order a × IsAscending order b
 
-  -- n is the length of the one list that the operation gives. Where the buffer is long enough it begins with that list, of two equal boundaries with the left's, and after the list it is as it was
+  -- n is the length of the one list that the operation gives. Where the buffer is long enough it
+  -- begins with that list, of two equal boundaries with the left's, and after the list it is as it
+  -- was
   pub record AnswersList (f : Table) (a b old new : List K) (n : ℕ) : Type 0 where
     pub counted : n ≡ length (changes order f a b)
     pub means : n ≤ length old → Means order f (take n new) a b

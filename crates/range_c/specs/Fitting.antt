@@ -14,7 +14,8 @@ module _ {K : Type 0} (order : K → K → Ordering) (place : K → ℕ) where
   has_values count (Range r) = nat_le count (place r.end - place r.start)
   has_values count (RangeFrom r) = true
 
-  -- of the gaps of the set from start to below end, the first one with at least `count` values starts there, if there is one
+  -- of the gaps of the set from start to below end, the first one with at least `count` values
+  -- starts there, if there is one
   pub record IsFirstFit (items : List K) (start end : K) (count : ℕ) (answer : Option K) : Type 0 where
     pub gaps : List K
     pub are_gaps : Means order difference_table gaps (range_items order start end) items

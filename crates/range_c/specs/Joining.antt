@@ -7,7 +7,8 @@ use Rattle.std.specs.declared.cmp.Ordering.{Ordering}
 use Rattle.range_collections.specs.Boundaries.{IsAscending}
 use Rattle.range_c.specs.Ranges.{is_within, ends_of}
 
--- the ends ascend, the numbers are those of the ranges before and of the range, and none starts above it
+-- the ends ascend, the numbers are those of the ranges before and of the range, and none starts
+-- above it
 pub record IsPut {P K : Type 0} (order : K → K → Ordering) (first last : P → K) (before : List P)
     (range : P) (after : List P) : Type 0 where
   pub sorted : IsAscending order (ends_of first last after)

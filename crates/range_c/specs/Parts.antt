@@ -11,7 +11,8 @@ range_told start end has_end =
     cond has_end (Range (record { start = start; end = end }))
     (RangeFrom (record { start = start }))
 
--- an answer that is true where there is a range. That is told then, by its start, its end and whether it has one: an end that it hasn't is as it was. Where there is none, all is as it was
+-- an answer that is true where there is a range. That is told then, by its start, its end and
+-- whether it has one: an end that it hasn't is as it was. Where there is none, all is as it was
 pub record TellsRange {K : Type 0} (range : Option (RangeSetRange K)) (old_start old_end : K)
     (old_has_end : Bool) (start end : K) (has_end answer : Bool) : Type 0 where
   pub told : IsTrue answer → range ≡ Some (range_told start end has_end)

@@ -12,7 +12,9 @@ use Rattle.range_collections.specs.Reading.{any_number, is_ranges, ranges_in}
 abbrev pub numbers_in : {K : Type 0} → (List ℕ → Option K) → List ℕ → ℕ
 numbers_in number text = length (flat_map range_ends (ranges_in number text))
 
--- 0: it is a text of ranges, and told is how many numbers it has; 1: it is none, with numbers of any size, and told is the end of the longest front that begins one; 2: it is one but for a number that the type doesn't hold; 3: it isn't UTF-8, and told is the first byte that isn't
+-- 0: it is a text of ranges, and told is how many numbers it has; 1: it is none, with numbers of
+-- any size, and told is the end of the longest front that begins one; 2: it is one but for a number
+-- that the type doesn't hold; 3: it isn't UTF-8, and told is the first byte that isn't
 pub record TellsText {K : Type 0} (number : List ℕ → Option K) (text : List ℕ) (status told : ℕ) : Type 0 where
   pub one_of_four : status ≤ 3
   pub ranges : status ≡ 0 → IsUtf8 text × (is_ranges number text ≡ true) × (told ≡ numbers_in number text)

@@ -3,13 +3,15 @@
 --     PutsText len text old new n     it stands after the first `len` bytes, where the buffer has room; private contracts use this word
 use Rattle.std.specs.Prelude.{◌≡◌, ℕ, ◌+◌, ◌<◌, ◌≤◌, List, length, take, drop, ◌++◌}
 
--- n is the length of the text. Where the buffer is long enough it begins with the text, and after it is as it was; else all of it is as it was
+-- n is the length of the text. Where the buffer is long enough it begins with the text, and after
+-- it is as it was; else all of it is as it was
 pub record AnswersText (text old new : List ℕ) (n : ℕ) : Type 0 where
   pub counted : n ≡ length text
   pub written : n ≤ length old → new ≡ text ++ drop n old
   pub unchanged : length old < n → new ≡ old
 
--- n is where the text ends that begins at `len`. Where the buffer is long enough it has the text there, and around it is as it was
+-- n is where the text ends that begins at `len`. Where the buffer is long enough it has the text
+-- there, and around it is as it was
 pub record PutsText (len : ℕ) (text old new : List ℕ) (n : ℕ) : Type 0 where
   pub counted : n ≡ len + length text
   pub written : n ≤ length old → new ≡ take len old ++ (text ++ drop n old)

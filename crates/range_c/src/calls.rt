@@ -17,7 +17,8 @@ const RIGHT: u32 = 2;
 /// In both sets.
 const BOTH: u32 = 4;
 
-// Writes the operation's result to the front of `out`, where it has room, and answers how many boundaries that is.
+// Writes the operation's result to the front of `out`, where it has room, and answers how many
+// boundaries that is.
 pub(crate) fn merge<T: Ord + Copy, O: MergeOperation>(
     a: &[T],
     b: &[T],
@@ -37,7 +38,8 @@ pub(crate) fn merge<T: Ord + Copy, O: MergeOperation>(
     }
 }
 
-// The same, by the connective that a number tells. The four operations have a merge of their own, which is faster.
+// The same, by the connective that a number tells. The four operations have a merge of their own,
+// which is faster.
 pub(crate) fn combine<T: Ord + Copy>(a: &[T], b: &[T], connective: u32, out: &mut [T]) -> usize
     requires sorted { AreAscending T.cmp a.now b.now }
     requires off { connective < 8 }
@@ -74,7 +76,8 @@ pub(crate) fn told_by(connective: u32) -> Connective
     }
 }
 
-// Whether the range has a number: its start is below its end. Every call that takes a range asks this.
+// Whether the range has a number: its start is below its end. Every call that takes a range asks
+// this.
 #[inline(always)]
 pub(crate) fn has_numbers<T: Ord>(start: &T, end: &T) -> bool
     ensures { result ≡ is_lt (T.cmp start.now end.now) }

@@ -1,6 +1,7 @@
 //! What a connective makes of a set in a buffer of the caller's and another set, in that buffer.
 //!
-//! The set moves to the end of the buffer, and the result is written at its front. So there has to be room for both.
+//! The set moves to the end of the buffer, and the result is written at its front. So there has to
+//! be room for both.
 ghost use Rattle.std.specs.Prelude.{◌+◌, ◌<◌, ◌≤◌, ◌^◌, length, take};
 ghost use Rattle.range_c.specs.Answers.{AreAscending, connective_of};
 ghost use Rattle.range_c.specs.InPlace.{ChangesWithin};
@@ -9,7 +10,9 @@ use crate::calls::combine;
 use range_collections::Comparisons;
 use range_merge::laws::changes_are_at_most_the_lengths;
 
-// Leaves at the front of the buffer what the connective makes of the set of its first `len` boundaries and another, and answers how many boundaries that is. Where there is no room for that set and the result, the buffer is as it was, and it answers the room that both take.
+// Leaves at the front of the buffer what the connective makes of the set of its first `len`
+// boundaries and another, and answers how many boundaries that is. Where there is no room for that
+// set and the result, the buffer is as it was, and it answers the room that both take.
 pub(crate) fn combine_within<T: Ord + Copy>(
     buffer: &mut [T],
     len: usize,

@@ -1,10 +1,12 @@
 //! Ranges of two numbers, as C passes them.
 ghost use Rattle.std.specs.Prelude.{◌≡◌};
 
+use range_collections::WholeNumber;
+
 /// A range of numbers, from the first to below the second.
 pub(crate) trait Ends: Copy + Drop {
     /// Its numbers.
-    type Number: Ord + Copy + Drop;
+    type Number: Ord + Copy + WholeNumber + Drop;
 
     // Where it starts.
     ghost first: { Self → Self.Number };
@@ -20,8 +22,8 @@ pub(crate) trait Ends: Copy + Drop {
     fn end(&self) -> Self::Number
         ensures { result ≡ last self.now };
 
-    /// The range from its start to another end.
-    fn until(&self, end: Self::Number) -> Self
-        ensures starts { Self.first result ≡ Self.first self.now }
+    /// The range from the first number to below the second.
+    fn of(start: Self::Number, end: Self::Number) -> Self
+        ensures starts { Self.first result ≡ start }
         ensures ends { Self.last result ≡ end };
 }

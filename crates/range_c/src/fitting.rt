@@ -1,4 +1,5 @@
-//! The first place where so many numbers fit, also numbers with a sign: the start of the first gap that has as many.
+//! The first place where so many numbers fit, also numbers with a sign: the start of the first gap
+//! that has as many.
 ghost use Rattle.std.specs.Prelude.{◌≡◌, ◌-◌, ◌<◌, cond, None, Some};
 ghost use Rattle.std.specs.Ordering.{is_le};
 ghost use Rattle.range_collections.specs.Boundaries.{IsAscending};
@@ -7,7 +8,8 @@ ghost use Rattle.range_c.specs.Fitting.{IsFirstFit};
 use range_collections::{Countable, RangeSetRef};
 use std::ops::Range;
 
-// The least number from which on `count` numbers lie between `start` and `end` and none is a member, if there is one. No number fits at `start`.
+// The least number from which on `count` numbers lie between `start` and `end` and none is a
+// member, if there is one. No number fits at `start`.
 pub(crate) fn first_place<T: Countable + Copy>(a: &[T], start: T, end: T, count: u128) -> Option<T>
     requires { IsAscending T.cmp a.now }
     ensures first { 0 < count → IsFirstFit T.cmp T.place a.now start end count result }
@@ -23,7 +25,8 @@ pub(crate) fn first_place<T: Countable + Copy>(a: &[T], start: T, end: T, count:
     }
 }
 
-// The start of the first gap between `start` and `end` with at least `count` values, if there is one.
+// The start of the first gap between `start` and `end` with at least `count` values, if there is
+// one.
 fn first_gap<T: Countable + Copy>(a: &[T], start: &T, end: &T, count: u128) -> Option<T>
     requires { IsAscending T.cmp a.now }
     ensures { IsFirstFit T.cmp T.place a.now start.now end.now count result }

@@ -1,6 +1,9 @@
-//! What a connective makes of two sets among the numbers of a type, of which one is the least. It may be on where neither side is.
+//! What a connective makes of two sets among the numbers of a type, of which one is the least. It
+//! may be on where neither side is.
 //!
-//! Whether the connective is on at the least number is told first. From there on only what changes counts: a connective that is off where nothing has changed yet, over the boundaries above the least number.
+//! Whether the connective is on at the least number is told first. From there on only what changes
+//! counts: a connective that is off where nothing has changed yet, over the boundaries above the
+//! least number.
 ghost use Rattle.std.specs.Prelude.{◌≡◌, ◌+◌, ◌<◌, ◌≤◌, ◌^◌, ◌∷◌, Bool, All, false, true, length, take, drop};
 ghost use Rattle.std.specs.Ordering.{is_le};
 ghost use Rattle.std.specs.declared.cmp.Ordering.TheVariants.{Greater};
@@ -14,7 +17,8 @@ use crate::calls::{merge, told_by};
 use range_collections::{Comparisons, Connective, MergeOperation, count_up_to};
 use range_merge::laws::changes_are_at_most_the_lengths;
 
-// Writes what the connective makes of both sets among the numbers from `least` on, where the buffer has room, and answers how many boundaries that is.
+// Writes what the connective makes of both sets among the numbers from `least` on, where the buffer
+// has room, and answers how many boundaries that is.
 pub(crate) fn combine_from<T: Ord + Copy>(
     a: &[T],
     b: &[T],
@@ -63,7 +67,8 @@ fn is_on(of: &Connective, a: bool, b: bool) -> bool
     }
 }
 
-// The connective that is on where another one has another answer than it had at first, told by how each side has changed since.
+// The connective that is on where another one has another answer than it had at first, told by how
+// each side has changed since.
 fn changes_from(of: &Connective, a: bool, b: bool) -> Connective
     ensures off { result.neither ≡ false }
     ensures changes { (p q : Bool) →

@@ -1,6 +1,7 @@
 //! One range put into a set or taken out of it, in a buffer of the caller's.
 //!
-//! The start and the end are searched for. What stands between gives way to those of the two at which the set changes, and what comes after moves once.
+//! The start and the end are searched for. What stands between gives way to those of the two at
+//! which the set changes, and what comes after moves once.
 ghost use Rattle.std.specs.Prelude.{◌≡◌, ◌+◌, ◌<◌, ◌≤◌, ◌++◌, ◌^◌, length, take, drop};
 ghost use Rattle.std.specs.Option.{option_to_list};
 ghost use Rattle.range_collections.specs.Boundaries.{IsAscending, is_odd as odd};
@@ -12,7 +13,8 @@ ghost use Rattle.range_c.specs.InPlace.{ChangesList};
 use crate::calls::has_numbers;
 use range_collections::{Comparisons, search};
 
-// Puts the numbers from `start` to below `end` into the set of the first `len` boundaries, and answers how many it has then. Where the buffer has no room for them it is as it was.
+// Puts the numbers from `start` to below `end` into the set of the first `len` boundaries, and
+// answers how many it has then. Where the buffer has no room for them it is as it was.
 pub(crate) fn insert<T: Ord + Copy>(buffer: &mut [T], len: usize, start: T, end: T) -> usize
     requires within { len ≤ length buffer.old }
     requires fits { len + 2 < 2 ^ 64 }
@@ -34,7 +36,9 @@ pub(crate) fn remove<T: Ord + Copy>(buffer: &mut [T], len: usize, start: T, end:
     set_range(buffer, len, start, end, false)
 }
 
-// Leaves at the front of the buffer the set of its first `len` boundaries, with the numbers from `start` to below `end` as members where `inside` is true, and else as no members. It answers how many boundaries that are. Where the buffer has no room for them it is as it was.
+// Leaves at the front of the buffer the set of its first `len` boundaries, with the numbers from
+// `start` to below `end` as members where `inside` is true, and else as no members. It answers how
+// many boundaries that are. Where the buffer has no room for them it is as it was.
 fn set_range<T: Ord + Copy>(buffer: &mut [T], len: usize, start: T, end: T, inside: bool) -> usize
     requires within { len ≤ length buffer.old }
     requires fits { len + 2 < 2 ^ 64 }
@@ -51,9 +55,10 @@ fn set_range<T: Ord + Copy>(buffer: &mut [T], len: usize, start: T, end: T, insi
     splice(buffer, len, from, to, first, last)
 }
 
-// Where the items are cut around an element, so that an odd number stands before exactly if `inside`, and the element where it has to be put there for that.
+// Where the items are cut around an element, so that an odd number stands before exactly if
+// `inside`, and the element where it has to be put there for that.
 #[inline(always)]
-pub(crate) fn cut_at<T: Ord + Copy>(items: &[T], at: T, inside: bool) -> (usize, Option<T>)
+fn cut_at<T: Ord + Copy>(items: &[T], at: T, inside: bool) -> (usize, Option<T>)
     requires { IsAscending T.cmp items.now }
     ensures { IsCut T.cmp inside items.now at result.0 result.1 }
 {
@@ -72,7 +77,9 @@ fn is_odd(n: usize) -> bool
     n % 2 == 1
 }
 
-// Replaces those of the first `len` items that stand between `from` and `to` by the start and the end, where they are given. It answers how many items that are. Where the buffer has no room for them it is as it was.
+// Replaces those of the first `len` items that stand between `from` and `to` by the start and the
+// end, where they are given. It answers how many items that are. Where the buffer has no room for
+// them it is as it was.
 fn splice<T: Copy>(
     buffer: &mut [T],
     len: usize,
@@ -114,7 +121,7 @@ fn count<T>(item: &Option<T>) -> usize
 
 // Replaces the item at index `at` by this one, if there is one. Returns the index after it.
 #[inline(always)]
-pub(crate) fn overwrite<T: Copy>(items: &mut [T], at: usize, item: Option<T>) -> usize
+fn overwrite<T: Copy>(items: &mut [T], at: usize, item: Option<T>) -> usize
     requires { at + length (option_to_list item) ≤ length items.old }
     ensures items { items.new ≡
         take at items.old ++ (option_to_list item ++ drop result items.old) }

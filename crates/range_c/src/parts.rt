@@ -125,7 +125,8 @@ pub(crate) fn covered<T: Countable>(a: &[T], count: &mut u64) -> bool
     }
 }
 
-// Tells the least number from which on `len` numbers lie between `start` and `end` and none is a member, where there is one.
+// Tells the least number from which on `len` numbers lie between `start` and `end` and none is a
+// member, where there is one.
 pub(crate) fn first_fit<T: Unsigned>(a: &[T], start: T, end: T, len: T, at: &mut T) -> bool
     requires { IsAscending T.cmp a.now }
     ensures fits { IsTrue result → Fits T.cmp T.place a.now start end len at.new }

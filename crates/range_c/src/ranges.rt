@@ -1,15 +1,18 @@
-//! Sets from ranges in any order, in place.
-ghost use Rattle.std.specs.Prelude.{◌≡◌, ◌+◌, ◌<◌, ◌≤◌, ℕ, true, All, length, take, drop};
+//! Sets from ranges in any order, in place. Of those without an end the one that starts first is
+//! given apart.
+ghost use Rattle.std.specs.Prelude.{◌≡◌, ◌+◌, ◌<◌, ◌≤◌, ◌||◌, ℕ, true, cond, All, Some, None, length, take, drop};
 ghost use Rattle.std.specs.List.Sorted.{IsSortedByKey};
+ghost use Rattle.std.specs.Option.{option_to_list};
 ghost use Rattle.std.specs.Ordering.{is_le};
 ghost use Rattle.range_collections.specs.Boundaries.{IsAscending};
-ghost use Rattle.range_c.specs.Ranges.{ends_of, IsUnionOf};
+ghost use Rattle.range_c.specs.Ranges.{ends_of, is_from, IsUnionOf, IsUnionFrom};
 ghost use Rattle.range_c.specs.Joining.{IsPut};
 
 use crate::calls::has_numbers;
 use crate::ends::Ends;
 
-// Moves the ranges of the set of all numbers in the ranges to the front, as many as it answers. Empty and reversed ones have no number.
+// Moves the ranges of the set of all numbers in the ranges to the front, as many as it answers.
+// Empty and reversed ones have no number.
 pub(crate) fn from_ranges<E: Ends>(ranges: &mut [E]) -> usize
     ensures within { result ≤ length ranges.old }
     ensures union { IsUnionOf E.Number.cmp E.first E.last ranges.old (take result ranges.new) }
@@ -32,7 +35,8 @@ fn join<E: Ends>(ranges: &mut [E]) -> usize
     kept
 }
 
-// Puts a range after the first `kept`, none of which starts above it, or joins it to the last of them.
+// Puts a range after the first `kept`, none of which starts above it, or joins it to the last of
+// them.
 fn put<E: Ends>(ranges: &mut [E], kept: usize, range: E) -> usize
     requires room { kept < length ranges.old }
     requires sorted { IsAscending E.Number.cmp (ends_of E.first E.last (take kept ranges.old)) }
@@ -56,7 +60,85 @@ fn put<E: Ends>(ranges: &mut [E], kept: usize, range: E) -> usize
         return kept + 1;
     }
     if before.end().cmp(&range.end()).is_lt() {
-        ranges[kept - 1] = before.until(range.end());
+        ranges[kept - 1] = E::of(before.start(), range.end());
     }
     kept
+}
+
+// Moves the ranges with an end of the set of all numbers in the ranges, and of all from `from` on
+// if that is given, to the front. Returns how many these are, and where the range without an end
+// starts.
+pub(crate) fn union_from<E: Ends>(
+    ranges: &mut [E],
+    from: Option<E::Number>,
+) -> (usize, Option<E::Number>)
+    ensures within { result.0 ≤ length ranges.old }
+    ensures as_many { length (option_to_list result.1) ≡ length (option_to_list from) }
+    ensures union { IsUnionFrom E.Number.cmp E.first E.last ranges.old from
+        (take result.0 ranges.new) result.1 }
+{
+    let kept = from_ranges(ranges);
+    match from {
+        None => (kept, None),
+        Some(from) => {
+            let (front, _rest) = ranges.split_at(kept);
+            let (kept, start) = extended(front, from);
+            (kept, Some(start))
+        }
+    }
+}
+
+// The same, where it is told whether `from` is given, and then where the range without an end
+// starts.
+pub(crate) fn union_told<E: Ends>(ranges: &mut [E], is_open: bool, from: &mut E::Number) -> usize
+    ensures within { result ≤ length ranges.old }
+    ensures union { IsUnionFrom E.Number.cmp E.first E.last
+        ranges.old (cond is_open (Some from.old) None)
+        (take result ranges.new) (cond is_open (Some from.new) None) }
+{
+    let (kept, start) = union_from(ranges, if is_open { Some(*from) } else { None });
+    if let Some(start) = start {
+        *from = start;
+    }
+    kept
+}
+
+// What `union_from` says, of ranges that ascend. Those that reach the start of the last one give
+// way to it.
+fn extended<E: Ends>(ranges: &[E], from: E::Number) -> (usize, E::Number)
+    requires { IsAscending E.Number.cmp (ends_of E.first E.last ranges.now) }
+    ensures within { result.0 ≤ length ranges.now }
+    ensures union { IsUnionFrom E.Number.cmp E.first E.last ranges.now (Some from)
+        (take result.0 ranges.now) (Some result.1) }
+{
+    let mut kept = ranges.len();
+    let mut start = from;
+    while kept > 0 && ranges[kept - 1].end().cmp(&start).is_ge() {
+        kept -= 1;
+        start = start.min(ranges[kept].start());
+    }
+    (kept, start)
+}
+
+// The lower one of the start and of another, if that is given.
+pub(crate) fn lowest<T: Ord + Copy + Drop>(other: Option<T>, start: T) -> T
+    ensures { (x : T) → is_le (T.cmp result x) ≡ (is_from T.cmp other x || is_le (T.cmp start x)) }
+{
+    match other {
+        Some(other) => other.min(start),
+        None => start,
+    }
+}
+
+// Tells whether a range without an end is there, and where it starts then.
+pub(crate) fn tell_start<T: Copy>(start: Option<T>, is_open: &mut bool, from: &mut T)
+    ensures { start ≡ cond is_open.new (Some from.new) None }
+{
+    match start {
+        Some(start) => {
+            *is_open = true;
+            *from = start;
+        }
+        None => *is_open = false,
+    }
 }

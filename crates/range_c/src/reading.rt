@@ -1,18 +1,19 @@
 //! A set read from a text of ranges, `0..10, 20..`, into a buffer of the caller's.
 //!
-//! The ranges are put in one after the other. So a text whose ranges ascend is read without moving a boundary, and one in another order moves those after each range.
-ghost use Rattle.std.specs.Prelude.{◌≡◌, ◌↔◌, ◌+◌, ◌<◌, ◌≤◌, ◌^◌, ◌∷◌, [], Any, true, length, take};
-ghost use Rattle.std.specs.List.{flat_map};
+//! The ranges are put into the buffer in the order of the text, and joined once all are there.
+ghost use Rattle.std.specs.Prelude.{◌≡◌, ◌↔◌, ◌+◌, ◌*◌, ◌<◌, ◌≤◌, ◌^◌, ◌||◌, Any, true, length, take};
+ghost use Rattle.std.specs.List.{flat_map, list_any};
 ghost use Rattle.std.specs.Option.{option_to_list};
 ghost use Rattle.std.specs.Str.{IsUtf8};
 ghost use Rattle.range_collections.specs.Boundaries.{IsAscending, member};
-ghost use Rattle.range_collections.specs.Connective.{Means, union_table};
 ghost use Rattle.range_collections.specs.Ranges.{range_boundaries, range_ends, IsInRange};
 ghost use Rattle.range_collections.specs.Reading.{ranges_in};
-ghost use Rattle.range_collections.specs.Unions.{IsUnionOf};
+ghost use Rattle.range_collections.specs.Unions.{is_in_one};
+ghost use Rattle.range_c.specs.Ranges.{ends_and, is_from, is_within};
 ghost use Rattle.range_c.specs.Reading.{numbers_in, TellsText};
 
-use crate::in_place::{cut_at, insert, overwrite};
+use crate::ends::Ends;
+use crate::ranges::{lowest, union_from};
 use range_collections::{ParseError, RangeSetRange, WholeNumber, check_ranges};
 use std::str;
 
@@ -80,63 +81,69 @@ fn ends<T: Copy + Drop>(range: Option<RangeSetRange<T>>) -> usize
     }
 }
 
-// Leaves the set of the ranges of a text at the front of the buffer, and answers how many boundaries it has.
-pub(crate) fn read<T: Ord + Copy + WholeNumber + Drop>(bytes: &[u8], buffer: &mut [T]) -> usize
+// Leaves the ranges with an end of the set of a text's ranges at the front of the buffer. Returns
+// how many these are, and where the range without an end starts.
+pub(crate) fn read<E: Ends>(bytes: &[u8], ranges: &mut [E]) -> (usize, Option<E::Number>)
     requires text { IsUtf8 bytes.now }
-    requires room { numbers_in T.number bytes.now ≤ length buffer.old }
-    requires fits { length buffer.old + 2 < 2 ^ 64 }
-    ensures within { result ≤ numbers_in T.number bytes.now }
-    ensures sorted { IsAscending T.cmp (take result buffer.new) }
-    ensures members { (x : T) → (member T.cmp (take result buffer.new) x ≡ true) ↔
-        Any (λ range. IsInRange T.cmp range x) (ranges_in T.number bytes.now) }
+    requires room { numbers_in E.Number.number bytes.now < 2 * length ranges.old + 2 }
+    ensures within { result.0 ≤ length ranges.old }
+    ensures few { length (ends_and E.first E.last (take result.0 ranges.new) result.1) ≤
+        numbers_in E.Number.number bytes.now }
+    ensures sorted { IsAscending E.Number.cmp
+        (ends_and E.first E.last (take result.0 ranges.new) result.1) }
+    ensures members { (x : E.Number) →
+        (member E.Number.cmp (ends_and E.first E.last (take result.0 ranges.new) result.1) x ≡ true) ↔
+        Any (λ range. IsInRange E.Number.cmp range x) (ranges_in E.Number.number bytes.now) }
 {
     match str::from_utf8(bytes) {
-        Ok(text) => read_text(text, buffer),
-        Err(_) => 0,
+        Ok(text) => read_text(text, ranges),
+        Err(_) => (0, None),
     }
 }
 
 // The same of a text.
-fn read_text<T: Ord + Copy + WholeNumber + Drop>(text: &str, buffer: &mut [T]) -> usize
-    requires room { numbers_in T.number text.now ≤ length buffer.old }
-    requires fits { length buffer.old + 2 < 2 ^ 64 }
-    ensures within { result ≤ numbers_in T.number text.now }
-    ensures union { IsUnionOf T.cmp (range_boundaries T.cmp) (ranges_in T.number text.now)
-        (take result buffer.new) }
+fn read_text<E: Ends>(text: &str, ranges: &mut [E]) -> (usize, Option<E::Number>)
+    requires room { numbers_in E.Number.number text.now < 2 * length ranges.old + 2 }
+    ensures within { result.0 ≤ length ranges.old }
+    ensures few { length (ends_and E.first E.last (take result.0 ranges.new) result.1) ≤
+        numbers_in E.Number.number text.now }
+    ensures sorted { IsAscending E.Number.cmp
+        (ends_and E.first E.last (take result.0 ranges.new) result.1) }
+    ensures members { (x : E.Number) →
+        member E.Number.cmp (ends_and E.first E.last (take result.0 ranges.new) result.1) x ≡
+        is_in_one E.Number.cmp (range_boundaries E.Number.cmp)
+        (ranges_in E.Number.number text.now) x }
+{
+    let (len, from) = read_ranges(text, ranges);
+    let (front, _room) = ranges.split_at_mut(len);
+    union_from(front, from)
+}
+
+// Puts the ranges with an end to the front of the buffer as they come. Returns how many these are,
+// and where the first of the others starts.
+fn read_ranges<E: Ends>(text: &str, ranges: &mut [E]) -> (usize, Option<E::Number>)
+    requires room { numbers_in E.Number.number text.now < 2 * length ranges.old + 2 }
+    ensures within { result.0 ≤ length ranges.old }
+    ensures few { 2 * result.0 + length (option_to_list result.1) ≤
+        numbers_in E.Number.number text.now }
+    ensures len { length ranges.new ≡ length ranges.old }
+    ensures members { (x : E.Number) →
+        (list_any (is_within E.Number.cmp E.first E.last x) (take result.0 ranges.new)
+        || is_from E.Number.cmp result.1 x) ≡
+        is_in_one E.Number.cmp (range_boundaries E.Number.cmp)
+        (ranges_in E.Number.number text.now) x }
 {
     let mut len = 0;
+    let mut from = None;
     for part in text.split(',') {
-        if let Some(range) = RangeSetRange::parse(part) {
-            len = put_range(buffer, len, range);
+        match RangeSetRange::parse(part) {
+            Some(RangeSetRange::Range(range)) => {
+                ranges[len] = E::of(range.start, range.end);
+                len += 1;
+            }
+            Some(RangeSetRange::RangeFrom(range)) => from = Some(lowest(from, range.start)),
+            None => {}
         }
     }
-    len
-}
-
-// Puts a range into the set of the first `len` boundaries, and answers how many it has then.
-fn put_range<T: Ord + Copy>(buffer: &mut [T], len: usize, range: RangeSetRange<T>) -> usize
-    requires room { len + length (range_ends range) ≤ length buffer.old }
-    requires fits { len + 2 < 2 ^ 64 }
-    requires sorted { IsAscending T.cmp (take len buffer.old) }
-    ensures few { result ≤ len + length (range_ends range) }
-    ensures means { Means T.cmp union_table (take result buffer.new) (take len buffer.old)
-        (range_boundaries T.cmp range) }
-{
-    match range {
-        RangeSetRange::Range(range) => insert(buffer, len, range.start, range.end),
-        RangeSetRange::RangeFrom(range) => insert_from(buffer, len, range.start),
-    }
-}
-
-// The same of the range from a number on.
-fn insert_from<T: Ord + Copy>(buffer: &mut [T], len: usize, start: T) -> usize
-    requires room { len < length buffer.old }
-    requires sorted { IsAscending T.cmp (take len buffer.old) }
-    ensures few { result ≤ len + 1 }
-    ensures means { Means T.cmp union_table (take result buffer.new) (take len buffer.old)
-        (start ∷ []) }
-{
-    let (set, _room) = buffer.split_at(len);
-    let (at, put) = cut_at(set, start, true);
-    overwrite(buffer, at, put)
+    (len, from)
 }

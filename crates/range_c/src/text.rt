@@ -8,7 +8,8 @@ ghost use Rattle.range_c.specs.Text.{AnswersText, PutsText};
 use itoa::{Buffer, Integer};
 use range_collections::{Iter, RangeSetRange, RangeSetRef};
 
-// Writes the ranges to the front of the buffer, with a comma and a space between them, and answers how many bytes that is. Where the buffer has no room for them it is as it was.
+// Writes the ranges to the front of the buffer, with a comma and a space between them, and answers
+// how many bytes that is. Where the buffer has no room for them it is as it was.
 pub(crate) fn print<T: Ord + Integer>(a: &[T], out: &mut [u8]) -> usize
     requires sorted { IsAscending T.cmp a.now }
     requires fits { length (ranges_text T.text (ranges_of a.now)) < 2 ^ 64 }
@@ -22,7 +23,8 @@ pub(crate) fn print<T: Ord + Integer>(a: &[T], out: &mut [u8]) -> usize
     put_ranges(set.iter(), out)
 }
 
-// Puts the ranges to the front of the buffer, where it has room, and answers how long their text is.
+// Puts the ranges to the front of the buffer, where it has room, and answers how long their text
+// is.
 fn put_ranges<T: Integer>(mut ranges: Iter<'_, T>, out: &mut [u8]) -> usize
     requires fits { length (ranges_text T.text (ranges_of ranges)) < 2 ^ 64 }
     ensures { PutsText 0 (ranges_text T.text (ranges_of ranges.entry)) out.old out.new result }
@@ -75,7 +77,8 @@ fn put_number<T: Integer>(out: &mut [u8], len: usize, n: &T) -> usize
     put(out, len, Buffer::new().format(*n).as_bytes())
 }
 
-// Puts bytes after the first `len`, where the buffer has room for them, and answers how many it needs room for with them.
+// Puts bytes after the first `len`, where the buffer has room for them, and answers how many it
+// needs room for with them.
 fn put(out: &mut [u8], len: usize, bytes: &[u8]) -> usize
     requires fits { len + length bytes.now < 2 ^ 64 }
     ensures { PutsText len bytes.now out.old out.new result }

@@ -3,7 +3,7 @@
 //! It answers its arguments with one line, and ends with a status that says how that went.
 #![tactic(auto)]
 
-use range_answer::{answer, exit_code, out_of_memory, stored_words};
+use range_calc_answers::{answer, exit_code, out_of_memory, stored_words};
 use std::env;
 use std::io::{self, ErrorKind};
 use std::process::ExitCode;

@@ -1,6 +1,6 @@
 //! What answers the words of the calculator, whatever the output takes.
 use crate::sink::Sink;
-use range_answer::{Status, answer, out_of_memory};
+use range_calc_answers::{Status, answer, out_of_memory};
 use range_tests_kit::words::{ANSWERED, BAD, Row, TEXTS, UNREAD, UNSORTED, UNSORTED_AND_LONG};
 use std::alloc::{AllocError, Global};
 use std::io::{self, ErrorKind};
@@ -59,7 +59,8 @@ fn failure(
     }
 }
 
-/// Whether each output that takes so many bytes at once has the line, or as much of it as it has room for.
+/// Whether each output that takes so many bytes at once has the line, or as much of it as it has
+/// room for.
 fn is_answered_by(alloc: Global, call: Call<'_>, line: &str, at_once: usize) -> bool {
     for room in 0..=line.len() {
         if failure(alloc, call, line, at_once, room) != Some(ErrorKind::BrokenPipe) {

@@ -1,4 +1,5 @@
-//! Tests of what stands on the sets: the callers that the pages quote, the tracker, and what the two programs answer.
+//! Tests of what stands on the sets: the callers that the pages quote, the tracker, and what the
+//! two programs answer.
 #![tactic(auto)]
 
 #[cfg(test)]

@@ -1,5 +1,5 @@
 //! What answers the lines that ask something of a tracker, and which limit the arguments ask for.
-use range_serve::{Status, limit_asked, serve};
+use range_track_answers::{Status, limit_asked, serve};
 use std::alloc::{AllocError, Global};
 
 /// Inputs, and what answers them where four boundaries are the most.

@@ -19,7 +19,8 @@ fn changed(there: &Bitmap, range: &Range<u64>, put: bool) -> Bitmap {
     left
 }
 
-/// Whether the bit is another one than that before it. There is none before the first, and none after the last.
+/// Whether the bit is another one than that before it. There is none before the first, and none
+/// after the last.
 fn changes_at(bits: &Bitmap, n: usize) -> bool {
     let before = n.checked_sub(1).and_then(|at| bits.get(at));
     before.unwrap_or(&false) != bits.get(n).unwrap_or(&false)
@@ -58,7 +59,8 @@ fn are_there(there: &Bitmap, range: &Range<u64>) -> bool {
     (range.start..range.end).all(|n| there.get(n as usize).is_some_and(|bit| *bit))
 }
 
-/// Puts the range in or takes it out, of both, and says whether that was refused, if it was where it should be.
+/// Puts the range in or takes it out, of both, and says whether that was refused, if it was where
+/// it should be.
 fn turn(
     alloc: Global,
     tracker: &mut Tracker,

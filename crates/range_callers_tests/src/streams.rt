@@ -1,6 +1,6 @@
 //! Inputs that give little at once, and fail; outputs that take little at once, and fail.
 use crate::sink::Sink;
-use range_serve::{Status, serve};
+use range_track_answers::{Status, serve};
 use std::alloc::Global;
 use std::io::{self, ErrorKind, Read, Write};
 
@@ -69,7 +69,8 @@ fn one_byte_at_once_is_enough(rt: HostRuntime) {
     }
 }
 
-/// Whether the error of an input that fails after these bytes is passed on, and the lines before it are answered.
+/// Whether the error of an input that fails after these bytes is passed on, and the lines before it
+/// are answered.
 fn fails_after(alloc: Global, unread: &[u8]) -> bool {
     let source = Source {
         unread,
@@ -119,7 +120,8 @@ fn an_output_that_takes_nothing_is_an_error(rt: HostRuntime) {
     assert!(rt; out.taken.is_empty());
 }
 
-/// Whether the error of an output that can be flushed so often is passed on, and one line more is written.
+/// Whether the error of an output that can be flushed so often is passed on, and one line more is
+/// written.
 fn is_flushed(alloc: Global, flushes: usize) -> bool {
     let mut out = Sink::flushed(alloc, flushes);
     failure(alloc, INPUT, &mut out) == Some(ErrorKind::TimedOut)

@@ -118,6 +118,8 @@ fn commands_are_answered_in_turn(rt: HostRuntime) {
 enum Call {
     Record(Range<u64>),
     Forget(Range<u64>),
+    Run(&'static [Command; 5]),
+    Has(Range<u64>),
     Ranges,
     Missing(u64),
 }
@@ -125,20 +127,92 @@ enum Call {
 /// What answers a call.
 enum Answer {
     Reply(Reply),
+    Replies(&'static [Reply; 5]),
+    Truth(bool),
     Boundaries(&'static [u64]),
 }
 
-/// Calls of a tracker with a limit of 2, each with its answer.
-const CALLS: [(Call, Answer); 9] = [
-    (Call::Record(0..10), Answer::Reply(Ok(()))),
-    (Call::Ranges, Answer::Boundaries(&[0, 10])),
-    (Call::Record(5..20), Answer::Reply(Ok(()))),
-    (Call::Ranges, Answer::Boundaries(&[0, 20])),
-    (Call::Forget(4..5), Answer::Reply(FOUR)),
-    (Call::Missing(10), Answer::Boundaries(&[])),
-    (Call::Missing(25), Answer::Boundaries(&[20, 25])),
-    (Call::Forget(0..5), Answer::Reply(Ok(()))),
-    (Call::Missing(25), Answer::Boundaries(&[0, 5, 20, 25])),
+/// A limit, and calls of a tracker without ranges, each with its answer.
+type Calls<'a> = (usize, &'a [(Call, Answer)]);
+
+const CALLS: [Calls; 7] = [
+    (
+        4,
+        &[
+            (Call::Record(0..10), Answer::Reply(Ok(()))),
+            (Call::Record(20..30), Answer::Reply(Ok(()))),
+            (Call::Record(40..50), Answer::Reply(SIX)),
+            (Call::Record(10..20), Answer::Reply(Ok(()))),
+            (Call::Ranges, Answer::Boundaries(&[0, 30])),
+            (Call::Forget(5..6), Answer::Reply(Ok(()))),
+            (Call::Ranges, Answer::Boundaries(&[0, 5, 6, 30])),
+            (Call::Forget(10..12), Answer::Reply(SIX)),
+            (Call::Has(0..5), Answer::Truth(true)),
+            (Call::Has(4..7), Answer::Truth(false)),
+            (Call::Has(7..7), Answer::Truth(true)),
+            (Call::Missing(40), Answer::Boundaries(&[5, 6, 30, 40])),
+            (Call::Missing(0), Answer::Boundaries(&[])),
+        ],
+    ),
+    (
+        0,
+        &[
+            (Call::Record(5..5), Answer::Reply(Ok(()))),
+            (Call::Record(9..3), Answer::Reply(Ok(()))),
+            (Call::Record(0..1), Answer::Reply(TWO)),
+            (Call::Forget(0..1), Answer::Reply(Ok(()))),
+        ],
+    ),
+    (
+        2,
+        &[
+            (Call::Record(0..10), Answer::Reply(Ok(()))),
+            (Call::Record(5..20), Answer::Reply(Ok(()))),
+            (Call::Ranges, Answer::Boundaries(&[0, 20])),
+        ],
+    ),
+    (
+        4,
+        &[
+            (
+                Call::Run(&[
+                    Command::Add(0..10),
+                    Command::Add(20..30),
+                    Command::Add(40..50),
+                    Command::Add(10..20),
+                    Command::Forget(5..6),
+                ]),
+                Answer::Replies(&[Ok(()), Ok(()), SIX, Ok(()), Ok(())]),
+            ),
+            (Call::Ranges, Answer::Boundaries(&[0, 5, 6, 30])),
+        ],
+    ),
+    (
+        2,
+        &[
+            (Call::Record(0..10), Answer::Reply(Ok(()))),
+            (Call::Forget(4..5), Answer::Reply(FOUR)),
+            (Call::Missing(10), Answer::Boundaries(&[])),
+        ],
+    ),
+    (
+        4,
+        &[
+            (Call::Record(0..u64::MAX), Answer::Reply(Ok(()))),
+            (Call::Has(u64::MAX - 1..u64::MAX), Answer::Truth(true)),
+            (Call::Missing(u64::MAX), Answer::Boundaries(&[])),
+        ],
+    ),
+    (
+        2,
+        &[
+            (Call::Record(0..20), Answer::Reply(Ok(()))),
+            (Call::Missing(25), Answer::Boundaries(&[20, 25])),
+            (Call::Forget(0..5), Answer::Reply(Ok(()))),
+            (Call::Has(4..6), Answer::Truth(false)),
+            (Call::Missing(25), Answer::Boundaries(&[0, 5, 20, 25])),
+        ],
+    ),
 ];
 
 /// Whether the tracker answers so.
@@ -150,17 +224,34 @@ fn answers(tracker: &mut Tracker, call: &Call, answer: &Answer) -> bool {
         (Call::Forget(range), Answer::Reply(want)) => {
             tracker.forget(range.start..range.end) == *want
         }
+        (Call::Run(commands), Answer::Replies(want)) => {
+            let mut replies = [Err(TrackError::OutOfMemory); 5];
+            tracker.run(*commands, &mut replies);
+            replies == **want
+        }
+        (Call::Has(range), Answer::Truth(want)) => tracker.has(range.start..range.end) == *want,
         (Call::Ranges, Answer::Boundaries(want)) => has_ranges(tracker, want),
         (Call::Missing(len), Answer::Boundaries(want)) => misses(tracker, *len, want),
         _ => false,
     }
 }
 
+/// The first call that a tracker with this limit answers otherwise.
+fn wrong_call<'a>(alloc: Global, limit: usize, calls: &'a [(Call, Answer)]) -> Option<&'a Call> {
+    let mut tracker = Tracker::new(alloc, limit.min(100));
+    for (call, answer) in calls {
+        if !answers(&mut tracker, call, answer) {
+            return Some(call);
+        }
+    }
+    None
+}
+
 #[test]
 fn calls_are_answered_one_by_one(rt: HostRuntime) {
-    let mut tracker = Tracker::new(rt.alloc(), 2);
-    for (call, answer) in &CALLS {
-        assert!(rt; answers(&mut tracker, call, answer), "{call:?}");
+    for (limit, calls) in &CALLS {
+        let wrong = wrong_call(rt.alloc(), *limit, calls);
+        assert!(rt; wrong.is_none(), "{wrong:?} where {limit} are the most");
     }
 }
 

@@ -1,12 +1,12 @@
 //! Each caller that the pages quote, with memory at hand.
 use range_collections::{RangeSet, RangeSetRef};
-use range_tests_kit::lists::own;
-use range_uses::{
+use range_examples::{
     CharacterClass, Minutes, Releases, Version, add_busy, book, cancel, comes_twice, either,
     free_run, free_slots, give_back, has, has_all, has_fault, is_free, is_usable, lowest_free,
     missing_between, negation, new_calendar, next_missing, print_open_hours, someone_busy,
     still_missing, take_lowest, take_run, usable,
 };
+use range_tests_kit::lists::own;
 use std::alloc::{AllocError, Global};
 
 /// Whether a set was made, with these boundaries.

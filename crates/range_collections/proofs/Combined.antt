@@ -1,4 +1,5 @@
--- Any connective of two sets: what the changes of one mean, and what becomes of them where the connective is on while both sides are off.
+-- Any connective of two sets: what the changes of one mean, and what becomes of them where the
+-- connective is on while both sides are off.
 use Rattle.std.proofs.Common.{◌≡◌, ◌↔◌, refl, sym, ap, ap₂, ◌∙◌, ℕ, Bool, true, false, not, List, [], ◌∷◌, length, All, Contains, subst, arith, Result, IsOk, IfOk, true≢false}
 use Rattle.std.specs.List.{AllZip}
 use Rattle.std.specs.Cmp.{IsTotalOrder}

@@ -1,4 +1,5 @@
--- How many values are members: one more range of a list adds the values from its start on, up to its end.
+-- How many values are members: one more range of a list adds the values from its start on, up to
+-- its end.
 use Rattle.std.proofs.Common.{◌≡◌, refl, sym, ap, ap₂, ◌∙◌, subst, ℕ, zero, suc, inl, inr, ◌<◌, ◌≤◌, ◌+◌, ◌-◌, ◌%◌, ◌==◌, Bool, true, false, cond, List, [], ◌∷◌, ◌++◌, length, arith, All, min, get_or, take, append_assoc}
 use Rattle.std.specs.Cmp.{IsTotalOrder, ranks}
 use Rattle.std.specs.Ordering.{is_le, nat_cmp}

@@ -1,4 +1,5 @@
--- How many values are members: of a range, and of the union and the intersection of two sets with an end.
+-- How many values are members: of a range, and of the union and the intersection of two sets with
+-- an end.
 use Rattle.std.proofs.Common.{◌≡◌, refl, sym, ap, ap₂, ◌∙◌, ℕ, ◌+◌, ◌-◌, ◌<◌, Bool, true, false, cond, ◌&&◌, ◌||◌, List, [], ◌∷◌, length, Some, None, arith, All}
 use Rattle.std.specs.Cmp.{IsTotalOrder, ranks}
 use Rattle.std.specs.Ordering.{is_le, is_lt, nat_cmp}
@@ -50,7 +51,8 @@ module _ {K : Type 0} {order : K → K → Ordering} (o : IsTotalOrder order) wh
         All-cons (λ z. is_le (order z y) ≡ true) y items (ap is_le (Equal-self o y)) (λ k d within. le-trans o _ m y (all k d within) up),
       ))
 
-  -- where two sets have an end, what a connective makes of them has one, if it is off where both are
+  -- where two sets have an end, what a connective makes of them has one, if it is off where both
+  -- are
   pub even-result : (f : Table) → f false false ≡ false → (a b r : List K) → Means order f r a b →
       is_odd (length a) ≡ false → is_odd (length b) ≡ false → is_odd (length r) ≡ false
   even-result f off a b [] m p q = refl

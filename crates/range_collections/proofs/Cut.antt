@@ -76,7 +76,8 @@ module _ {K : Type 0} (order : K → K → Ordering) where
   count_up_to-front n xs x = ap (λ ys. count_up_to order ys x) (sym (take-append-drop n xs)) ∙ count_up_to-append order (take n xs) (drop n xs) x
 
 module _ {K : Type 0} {order : K → K → Ordering} (o : IsTotalOrder order) where
-  -- the items before place i are below the cut, and the others at or above it: the first are the least list below the cut
+  -- the items before place i are below the cut, and the others at or above it: the first are the
+  -- least list below the cut
   pub IsLeastBelow-take : (cut : K) (xs : List K) (i : ℕ) → IsAscending order xs → i ≤ length xs →
       AllWithin (λ y. order y cut ≡ Less) xs 0 i → AllWithin (λ y. is_le (order cut y) ≡ true) xs i (length xs) →
       IsLeastBelow order cut (take i xs) xs
@@ -98,7 +99,8 @@ module _ {K : Type 0} {order : K → K → Ordering} (o : IsTotalOrder order) wh
           (λ k d more less. Greater-from_less o x (get_or xs k d) (Less-then_le o x cut (get_or xs k d) low (from k d more less)))) in
           sym (ap is_odd (count_up_to-front order i xs x ∙ omega (arith, none)))
 
-  -- a list that ascends from the cut on, but for its first item, is no longer than one with its members there
+  -- a list that ascends from the cut on, but for its first item, is no longer than one with its
+  -- members there
   length-least_from : (cut : K) (ys : List K) → IsAscending order ys → AllWithin (λ y. order y cut ≡ Greater) ys 1 (length ys) →
       (other : List K) → ((x : K) → is_le (order cut x) ≡ true → member order other x ≡ member order ys x) → length ys ≤ length other
   length-least_from cut [] up high other same = omega arith
@@ -123,7 +125,8 @@ module _ {K : Type 0} {order : K → K → Ordering} (o : IsTotalOrder order) wh
       swapped t x far =
           ap is_odd (count_up_to-cons_in order p ps x (le-trans o p cut x t far) ∙ sym (count_up_to-cons_in order cut ps x far))
 
-  -- an even number j of items at or below the cut, and above it all but the next: the end from j on is the least list from the cut on
+  -- an even number j of items at or below the cut, and above it all but the next: the end from j on
+  -- is the least list from the cut on
   pub IsLeastFrom-drop : (cut : K) (xs : List K) (j : ℕ) → IsAscending order xs → j ≤ length xs → is_odd j ≡ false →
       AllWithin (λ y. is_le (order y cut) ≡ true) xs 0 j → AllWithin (λ y. order y cut ≡ Greater) xs (j + 1) (length xs) →
       IsLeastFrom order cut (drop j xs) xs

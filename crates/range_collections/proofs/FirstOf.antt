@@ -1,4 +1,5 @@
--- A sort that keeps the order of equal items, and a removal of repeats after it, leave the first of each.
+-- A sort that keeps the order of equal items, and a removal of repeats after it, leave the first of
+-- each.
 use Rattle.std.proofs.Common.{◌≡◌, refl, sym, ap, ◌∙◌, Bool, true, false, List, [], ◌∷◌, All, Some}
 use Rattle.std.specs.Prelude.{filter, not, ◌&&◌, slice_get}
 use Rattle.std.specs.List.{dedup, dedup_from}

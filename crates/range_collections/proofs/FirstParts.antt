@@ -163,7 +163,8 @@ module _ {K : Type 0} {order : K → K → Ordering} (o : IsTotalOrder order) wh
       same Equal other = absurd (other refl)
       same Greater other = refl
 
-  -- where a subset of a, and a of the items, the items change at x, and a doesn't, neither does the subset
+  -- where a subset of a, and a of the items, the items change at x, and a doesn't, neither does the
+  -- subset
   none_equal : (q a items : List K) (x : K) → IsAscending order q → IsAscending order items → IsSubset order q a → IsSubset order a items → Contains items x →
       All (λ y. order y x ≢ Equal) a → All (λ y. order x y ≢ Equal) q
   none_equal q a items x up_q up q_in a_in (i, within, is) none k d inside e = not_own_opposite true both

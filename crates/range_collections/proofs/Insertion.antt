@@ -1,4 +1,5 @@
--- A range put into a set or taken out of it: where the list is cut, and what stands between the cuts.
+-- A range put into a set or taken out of it: where the list is cut, and what stands between the
+-- cuts.
 use Rattle.std.proofs.Common.{suc, ◌≡◌, ◌≢◌, refl, sym, ap, ap₂, ◌∙◌, subst, ℕ, inl, inr, ◌<◌, ◌≤◌, ◌+◌, ◌%◌, ◌==◌, Option, Some, None, Bool, true, false, not, cond, ◌&&◌, List, [], ◌∷◌, ◌++◌, length, take, drop, get_or, arith, All, Contains, true≢false, Result, Ok, Err, OnOk, OnErr, append_assoc, length-append}
 use Rattle.std.proofs.Math.Bool.{beq}
 use Rattle.std.specs.List.{HoldsAt, AllWithin}

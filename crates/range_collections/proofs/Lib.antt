@@ -11,12 +11,15 @@ pub mod RangesLemmas
 pub mod RangesAtEnds
 pub mod Points
 pub mod Distinct
+pub mod Kept
+pub mod Answered
 pub mod JsonLemmas
 pub mod Values
 pub mod FirstOf
 pub mod Splices
 pub mod Insertion
 pub mod Combined
+pub mod Headline
 pub mod Counted
 pub mod Covered
 pub mod Fitted

@@ -1,4 +1,5 @@
--- A range added to a set: cuts near the set's end, the list after it, and the union of one range more.
+-- A range added to a set: cuts near the set's end, the list after it, and the union of one range
+-- more.
 use Rattle.std.proofs.Common.{◌≡◌, ◌≢◌, refl, sym, ap, ◌∙◌, subst, ℕ, suc, inl, inr, ◌<◌, ◌≤◌, ◌+◌, ◌-◌, Option, Some, None, Bool, true, false, not, cond, ◌||◌, List, [], ◌∷◌, ◌++◌, length, take, drop, get_or, arith, All, true≢false, Result, Ok, Err, IsOk, IsErr, OnOk, append_assoc, length-append}
 use Rattle.std.specs.Cmp.{IsTotalOrder}
 use Rattle.std.specs.List.{AllZip, AllWithin, flat_map}

@@ -59,13 +59,15 @@ module _ {K : Type 0} {order : K → K → Ordering} (o : IsTotalOrder order) wh
     pub Means-own_or_copies : (f : Table) (ts : List (Taken K)) (ys a b : List K) → Means order f (taken_items ts) a b → AreOwnOrCopies is_copy ts ys → Means order f ys a b
     Means-own_or_copies f ts ys a b m h = Means-copies o f ts ys a b (equal_all ts ys h) m
 
-    -- the left list ascends after a merge in place that takes copies of the right's items, also where it was refused
+    -- the left list ascends after a merge in place that takes copies of the right's items, also
+    -- where it was refused
     pub IsAscending-copied : {X E : Type 0} (f : Table) (r : Result X E) (ts : List (Taken K)) (new a b : List K) → Means order f (taken_items ts) a b → IsAscending order a
         → OnOk r (AreOwnOrCopies is_copy ts new) → OnErr r (new ≡ a) → IsAscending order new
     IsAscending-copied f (Ok x) ts new a b m up taken same = (Means-own_or_copies f ts new a b m taken).sorted
     IsAscending-copied f (Err e) ts new a b m up taken same = rw same up
 
-  -- the left list ascends after a merge in place that takes the right's items, also where it was refused
+  -- the left list ascends after a merge in place that takes the right's items, also where it was
+  -- refused
   pub IsAscending-taken : {X E : Type 0} (f : Table) (r : Result X E) (ts : List (Taken K)) (new a b : List K) → Means order f (taken_items ts) a b → IsAscending order a
       → OnOk r (new ≡ taken_items ts) → OnErr r (new ≡ a) → IsAscending order new
   IsAscending-taken f (Ok x) ts new a b m up taken same = rw taken m.sorted

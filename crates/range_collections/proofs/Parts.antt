@@ -1,4 +1,5 @@
--- The parts of a range that are in a set, or those that are not: the boundaries between its start and its end, with the ends that are put.
+-- The parts of a range that are in a set, or those that are not: the boundaries between its start
+-- and its end, with the ends that are put.
 use Rattle.std.proofs.Common.{◌≡◌, refl, sym, ap, ap₂, ◌∙◌, subst, ℕ, suc, ◌<◌, ◌≤◌, ◌+◌, ◌-◌, ◌%◌, ◌==◌, Option, Some, None, Bool, true, false, not, cond, ◌&&◌, List, [], ◌∷◌, ◌++◌, length, take, drop, get_or, arith, All, get_or-take, get_or-drop, length-drop, length-append, ◌≢◌, Contains, inl, inr}
 use Rattle.std.specs.List.{AllWithin}
 use Rattle.std.specs.Borrow.{Bor}

@@ -1,4 +1,5 @@
--- A strictly sorted list between a start and an end: how many items lie at or below the start, and how many below the end.
+-- A strictly sorted list between a start and an end: how many items lie at or below the start, and
+-- how many below the end.
 use Rattle.std.proofs.Common.{Bool, ◌≡◌, ◌↔◌, IsTrue, refl, sym, ap, ◌∙◌, subst, ℕ, suc, inl, inr, ◌<◌, ◌≤◌, ◌+◌, ◌-◌, ◌%◌, ◌==◌, Option, Some, None, IsSome, IfSome, true, false, List, [], ◌∷◌, length, take, drop, get_or, arith, get_or-drop, length-drop, Contains}
 use Rattle.std.specs.Borrow.{Bor}
 use Rattle.std.specs.List.{AllWithin}
@@ -45,7 +46,8 @@ pub odd-from_test : (r : Bool) (n : ℕ) → r ≡ is_odd n → r ≡ true → n
 odd-from_test r n e on even = true≢false (sym on ∙ e ∙ is_odd-at_zero n even)
 
 module _ {K : Type 0} (order : K → K → Ordering) where
-  -- the first range of a list whose first item is at or below the value, and whose second is above it, holds the value
+  -- the first range of a list whose first item is at or below the value, and whose second is above
+  -- it, holds the value
   first_holds : (v : K) (ys : List K) (r : RangeSetRange K) (rest : List (RangeSetRange K)) → ranges_of ys ≡ r ∷ rest →
       ((d : K) → 0 < length ys → is_le (order (get_or ys 0 d) v) ≡ true) → ((d : K) → 1 < length ys → order v (get_or ys 1 d) ≡ Less) →
       IsInRange order r v

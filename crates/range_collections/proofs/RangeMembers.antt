@@ -1,4 +1,5 @@
--- Contracts that say the list of a result, said by members: a range put in or taken out, and the parts of a range.
+-- Contracts that say the list of a result, said by members: a range put in or taken out, and the
+-- parts of a range.
 use Rattle.std.proofs.Common.{◌≡◌, ◌↔◌, ap, sym, ◌∙◌, Bool, true, false, not, ◌&&◌, ◌||◌, List, Contains, Option, Some, None, IfSome}
 use Rattle.std.specs.Borrow.{Bor}
 use Rattle.std.specs.List.{Any}

@@ -1,4 +1,5 @@
--- The ranges of a strictly sorted list: how many, that each has an element, how they lie, and what they have together.
+-- The ranges of a strictly sorted list: how many, that each has an element, how they lie, and what
+-- they have together.
 use Rattle.std.proofs.Common.{◌≡◌, ◌↔◌, refl, sym, ap, ap₂, ◌∙◌, subst, ℕ, zero, suc, ◌<◌, ◌+◌, ◌/◌, Bool, true, false, List, [], ◌∷◌, length, get_or, arith, All}
 use Rattle.std.specs.List.{Any, AllAdjacentBelow}
 use Rattle.std.specs.Cmp.{IsTotalOrder}

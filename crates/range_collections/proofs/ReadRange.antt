@@ -1,4 +1,5 @@
--- The kinds of characters, and numbers of any size between dots as they are read character by character.
+-- The kinds of characters, and numbers of any size between dots as they are read character by
+-- character.
 use Rattle.std.proofs.Common.{◌≡◌, refl, sym, ap, subst, ◌∙◌, ℕ, suc, ◌+◌, ◌==◌, Bool, true, false, not, cond, ◌&&◌, ◌||◌, ℤ, List, [], ◌∷◌, length, take, drop, arith, tests, Option, Some, None, inl, inr}
 use Rattle.std.specs.Char.{is_whitespace, is_ascii_digit}
 use Rattle.std.specs.List.{before_first, after_first, position_or_len}

@@ -1,4 +1,5 @@
--- Texts of ranges: what the calls on a text find of a range that a part of it writes, and of a number.
+-- Texts of ranges: what the calls on a text find of a range that a part of it writes, and of a
+-- number.
 use Rattle.std.proofs.Common.{◌≡◌, ◌≢◌, refl, sym, ap, ◌∙◌, ℕ, suc, ◌+◌, ◌^◌, ◌<◌, ◌≤◌, ◌==◌, ℤ, pos, negsuc, Bool, true, false, ◌||◌, cond, List, [], ◌∷◌, length, get_or, drop, All, arith, Option, Some, None, Result, Ok, Err, inl, inr}
 use Rattle.std.specs.Bool.{Decides}
 use Rattle.std.specs.List.{before_first, after_first, position_or_len, filter_map, cons_option}

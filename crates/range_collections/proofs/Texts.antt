@@ -1,4 +1,5 @@
--- Texts of ranges whose ends are printed in a way that is known: all whole numbers, and characters where they are ASCII.
+-- Texts of ranges whose ends are printed in a way that is known: all whole numbers, and characters
+-- where they are ASCII.
 use Rattle.std.proofs.Common.{◌≡◌, refl, ap, ℕ, Bool, true, false, cond, ◌&&◌, List, [], ◌∷◌, Option, Some, None, IfSome}
 use Rattle.std.specs.Char.{is_ascii}
 use Rattle.std.specs.Fmt.{debug_char}

@@ -1,4 +1,5 @@
--- Sets among values: the least value first, negation, and lists of values with the same members among them.
+-- Sets among values: the least value first, negation, and lists of values with the same members
+-- among them.
 use Rattle.std.proofs.Common.{◌≡◌, ◌≢◌, ◌↔◌, IsTrue, refl, sym, ap, ap₂, ◌∙◌, Ok, rules, Bool, true, false, not, ◌&&◌, List, [], ◌∷◌, ◌<◌, length, get_or, drop, arith, All, subst, ◌≤◌, true≢false}
 use Rattle.std.specs.List.{AllZip, HoldsAt, insert, remove}
 use Rattle.std.specs.Cmp.{IsTotalOrder}
@@ -67,7 +68,7 @@ module _ {K : Type 0} {order : K → K → Ordering} (o : IsTotalOrder order) wh
   insert-front y (x ∷ xs) = refl
 
   -- a list begins at the least value or it doesn't
-  by_BeginsAt : {G : Type 0} (least : K) (a : List K) → (BeginsAt order least a → G) → (¬ (BeginsAt order least a) → G) → G
+  pub by_BeginsAt : {G : Type 0} (least : K) (a : List K) → (BeginsAt order least a → G) → (¬ (BeginsAt order least a) → G) → G
   by_BeginsAt least [] on off = off (λ h. h)
   by_BeginsAt least (x ∷ xs) on off =
       by_Ordering (order x least)
@@ -329,7 +330,8 @@ module _ {K : Type 0} {order : K → K → Ordering} (o : IsTotalOrder order) (i
 
 module _ {K : Type 0} {order : K → K → Ordering} (o : IsTotalOrder order) (is_value : K → Type 0) (least : K)
     (value : is_value least) (lowest : (x : K) → is_value x → order x least ≢ Less) where
-  -- a list of values that is the negation, and at every element differs from b exactly at or above the least value
+  -- a list of values that is the negation, and at every element differs from b exactly at or above
+  -- the least value
   record Exact (b : List K) : Type 0 where
     items : List K
     values : All is_value items

@@ -1,4 +1,5 @@
--- Whether a set has a member in a range: the start is one, or the next boundary lies before the end.
+-- Whether a set has a member in a range: the start is one, or the next boundary lies before the
+-- end.
 use Rattle.std.proofs.Common.{◌≡◌, ◌↔◌, sym, ap, ◌∙◌, subst, ℕ, suc, inl, inr, ◌<◌, ◌≤◌, ◌%◌, ◌==◌, true, false, List, length, get_or, arith}
 use Rattle.std.specs.List.{AllWithin}
 use Rattle.std.specs.Ordering.{is_le}

@@ -19,7 +19,8 @@ signed_place half (negsuc a) = half - (a + 1)
 abbrev pub signed_value : ℕ → ℕ → ℤ
 signed_value half n = cond (nat_lt n half) (negsuc (half - (n + 1))) (pos (n - half))
 
--- the code of the character with n characters below it: after the first 0xD800 the surrogates are left out
+-- the code of the character with n characters below it: after the first 0xD800 the surrogates are
+-- left out
 abbrev pub char_value : ℕ → ℕ
 char_value n = cond (nat_lt n 0xD800) n (n + 0x800)
 

@@ -11,7 +11,8 @@ use Rattle.range_merge.specs.Boundaries.{member}
 use Rattle.range_collections.specs.Ranges.{range_start, range_end}
 use Rattle.range_collections.specs.declared.range_set_range.RangeSetRange.{RangeSetRange}
 
--- s starts as the first of the ranges does, and it ends as the last one does, or has no end where that has none
+-- s starts as the first of the ranges does, and it ends as the last one does, or has no end where
+-- that has none
 pub record IsSpan {K : Type 0} (ranges : List (RangeSetRange K))
     (s : RangeSetRange K) : Type 0 where
   pub first : RangeSetRange K

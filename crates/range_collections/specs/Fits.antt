@@ -5,7 +5,8 @@ use Rattle.std.specs.declared.cmp.Ordering.{Ordering}
 use Rattle.range_merge.specs.Boundaries.{member}
 
 module _ {K : Type 0} (order : K → K → Ordering) (number : K → ℕ) where
-  -- x is at or above start, x and `len` together are at or below end, and none of the `len` elements from x on is a member
+  -- x is at or above start, x and `len` together are at or below end, and none of the `len`
+  -- elements from x on is a member
   pub record Fits (items : List K) (start end len x : K) : Type 0 where
     pub from : number start ≤ number x
     pub up_to : number x + number len ≤ number end

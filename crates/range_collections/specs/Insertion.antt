@@ -7,7 +7,10 @@ use Rattle.range_merge.specs.Connective.{Table, Means}
 use Rattle.range_collections.specs.InPlace.{AreOwnElseOf}
 
 module _ {K : Type 0} (order : K → K → Ordering) where
-  -- a list that a call with a range changed from a to new, where b are the range's boundaries: an Ok means the connective, with a's own items where both have one; an Err leaves a as it was; an Ok comes where the one list that means the connective is no longer than a, or has room; and an empty range changes nothing
+  -- a list that a call with a range changed from a to new, where b are the range's boundaries: an
+  -- Ok means the connective, with a's own items where both have one; an Err leaves a as it was; an
+  -- Ok comes where the one list that means the connective is no longer than a, or has room; and an
+  -- empty range changes nothing
   pub record IsChangedByRange (f : Table) (room : ℕ) (a b new : List K)
       (r : Result (Unit {0}) AllocError) : Type 0 where
     pub means : OnOk r (Means order f new a b)

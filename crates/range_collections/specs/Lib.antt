@@ -21,6 +21,7 @@ pub mod Values
 pub mod Countable
 pub mod Covered
 pub mod Fits
+pub mod Headline
 pub mod Operators
 pub mod InPlace
 pub mod Insertion

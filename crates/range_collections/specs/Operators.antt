@@ -9,7 +9,9 @@ use Rattle.range_merge.specs.Copies.{AreCopies}
 
 module _ {K : Type 0} (order : K → K → Ordering) (is_copy : K → K → Type 0)
     (is_infallible : K → Type 0) where
-  -- an answer to an operation on a and b. An Ok means the connective, and its items are copies of the changes, which hold a's item where both sides have one. It is an Ok where there is room for the items of both and each of them is infallible
+  -- an answer to an operation on a and b. An Ok means the connective, and its items are copies of
+  -- the changes, which hold a's item where both sides have one. It is an Ok where there is room for
+  -- the items of both and each of them is infallible
   pub record GivesOperation (f : Table) (room : ℕ) (a b : List K)
       (r : Result (List K) AllocError) : Type 0 where
     pub means : IfOk r (λ items. Means order f items a b)

@@ -29,13 +29,16 @@ pub record IsLongestFront (text : List ℕ) (at : ℕ) : Type 0 where
   pub begins : BeginsRanges (take at text)
   pub longest : (n : ℕ) → at < n → n ≤ length text → ¬ (BeginsRanges (take n text))
 
--- what may follow a front. Number: a digit, no dot, and a comma only where a number may begin. Dot: a dot. Comma: a comma or the end, where no number may begin
+-- what may follow a front. Number: a digit, no dot, and a comma only where a number may begin. Dot:
+-- a dot. Comma: a comma or the end, where no number may begin
 abbrev pub IsExpected : List ℕ → Expected → Type 0
 IsExpected front Number = MayFollow front (byte "0") × ¬ (MayFollow front (byte ".")) × (MayFollow front (byte ",") → MayFollow front (byte "+"))
 IsExpected front Dot = MayFollow front (byte ".")
 IsExpected front Comma = MayFollow front (byte ",") × (is_ranges any_number front ≡ true) × ¬ (MayFollow front (byte "+"))
 
--- the text is none of ranges, with numbers of any size, and the error names the end of the longest front that begins one, and what was expected there; or the text is one of ranges, with numbers of any size
+-- the text is none of ranges, with numbers of any size, and the error names the end of the longest
+-- front that begins one, and what was expected there; or the text is one of ranges, with numbers of
+-- any size
 abbrev pub IsFaultIn : List ℕ → ParseError → Type 0
 IsFaultIn text (Malformed at expected) = (is_ranges any_number text ≡ false) × IsLongestFront text at × IsExpected (take at text) expected
 IsFaultIn text OutOfRange = is_ranges any_number text ≡ true

@@ -30,7 +30,8 @@ abbrev pub is_within : ℕ → ℤ → Bool
 is_within k (pos n) = nat_lt n (2 ^ k)
 is_within k (negsuc n) = nat_lt n (2 ^ k)
 
--- the number at least -(2 ^ k) and below 2 ^ k that a text writes in decimal digits, which may follow a sign
+-- the number at least -(2 ^ k) and below 2 ^ k that a text writes in decimal digits, which may
+-- follow a sign
 unfoldable pub signed_number : ℕ → List ℕ → Option ℤ
 signed_number k text =
     cond (is_numeral (without_leading_sign text) && is_within k (signed_digits_value 10 text)) (Some (signed_digits_value 10 text)) None

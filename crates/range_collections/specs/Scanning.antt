@@ -1,4 +1,5 @@
--- How the text of a list of ranges is read character by character; contracts of private functions use these words.
+-- How the text of a list of ranges is read character by character; contracts of private functions
+-- use these words.
 --     kind_of c              what a character is in such a text
 --     expected place         what is expected at a place
 --     is_end place           the text may end there

@@ -28,13 +28,16 @@ module _ {K : Type 0} (order : K → K → Ordering) where
       All (λ x. (z : K) × (slice_get (filter (λ y. is_eq (order x y)) list) 0 ≡ Some z)
       × is_copy z x) items
 
-  -- a list to which another was added: it means the union, with the first one's items where both have them; and it is an Ok where the items of both have room
+  -- a list to which another was added: it means the union, with the first one's items where both
+  -- have them; and it is an Ok where the items of both have room
   pub record IsJoined (room : ℕ) (a b : List K) (r : Result (List K) AllocError) : Type 0 where
     pub means : IfOk r (λ items. Means order union_table items a b)
     pub left_own_item : IfOk r (λ items. AreOwnElseOf order a b items)
     pub succeeds : length a + length b ≤ room → IsOk r
 
-  -- a list that was changed from a to new by adding copies of the items of b: it means the union with the copies, with a's own items where both have them; and it is an Ok where the items of both have room and no copy is refused
+  -- a list that was changed from a to new by adding copies of the items of b: it means the union
+  -- with the copies, with a's own items where both have them; and it is an Ok where the items of
+  -- both have room and no copy is refused
   pub record IsAdded (is_copy : K → K → Type 0) (is_infallible : K → Type 0) (room : ℕ)
       (a b new : List K) (r : Result (Unit {0}) AllocError) : Type 0 where
     pub added : OnOk r ((copies : List K) × AllZip is_copy b copies
@@ -51,7 +54,9 @@ module _ {K : Type 0} (order : K → K → Ordering) where
       pub sorted : IsAscending order items
       pub members : (x : K) → member order items x ≡ is_in_one x
 
-  -- an answer to a union of parts: an Ok has the members of the parts; of boundaries of theirs that are equal it has a copy of the first, and no more items than they have together; and it is an Ok where these have room and no copy of one is refused
+  -- an answer to a union of parts: an Ok has the members of the parts; of boundaries of theirs that
+  -- are equal it has a copy of the first, and no more items than they have together; and it is an
+  -- Ok where these have room and no copy of one is refused
   pub record GivesUnion (is_copy : K → K → Type 0) (is_infallible : K → Type 0) {P : Type 0}
       (boundaries : P → List K) (room : ℕ) (parts : List P)
       (r : Result (List K) AllocError) : Type 0 where

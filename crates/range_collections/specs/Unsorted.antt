@@ -6,7 +6,8 @@ use Rattle.std.specs.declared.cmp.Ordering.{Ordering}
 use Rattle.std.specs.declared.cmp.Ordering.TheVariants.{Equal}
 use Rattle.range_merge.specs.Boundaries.{IsAscending}
 
--- the items are strictly sorted, each is one of the list, and each of the list is equal to one of them
+-- the items are strictly sorted, each is one of the list, and each of the list is equal to one of
+-- them
 pub record AreDistinctOf {K : Type 0} (order : K → K → Ordering)
     (list items : List K) : Type 0 where
   pub sorted : IsAscending order items

@@ -28,7 +28,8 @@ module _ {K : Type 0} (order : K → K → Ordering) where
   abbrev pub HasLeastInFront : K → List K → List K → Type 0
   HasLeastInFront least rest items = (x : K) × (order x least ≡ Equal) × (items ≡ x ∷ rest)
 
-  -- the items are xs itself without a first item that equals the least value, or else after such an item
+  -- the items are xs itself without a first item that equals the least value, or else after such an
+  -- item
   pub record IsFlipped (least : K) (xs items : List K) : Type 0 where
     pub removed : BeginsAt least xs → items ≡ drop 1 xs
     pub put : ¬ (BeginsAt least xs) → HasLeastInFront least xs items
@@ -52,7 +53,8 @@ module _ {K : Type 0} (order : K → K → Ordering) where
       pub sorted : IsAscending order items
       pub members : (x : K) → is_value x → member order items x ≡ not (member order a x)
 
-    -- the items are strictly sorted, and their members are f of the members of a and of b: among values alone where f is on while both sides are off
+    -- the items are strictly sorted, and their members are f of the members of a and of b: among
+    -- values alone where f is on while both sides are off
     pub record MeansAmong (f : Table) (items a b : List K) : Type 0 where
       pub sorted : IsAscending order items
       pub members : (x : K) → (f false false ≡ true → is_value x) →
@@ -66,7 +68,9 @@ module _ {K : Type 0} (order : K → K → Ordering) where
     abbrev pub IsEverything : List K → Type 0
     IsEverything items = (x : K) → is_value x → member order items x ≡ true
 
-    -- an answer to `!` of a: an Ok is the negation, copies of the items of a without a first one that is the least value, or else after the least value; of values it holds values alone, if what equals a value is one; and where it is infallible it is an Ok
+    -- an answer to `!` of a: an Ok is the negation, copies of the items of a without a first one
+    -- that is the least value, or else after the least value; of values it holds values alone, if
+    -- what equals a value is one; and where it is infallible it is an Ok
     pub record GivesNegation (is_copy : K → K → Type 0) (least : K) (infallible : Type 0) (a : List K)
         (r : Result (List K) AllocError) : Type 0 where
       pub negates : IfOk r (λ items. Negates items a)

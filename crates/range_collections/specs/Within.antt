@@ -27,7 +27,8 @@ borrowed_items first between last =
 abbrev pub within_table : Bool → Table
 within_table inside = cond inside intersection_table difference_table
 
--- the parts of a range that a connective of the range and a set keeps, as the list of their boundaries, with the range's own ends where the set has equal ones
+-- the parts of a range that a connective of the range and a set keeps, as the list of their
+-- boundaries, with the range's own ends where the set has equal ones
 pub record GivesParts {K : Type 0} (order : K → K → Ordering) (f : Table) (within : Ends (Bor K))
     (items parts : List K) : Type 0 where
   pub means : Means order f parts (range_items order within.start.now within.end.now) items

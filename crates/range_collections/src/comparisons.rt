@@ -8,7 +8,8 @@ use std::alloc::AllocError;
 use std::cmp::Ordering;
 use std::marker::Model;
 
-/// Compares elements by the order of their type, and counts how often it did. A clause reads it as that number.
+/// Compares elements by the order of their type, and counts how often it did. A clause reads it as
+/// that number.
 #[derive(Drop)]
 pub struct Comparisons {
     made: u128,

@@ -1,6 +1,7 @@
 //! Values that can be counted, since they stand in a row: whole numbers and characters.
 //!
-//! A value's place is the number of values below it. The places go from 0 up without a gap, in the order of the values.
+//! A value's place is the number of values below it. The places go from 0 up without a gap, in the
+//! order of the values.
 ghost use Rattle.std.specs.Prelude.{◌≡◌, ◌<◌, ◌≤◌, ◌^◌, ℕ};
 ghost use Rattle.std.specs.Ordering.{nat_cmp};
 

@@ -1,4 +1,5 @@
-//! The ranges of a set, from the lowest on and from the highest down, and the ranges of a set within two ends, each of which has an end.
+//! The ranges of a set, from the lowest on and from the highest down, and the ranges of a set
+//! within two ends, each of which has an end.
 ghost use Rattle.std.specs.Prelude.{◌≡◌, false, [], length};
 ghost use Rattle.std.specs.Iterator.{YieldsFirstBy, YieldsLastBy, item_count};
 ghost use Rattle.range_merge.specs.Boundaries.{is_odd};
@@ -11,7 +12,8 @@ use std::iter::FusedIterator;
 use std::marker::Model;
 use std::ops::{Range, RangeFrom};
 
-/// The ranges of the boundaries that are still unread. A clause reads it as the list of those boundaries.
+/// The ranges of the boundaries that are still unread. A clause reads it as the list of those
+/// boundaries.
 #[derive(Drop)]
 pub struct Iter<'a, T> {
     unread: &'a [T],
@@ -90,10 +92,12 @@ impl<'a, T> ExactSizeIterator for Iter<'a, T> {
 
 impl<'a, T> FusedIterator for Iter<'a, T> {}
 
-/// The parts of a range that a set leaves out, from the lowest on. A clause reads it as the list of the boundaries that are still unread.
+/// The parts of a range that a set leaves out, from the lowest on. A clause reads it as the list of
+/// the boundaries that are still unread.
 pub type Gaps<'a, T> = RangesWithin<'a, T>;
 
-/// The parts of a range that are in a set, from the lowest on. A clause reads it as the list of the boundaries that are still unread, of which there is an even number.
+/// The parts of a range that are in a set, from the lowest on. A clause reads it as the list of the
+/// boundaries that are still unread, of which there is an even number.
 #[derive(Drop)]
 pub struct RangesWithin<'a, T> {
     unread: Unread<'a, T>,
@@ -119,7 +123,8 @@ impl<'a, T> RangesWithin<'a, T> {
         Self::new(None, &[], None)
     }
 
-    // The ranges of these boundaries, of which there has to be an even number: a first one and a last one where they are given, and those between.
+    // The ranges of these boundaries, of which there has to be an even number: a first one and a
+    // last one where they are given, and those between.
     #[inline(always)]
     pub(crate) fn new(first: Option<&'a T>, between: &'a [T], last: Option<&'a T>) -> Self
         requires { is_odd (length (borrowed_items first between.now last)) ≡ false }
@@ -151,7 +156,8 @@ impl<'a, T> Iterator for RangesWithin<'a, T> {
 
 impl<'a, T> FusedIterator for RangesWithin<'a, T> {}
 
-// Items by reference: a first one, those of a slice, and a last one. A clause reads it as the list of the items.
+// Items by reference: a first one, those of a slice, and a last one. A clause reads it as the list
+// of the items.
 #[derive(Drop)]
 struct Unread<'a, T> {
     first: Option<&'a T>,

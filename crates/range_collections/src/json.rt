@@ -1,4 +1,5 @@
-//! Sets of whole numbers as JSON: the array of the boundaries. An array is read in any order and with repeats.
+//! Sets of whole numbers as JSON: the array of the boundaries. An array is read in any order and
+//! with repeats.
 ghost use Rattle.std.specs.Prelude.{◌≡◌, ◌↔◌, ℕ, Some, None, Err, map, position, IfOk};
 ghost use Rattle.std.specs.List.{filter_map};
 ghost use Rattle.std.specs.Ordering.{int_cmp};
@@ -19,7 +20,8 @@ use std::fmt;
 pub enum JsonError {
     /// The value isn't an array.
     NotArray,
-    /// The item at this index is the first that isn't a whole number of i64. A float isn't one, whatever its value.
+    /// The item at this index is the first that isn't a whole number of i64. A float isn't one,
+    /// whatever its value.
     NotInteger { index: usize },
     /// Memory ran out.
     OutOfMemory,
@@ -34,7 +36,8 @@ impl<const N: usize> RangeSet<i64, N> {
         Ok(Value::Array(list))
     }
 
-    /// The set whose boundaries are the distinct numbers of an array, in order. All items are looked at before memory is asked for.
+    /// The set whose boundaries are the distinct numbers of an array, in order. All items are
+    /// looked at before memory is asked for.
     pub fn from_json(alloc: Global, value: &Value) -> Result<Self, JsonError>
         ensures not_array { (result ≡ Err JsonError.NotArray) ↔ (as_array (view value.now) ≡ None) }
         ensures not_integer { (i : ℕ) →

@@ -1,9 +1,22 @@
-//! Laws: functions that do nothing, and whose contracts are theorems on the words of the other contracts.
+//! Laws: functions that do nothing, and whose contracts are theorems on the words of the other
+//! contracts.
+mod answers;
+mod headline;
+mod kept;
 mod operations;
 mod parts;
 mod ranges;
 mod values;
 
+pub use answers::{
+    a_change_gives_its_members, a_negation_turns_one_boundary, a_refused_change_changes_nothing,
+    a_union_keeps_the_first_of_equal_boundaries, enough_room_is_never_refused,
+    only_arrays_are_read, the_longest_front_is_pinned, what_is_written_is_pinned,
+};
+pub use headline::{every_form_gives_one_list, the_headline_is_what_the_clauses_say};
+pub use kept::{
+    an_empty_range_changes_nothing, items_past_the_result_stay, the_left_boundary_stays,
+};
 pub use operations::{
     disjoint_is_an_empty_intersection, operations_associate, operations_commute,
     operations_give_their_members, results_are_pinned, same_members_are_equal_items,
@@ -11,7 +24,7 @@ pub use operations::{
 };
 pub use parts::{
     a_range_is_contained_where_nothing_is_left, gaps_are_the_ranges_of_the_difference,
-    gaps_have_what_is_not_in_the_set, parts_are_the_shortest,
+    gaps_have_what_is_not_in_the_set, parts_are_the_shortest, the_next_element_is_pinned,
 };
 pub use range_merge::laws::{
     changes_are_at_most_the_lengths, changes_are_marked_truly, changes_mean_the_connective,

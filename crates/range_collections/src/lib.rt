@@ -1,4 +1,5 @@
-//! Sets of elements of an ordered type, kept as strictly sorted lists of boundaries: an element is a member if an odd number of boundaries is at or below it.
+//! Sets of elements of an ordered type, kept as strictly sorted lists of boundaries: an element is
+//! a member if an odd number of boundaries is at or below it.
 #![tactic(auto)]
 
 mod comparisons;

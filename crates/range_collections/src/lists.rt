@@ -1,4 +1,5 @@
-//! Lists of boundaries: whether one is strictly sorted, whether it begins at the least value, which places are odd, and how much room a new one keeps.
+//! Lists of boundaries: whether one is strictly sorted, whether it begins at the least value, which
+//! places are odd, and how much room a new one keeps.
 ghost use Rattle.std.specs.Prelude.{◌↔◌, IsTrue, ◌≡◌};
 ghost use Rattle.range_merge.specs.Boundaries.{IsAscending, is_odd as odd};
 ghost use Rattle.range_collections.specs.Values.{BeginsAt, BeginsWithValue};
@@ -11,7 +12,8 @@ use std::default::MadeWith;
 // So many pairs of neighbours are compared with no branch between them.
 const BLOCK: usize = 16;
 
-// Whether each item is below the next. It goes block by block, each of which begins with the last item of the one before, up to the first that is not sorted.
+// Whether each item is below the next. It goes block by block, each of which begins with the last
+// item of the one before, up to the first that is not sorted.
 pub(crate) fn is_ascending<T: Ord>(items: &[T]) -> bool
     ensures { IsTrue result ↔ IsAscending T.cmp items.now }
 {
@@ -59,7 +61,8 @@ pub(crate) fn is_odd(n: usize) -> bool
     n % 2 == 1
 }
 
-// Gives back the room of a list that has some for more than twice its items, which come to lie inline where they fit. What the allocator doesn't take back stays.
+// Gives back the room of a list that has some for more than twice its items, which come to lie
+// inline where they fit. What the allocator doesn't take back stays.
 #[inline]
 pub(crate) fn give_back_room<T: MadeWith<Global> + Drop, const N: usize>(list: &mut SmallVec<T, N>)
     ensures { list.new.items ≡ list.old.items }

@@ -1,4 +1,5 @@
-//! Sets read from a text of ranges, and why a text is not read as one. Where it stops being one is found character by character: a table says what may follow what.
+//! Sets read from a text of ranges, and why a text is not read as one. Where it stops being one is
+//! found character by character: a table says what may follow what.
 ghost use Rattle.std.specs.Prelude.{◌≡◌, ◌≢◌, ◌↔◌, ◌≤◌, true, false, Any, length, IsOk, IfOk, IfErr};
 ghost use Rattle.range_merge.specs.Boundaries.{member};
 ghost use Rattle.range_collections.specs.Ranges.{IsInRange};
@@ -30,7 +31,8 @@ pub enum ParseError {
 /// What was expected in a text.
 #[derive(Clone, Copy, Debug, PartialEq, Eq, Drop)]
 pub enum Expected {
-    /// A number, or a further digit of one. After the two dots a comma or the end may stand as well.
+    /// A number, or a further digit of one. After the two dots a comma or the end may stand as
+    /// well.
     Number,
     /// One of the two dots of a range.
     Dot,
@@ -84,9 +86,12 @@ impl From<AllocError> for ParseError {
 }
 
 impl<T: EntryClone + WholeNumber + MadeWith<Global> + Drop, const N: usize> RangeSet<T, N> {
-    /// Reads ranges like `0..10, 20..`: in any order, with commas between them and blanks around each. A text of blanks is the empty set.
+    /// Reads ranges like `0..10, 20..`: in any order, with commas between them and blanks around
+    /// each. A text of blanks is the empty set.
     ///
-    /// The whole text is read before memory is asked for, and one range that fits inline asks for none. An error gives the byte at which the text stops being one of ranges, and what was expected there; or it says that a number doesn't fit its type, or that memory ran out.
+    /// The whole text is read before memory is asked for, and one range that fits inline asks for
+    /// none. An error gives the byte at which the text stops being one of ranges, and what was
+    /// expected there; or it says that a number doesn't fit its type, or that memory ran out.
     pub fn parse(alloc: Global, text: &str) -> Result<Self, ParseError>
         ensures ok { IfOk result (λ set. is_ranges T.number text.now ≡ true) }
         ensures members { IfOk result (λ set. (x : T) → (member T.cmp set x ≡ true) ↔ Any (λ range. IsInRange T.cmp range x) (ranges_in T.number text.now)) }
@@ -103,7 +108,8 @@ impl<T: EntryClone + WholeNumber + MadeWith<Global> + Drop, const N: usize> Rang
 }
 
 impl<T: WholeNumber + Drop> RangeSetRange<T> {
-    /// Reads one range like `0..10` or `20..`, with blanks around it, or answers `None` where the text isn't that.
+    /// Reads one range like `0..10` or `20..`, with blanks around it, or answers `None` where the
+    /// text isn't that.
     #[inline]
     pub fn parse(text: &str) -> Option<Self>
         ensures { result ≡ range_in T.number text.now }
@@ -112,7 +118,8 @@ impl<T: WholeNumber + Drop> RangeSetRange<T> {
     }
 }
 
-/// Checks that `RangeSet::parse` reads the text, unless memory runs out, or says why it doesn't. It takes no memory.
+/// Checks that `RangeSet::parse` reads the text, unless memory runs out, or says why it doesn't. It
+/// takes no memory.
 pub fn check_ranges<T: WholeNumber + Drop>(text: &str) -> Result<(), ParseError>
     ensures ok { IsOk result ↔ (is_ranges T.number text.now ≡ true) }
     ensures fault { IfErr result (IsFaultIn text.now) }
@@ -279,7 +286,8 @@ impl Place {
     }
 }
 
-// Why a text that writes no ranges doesn't: the first byte that may not stand where it does, or else a number.
+// Why a text that writes no ranges doesn't: the first byte that may not stand where it does, or
+// else a number.
 fn fault_in(text: &str) -> ParseError
     ensures { IsFaultIn text.now result }
 {

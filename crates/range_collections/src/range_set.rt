@@ -1,6 +1,7 @@
 //! A set that owns its strictly sorted list of boundaries.
 //!
-//! Sets are equal if their members are the same, which is that their boundaries are equal item by item.
+//! Sets are equal if their members are the same, which is that their boundaries are equal item by
+//! item.
 ghost use Rattle.std.specs.Prelude.{◌≡◌, ◌↔◌, [], IsSome, IfSome, IsTrue, ◌≤◌, IsOk, IfOk, All, length, false};
 ghost use Rattle.std.specs.Cmp.Lexicographic.{pointwise, lists_per, lists_equiv};
 ghost use Rattle.std.specs.List.{AllZip};
@@ -13,6 +14,7 @@ mod in_place;
 mod insertion;
 mod joining;
 mod many_ranges;
+mod operations;
 mod operators;
 mod splicing;
 
@@ -28,9 +30,10 @@ use std::marker::Model;
 
 /// A set of values, stored as the sorted list of boundaries between what is in it and what is not.
 ///
-/// An element is a member if an odd number of boundaries is at or below it: `[0, 10, 20]` holds 0 to 9, and everything
-/// from 20 on. Boundaries are always strictly sorted, so two sets with the same members have equal boundaries. Up to `N`
-/// boundaries lie in the value itself, and more in an allocation. A clause reads a set as the list of its boundaries.
+/// An element is a member if an odd number of boundaries is at or below it: `[0, 10, 20]` holds 0
+/// to 9, and everything from 20 on. Boundaries are always strictly sorted, so two sets with the
+/// same members have equal boundaries. Up to `N` boundaries lie in the value itself, and more in an
+/// allocation. A clause reads a set as the list of its boundaries.
 ///
 /// ```text
 /// let day = RangeSet2::from_range(alloc, 9..17)?;
@@ -40,15 +43,16 @@ use std::marker::Model;
 /// free.contains(&14)                     // true
 /// ```
 ///
-/// A range has its start and not its end; an empty or reversed range has no members. Of two equal boundaries the left
-/// set's stays. Calls fail only if an allocation or a copy of an element does. A set that is changed in place is then as
-/// it was.
+/// A range has its start and not its end; an empty or reversed range has no members. Of two equal
+/// boundaries the left set's stays. Calls fail only if an allocation or a copy of an element does.
+/// A set that is changed in place is then as it was.
 ///
 /// # Costs
 ///
-/// `n` and `m` are the numbers of boundaries, `d(n)` is how many binary digits `n` has, and `w` is the weight: the
-/// digits of the lengths of all runs, where a run is a longest stretch of boundaries of one side alone. It is at most
-/// `n + m`, and for one range beside many boundaries some `3 d(n)`.
+/// `n` and `m` are the numbers of boundaries, `d(n)` is how many binary digits `n` has, and `w` is
+/// the weight: the digits of the lengths of all runs, where a run is a longest stretch of
+/// boundaries of one side alone. It is at most `n + m`, and for one range beside many boundaries
+/// some `3 d(n)`.
 ///
 /// | Calls | Comparisons, at most | Memory |
 /// |---|---|---|
@@ -71,12 +75,14 @@ use std::marker::Model;
 /// | `from_unsorted`, `from_json` | a sort's | a sort's buffer |
 /// | `clone`, `to_json` | none | the result |
 ///
-/// `union`, `insert` and the others move or copy each boundary that they keep, or that lies after the range.
+/// `union`, `insert` and the others move or copy each boundary that they keep, or that lies after
+/// the range.
 pub struct RangeSet<T: Ord, const N: usize> {
     list: SmallVec<T, N>,
 }
 
-// By hand: a call is proved once, and a derived drop anew at each exit of each function that owns a set.
+// By hand: a call is proved once, and a derived drop anew at each exit of each function that owns a
+// set.
 impl<T: Ord + Drop, const N: usize> Drop for RangeSet<T, N> {
     #[inline]
     fn drop(self) {

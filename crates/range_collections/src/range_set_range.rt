@@ -1,6 +1,7 @@
 //! One range of a set: with an end, or without one.
 //!
-//! Two are equal if both have an end or neither has, the starts are equal, and so are the ends. Two ranges of nothing differ where their ends do.
+//! Two are equal if both have an end or neither has, the starts are equal, and so are the ends. Two
+//! ranges of nothing differ where their ends do.
 ghost use Rattle.std.specs.Prelude.{◌≡◌, ℕ, List, IsOk, IfOk, ◌↔◌, ◌+◌, ◌<◌, ◌^◌, IsTrue};
 ghost use Rattle.std.specs.Fmt.{WritesOnOk};
 ghost use Rattle.range_collections.specs.Ranges.{range_now, bound_now, range_start, range_end, IsEqualRange, AllEnds, AllEndsZip};
@@ -25,7 +26,8 @@ pub enum RangeSetRange<T> {
     RangeFrom(RangeFrom<T>),
 }
 
-// Whether the range has an element: its start is below its end. Every call that takes a range asks this. An empty or reversed range stands for the empty set.
+// Whether the range has an element: its start is below its end. Every call that takes a range asks
+// this. An empty or reversed range stands for the empty set.
 #[inline(always)]
 pub(crate) fn has_elements<T: Ord>(start: &T, end: &T, count: &mut Comparisons) -> bool
     requires { count.old < 2 ^ 127 }

@@ -1,4 +1,5 @@
-//! The Debug and the Display text of a set: its ranges, as `0..10, 20..`, and no character for the empty set.
+//! The Debug and the Display text of a set: its ranges, as `0..10, 20..`, and no character for the
+//! empty set.
 ghost use Rattle.std.specs.Prelude.{ℕ, List};
 ghost use Rattle.std.specs.Fmt.{WritesOnOk};
 ghost use Rattle.range_collections.specs.Ranges.{ranges_of};

@@ -18,7 +18,8 @@ use std::slice;
 
 /// A borrowed set: a strictly sorted slice of boundaries.
 ///
-/// It answers what a set answers, and makes new sets. It is `Copy`, and the parts that it is split into are slices of the same list. The costs are those of `RangeSet`.
+/// It answers what a set answers, and makes new sets. It is `Copy`, and the parts that it is split
+/// into are slices of the same list. The costs are those of `RangeSet`.
 ///
 /// ```text
 /// let hours = RangeSetRef::new(&[9, 13, 15, 20])?;     // None if they aren't strictly sorted

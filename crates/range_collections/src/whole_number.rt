@@ -5,7 +5,8 @@ ghost use Rattle.range_collections.specs.Reading.{signed_number, unsigned_number
 
 use std::fmt;
 
-/// A whole number: `{:?}` writes its decimal digits, after a minus sign where it is negative, and `read` reads them.
+/// A whole number: `{:?}` writes its decimal digits, after a minus sign where it is negative, and
+/// `read` reads them.
 pub trait WholeNumber: fmt::Debug + Sized {
     // Those bytes.
     ghost digits: { Self → List ℕ };
@@ -13,7 +14,8 @@ pub trait WholeNumber: fmt::Debug + Sized {
     // The number that a text writes, if it writes one.
     ghost number: { List ℕ → Option Self };
 
-    /// The number that a text writes in decimal digits, which may follow a sign, if it is one of the type.
+    /// The number that a text writes in decimal digits, which may follow a sign, if it is one of
+    /// the type.
     fn read(text: &str) -> Option<Self>
         ensures { result ≡ number text.now };
 

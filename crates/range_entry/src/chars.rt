@@ -1,4 +1,5 @@
-//! Characters, in the order of their codes. A contract reads a `char` as its code, so the values are the scalar values: the codes up to 0x10FFFF that are no surrogates.
+//! Characters, in the order of their codes. A contract reads a `char` as its code, so the values
+//! are the scalar values: the codes up to 0x10FFFF that are no surrogates.
 ghost use Rattle.std.specs.Char.{IsScalar};
 ghost use Rattle.std.proofs.Common.{rules};
 

@@ -20,7 +20,8 @@ pub trait EntryClone: Ord {
         ensures copy { IfOk result (λ copied. is_copy self.now copied) }
         ensures succeeds { is_infallible self.now → IsOk result };
 
-    /// Whether copies of elements never fail: `true` only if the type says so, as numbers, characters and references do.
+    /// Whether copies of elements never fail: `true` only if the type says so, as numbers,
+    /// characters and references do.
     #[inline(always)]
     fn never_refuses() -> bool
         ensures { IsTrue result → (x : Self) → is_infallible x }
@@ -28,7 +29,8 @@ pub trait EntryClone: Ord {
         false
     }
 
-    /// Appends a copy of each item to the list. If memory runs out it is an error, and the copies made before stay. It asks for room once.
+    /// Appends a copy of each item to the list. If memory runs out it is an error, and the copies
+    /// made before stay. It asks for room once.
     fn append_clones(list: &mut Vec<Self>, items: &[Self]) -> Result<(), AllocError>
         ensures kept { OnOk result (take (length list.old.items) list.new.items ≡ list.old.items) }
         ensures copied { OnOk result (AllZip is_copy items.now (drop (length list.old.items) list.new.items)) }

@@ -1,4 +1,5 @@
-//! The element types of range sets: which elements are values, a least value of each type, and clones that are equal to their source.
+//! The element types of range sets: which elements are values, a least value of each type, and
+//! clones that are equal to their source.
 #![tactic(auto)]
 
 mod chars;

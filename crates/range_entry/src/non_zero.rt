@@ -1,6 +1,7 @@
 //! Whole numbers other than 0, in a form that a list with room inside itself can hold.
 //!
-//! The library has types of these names too. They have no default value, which such a list asks of its items, so they serve in slices alone.
+//! The library has types of these names too. They have no default value, which such a list asks of
+//! its items, so they serve in slices alone.
 ghost use Rattle.std.specs.Prelude.{◌≡◌, ◌≢◌, ◌↔◌, ◌<◌, ℕ, ⊤, IsTrue, IsNone, IfSome};
 ghost use Rattle.std.specs.declared.cmp.Ordering.TheVariants.{Less};
 ghost use Rattle.std.proofs.Common.{rules};

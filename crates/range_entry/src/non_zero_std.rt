@@ -1,4 +1,5 @@
-//! The library's own whole numbers other than 0. They have no default value, so a slice can hold them and a list with room inside itself can't.
+//! The library's own whole numbers other than 0. They have no default value, so a slice can hold
+//! them and a list with room inside itself can't.
 ghost use Rattle.std.specs.Prelude.{◌^◌, ◌<◌};
 ghost use Rattle.std.specs.Int.NonZero.{non_zero_u8_get, non_zero_u16_get, non_zero_u32_get, non_zero_u64_get, non_zero_u128_get, non_zero_usize_get};
 ghost use Rattle.std.proofs.Common.{rules, lit<};

@@ -1,4 +1,5 @@
-//! Whole numbers. Each type says what its least number is and which numbers it has; the rest is written once.
+//! Whole numbers. Each type says what its least number is and which numbers it has; the rest is
+//! written once.
 ghost use Rattle.std.specs.Prelude.{◌≡◌, ◌≢◌, ◌^◌, ◌-◌, ◌<◌, ⊤, true, negsuc, FitsSigned};
 ghost use Rattle.std.specs.Int.{w8, w16, w32, w64, w128};
 ghost use Rattle.std.specs.declared.cmp.Ordering.TheVariants.{Less};

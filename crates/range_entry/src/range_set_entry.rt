@@ -1,6 +1,7 @@
 //! Element types with a least value, which "all values", ranges without a start, and negation need.
 //!
-//! Not every element of a type need be a value, since a contract reads a `u8` as any number: the values of `u8` are 0 to 255. Whatever is in hand at run time is a value, as `known` promises.
+//! Not every element of a type need be a value, since a contract reads a `u8` as any number: the
+//! values of `u8` are 0 to 255. Whatever is in hand at run time is a value, as `known` promises.
 ghost use Rattle.std.specs.Prelude.{◌≡◌, ◌≢◌, ◌↔◌, IsTrue, IsOk, IfOk};
 ghost use Rattle.std.specs.declared.cmp.Ordering.TheVariants.{Less, Equal};
 

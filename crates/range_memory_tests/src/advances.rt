@@ -1,8 +1,9 @@
-//! Out of memory in the advances of a state over a list. One that drops what it passes needs no memory.
-use range_starving::{Answer, Call, Starved};
+//! Out of memory in the advances of a state over a list. One that drops what it passes needs no
+//! memory.
 use range_tests_kit::advances::{LEFT, Passing, RIGHT, ROWS};
 use range_tests_kit::elements::with_flag;
 use range_tests_kit::flags::flagged;
+use range_tests_kit::starving::{Answer, Call, Starved};
 use std::alloc::{AllocError, Global};
 
 #[derive(Drop)]
@@ -23,7 +24,8 @@ impl<'a> Call for Attempt<'a> {
     }
 }
 
-// Whether the advance is refused where it takes more items than a list with room for two has room for, and else needs no memory.
+// Whether the advance is refused where it takes more items than a list with room for two has room
+// for, and else needs no memory.
 fn agrees(alloc: Global, starved: &mut Starved, passing: Passing) -> bool {
     let taken = match passing.taken {
         Some(items) => items.len(),

@@ -1,6 +1,7 @@
-//! Out of memory in what answers the words of the calculator: the line says so until there is enough for the answer, and never anything else.
-use range_answer::{Status, answer};
-use range_starving::{Answer, Call, Starved};
+//! Out of memory in what answers the words of the calculator: the line says so until there is
+//! enough for the answer, and never anything else.
+use range_calc_answers::{Status, answer};
+use range_tests_kit::starving::{Answer, Call, Starved};
 use range_tests_kit::words::{ANSWERED, BAD, Row, TEXTS, UNREAD, UNSORTED, UNSORTED_AND_LONG};
 use std::alloc::{AllocError, Global};
 
@@ -72,7 +73,8 @@ impl Call for Asking {
     }
 }
 
-// Whether memory runs out where none is left, and is enough from 1,600 bytes on. In between it is one or the other, since a hole that a request left may be of no use to the next one.
+// Whether memory runs out where none is left, and is enough from 1,600 bytes on. In between it is
+// one or the other, since a hole that a request left may be of no use to the next one.
 fn runs_out(starved: &mut Starved, asking: &Asking) -> bool {
     for round in 0..120usize {
         let may_come = match starved.answer_in(16 * round, asking) {

@@ -1,6 +1,6 @@
 //! Out of memory in the constructors.
 use range_collections::{RangeSet, RangeSetRange};
-use range_starving::{Answer, Call, Starved};
+use range_tests_kit::starving::{Answer, Call, Starved};
 use range_tests_kit::ways::set_is;
 use std::alloc::{AllocError, Global};
 

@@ -1,7 +1,7 @@
 //! Out of memory in copies of elements, ranges and sets.
 use range_collections::{Copier, EntryClone, EntryCopier, RangeSet, RangeSetRange};
-use range_starving::{Answer, Call, Starved};
 use range_tests_kit::lists::own;
+use range_tests_kit::starving::{Answer, Call, Starved};
 use range_tests_kit::ways::set_is;
 use std::alloc::{AllocError, Global};
 
@@ -107,7 +107,8 @@ fn copies_of_ranges_are_refused(rt: HostRuntime) -> Result<(), AllocError> {
     Ok(())
 }
 
-// A clone of a set with room for N boundaries, and its negation where it is borrowed and where it is owned.
+// A clone of a set with room for N boundaries, and its negation where it is borrowed and where it
+// is owned.
 #[derive(Clone, Copy, Debug)]
 enum OfSet {
     Clone,

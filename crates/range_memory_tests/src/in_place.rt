@@ -1,8 +1,9 @@
-//! Operations where each request is refused, whose lists have room for both sides in themselves: in every form they need no memory.
+//! Operations where each request is refused, whose lists have room for both sides in themselves: in
+//! every form they need no memory.
 use range_collections::{Comparisons, RangeSet};
-use range_starving::{Answer, Call, Starved};
 use range_tests_kit::forms::{FORMS, Form, Operation};
 use range_tests_kit::lists::own;
+use range_tests_kit::starving::{Answer, Call, Starved};
 use std::alloc::{AllocError, Global};
 
 const LEFT: [i64; 4] = [0, 2, 4, 6];

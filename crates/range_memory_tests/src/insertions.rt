@@ -1,7 +1,8 @@
-//! Out of memory where one range is put into a set or taken out of it: refused where the list grows beyond its room, and else no memory is needed.
+//! Out of memory where one range is put into a set or taken out of it: refused where the list grows
+//! beyond its room, and else no memory is needed.
 use range_collections::{Comparisons, RangeSet, RangeSet2};
-use range_starving::{Answer, Call, Starved};
 use range_tests_kit::lists::own;
+use range_tests_kit::starving::{Answer, Call, Starved};
 use range_tests_kit::ways::refused_if;
 use smallvec::SmallVec;
 use std::alloc::{AllocError, Global};
@@ -53,7 +54,8 @@ const ROWS: [Row; 15] = [
     ),
 ];
 
-// Where the boundaries have room: for four in the set itself, or for so many in an allocation, if they are more than two.
+// Where the boundaries have room: for four in the set itself, or for so many in an allocation, if
+// they are more than two.
 #[derive(Clone, Copy, Debug)]
 enum Room {
     Four,

@@ -1,7 +1,8 @@
-//! Out of memory in reading and writing JSON. All items are looked at before memory is asked for, so a value that is no array of numbers needs none.
+//! Out of memory in reading and writing JSON. All items are looked at before memory is asked for,
+//! so a value that is no array of numbers needs none.
 use range_collections::{JsonError, RangeSet2};
-use range_starving::{Answer, Call, Starved};
 use range_tests_kit::lists::own;
+use range_tests_kit::starving::{Answer, Call, Starved};
 use serde_json::Value;
 use std::alloc::{AllocError, Global};
 

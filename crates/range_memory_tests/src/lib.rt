@@ -1,4 +1,6 @@
-//! Tests in a process whose memory is taken away: each request of a call is refused in turn. The call answers that it is out of memory, with what was passed in as it was, or else what it answers with ample memory. Where the result has room, none is needed.
+//! Tests in a process whose memory is taken away: each request of a call is refused in turn. The
+//! call answers that it is out of memory, with what was passed in as it was, or else what it
+//! answers with ample memory. Where the result has room, none is needed.
 #![tactic(auto)]
 
 #[cfg(test)]

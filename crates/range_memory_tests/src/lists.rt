@@ -1,7 +1,8 @@
-//! Out of memory in what makes and changes lists: the builder in place, and a list in any order that is sorted. A list that was passed in comes back as it was.
+//! Out of memory in what makes and changes lists: the builder in place, and a list in any order
+//! that is sorted. A list that was passed in comes back as it was.
 use range_collections::RangeSet2;
 use range_merge::InPlaceBuilder;
-use range_starving::{Answer, Call, Starved};
+use range_tests_kit::starving::{Answer, Call, Starved};
 use range_tests_kit::ways::{refused_if, set_is};
 use smallvec::SmallVec;
 use std::alloc::{AllocError, Global};

@@ -1,33 +1,47 @@
-//! Out of memory in the operations, into a new list and in place.
-use range_starving::{Answer, Call, Starved};
+//! Out of memory in the operations, into a new list and in place: over numbers, whose copies never
+//! fail, and over elements of which some could.
 use range_tests_kit::elements::Flagged;
 use range_tests_kit::flags::{Flags, Items};
 use range_tests_kit::forms::{OPERATIONS, Row};
+use range_tests_kit::starving::{Answer, Call, Starved};
 use range_tests_kit::ways::{Case, Sides, WAYS, Way, case_of};
 use std::alloc::{AllocError, Global};
 
-// One way to call, over elements of which only what is copied could be refused.
+// One way to call.
 #[derive(Drop)]
-struct Attempt<'a> {
+struct Attempt<'a, T> {
     alloc: Global,
-    case: Case<'a, Flagged>,
+    case: Case<'a, T>,
     way: Way,
 }
 
-impl<'a> Call for Attempt<'a> {
-    type Given = Sides<2>;
+impl<'a> Call for Attempt<'a, i64> {
+    type Given = Sides<i64, 2>;
 
-    fn given(&self) -> Option<Sides<2>> {
+    fn given(&self) -> Option<Self::Given> {
         self.case.sides(self.alloc)
     }
 
-    fn answer(&self, sides: Sides<2>) -> Answer {
+    fn answer(&self, sides: Self::Given) -> Answer {
         self.case.answer(self.way, self.alloc, sides)
     }
 }
 
-impl<'a> Attempt<'a> {
-    // Whether more items than the two that a set has room for come together: in place those of both sides, and else those of the result.
+impl<'a> Call for Attempt<'a, Flagged> {
+    type Given = Sides<Flagged, 2>;
+
+    fn given(&self) -> Option<Self::Given> {
+        self.case.sides(self.alloc)
+    }
+
+    fn answer(&self, sides: Self::Given) -> Answer {
+        self.case.answer(self.way, self.alloc, sides)
+    }
+}
+
+impl<'a, T> Attempt<'a, T> {
+    // Whether more items than the two that a set has room for come together: in place those of both
+    // sides, and else those of the result.
     fn needs_memory(&self) -> bool {
         let case = &self.case;
         let items = if self.way.is_in_place() {
@@ -41,22 +55,34 @@ impl<'a> Attempt<'a> {
     }
 }
 
-// The first way that isn't refused in turn, or else needs memory.
+// The first way that isn't refused in turn, or else needs memory, over numbers or over flagged
+// elements.
 pub(crate) fn wrong_way(alloc: Global, numbers: &Case<i64>) -> Result<Option<Way>, AllocError> {
     let items = Items::of(alloc, numbers, Flags::None)?;
-    let case = items.case(numbers);
-    let mut starved = Starved::new(alloc)?;
+    let mut starved = Starved::with_rounds(alloc, 8_000)?;
     for way in WAYS {
-        let attempt = Attempt { alloc, case, way };
-        if case.has(way) && !starved.agrees(&attempt, attempt.needs_memory()) {
+        let attempt = Attempt {
+            alloc,
+            case: *numbers,
+            way,
+        };
+        let flagged = Attempt {
+            alloc,
+            case: items.case(numbers),
+            way,
+        };
+        let needs = attempt.needs_memory();
+        let has = numbers.has(way);
+        if has && !(starved.agrees(&attempt, needs) && starved.agrees(&flagged, needs)) {
             return Ok(Some(way));
         }
     }
     Ok(None)
 }
 
-// Two lists, what each operation makes of them, how many comparisons it may take, and what a state's list begins with. Sides and results have room in a set of two, or not.
-const ROWS: [(Row, &[i64]); 7] = [
+// Two lists, what each operation makes of them, how many comparisons it may take, and what a
+// state's list begins with. Sides and results have room in a set of two, or not.
+const ROWS: [(Row, &[i64]); 8] = [
     (
         (
             &[0, 10, 20],
@@ -88,6 +114,10 @@ const ROWS: [(Row, &[i64]); 7] = [
             6,
         ),
         &[-1],
+    ),
+    (
+        (&[10], &[1, 5], [&[1, 5, 10], &[], &[10], &[1, 5, 10]], 6),
+        &[],
     ),
     ((&[0], &[20], [&[0], &[20], &[0, 20], &[0, 20]], 4), &[]),
     ((&[], &[0, 10], [&[0, 10], &[], &[], &[0, 10]], 4), &[]),

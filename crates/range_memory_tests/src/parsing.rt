@@ -1,6 +1,6 @@
 //! Out of memory in reading texts of ranges. A bad text needs no memory.
 use range_collections::{ParseError, RangeSet};
-use range_starving::{Answer, Call, Starved};
+use range_tests_kit::starving::{Answer, Call, Starved};
 use std::alloc::{AllocError, Global};
 
 // A text, and the boundaries of its set, which has room for one, if it is a text of ranges.

@@ -1,7 +1,8 @@
-//! How much memory a new set of two long lists asks for, and that lengths and tests of them need none.
+//! How much memory a new set of two long lists asks for, and that lengths and tests of them need
+//! none.
 use range_collections::{Comparisons, RangeSetRef, UnionOp};
-use range_starving::{Answer, Call, Starved};
 use range_tests_kit::lists::numbers;
+use range_tests_kit::starving::{Answer, Call, Starved};
 use range_tests_kit::ways::set_is;
 use std::alloc::{AllocError, Global};
 
@@ -54,7 +55,8 @@ fn a_short_result_of_long_lists_needs_room_for_itself(rt: HostRuntime) -> Result
     Ok(())
 }
 
-// The room is asked for at once. So a list of as many boundaries as both have needs no more than that.
+// The room is asked for at once. So a list of as many boundaries as both have needs no more than
+// that.
 #[test]
 fn a_long_result_needs_room_for_both_lists(rt: HostRuntime) -> Result<(), AllocError> {
     let alloc = rt.alloc();

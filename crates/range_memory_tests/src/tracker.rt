@@ -1,6 +1,7 @@
-//! Out of memory in a tracker: a refused command changes nothing, and one that is too many stays so.
+//! Out of memory in a tracker: a refused command changes nothing, and one that is too many stays
+//! so.
 use range_collections::RangeSetRange;
-use range_starving::{Answer, Call, Starved};
+use range_tests_kit::starving::{Answer, Call, Starved};
 use range_tests_kit::ways::refused_if;
 use range_tracker::{Command, TrackError, Tracker};
 use std::alloc::{AllocError, Global};
@@ -40,7 +41,8 @@ fn begun(alloc: Global, limit: usize) -> Option<Tracker> {
 // The replies to commands, and the boundaries after them.
 type Replies<const N: usize> = ([Reply; N], &'static [u64]);
 
-// A limit, commands for a tracker with two ranges, and what they come to with ample memory, and where memory is refused.
+// A limit, commands for a tracker with two ranges, and what they come to with ample memory, and
+// where memory is refused.
 struct Row {
     limit: usize,
     commands: [Command; 3],
@@ -175,7 +177,8 @@ fn record_forget_and_missing_are_refused(rt: HostRuntime) -> Result<(), AllocErr
     Ok(())
 }
 
-// A limit, commands for a tracker without ranges, and what they come to where each request is refused.
+// A limit, commands for a tracker without ranges, and what they come to where each request is
+// refused.
 struct Bare {
     limit: usize,
     commands: [Command; 5],

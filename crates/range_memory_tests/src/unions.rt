@@ -1,6 +1,6 @@
 //! Out of memory in unions of many sets and of many ranges.
 use range_collections::{RangeSet2, RangeSetRange, RangeSetRef};
-use range_starving::{Answer, Call, Starved};
+use range_tests_kit::starving::{Answer, Call, Starved};
 use range_tests_kit::ways::set_is;
 use std::alloc::{AllocError, Global};
 

@@ -67,7 +67,8 @@ module _ {K : Type 0} where
   walk-cons f ac bc (shared x y) os = refl
 
 module _ {K : Type 0} (order : K → K → Ordering) where
-  -- what the counts of a list at z are, where l is what is left of it and c whether an odd number is gone
+  -- what the counts of a list at z are, where l is what is left of it and c whether an odd number
+  -- is gone
   record RunsAs (whole l : List K) (c : Bool) (z : K) : Type 0 where
     strictly : odd_below order whole z ≡ differ c (odd_below order l z)
     upto : member order whole z ≡ differ c (member order l z)
@@ -154,7 +155,8 @@ module _ {K : Type 0} {order : K → K → Ordering} (o : IsTotalOrder order) wh
       ∙ ap (λ b. differ b false) (and-false d)
       ∙ sym (members-walk_above f ac bc (p ∷ os) x s (All-cons (λ q. order (item_of q) x ≡ Greater) p os g (others g))))
 
-  -- the test of `changes` at the owners that are left is the walk, where the counts of both sides run as it says
+  -- the test of `changes` at the owners that are left is the walk, where the counts of both sides
+  -- run as it says
   filter-walk : (f : Table) (a b : List K) (ac bc : Bool) (os : List (Owner K)) → OwnersAscend order os → All (IsShare order) os
       → All (λ p. RunsAs order a (left_items os) ac (item_of p)) os → All (λ p. RunsAs order b (right_items os) bc (item_of p)) os
       → filter (λ t. differ (answer_just_below order f a b (taken_item t)) (answer_at order f a b (taken_item t))) (map taken_of os) ≡ walk f ac bc os
@@ -202,7 +204,8 @@ module _ {K : Type 0} {order : K → K → Ordering} (o : IsTotalOrder order) wh
       (λ k q within. RunsAs-start a (left_items (owners order a b)) io.lefts _)
       (λ k q within. RunsAs-start b (right_items (owners order a b)) io.rights _)
 
-  -- the members of the changes are those at which f's answer is another than where both sides are off
+  -- the members of the changes are those at which f's answer is another than where both sides are
+  -- off
   pub members-changes : (f : Table) (a b : List K) → IsOwners order a b (owners order a b) → (x : K)
       → member order (taken_items (changes order f a b)) x ≡ differ (f false false) (f (member order a x) (member order b x))
   members-changes f a b io x =

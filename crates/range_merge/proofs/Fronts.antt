@@ -1,4 +1,5 @@
--- The items of a strictly sorted list that stand before or after a key, and the window that a search narrows between them.
+-- The items of a strictly sorted list that stand before or after a key, and the window that a
+-- search narrows between them.
 use Rattle.std.proofs.Common.{◌≡◌, ℕ, ◌+◌, ◌-◌, ◌/◌, ◌^◌, ◌<◌, ◌≤◌, List, length, get_or, ⊎_elim, arith, ap, refl, sym, ◌∙◌}
 use Rattle.std.specs.List.{AllWithin}
 use Rattle.std.specs.Cmp.{IsTotalOrder}
@@ -12,7 +13,8 @@ use Rattle.range_merge.proofs.Digits.{digits-half}
 use Rattle.range_merge.proofs.Orders.{Greater-from_less, Less-trans, Greater-trans}
 
 module _ {K : Type 0} (order : K → K → Ordering) where
-  -- the items before low are below the key, those from high on above it, and halving what is between keeps the count in bounds
+  -- the items before low are below the key, those from high on above it, and halving what is
+  -- between keeps the count in bounds
   pub record IsWindow (items : List K) (key : K) (low high start counted : ℕ) : Type 0 where
     pub ordered : low ≤ high
     pub within : high ≤ length items

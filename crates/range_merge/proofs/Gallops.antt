@@ -24,7 +24,8 @@ pub HoldsAt-read : {K : Type 0} (P : K → Type 0) (items : List K) (i : ℕ) (x
 HoldsAt-read P items i x read p d = subst P (sym (get_or_from_slice_get items i x d read)) p
 
 module _ {K : Type 0} (order : K → K → Ordering) (items : List K) (key : K) where
-  -- the doubling: a bracket up to the end, and as many comparisons as the binary digits of low, less two
+  -- the doubling: a bracket up to the end, and as many comparisons as the binary digits of low,
+  -- less two
   pub record IsDoubled (low len start counted : ℕ) : Type 0 where
     pub bracket : IsBracket order items key low len
     pub is_len : len ≡ length items
@@ -33,7 +34,8 @@ module _ {K : Type 0} (order : K → K → Ordering) (items : List K) (key : K) 
     pub at_least : start ≤ counted
     pub at_most : counted + 2 ≤ start + digits low
 
-  -- the halving: a bracket from first on, and the comparisons still allowed halve with it; it is known how the item at high stands to the key
+  -- the halving: a bracket from first on, and the comparisons still allowed halve with it; it is
+  -- known how the item at high stands to the key
   pub record IsHalved (first size low high : ℕ) (next : Option Ordering) (start counted : ℕ) : Type 0 where
     pub bracket : IsBracket order items key low high
     pub stands : StandsAt order items key high next

@@ -1,4 +1,5 @@
--- The loop of the merge: what is taken so far and what the walk takes of the rest make up the whole.
+-- The loop of the merge: what is taken so far and what the walk takes of the rest make up the
+-- whole.
 use Rattle.std.proofs.Common.{◌≡◌, ◌≤◌, Bool, true, false, not, ◌&&◌, List, [], ◌++◌, length, take, ap, sym, ◌∙◌, refl, subst, arith, append_assoc}
 use Rattle.std.proofs.lemmas.List.{append-nil, take_at, length-append, length-map, length-take}
 use Rattle.std.specs.declared.cmp.Ordering.{Ordering}

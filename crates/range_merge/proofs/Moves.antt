@@ -1,4 +1,5 @@
--- Items that move within a list, down or up, a gap that is opened in it, and a list that is written back.
+-- Items that move within a list, down or up, a gap that is opened in it, and a list that is written
+-- back.
 use Rattle.std.proofs.Common.{◌≡◌, ℕ, ◌+◌, ◌-◌, ◌<◌, ◌≤◌, List, [], ◌∷◌, ◌++◌, length, take, drop, get_or, set, sym, ap, ◌∙◌, arith, append_assoc}
 use Rattle.std.specs.List.{swap, refill}
 use Rattle.std.proofs.lemmas.List.{take_at, take-set, take-set-le, take-take, take_more_set, drop-set, drop-set-lt, length-set, length-take-le, length-drop, take_more, drop_more, get_or-drop, get_or-take, take-append-le, drop-take, drop-drop, drop_at}

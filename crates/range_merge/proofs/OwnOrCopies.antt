@@ -1,4 +1,5 @@
--- What a merge in place that borrows its right list keeps, run by run: the left's own items, and copies of the right's.
+-- What a merge in place that borrows its right list keeps, run by run: the left's own items, and
+-- copies of the right's.
 use Rattle.std.proofs.Common.{◌≡◌, ℕ, zero, suc, Bool, true, false, List, [], ◌∷◌, ◌++◌, take, drop, map, refl}
 use Rattle.std.specs.List.{AllZip}
 use Rattle.range_merge.specs.Changes.{Taken, taken_left, taken_right, from_left, from_right}

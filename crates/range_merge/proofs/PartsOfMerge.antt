@@ -1,4 +1,5 @@
--- The parts of a merge: a run at the start, a run that was taken or dropped, and one part after another.
+-- The parts of a merge: a run at the start, a run that was taken or dropped, and one part after
+-- another.
 use Rattle.std.proofs.Common.{◌≡◌, ℕ, zero, suc, ◌+◌, ◌*◌, ◌≤◌, Bool, true, false, not, ◌&&◌, List, length, Option, Some, None, Result, Ok, Err, slice_get, refl, sym, ◌∙◌, arith}
 use Rattle.std.proofs.lemmas.Bool.{false≢true}
 use Rattle.std.specs.Cmp.{IsTotalOrder}

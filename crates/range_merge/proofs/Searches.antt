@@ -1,29 +1,27 @@
--- What a search knows that goes on in half of what is left, whichever half that is.
-use Rattle.std.proofs.Common.{◌≡◌, ℕ, ◌+◌, ◌-◌, ◌*◌, ◌/◌, ◌^◌, ◌<◌, ◌≤◌, Bool, true, false, ◌||◌, List, length, get_or, ⊎_elim, HoldsAt, arith, ap, refl, sym, ◌∙◌}
+-- What a search knows after each comparison, if it leaves one item less than a power of two.
+--     IsNarrowed-start, -first, -step     before any comparison, after the first one, after each further one
+--     IsSearched-narrowed                 what is known once nothing is left
+--     adds_at_most                        as many comparisons as the length has digits
+use Rattle.std.proofs.Common.{◌≡◌, ℕ, ◌+◌, ◌-◌, ◌*◌, ◌%◌, ◌^◌, ◌<◌, ◌≤◌, Bool, true, false, ◌||◌, List, length, get_or, ⊎_elim, HoldsAt, min, arith, add-one, ap, refl, sym, ◌∙◌}
 use Rattle.std.specs.List.{AllWithin}
 use Rattle.std.specs.Cmp.{IsTotalOrder}
+use Rattle.std.specs.Bool.{if◌then◌else◌}
 use Rattle.std.specs.Ordering.{is_le, is_eq}
 use Rattle.std.proofs.lemmas.Bool.{cases_lt, false≢true}
 use Rattle.std.proofs.lemmas.List.{get_or_read_under}
+use Rattle.std.proofs.lemmas.Nat.{pow_pos}
+use Rattle.std.proofs.Math.Nat.{pow-suc}
+use Rattle.std.proofs.Math.Pow.{pow-lt, pow_mono}
 use mir.Val.{bool_byte}
 use Rattle.std.specs.declared.cmp.Ordering.{Ordering}
 use Rattle.std.specs.declared.cmp.Ordering.TheVariants.{Less, Equal, Greater}
 use Rattle.range_merge.specs.Boundaries.{IsAscending}
+use Rattle.range_merge.specs.Counting.{AddsAtMost}
 use Rattle.range_merge.specs.Runs.{digits}
-use Rattle.range_merge.specs.Searching.{IsSearched}
-use Rattle.range_merge.proofs.Digits.{digits-half}
+use Rattle.range_merge.specs.Searching.{IsNarrowed, IsSearched}
+use Rattle.range_merge.proofs.Digits.{digits-pow}
 use Rattle.range_merge.proofs.Fronts.{below_through, above_from}
 use Rattle.range_merge.proofs.Orders.{Greater-from_less, Less-then_equal, same_left}
-
-module _ {K : Type 0} (order : K → K → Ordering) (items : List K) (key : K) where
-  -- len items from low on are left, and the comparisons that were made are paid for by what isn't left
-  pub record IsAtPart (low len : ℕ) (has_equal : Bool) (start counted : ℕ) : Type 0 where
-    pub searched : IsSearched order items key low (low + len) has_equal
-    pub at_least : start ≤ counted
-    pub at_most : counted + digits len ≤ start + digits (length items)
-
-  IsSearched-at : {low low_next high high_next : ℕ} {has_equal : Bool} → low ≡ low_next → high ≡ high_next → IsSearched order items key low high has_equal → IsSearched order items key low_next high_next has_equal
-  IsSearched-at {has_equal} same same_high s = rw (← same, ← same_high) s
 
 module _ {K : Type 0} (order : K → K → Ordering) (o : IsTotalOrder order) (items : List K) (key : K) (ascends : IsAscending order items) where
   module _ (i : ℕ) (within : i < length items) (equal : HoldsAt (λ y. order y key ≡ Equal) items i) where
@@ -44,102 +42,140 @@ module _ {K : Type 0} (order : K → K → Ordering) (o : IsTotalOrder order) (i
     at : (how : Ordering) → order x key ≡ how → HoldsAt (λ y. order y key ≡ how) items i
     at how is d = ap (λ y. order y key) (sym (get_or_read_under items i (length items) x d read within refl)) ∙ is
 
-    last_equals : order x key ≡ Equal → HoldsAt (λ y. order y key ≡ Equal) items (i + 1 - 1)
-    last_equals equal d =
-        let e : i + 1 - 1 ≡ i = omega arith in
-        rw e (at Equal equal d)
+pub double : (k : ℕ) → 2 ^ (k + 1) ≡ 2 ^ k * 2
+double k = rw add-one (pow-suc 2 k)
 
-    -- an item at or below the key was found: the search goes on after it
-    IsSearched-after : (low high : ℕ) (has_equal : Bool) (how : Ordering) → order x key ≡ how → is_le how ≡ true → low ≤ i → i < high →
-        IsSearched order items key low high has_equal → IsSearched order items key (i + 1) high (has_equal || is_eq how)
-    IsSearched-after low high true Less is le from to s =
-        let found : (1 ≤ low) × HoldsAt (λ y. order y key ≡ Equal) items (low - 1) = s.found refl in
-        let off : Less ≡ Greater = sym (at Less is x) ∙ above_after (low - 1) (omega (arith, s.within)) found.1 i x (omega (arith, found.0)) within in
-        absurd (cc)
-    IsSearched-after low high false Less is le from to s = record {
-      ordered = omega arith;
-      within = s.within;
-      before = λ k d a b. ap is_le (below_through order o items key ascends i x within read is k d a b);
-      from = s.from;
+module _ {K : Type 0} (order : K → K → Ordering) (items : List K) (key : K) where
+  IsNarrowed-at : {low low_next rest rest_next : ℕ} {has_equal : Bool} → low ≡ low_next → rest ≡ rest_next → IsNarrowed order items key low rest has_equal → IsNarrowed order items key low_next rest_next has_equal
+  IsNarrowed-at {has_equal} same same_rest s = rw (← same, ← same_rest) s
+
+  -- before the first comparison all items are left
+  pub IsNarrowed-start : IsNarrowed order items key 0 (length items) false
+  IsNarrowed-start = record {
+    within = omega arith;
+    before = λ k d a b. absurd (omega arith);
+    from = λ k d a b. absurd (omega arith);
+    found = λ e. absurd (false≢true e);
+    missing = λ e k d a b. absurd (omega arith);
+  }
+
+module _ {K : Type 0} (order : K → K → Ordering) (o : IsTotalOrder order) (items : List K) (key : K) (ascends : IsAscending order items) where
+  last_equals : (low : ℕ) (has_equal : Bool) → IsNarrowed order items key low 0 has_equal → ((i : ℕ) × (i < length items) × HoldsAt (λ y. order y key ≡ Equal) items i) → (1 ≤ low) × HoldsAt (λ y. order y key ≡ Equal) items (low - 1)
+  last_equals low has_equal s (i, within, equal) =
+      ⊎_elim
+      (λ before. ⊎_elim
+      (λ earlier.
+      let off : is_le Greater ≡ true = ap is_le (sym (above_after order o items key ascends i within equal (low - 1) key (omega arith) (omega (arith, s.within)))) ∙ s.before (low - 1) key (omega arith) (omega arith) in
+      absurd (false≢true off))
+      (λ later.
+      let e : low - 1 ≡ i = omega arith in
+      (omega arith, rw e equal))
+      (cases_lt i (low - 1)))
+      (λ from.
+      let off : Greater ≡ Equal = sym (s.from i key (omega arith) within) ∙ equal key in
+      absurd (cc))
+      (cases_lt i low)
+
+  -- once nothing is left, an item that equals the key is the last one before
+  pub IsSearched-narrowed : (low : ℕ) (has_equal : Bool) → IsNarrowed order items key low 0 has_equal → IsSearched order items key low low has_equal
+  IsSearched-narrowed low has_equal s = record {
+    ordered = omega arith;
+    within = omega (arith, s.within);
+    before = s.before;
+    from = λ k d a b. s.from k d (omega arith) b;
+    found = λ e. last_equals low has_equal s (s.found e);
+    missing = s.missing;
+  }
+
+  module _ (i : ℕ) (x : K) (within : i < length items) (read : x ≡ get_or items i x) where
+    -- the item is at or below the key: what is left ends where it ended before
+    pub IsNarrowed-after : (low rest low_next rest_next : ℕ) (has_equal : Bool) (how : Ordering) → order x key ≡ how → is_le how ≡ true → low_next ≤ i + 1 → low_next + rest_next ≡ low + rest →
+        IsNarrowed order items key low rest has_equal → IsNarrowed order items key low_next rest_next (has_equal || is_eq how)
+    IsNarrowed-after low rest low_next rest_next true Less is le few same s = record {
+      within = omega (arith, s.within);
+      before = λ k d a b. ap is_le (below_through order o items key ascends i x within read is k d a (omega arith));
+      from = λ k d a b. s.from k d (omega arith) b;
+      found = s.found;
+      missing = λ e. absurd (false≢true (sym e));
+    }
+    IsNarrowed-after low rest low_next rest_next false Less is le few same s = record {
+      within = omega (arith, s.within);
+      before = λ k d a b. ap is_le (below_through order o items key ascends i x within read is k d a (omega arith));
+      from = λ k d a b. s.from k d (omega arith) b;
       found = λ e. absurd (false≢true e);
-      missing = λ _. below_through order o items key ascends i x within read is;
+      missing = λ _ k d a b. below_through order o items key ascends i x within read is k d a (omega arith);
     }
-    IsSearched-after low high true Equal is le from to s = record {
-      ordered = omega arith;
-      within = s.within;
-      before = up_to_through i within (at Equal is);
-      from = s.from;
-      found = λ _. (omega arith, last_equals is);
+    IsNarrowed-after low rest low_next rest_next true Equal is le few same s = record {
+      within = omega (arith, s.within);
+      before = λ k d a b. up_to_through order o items key ascends i within (at order o items key ascends i x within read Equal is) k d a (omega arith);
+      from = λ k d a b. s.from k d (omega arith) b;
+      found = s.found;
       missing = λ e. absurd (false≢true (sym e));
     }
-    IsSearched-after low high false Equal is le from to s = record {
-      ordered = omega arith;
-      within = s.within;
-      before = up_to_through i within (at Equal is);
-      from = s.from;
-      found = λ _. (omega arith, last_equals is);
+    IsNarrowed-after low rest low_next rest_next false Equal is le few same s = record {
+      within = omega (arith, s.within);
+      before = λ k d a b. up_to_through order o items key ascends i within (at order o items key ascends i x within read Equal is) k d a (omega arith);
+      from = λ k d a b. s.from k d (omega arith) b;
+      found = λ _. (i, within, at order o items key ascends i x within read Equal is);
       missing = λ e. absurd (false≢true (sym e));
     }
-    IsSearched-after low high has_equal Greater is le from to s = absurd (false≢true le)
+    IsNarrowed-after low rest low_next rest_next has_equal Greater is le few same s = absurd (false≢true le)
 
-    -- an item above the key was found: the search goes on before it
-    IsSearched-before : (low high : ℕ) (has_equal : Bool) → order x key ≡ Greater → low ≤ i → i < high →
-        IsSearched order items key low high has_equal → IsSearched order items key low i (has_equal || false)
-    IsSearched-before low high true greater from to s = record {
-      ordered = from;
+    -- the item is above the key: what is left ends at it
+    pub IsNarrowed-before : (low rest rest_next : ℕ) (has_equal : Bool) → order x key ≡ Greater → low + rest_next ≡ i →
+        IsNarrowed order items key low rest has_equal → IsNarrowed order items key low rest_next (has_equal || false)
+    IsNarrowed-before low rest rest_next true greater place s = record {
       within = omega arith;
       before = s.before;
-      from = above_from order o items key ascends i x within read greater;
+      from = λ k d a b. above_from order o items key ascends i x within read greater k d (omega arith) b;
       found = s.found;
       missing = s.missing;
     }
-    IsSearched-before low high false greater from to s = record {
-      ordered = from;
+    IsNarrowed-before low rest rest_next false greater place s = record {
       within = omega arith;
       before = s.before;
-      from = above_from order o items key ascends i x within read greater;
+      from = λ k d a b. above_from order o items key ascends i x within read greater k d (omega arith) b;
       found = s.found;
       missing = s.missing;
     }
 
-    -- less may be said of what is above the key
-    IsSearched-less : (low high more : ℕ) (has_equal : Bool) → high ≤ more → more ≤ length items → IsSearched order items key low high has_equal → IsSearched order items key low more has_equal
-    IsSearched-less low high more has_equal less inside s = record {
-      ordered = omega (arith, s.ordered, less);
-      within = inside;
-      before = s.before;
-      from = λ k d a b. s.from k d (omega (arith, less, a)) b;
-      found = s.found;
-      missing = s.missing;
-    }
+    -- the middle one of the items that are left
+    pub IsNarrowed-step : (low bits : ℕ) (has_equal : Bool) (how : Ordering) → order x key ≡ how → bits < 16 → i + 1 ≡ low + 2 ^ bits →
+        IsNarrowed order items key low (2 ^ (bits + 1) - 1) has_equal →
+        IsNarrowed order items key (low + bool_byte (is_le how) * 2 ^ bits % 2 ^ 64) (2 ^ bits - 1) (has_equal || is_eq how)
+    IsNarrowed-step low bits has_equal Less is few place s =
+        let small : 2 ^ bits < 2 ^ 16 = pow-lt few in
+        IsNarrowed-after low (2 ^ (bits + 1) - 1) _ _ has_equal Less is refl (omega arith) (omega (arith, double bits, pow_pos bits)) s
+    IsNarrowed-step low bits has_equal Equal is few place s =
+        let small : 2 ^ bits < 2 ^ 16 = pow-lt few in
+        IsNarrowed-after low (2 ^ (bits + 1) - 1) _ _ has_equal Equal is refl (omega arith) (omega (arith, double bits, pow_pos bits)) s
+    IsNarrowed-step low bits has_equal Greater is few place s =
+        IsNarrowed-at order items key (omega arith) refl
+        (IsNarrowed-before low (2 ^ (bits + 1) - 1) (2 ^ bits - 1) has_equal is (omega (arith, pow_pos bits)) s)
 
-    -- the item that was compared is the last of the part that is skipped if it is at or below the key
-    IsSearched-part : (low half skipped : ℕ) (has_equal : Bool) (how : Ordering) → order x key ≡ how → i + 1 ≡ low + skipped → 0 < skipped → skipped ≤ half + 1 → half ≤ skipped →
-        IsSearched order items key low (low + (half + skipped)) has_equal →
-        IsSearched order items key (low + skipped * 2 ^ bool_byte (is_le how) - skipped) (low + skipped * 2 ^ bool_byte (is_le how) - skipped + half) (has_equal || is_eq how)
-    IsSearched-part low half skipped has_equal Less is place some few many s =
-        IsSearched-at order items key (omega arith) (omega arith) (IsSearched-after low (low + (half + skipped)) has_equal Less is refl (omega arith) (omega arith) s)
-    IsSearched-part low half skipped has_equal Equal is place some few many s =
-        IsSearched-at order items key (omega arith) (omega arith) (IsSearched-after low (low + (half + skipped)) has_equal Equal is refl (omega arith) (omega arith) s)
-    IsSearched-part low half skipped has_equal Greater is place some few many s =
-        IsSearched-at order items key (omega arith) (omega arith)
-        (IsSearched-less low i (low + half) (has_equal || false) (omega arith) (omega (arith, s.within)) (IsSearched-before low (low + (half + skipped)) has_equal is (omega arith) (omega arith) s))
+    -- the first item that is compared: as many items are left before it as at the list's end
+    pub IsNarrowed-first : (power past : ℕ) (how : Ordering) → order x key ≡ how → i + 1 ≡ power → past ≡ length items - power + 1 → length items < 2 * power →
+        IsNarrowed order items key (if is_le how then past else 0) (power - 1) (is_eq how)
+    IsNarrowed-first power past Less is place left few =
+        IsNarrowed-after 0 (length items) _ _ false Less is refl (omega arith) (omega arith) (IsNarrowed-start order items key)
+    IsNarrowed-first power past Equal is place left few =
+        IsNarrowed-after 0 (length items) _ _ false Equal is refl (omega arith) (omega arith) (IsNarrowed-start order items key)
+    IsNarrowed-first power past Greater is place left few =
+        IsNarrowed-before 0 (length items) (power - 1) false is (omega arith) (IsNarrowed-start order items key)
 
-  -- a comparison leaves half of what was left
-  pub IsAtPart-next : (low len half skipped : ℕ) (has_equal : Bool) (start counted counted_next : ℕ) (i : ℕ) (x : K) (how : Ordering) →
-      i < length items → x ≡ get_or items i x → order x key ≡ how →
-      0 < len → half ≡ len / 2 → skipped ≡ len - half → i + 1 ≡ low + skipped → counted_next ≡ counted + 1 →
-      IsAtPart order items key low len has_equal start counted →
-      IsAtPart order items key (low + skipped * 2 ^ bool_byte (is_le how) - skipped) half (has_equal || is_eq how) start counted_next
-  IsAtPart-next low len half skipped has_equal start counted counted_next i x how within read is some halved left place more s =
-      let whole : len ≡ half + skipped = omega (arith, halved, left) in
-      record {
-        searched = IsSearched-part i x within read low half skipped has_equal how is place (omega (arith, halved, left, some)) (omega (arith, halved, left)) (omega (arith, halved, left)) (IsSearched-at order items key refl (ap (λ n. low + n) whole) s.searched);
-        at_least = omega (arith, s.at_least, more);
-        at_most = omega (arith, s.at_most, more, digits-half half len some (omega (arith, halved)));
-      }
+-- if a power of two is at most n, and n is below another, its exponent is the smaller
+pub pow_below : (a b n : ℕ) → 2 ^ a ≤ n → n < 2 ^ b → a < b
+pow_below a b n least below =
+    ⊎_elim
+    (λ small. small)
+    (λ large.
+    let off : 2 ^ b ≤ 2 ^ a = pow_mono large in
+    absurd (omega arith))
+    (cases_lt a b)
 
--- what is skipped is doubled or kept
-pub kept_or_doubled : (n : ℕ) (b : Bool) → (n ≤ n * 2 ^ bool_byte b) × (n * 2 ^ bool_byte b ≤ 2 * n)
-kept_or_doubled n true = (omega arith, omega arith)
-kept_or_doubled n false = (omega arith, omega arith)
+-- the first comparison and one for each level are as many as the length has digits
+pub adds_at_most : (levels top n old first new : ℕ) → levels ≤ top → 2 ^ levels ≤ n → first ≡ old + 1 → new + min levels 0 ≡ first + min levels top → AddsAtMost old new (digits n)
+adds_at_most levels top n old first new few least one made = record {
+  at_least = omega arith;
+  at_most = omega (arith, digits-pow levels n least);
+}

@@ -46,7 +46,8 @@ module _ {K : Type 0} where
       (earlier these later : List (Owner K)) × (os ≡ earlier ++ (these ++ later))
       × (ts ≡ map taken_of these) × (length (runs_of these) ≡ 1)
 
-  -- an output before and after a merge that stopped: a front of the items was appended, one item or more, all of one run
+  -- an output before and after a merge that stopped: a front of the items was appended, one item or
+  -- more, all of one run
   abbrev pub StopsAmong : List (Owner K) → (List (Taken K) → Type 0) → (List (Taken K) → Type 0) →
       List (Taken K) → Type 0
   StopsAmong os old new items =
@@ -54,7 +55,8 @@ module _ {K : Type 0} where
       × ((before : List (Taken K)) → old before → new (before ++ take n items))
       × AreOfOneRun os (take n items)
 
-  -- the mark is true: an item of the left list, or one of the right list that equals none of the left's
+  -- the mark is true: an item of the left list, or one of the right list that equals none of the
+  -- left's
   abbrev pub IsMarkedTruly : (K → K → Ordering) → List K → List K → Taken K → Type 0
   IsMarkedTruly order a b (from_left x) = Contains a x
   IsMarkedTruly order a b (from_right y) = Contains b y × All (λ x. order x y ≢ Equal) a

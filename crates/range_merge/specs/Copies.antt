@@ -19,7 +19,8 @@ module _ {K : Type 0} where
   abbrev pub AreCopies : (K → K → Type 0) → List (Taken K) → List K → Type 0
   AreCopies alike ts items = AllZip (λ t x. alike (taken_item t) x) ts items
 
-  -- the first `began` items are those that were taken first themselves, and after them stands a copy alike to each of the others
+  -- the first `began` items are those that were taken first themselves, and after them stands a
+  -- copy alike to each of the others
   pub record AreKeptThenCopies (alike : K → K → Type 0) (began : ℕ) (ts : List (Taken K))
       (items : List K) : Type 0 where
     pub within : began ≤ length ts

@@ -15,7 +15,8 @@ module _ {K : Type 0} where
   FitInline is_infallible room a b =
       (length a + length b ≤ room) × All is_infallible a × All is_infallible b
 
-  -- an answer to a merge of a and b by f: an Ok has a copy of each item at which f changes; and it is an Ok where it is sure to be one
+  -- an answer to a merge of a and b by f: an Ok has a copy of each item at which f changes; and it
+  -- is an Ok where it is sure to be one
   pub record GivesCopies (alike : K → K → Type 0) (order : K → K → Ordering) (f : Table)
       (a b : List K) (sure : Type 0) (r : Result (SmallVec K) AllocError) : Type 0 where
     pub copied : IfOk r (λ list. AreCopies alike (changes order f a b) list.items)

@@ -43,14 +43,16 @@ module _ {K : Type 0} where
     IsShare (right_only y) = Unit {0}
     IsShare (shared x y) = order x y ≡ Equal
 
-    -- the owners ascend, the left's items among them are a, the right's are b, and shared ones are equal
+    -- the owners ascend, the left's items among them are a, the right's are b, and shared ones are
+    -- equal
     pub record IsOwners (a b : List K) (os : List (Owner K)) : Type 0 where
       pub ascend : OwnersAscend os
       pub lefts : left_items os ≡ a
       pub rights : right_items os ≡ b
       pub equal : All IsShare os
 
-    -- y among the owners, put by the way it compares with the first: before it, into it, or after it
+    -- y among the owners, put by the way it compares with the first: before it, into it, or after
+    -- it
     abbrev pub with_right_at : Ordering → K → Owner K → List (Owner K) → List (Owner K) →
         List (Owner K)
     with_right_at Less y o os after = right_only y ∷ o ∷ os

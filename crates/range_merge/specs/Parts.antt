@@ -26,14 +26,16 @@ abbrev pub IfStopped : Type 0 → Went → Type 0
 IfStopped P Stopped = P
 IfStopped P (On next) = Unit {0}
 
--- a step for first items that stand as `mine` says: it makes the lists shorter where they do, and what it leaves alone stands as before
+-- a step for first items that stand as `mine` says: it makes the lists shorter where they do, and
+-- what it leaves alone stands as before
 pub record IsTurn (mine : Ordering) (firsts next : Option Ordering) (before after : ℕ) : Type 0 where
   pub no_longer : after ≤ before
   pub shorter : firsts ≡ Some mine → after < before
   pub same : after ≡ before → next ≡ firsts
 
 module _ {K : Type 0} (order : K → K → Ordering) where
-  -- from l0 and r0, with the sides on as ac0 and bc0, to l and r: what was taken, with what the walk takes of the rest, is the whole; a state that can stop has taken nothing
+  -- from l0 and r0, with the sides on as ac0 and bc0, to l and r: what was taken, with what the
+  -- walk takes of the rest, is the whole; a state that can stop has taken nothing
   pub record Progress (f : Table) (can_stop : Bool) (l0 r0 : List K) (ac0 bc0 : Bool)
       (old : List (Taken K) → Type 0) (l r : List K) (ac bc : Bool)
       (new : List (Taken K) → Type 0) : Type 0 where
@@ -44,7 +46,8 @@ module _ {K : Type 0} (order : K → K → Ordering) where
     pub passed : List (Owner K)
     pub owners_are : owners order l0 r0 ≡ passed ++ owners order l r
 
-  -- a run at the start of two lists, of which it is the first where the merge goes on after it; what comes after it, and what it cost to find, where `known` comparisons were made before
+  -- a run at the start of two lists, of which it is the first where the merge goes on after it;
+  -- what comes after it, and what it cost to find, where `known` comparisons were made before
   pub record IsFront (run : Run) (l r : List K) (next : Option Ordering) (goes_on : Bool)
       (known count0 count : ℕ) : Type 0 where
     pub at_start : StandsAtStart order run l r

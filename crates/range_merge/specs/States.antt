@@ -2,7 +2,9 @@
 use Rattle.smallvec.specs.SmallVec.{SmallVec}
 use Rattle.std.specs.Prelude.{ℕ, ◌+◌, ◌≤◌, Bool, true, false, List, [], ◌∷◌, length, All}
 
--- a merge over two slices: the unread items of each side, whether the side is on, what its output holds of what was taken, and a number that no advance changes: how many items that began with, or which slice it fills
+-- a merge over two slices: the unread items of each side, whether the side is on, what its output
+-- holds of what was taken, and a number that no advance changes: how many items that began with, or
+-- which slice it fills
 pub record Merging (K : Type 0) (Output : Type 0) : Type 0 where
   pub left : List K
   pub right : List K
@@ -16,13 +18,15 @@ abbrev pub HasRoomForAll : {K : Type 0} → (K → Type 0) → Merging K (SmallV
 HasRoomForAll is_infallible s =
     (length s.taken.items + (length s.left + length s.right) ≤ s.taken.capacity) × All is_infallible s.left × All is_infallible s.right
 
--- a builder that works in place: the items that are kept, those that are still unread, and how many may still be put
+-- a builder that works in place: the items that are kept, those that are still unread, and how many
+-- may still be put
 pub record Building (K : Type 0) : Type 0 where
   pub kept : List K
   pub unread : List K
   pub puts_left : ℕ
 
--- a merge in place: the unread items of each side, whether the side is on, and the items that were kept
+-- a merge in place: the unread items of each side, whether the side is on, and the items that were
+-- kept
 pub record Placing (K : Type 0) : Type 0 where
   pub left : List K
   pub right : List K

@@ -1,4 +1,5 @@
--- One run of a merge: what it removes from the unread lists, what it takes, and how the two truths change.
+-- One run of a merge: what it removes from the unread lists, what it takes, and how the two truths
+-- change.
 use Rattle.std.specs.Prelude.{◌≡◌, ℕ, ◌≤◌, ◌+◌, Option, Some, None, Bool, true, false, not, List, length, map, drop, get_or, ◌++◌}
 use Rattle.std.specs.declared.cmp.Ordering.{Ordering}
 use Rattle.std.specs.declared.cmp.Ordering.TheVariants.{Less, Equal, Greater}
@@ -60,7 +61,8 @@ module _ {K : Type 0} where
   taken_of_run takes (Right n) a b = taken_right takes n b
   taken_of_run takes Both a b = taken_left takes 1 a
 
-  -- a run, or some of one, is at the start of two lists: it fits, its owners are all in one run, and the walk takes it whole or drops it
+  -- a run, or some of one, is at the start of two lists: it fits, its owners are all in one run,
+  -- and the walk takes it whole or drops it
   pub record StandsAtStart (order : K → K → Ordering) (run : Run) (a b : List K) : Type 0 where
     pub fits : RunFits run a b
     pub its_owners : List (Owner K)

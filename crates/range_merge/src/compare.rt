@@ -1,4 +1,5 @@
-//! What a merge is given to compare and to copy items. Nothing in this crate can make either, so each comparison of items is one call that its caller counts.
+//! What a merge is given to compare and to copy items. Nothing in this crate can make either, so
+//! each comparison of items is one call that its caller counts.
 ghost use Rattle.std.specs.Prelude.{◌≡◌, ℕ, ◌+◌, ◌-◌, ◌^◌, ◌<◌, ◌≤◌, length, take, drop, All, IsTrue, IsOk, IfOk, OnOk};
 ghost use Rattle.std.specs.Cmp.{IsTotalOrder};
 ghost use Rattle.std.specs.List.{AllZip};
@@ -43,7 +44,8 @@ pub trait Copier<K> {
         ensures alike { IfOk result (λ copied. alike item.now copied) }
         ensures succeeds { is_infallible item.now → IsOk result };
 
-    /// Whether copies of items never fail: `true` only if their type says so. Then a merge in place copies an item as it takes it, and makes no list of copies first.
+    /// Whether copies of items never fail: `true` only if their type says so. Then a merge in place
+    /// copies an item as it takes it, and makes no list of copies first.
     #[inline(always)]
     fn never_refuses(&self) -> bool
         ensures { IsTrue result → (x : K) → is_infallible x }
@@ -51,7 +53,8 @@ pub trait Copier<K> {
         false
     }
 
-    /// Appends a copy of each item. If memory runs out it is an error, and the copies made before stay. It asks for room once.
+    /// Appends a copy of each item. If memory runs out it is an error, and the copies made before
+    /// stay. It asks for room once.
     fn append(&self, list: &mut Vec<K>, items: &[K]) -> Result<(), AllocError>
         ensures kept { OnOk result (take (length list.old.items) list.new.items ≡ list.old.items) }
         ensures copied { OnOk result (AllZip alike items.now (drop (length list.old.items) list.new.items)) }

@@ -1,4 +1,5 @@
-//! How many items at the front of a strictly sorted list are below a key, found by doubled steps and then by halving.
+//! How many items at the front of a strictly sorted list are below a key, found by doubled steps
+//! and then by halving.
 ghost use Rattle.std.specs.Prelude.{◌≡◌, ◌+◌, ◌-◌, ◌*◌, ◌^◌, ◌<◌, ◌≤◌, List, length, Some, slice_get, HoldsAt};
 ghost use Rattle.std.specs.declared.cmp.Ordering.TheVariants.{Less};
 ghost use Rattle.range_merge.specs.Counting.{AddsAtMost};
@@ -9,14 +10,16 @@ use crate::compare::Compare;
 use crate::indexed::Indexed;
 use std::cmp::Ordering;
 
-/// How many items at the start of a side are below a key, and how the item after them stands to the key, if there is one.
+/// How many items at the start of a side are below a key, and how the item after them stands to the
+/// key, if there is one.
 #[derive(Clone, Copy)]
 pub(crate) struct Front {
     pub(crate) len: usize,
     pub(crate) next: Option<Ordering>,
 }
 
-// The item before `low` is known to be below a key, and the one at `high`, if there is one, not to be: it stands to the key as `next` says.
+// The item before `low` is known to be below a key, and the one at `high`, if there is one, not to
+// be: it stands to the key as `next` says.
 struct Window {
     low: usize,
     high: usize,
@@ -25,7 +28,8 @@ struct Window {
 
 /// How many items at the front of a side are below `key`, where the first is known to be.
 ///
-/// For an answer of `n` it makes at most twice as many comparisons as `n` has binary digits, less one. Most runs are of one item, so the second is looked at before any step is doubled.
+/// For an answer of `n` it makes at most twice as many comparisons as `n` has binary digits, less
+/// one. Most runs are of one item, so the second is looked at before any step is doubled.
 #[inline(always)]
 pub(crate) fn gallop<K, L: Indexed<K>, C: Compare<K>>(side: &L, key: &K, cmp: &mut C) -> Front
     requires some { 0 < length (L.items side.now) }
@@ -50,7 +54,8 @@ pub(crate) fn gallop<K, L: Indexed<K>, C: Compare<K>>(side: &L, key: &K, cmp: &m
     halved(side, key, window, cmp)
 }
 
-// Looks at the places 3, 7, 15, .. until one is not below the key or the list ends, where the second item is known to be below it.
+// Looks at the places 3, 7, 15, .. until one is not below the key or the list ends, where the
+// second item is known to be below it.
 #[inline(always)]
 fn doubled<K, L: Indexed<K>, C: Compare<K>>(side: &L, key: &K, cmp: &mut C) -> Window
     requires some { 1 < length (L.items side.now) }

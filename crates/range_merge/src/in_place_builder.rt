@@ -1,6 +1,9 @@
-//! A list that is rebuilt in place: some of its items are kept, some are dropped, and new ones are put between them.
+//! A list that is rebuilt in place: some of its items are kept, some are dropped, and new ones are
+//! put between them.
 //!
-//! The kept items come first, then a gap, then the unread ones. The gap is what was dropped. Once a put finds too little of that, it is room that was asked for, and the unread items move up, at most once.
+//! The kept items come first, then a gap, then the unread ones. The gap is what was dropped. Once a
+//! put finds too little of that, it is room that was asked for, and the unread items move up, at
+//! most once.
 ghost use Rattle.std.specs.Prelude.{◌≡◌, ◌+◌, ◌-◌, ◌≤◌, ◌<◌, true, List, [], ◌++◌, ◌∷◌, length, take, drop, Some, slice_get, IsOk, IfOk, IfErr};
 ghost use Rattle.range_merge.specs.Building.{IsSound};
 ghost use Rattle.range_merge.specs.Changes.{Taken, taken_right};
@@ -14,7 +17,8 @@ use std::alloc::{AllocError, Global};
 use std::default::MadeWith;
 use std::marker::{Model, PhantomData};
 
-/// A list with the kept items before those that are still unread. `L` is the list, by value where a caller makes the builder.
+/// A list with the kept items before those that are still unread. `L` is the list, by value where a
+/// caller makes the builder.
 #[derive(Drop)]
 pub struct InPlaceBuilder<K, const N: usize, L: Place<K> = SmallVec<K, N>> {
     list: L,
@@ -43,7 +47,8 @@ impl<K, const N: usize, L: Place<K>> Model for InPlaceBuilder<K, N, L> {
 impl<K: MadeWith<Global> + Drop, const N: usize> InPlaceBuilder<K, N> {
     /// A builder over the items of `list`, all of them unread, that can put `extra` more.
     ///
-    /// It asks for room for those; nothing else that a builder does takes memory. If that fails, the list comes back.
+    /// It asks for room for those; nothing else that a builder does takes memory. If that fails,
+    /// the list comes back.
     pub fn new(mut list: SmallVec<K, N>, extra: usize) -> Result<Self, (AllocError, SmallVec<K, N>)>
         ensures kept { IfOk result (λ builder. builder.kept ≡ []) }
         ensures unread { IfOk result (λ builder. builder.unread ≡ list.items) }
@@ -145,7 +150,8 @@ impl<K, const N: usize, L: Place<K>> InPlaceBuilder<K, N, L> {
         self.skip(n);
     }
 
-    /// Puts an item after the kept ones. If no dropped item gives way to it, all unread items move up first, at most once in the life of a builder.
+    /// Puts an item after the kept ones. If no dropped item gives way to it, all unread items move
+    /// up first, at most once in the life of a builder.
     #[inline(always)]
     pub fn put(&mut self, value: K)
         requires { 0 < self.old.puts_left }
@@ -158,7 +164,9 @@ impl<K, const N: usize, L: Place<K>> InPlaceBuilder<K, N, L> {
         self.puts -= 1;
     }
 
-    /// Puts what the right side gives for its first `n` unread items. Where too few dropped items give way to them, the unread items move up first, far enough for all that the right side has.
+    /// Puts what the right side gives for its first `n` unread items. Where too few dropped items
+    /// give way to them, the unread items move up first, far enough for all that the right side
+    /// has.
     #[inline(always)]
     pub(crate) fn put_from<R: RightSide<K>>(&mut self, n: usize, right: &mut R)
         requires some { n ≤ length (R.items right.old) }
@@ -207,13 +215,19 @@ fn put_item<K, L: Place<K>>(list: &mut L, kept: usize, start: usize, puts: usize
     ensures sound { IsSound (kept + 1) result (puts - 1) (L.items list.new) (L.room list.new) }
     ensures kept { take (kept + 1) (L.items list.new) ≡ take kept (L.items list.old) ++ value ∷ [] }
     ensures unread { drop result (L.items list.new) ≡ drop start (L.items list.old) }
+
+    // If there is no gap, it opens one for all that may still be put, so the unread items move up
+    // once.
+    ensures whole { start < kept + 1 → result ≡ kept + puts }
+    ensures stays { kept + 1 ≤ start → result ≡ start }
 {
     let first = with_gap(list, kept, start, puts, 1, puts);
     list.set(kept, value);
     first
 }
 
-// Puts what the right side gives for its first `n` unread items after the kept ones, into the gap. It returns where the unread items begin now.
+// Puts what the right side gives for its first `n` unread items after the kept ones, into the gap.
+// It returns where the unread items begin now.
 #[inline(always)]
 fn put_items<K, L: Place<K>, R: RightSide<K>>(
     list: &mut L,
@@ -231,13 +245,19 @@ fn put_items<K, L: Place<K>, R: RightSide<K>>(
         R.may_be (ts ++ taken_right true n (R.items right.old)) (take (kept + n) (L.items list.new)) }
     ensures unread { drop result (L.items list.new) ≡ drop start (L.items list.old) }
     ensures rest { R.items right.new ≡ drop n (R.items right.old) }
+
+    // If the gap is too small, it opens one for all that the right side has, so the unread items
+    // move up once.
+    ensures whole { start < kept + n → result ≡ kept + length (R.items right.old) }
+    ensures stays { kept + n ≤ start → result ≡ start }
 {
     let first = with_gap(list, kept, start, puts, n, right.len());
     list.put_from(kept, n, right);
     first
 }
 
-// Sees that the gap has room for `n` items: if it hasn't, it opens one for `wanted`. It returns where the unread items begin now.
+// Sees that the gap has room for `n` items: if it hasn't, it opens one for `wanted`. It returns
+// where the unread items begin now.
 #[inline(always)]
 fn with_gap<K, L: Place<K>>(
     list: &mut L,

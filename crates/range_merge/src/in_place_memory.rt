@@ -23,7 +23,8 @@ pub(crate) fn prepared<K: MadeWith<Global> + Drop, const N: usize>(
     list.reserve(extra)
 }
 
-// Asks for room in the list for as many items as there are in `items`, and for a copy of each of `items`.
+// Asks for room in the list for as many items as there are in `items`, and for a copy of each of
+// `items`.
 pub(crate) fn prepared_copies<K: MadeWith<Global> + Drop, P: Copier<K>, const N: usize>(
     list: &mut SmallVec<K, N>,
     items: &[K],

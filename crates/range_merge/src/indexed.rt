@@ -1,7 +1,8 @@
 //! Lists that are read by index, wherever their items lie.
 ghost use Rattle.std.specs.Prelude.{◌≡◌, ◌<◌, List, length, Some, slice_get};
 
-/// A list whose items are read by index: a side of a merge, a list that is changed in place, or the boundaries of a set or a range.
+/// A list whose items are read by index: a side of a merge, a list that is changed in place, or the
+/// boundaries of a set or a range.
 pub trait Indexed<K> {
     // The list.
     ghost items: { Self → List K };

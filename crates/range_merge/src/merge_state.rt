@@ -1,4 +1,5 @@
-//! What a merge goes over: two unread lists, and for a merge that takes items an output. The states are below.
+//! What a merge goes over: two unread lists, and for a merge that takes items an output. The states
+//! are below.
 ghost use Rattle.std.specs.Prelude.{◌≡◌, ℕ, Bool, true, not, ◌&&◌, ◌≤◌, ◌<◌, List, ◌++◌, length, drop, Some, slice_get, IsTrue, IsOk, OnOk, IfOk};
 ghost use Rattle.range_merge.specs.Boundaries.{is_odd};
 ghost use Rattle.range_merge.specs.Connective.{differ};
@@ -56,7 +57,8 @@ pub trait MergeState {
         ensures { slice_get (right self.now) i ≡ Some result.now };
 }
 
-/// A state that a merge moves on. Each advance removes items from the front of an unread list and either appends them to the output or drops them.
+/// A state that a merge moves on. Each advance removes items from the front of an unread list and
+/// either appends them to the output or drops them.
 pub trait MergeStateMut: MergeState {
     // Whether the side is on: whether an odd number of its items was removed.
     ghost left_on: { Self → Bool };
@@ -75,7 +77,8 @@ pub trait MergeStateMut: MergeState {
     // No advance from here on is refused.
     ghost infallible: { Self → Type 0 };
 
-    /// Removes the first `n` unread items of the left list, and appends them to the output if `take`. `false` stops the merge. It is an error if an allocation or a copy fails.
+    /// Removes the first `n` unread items of the left list, and appends them to the output if
+    /// `take`. `false` stops the merge. It is an error if an allocation or a copy fails.
     fn advance_a(&mut self, n: usize, take: bool) -> Result<bool, AllocError>
         requires some { 1 ≤ n }
         requires within { n ≤ length (Self.left self.old) }
@@ -105,7 +108,8 @@ pub trait MergeStateMut: MergeState {
         ensures succeeds { infallible self.old → IsOk result }
         ensures still_infallible { infallible self.old → OnOk result (infallible self.new) };
 
-    /// Removes the first unread item of each list, and appends the left one to the output if `take`.
+    /// Removes the first unread item of each list, and appends the left one to the output if
+    /// `take`.
     fn advance_both(&mut self, take: bool) -> Result<bool, AllocError>
         requires left_some { 1 ≤ length (Self.left self.old) }
         requires right_some { 1 ≤ length (Self.right self.old) }
@@ -128,7 +132,8 @@ pub trait MergeStateMut: MergeState {
     fn bc(&self) -> bool
         ensures { result ≡ right_on self.now };
 
-    /// Whether the merge may pass only the first item of a run that is taken: `true` only of a state that stops there.
+    /// Whether the merge may pass only the first item of a run that is taken: `true` only of a
+    /// state that stops there.
     #[inline(always)]
     fn stops(&self) -> bool
         ensures { IsTrue result → can_stop ≡ true }

@@ -1,4 +1,5 @@
-//! The merge: it takes the first run of the unread lists whole or drops it whole, until both lists are used up.
+//! The merge: it takes the first run of the unread lists whole or drops it whole, until both lists
+//! are used up.
 ghost use Rattle.std.specs.Prelude.{◌≡◌, ◌+◌, ◌*◌, ◌^◌, ◌<◌, ◌≤◌, true, false, not, ◌&&◌, List, [], ◌++◌, length, IsOk, OnOk, IfOk, Ok, None, Some, IsTrue, ◌↔◌};
 ghost use Rattle.std.specs.declared.cmp.Ordering.TheVariants.{Less, Equal, Greater};
 ghost use Rattle.range_merge.specs.Boundaries.{IsAscending};
@@ -20,11 +21,15 @@ use std::cmp::Ordering;
 
 /// Merges the unread lists of `state` by the operation `op`.
 ///
-/// Both lists are strictly sorted by the order of `cmp`, and both sides are off at the start. The merge appends to the output exactly the items at which the connective of `op` changes, in order; of two equal items the left's.
-/// It returns `true` if it used up both lists, and `false` if the state stopped, which a state that stops does at the first item that it takes.
-/// It fails only if an advance of the state does (seen by reading; the clause says that it doesn't fail if the state never does). It asks for no memory itself.
+/// Both lists are strictly sorted by the order of `cmp`, and both sides are off at the start. The
+/// merge appends to the output exactly the items at which the connective of `op` changes, in order;
+/// of two equal items the left's. It returns `true` if it used up both lists, and `false` if the
+/// state stopped, which a state that stops does at the first item that it takes. It fails only if
+/// an advance of the state does (seen by reading; the clause says that it doesn't fail if the state
+/// never does). It asks for no memory itself.
 ///
-/// It makes at most twice the weight of the two lists in comparisons, whether it ends, stops or fails.
+/// It makes at most twice the weight of the two lists in comparisons, whether it ends, stops or
+/// fails.
 pub fn merge<S: MergeStateMut, O: MergeOperation, C: Compare<S::Item>>(
     state: &mut S,
     op: &O,
@@ -41,7 +46,8 @@ pub fn merge<S: MergeStateMut, O: MergeOperation, C: Compare<S::Item>>(
         S.output state.old before → S.output state.new (before ++
         changes C.order (O.connective op.now) (S.left state.old) (S.right state.old))) }
 
-    // Only a state that can stop does, and it stops exactly where something is taken: with a front of the changes, one or more, all of the run in which the first one lies.
+    // Only a state that can stop does, and it stops exactly where something is taken: with a front
+    // of the changes, one or more, all of the run in which the first one lies.
     ensures stopped { IfOk result (λ more. more ≡ false → (S.can_stop ≡ true)
         × StopsAmong (owners C.order (S.left state.old) (S.right state.old))
         (S.output state.old) (S.output state.new)
@@ -99,7 +105,8 @@ fn take_all<S: MergeStateMut, O: MergeOperation, C: Compare<S::Item>>(
     }
 }
 
-// Takes runs or drops them, while both lists have items. The steps follow one another, so that each knows how the first items stand.
+// Takes runs or drops them, while both lists have items. The steps follow one another, so that each
+// knows how the first items stand.
 #[inline(always)]
 fn take_runs<S: MergeStateMut, O: MergeOperation, C: Compare<S::Item>>(
     state: &mut S,

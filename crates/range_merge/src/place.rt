@@ -1,4 +1,5 @@
-//! Where a list lies that is changed in place: by value or borrowed. What moves its items is generic in that.
+//! Where a list lies that is changed in place: by value or borrowed. What moves its items is
+//! generic in that.
 ghost use Rattle.std.specs.Prelude.{◌≡◌, ℕ, ◌+◌, ◌-◌, ◌≤◌, ◌<◌, true, List, ◌++◌, length, take, drop, slice_set};
 ghost use Rattle.range_merge.specs.Changes.{Taken, taken_right};
 
@@ -9,7 +10,8 @@ use std::alloc::Global;
 use std::default::MadeWith;
 use std::mem;
 
-/// A list of items that can be moved within it, and that grows only by a gap, where there is room for that.
+/// A list of items that can be moved within it, and that grows only by a gap, where there is room
+/// for that.
 pub trait Place<K>: Indexed<K> + Drop {
     // How many items have room.
     ghost room: { Self → ℕ };
@@ -278,7 +280,8 @@ fn swap_down<K>(items: &mut [K], to: usize, from: usize, n: usize)
 // So many items are moved all at once, which costs more than it saves for a few.
 const MANY: usize = 8;
 
-// So many are turned by a rotation where their old places and the new ones overlap. It clears a buffer of 4 KB first, and fewer are moved one by one.
+// So many are turned by a rotation where their old places and the new ones overlap. It clears a
+// buffer of 4 KB first, and fewer are moved one by one.
 const TURNED: usize = 64;
 
 // Moves items down one by one.
@@ -311,7 +314,8 @@ fn swap_many_down<K>(items: &mut [K], to: usize, from: usize, n: usize)
     last_to_front(&mut items[to..from + n], n);
 }
 
-// Moves the last `n` items to the front: they change places with what stands there, one by one or all at once, or all are turned where they are many and more than what stands before them.
+// Moves the last `n` items to the front: they change places with what stands there, one by one or
+// all at once, or all are turned where they are many and more than what stands before them.
 fn last_to_front<K>(items: &mut [K], n: usize)
     requires { n < length items.old }
     ensures front { take n items.new ≡ drop (length items.old - n) items.old }
@@ -328,7 +332,8 @@ fn last_to_front<K>(items: &mut [K], n: usize)
     }
 }
 
-// Moves the last items up, those from `at` on, by `by` places. What they replace comes to lie before them.
+// Moves the last items up, those from `at` on, by `by` places. What they replace comes to lie
+// before them.
 fn swap_up<K>(items: &mut [K], at: usize, by: usize)
     requires some { 0 < by }
     requires within { at + by ≤ length items.old }
@@ -382,7 +387,8 @@ fn push_blanks<K: MadeWith<Global> + Drop, const N: usize>(list: &mut SmallVec<K
     }
 }
 
-// Opens a gap of `n` blank items at `at`. It stays out of line, since a merge comes here once at most.
+// Opens a gap of `n` blank items at `at`. It stays out of line, since a merge comes here once at
+// most.
 #[inline(never)]
 fn open_gap_in<K: MadeWith<Global> + Drop, const N: usize>(
     list: &mut SmallVec<K, N>,

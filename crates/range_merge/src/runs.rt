@@ -14,7 +14,8 @@ use crate::indexed::Indexed;
 use crate::merge_state::MergeState;
 use std::cmp::Ordering;
 
-/// The first run of two strictly sorted lists: the longest stretch of items of one side that all stand before the other side's first item, or an item of each that are equal.
+/// The first run of two strictly sorted lists: the longest stretch of items of one side that all
+/// stand before the other side's first item, or an item of each that are equal.
 #[derive(Clone, Copy, Debug, PartialEq, Eq)]
 pub enum Run {
     /// So many items of the left list.
@@ -63,7 +64,8 @@ impl<S: MergeState> Indexed<S::Item> for RightOf<'_, S> {
 
 /// The first run of the unread lists of `state`.
 ///
-/// Both lists must be strictly sorted, with at least one item. For a run of `n` items it makes at most twice as many comparisons as `n` has binary digits.
+/// Both lists must be strictly sorted, with at least one item. For a run of `n` items it makes at
+/// most twice as many comparisons as `n` has binary digits.
 #[inline(always)]
 pub fn run_length<S: MergeState, C: Compare<S::Item>>(state: &S, cmp: &mut C) -> Run
     requires left_some { 0 < length (S.left state.now) }
@@ -103,7 +105,8 @@ pub(crate) fn order_at<S: MergeState, C: Compare<S::Item>>(
     None
 }
 
-/// How the second of two items stands to the first, where it is known how the first stands to the second.
+/// How the second of two items stands to the first, where it is known how the first stands to the
+/// second.
 #[inline(always)]
 pub(crate) fn reversed(how: Option<Ordering>) -> Option<Ordering>
     ensures { result ≡ option_map ordering_reverse how }

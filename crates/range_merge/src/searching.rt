@@ -1,4 +1,5 @@
-//! Searches in a strictly sorted list, at most as many comparisons long as the list's length has binary digits.
+//! Searches in a strictly sorted list, at most as many comparisons long as the list's length has
+//! binary digits.
 ghost use Rattle.std.specs.Prelude.{◌≡◌, ◌^◌, ◌<◌, ◌≤◌, true, length, IfOk, IfErr, HoldsAt};
 ghost use Rattle.std.specs.List.{AllWithin};
 ghost use Rattle.std.specs.Ordering.{is_le};
@@ -15,10 +16,12 @@ use crate::searching::branchless::count_branchless;
 use crate::searching::by_halves::search_by_halves;
 use std::mem::size_of_val;
 
-/// The index of the item that is equal to `key`, or in an `Err` the index where such an item would go.
+/// The index of the item that is equal to `key`, or in an `Err` the index where such an item would
+/// go.
 ///
-/// The items must be strictly sorted. It makes at most as many comparisons as `items.len()` has binary digits.
-#[inline]
+/// The items must be strictly sorted. It makes at most as many comparisons as `items.len()` has
+/// binary digits.
+#[inline(always)]
 pub fn search<K, C: Compare<K>>(items: &[K], key: &K, cmp: &mut C) -> Result<usize, usize>
     requires ascending { IsAscending C.order items.now }
     requires made { C.count cmp.old < 2 ^ 127 }
@@ -45,7 +48,8 @@ pub fn search<K, C: Compare<K>>(items: &[K], key: &K, cmp: &mut C) -> Result<usi
 
 /// How many items are at or below `key`.
 ///
-/// The items must be strictly sorted. It makes at most as many comparisons as `items.len()` has binary digits.
+/// The items must be strictly sorted. It makes at most as many comparisons as `items.len()` has
+/// binary digits.
 #[inline]
 pub fn count_up_to<K, C: Compare<K>>(items: &[K], key: &K, cmp: &mut C) -> usize
     requires ascending { IsAscending C.order items.now }
@@ -66,10 +70,13 @@ pub fn count_up_to<K, C: Compare<K>>(items: &[K], key: &K, cmp: &mut C) -> usize
     }
 }
 
-// Whether the items are at hand where they lie: each, as `key`, is a word at most, as numbers are, and all of them together fit into a processor's own cache. Longer items mostly point to what is compared. Where reading takes so long, a branch that is guessed well, and reads ahead, is better than none.
+// Whether the items are at hand where they lie: each, as `key`, is a word at most, as numbers are,
+// and all of them together fit into a processor's own cache. Longer items mostly point to what is
+// compared. Where reading takes so long, a branch that is guessed well, and reads ahead, is better
+// than none.
 #[inline(always)]
 fn is_read_fast<K>(items: &[K], key: &K) -> bool
-    ensures short { result ≡ true → length items.now ≤ 2 ^ 17 }
+    ensures short { result ≡ true → length items.now < 2 ^ 17 }
 {
-    size_of_val(key) <= 8 && items.len() <= 1 << 17
+    size_of_val(key) <= 8 && items.len() < 1 << 17
 }

@@ -4,7 +4,8 @@ ghost use Rattle.std.specs.Iterator.{YieldsFirstRef, item_count};
 
 use std::marker::Model;
 
-/// The items of a slice that are still unread. As an iterator it gives references to them, in order.
+/// The items of a slice that are still unread. As an iterator it gives references to them, in
+/// order.
 #[derive(Drop)]
 pub struct SliceIterator<'a, K> {
     unread: &'a [K],

@@ -1,11 +1,13 @@
-//! Advances of a state over a list, over items of which each in turn has its flag set, so that its copy is refused.
+//! Advances of a state over a list, over items of which each in turn has its flag set, so that its
+//! copy is refused.
 use range_tests_kit::advances::{LEFT, Passing, RIGHT, ROWS, Row};
 use range_tests_kit::elements::with_flag;
 use range_tests_kit::flags::{Flags, flagged};
 use range_tests_kit::ways::wanted;
 use std::alloc::{AllocError, Global};
 
-// Whether the advance that takes is refused where it copies a flagged item, and the one that drops is made.
+// Whether the advance that takes is refused where it copies a flagged item, and the one that drops
+// is made.
 fn answers(alloc: Global, row: &Row, flags: Flags) -> Result<bool, AllocError> {
     let left = flagged(alloc, &LEFT, flags.left())?;
     let right = flagged(alloc, &RIGHT, flags.right())?;

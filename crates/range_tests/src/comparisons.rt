@@ -1,4 +1,7 @@
-//! Every comparison of a call goes through its counter: over elements that add to a tally whenever they are compared, a counted call raises the tally by what it adds to `made`, and a plain call, of a view or a set, raises it by as much as its counted form.
+//! Every comparison of a call goes through its counter: over elements that add to a tally whenever
+//! they are compared, a counted call raises the tally by what it adds to `made`, and a plain call,
+//! of a view or a set, raises it by as much as its counted form. One without a counted form raises
+//! it by no more than it may.
 ghost use Rattle.std.specs.Prelude.{◌≡◌, false};
 
 use crate::operations::ROWS;
@@ -57,7 +60,8 @@ fn form_holds(form: Form, op: Operation, alloc: Global, sides: Sides, most: u128
     raised == form_cost(form.counted(), op, alloc, sides) && matches!(raised, Some(n) if n <= most)
 }
 
-// What the counted tests of an operation raise the tally by, of sets and of views, and add to their counters.
+// What the counted tests of an operation raise the tally by, of sets and of views, and add to their
+// counters.
 fn tests<O: MergeOperation>(sides: Sides, op: &O) -> [u128; 4]
     requires { O.connective op.now false false ≡ false }
 {
@@ -105,7 +109,8 @@ fn written<O: MergeOperation>(sides: Sides, op: &O) -> Option<[u128; 4]>
     Some([of_set, count.made(), cost(tally, &of_view), again.made()])
 }
 
-// Whether the calls by an operation that make no set cost what they count, and no more than they may.
+// Whether the calls by an operation that make no set cost what they count, and no more than they
+// may.
 fn operation_holds<O: MergeOperation>(sides: Sides, op: &O, most: u128) -> bool
     requires { O.connective op.now false false ≡ false }
 {
@@ -181,6 +186,9 @@ fn wrong_call(alloc: Global, sides: Sides, most: u128) -> Option<&'static str> {
     if !questions_hold(sides) {
         return Some("a question");
     }
+    if !searches_hold(sides) {
+        return Some("a search");
+    }
     None
 }
 
@@ -248,7 +256,8 @@ const SEARCHES: [(Search, u128); 6] = [
     (Search::RangesWithin, 2),
 ];
 
-// What a call and its counted form raise the tally by, of a set and of its view, and what the counted ones add to their counters.
+// What a call and its counted form raise the tally by, of a set and of its view, and what the
+// counted ones add to their counters.
 macro_rules! costs {
     ($sought:expr, $plain:ident, $counted:ident, $with:expr) => {{
         let (mut count, mut again) = (Comparisons::new(), Comparisons::new());
@@ -282,6 +291,18 @@ impl Search {
     }
 }
 
+// Whether the next member and the next gap, of a set and of its view, cost one search.
+fn nexts_hold(sought: Sought, most: u128) -> bool {
+    let (set, view, tally, from) = (sought.set, sought.set.as_ref(), sought.tally, sought.low);
+    let costs = [
+        cost(tally, &set.next_member(from)),
+        cost(tally, &view.next_member(from)),
+        cost(tally, &set.next_gap(from)),
+        cost(tally, &view.next_gap(from)),
+    ];
+    alike(&costs, most)
+}
+
 // Whether the search that all of them make does.
 fn search_holds(sought: Sought, most: u128) -> bool {
     let mut count = Comparisons::new();
@@ -289,9 +310,11 @@ fn search_holds(sought: Sought, most: u128) -> bool {
     alike(&[cost(sought.tally, &place), count.made()], most)
 }
 
-// The call that compares otherwise than it counts, or more often than its searches of boundaries whose number has so many binary digits may.
+// The call that compares otherwise than it counts, or more often than its searches of boundaries
+// whose number has so many binary digits may. It is none where the search itself does, or a call
+// that counts nothing.
 fn wrong_search(sought: Sought, digits: u128) -> Option<Option<Search>> {
-    if !search_holds(sought, digits) {
+    if !search_holds(sought, digits) || !nexts_hold(sought, digits) {
         return Some(None);
     }
     for (call, ends) in SEARCHES {
@@ -307,7 +330,33 @@ fn wrong_search(sought: Sought, digits: u128) -> Option<Option<Search>> {
     None
 }
 
-// The first number from -1 on, up to `end`, at which a call in the even numbers below does, and that call, which is none where it is the search itself.
+// How many binary digits a number has.
+fn digits(number: usize) -> u128 {
+    u128::from(usize::BITS - number.leading_zeros())
+}
+
+// Whether the boundaries of both sides are sought in the left one so.
+fn searches_hold(sides: Sides) -> bool {
+    let (set, tally) = (sides.left, sides.tally);
+    let digits = digits(set.boundaries().len());
+    for items in [set.boundaries(), sides.right.boundaries()] {
+        for item in items {
+            let sought = Sought {
+                set,
+                tally,
+                low: item,
+                high: item,
+            };
+            if wrong_search(sought, digits).is_some() {
+                return false;
+            }
+        }
+    }
+    true
+}
+
+// The first number from -1 on, up to `end`, at which a call in the even numbers below does, and
+// that call.
 fn wrong_number(
     alloc: Global,
     end: i64,

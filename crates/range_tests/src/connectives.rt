@@ -7,7 +7,8 @@ use range_tests_kit::membership::{NOT_LEFT, TABLES, connective};
 use std::alloc::Global;
 use std::default::MadeWith;
 
-// Whether the connective of a set and a view, and of two views, is this list, made in at most twice as many comparisons as there are boundaries.
+// Whether the connective of a set and a view, and of two views, is this list, made in at most twice
+// as many comparisons as there are boundaries.
 pub(crate) fn combines<T: RangeSetEntry + EntryClone + MadeWith<Global> + Drop>(
     alloc: Global,
     left: &RangeSet2<T>,

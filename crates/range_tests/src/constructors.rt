@@ -1,8 +1,9 @@
-//! Sets and views made of ranges, of every value, of lists in order and in any order, and of other sets; and the lists that come back.
+//! Sets and views made of ranges, of every value, of lists in order and in any order, and of other
+//! sets; and the lists that come back.
 use range_collections::{Comparisons, RangeSet, RangeSet2, RangeSetRange, RangeSetRef};
 use range_entry::{NonZeroU8, RangeSetEntry};
 use range_tests_kit::elements::{Only, from_end, letters_are, with_letter};
-use range_tests_kit::lists::{gives, own};
+use range_tests_kit::lists::{gives, own, prints};
 use smallvec::SmallVec;
 use std::alloc::{AllocError, Global};
 use std::default::MadeWith;
@@ -23,6 +24,39 @@ fn ranges_are_sets(rt: HostRuntime) {
     let (range, open) = (RangeSetRange::from(1u8..5), RangeSetRange::from(1u8..));
     assert!(rt; gives(RangeSet::from_range_set_range(alloc, range), &[1, 5]));
     assert!(rt; gives(RangeSet::from_range_set_range(alloc, open), &[1]));
+}
+
+// What is amiss with the sets of a range, of one without an end and of one that begins with the
+// least value, if something is.
+fn wrong_of_ranges(
+    alloc: Global,
+    range: &RangeSet2<i64>,
+    open: &RangeSet2<i64>,
+    below: &RangeSet2<i64>,
+) -> Option<&'static str> {
+    let has = [0, 1, 9, 10].map(|value| range.contains(&value));
+    let answers = [
+        ("the text", prints(alloc, range, "RangeSet{0..10}")),
+        ("the members", has == [true, true, true, false]),
+        ("0..10 | 20..", gives(range | open, &[0, 10, 20])),
+        ("0..10 & ..10", gives(range & below, &[0, 10])),
+        ("0..10 | ..10", gives(range | below, &[i64::MIN, 10])),
+        ("..10 & 20..", gives(below & open, &[])),
+        ("whether they meet", below.is_disjoint(open.as_ref())),
+    ];
+    let (name, _) = answers.iter().find(|(_, is_right)| !*is_right)?;
+    Some(*name)
+}
+
+#[test]
+fn ranges_are_put_together(rt: HostRuntime) -> Result<(), AllocError> {
+    let alloc = rt.alloc();
+    let range = RangeSet::from_range(alloc, 0..10)?;
+    let open = RangeSet::from_range_from(alloc, 20..)?;
+    let below = RangeSet::from_range_until(alloc, ..10)?;
+    let wrong = wrong_of_ranges(alloc, &range, &open, &below);
+    assert_eq!(rt; wrong, None);
+    Ok(())
 }
 
 // The number 1, of a type without 0.
@@ -87,7 +121,8 @@ fn unsorted_boundaries_are_refused(rt: HostRuntime) {
     assert!(rt; is_taken(rt.alloc(), &[]) == [true; 2]);
 }
 
-// Whether the set of these boundaries gives them back, in each form, and is what its list makes without a test.
+// Whether the set of these boundaries gives them back, in each form, and is what its list makes
+// without a test.
 fn gives_back(alloc: Global, items: &[i64]) -> Option<bool> {
     let set: RangeSet2<i64> = own(alloc, items)?;
     let view = RangeSetRef::new_unchecked(set.as_ref().boundaries());
@@ -108,9 +143,9 @@ fn sets_have_no_boundary_or_a_single_one(rt: HostRuntime) {
     assert!(rt; RangeSetRef::<i64>::empty().boundaries().is_empty());
     assert!(rt; RangeSetRef::<i64>::default().boundaries().is_empty());
     assert!(rt; RangeSet2::<i64>::empty(rt.alloc()).boundaries().is_empty());
-    let from_7 = RangeSetRef::single(&7u8);
+    let from_7 = RangeSetRef::single(&7i64);
     assert!(rt; from_7.boundaries() == [7].as_slice());
-    assert!(rt; from_7.contains(&7) && from_7.contains(&255) && !from_7.contains(&6));
+    assert!(rt; from_7.contains(&7) && from_7.contains(&i64::MAX) && !from_7.contains(&6));
 }
 
 #[test]

@@ -1,17 +1,19 @@
-//! Calls on elements whose copies are refused. A call is refused exactly where it copies a flagged item, and leaves what was passed in as it was.
+//! Calls on elements whose copies are refused. A call is refused exactly where it copies a flagged
+//! item, and leaves what was passed in as it was.
 use crate::operations::ROWS;
 use range_collections::{Copier, EntryClone, EntryCopier, RangeSet, RangeSetRange, RangeSetRef};
-use range_starving::Answer;
 use range_tests_kit::elements::{Flagged, with_flag};
 use range_tests_kit::flags::{Flags, Items, flagged};
 use range_tests_kit::forms::OPERATIONS;
 use range_tests_kit::lists::own;
 use range_tests_kit::membership::TABLES;
+use range_tests_kit::starving::Answer;
 use range_tests_kit::ways::{Case, WAYS, Way, case_of, set_is, wanted};
 use std::alloc::{AllocError, Global};
 use std::ops::Range;
 
-// Whether one of the numbers at these places is in the result, and is not the other side's, of which the copy is made.
+// Whether one of the numbers at these places is in the result, and is not the other side's, of
+// which the copy is made.
 fn is_copied(numbers: &[i64], places: Range<usize>, want: &[i64], other: &[i64]) -> bool {
     for (at, number) in numbers.iter().enumerate() {
         if places.contains(&at) && want.contains(number) && !other.contains(number) {
@@ -21,7 +23,8 @@ fn is_copied(numbers: &[i64], places: Range<usize>, want: &[i64], other: &[i64])
     false
 }
 
-// Whether a call is refused: into a new list where a flagged item is taken, of two equal ones the left's, and in place where there is one in a right side that is borrowed.
+// Whether a call is refused: into a new list where a flagged item is taken, of two equal ones the
+// left's, and in place where there is one in a right side that is borrowed.
 fn is_refused(way: Way, row: &Case<i64>, flags: Flags) -> bool {
     if way.is_in_place() {
         flags.right_within(row.right.len()) && !way.takes_right()
@@ -36,8 +39,7 @@ fn answers(alloc: Global, case: &Case<Flagged>, way: Way, want: Answer) -> bool 
     let (Some(sides), Some(roomy)) = (case.sides(alloc), case.sides(alloc)) else {
         return false;
     };
-    case.answer(way, alloc, sides) == want
-        && (way.is_state_in_place() || case.answer_with_room(way, alloc, roomy) == want)
+    case.answer(way, alloc, sides) == want && case.answer_with_room(way, alloc, roomy) == want
 }
 
 // The first call that answers otherwise with these flags.
@@ -80,7 +82,8 @@ fn an_operation_is_refused_where_it_copies_a_flagged_item(
 
 const LEAST: i64 = i64::MIN;
 
-// What each table makes of the ranges from 0 to 2 and from 4 to 6 with those from 1 to 2 and from 5 to 7. Both have a boundary at 2.
+// What each table makes of the ranges from 0 to 2 and from 4 to 6 with those from 1 to 2 and from 5
+// to 7. Both have a boundary at 2.
 const CONNECTED: [&[i64]; 16] = [
     &[],
     &[1, 2, 5, 6],
@@ -132,7 +135,8 @@ fn both_answer<T: EntryClone + Drop>(item: &T, want: Answer) -> bool {
     copied(item.entry_clone(), item) == want && copied(EntryCopier.copy(item), item) == want
 }
 
-// Whether lists answer so with the flag at this place: one of options, one of items, and an option of that.
+// Whether lists answer so with the flag at this place: one of options, one of items, and an option
+// of that.
 fn lists_answer(alloc: Global, place: usize, want: Answer) -> Result<bool, AllocError> {
     let items = flagged(alloc, &[1, 3, 5, 7], place..place.saturating_add(1))?;
     let mut options = Vec::new(alloc);
@@ -158,7 +162,8 @@ fn copies_of_elements_are_refused_by_flags(rt: HostRuntime) -> Result<(), AllocE
     Ok(())
 }
 
-// Whether both copies of a range of flagged ends answer so, and its set is made of the ends themselves.
+// Whether both copies of a range of flagged ends answer so, and its set is made of the ends
+// themselves.
 fn range_answers(
     alloc: Global,
     borrowed: &RangeSetRange<&Flagged>,
@@ -203,7 +208,8 @@ fn copies_of_ranges_are_refused_by_flags(rt: HostRuntime) {
     }
 }
 
-// What the clone of a set answers, and its negation where it is borrowed and where it is owned, with the flag at this place.
+// What the clone of a set answers, and its negation where it is borrowed and where it is owned,
+// with the flag at this place.
 fn set_answers(alloc: Global, place: usize) -> Option<[Answer; 3]> {
     let items = flagged(alloc, &[20, 30, 40], place..place.saturating_add(1)).ok()?;
     let negated = flagged(alloc, &[LEAST, 20, 30, 40], 0..0).ok()?;

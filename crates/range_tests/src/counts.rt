@@ -1,4 +1,5 @@
-//! How many values are members, or that there is no end: at each type of numbers, and of characters.
+//! How many values are members, or that there is no end: at each type of numbers, and of
+//! characters.
 use range_collections::{Countable, RangeSet2, RangeSetRef};
 use std::alloc::{AllocError, Global};
 

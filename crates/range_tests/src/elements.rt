@@ -1,4 +1,5 @@
-//! The element types: each implementation called through its bound, and that these calls find memory where there is some.
+//! The element types: each implementation called through its bound, and that these calls find
+//! memory where there is some.
 use range_collections::{Copier, EntryCopier};
 use range_entry::{
     EntryClone, NonZeroU8, NonZeroU16, NonZeroU32, NonZeroU64, NonZeroU128, NonZeroUsize,
@@ -101,13 +102,14 @@ fn owned_begin_empty(alloc: Global) -> Result<bool, AllocError> {
 #[test]
 fn options_texts_and_lists_begin_with_the_empty_one(rt: HostRuntime) {
     let (alloc, none) = (rt.alloc(), [].as_slice());
-    assert!(rt; are(alloc, &None, &Some(0u8)));
+    assert!(rt; are(alloc, &None, &Some(3u8)));
     assert!(rt; are(alloc, &"", &"ab"));
     assert!(rt; are(alloc, &none, &[1u8, 2].as_slice()));
     assert!(rt; owned_begin_empty(alloc) == Ok(true));
 }
 
-// Whether the items are appended after the front of a list, which stays: by the copier, or else by the type's own call.
+// Whether the items are appended after the front of a list, which stays: by the copier, or else by
+// the type's own call.
 fn appends_by<T: EntryClone + Drop, C: Copier<T>>(
     alloc: Global,
     copier: Option<&C>,

@@ -1,8 +1,10 @@
-//! The parts of a range that are in a set, and the gaps between them: of sets and of their views, plain and counted.
+//! The parts of a range that are in a set, and the gaps between them: of sets and of their views,
+//! plain and counted.
 use range_collections::{Comparisons, RangeSet2, RangeSetRef, RangesWithin};
 use range_tests_kit::lists::own;
 
-// Boundaries, a start and an end, the boundaries of the gaps from one to the other, and those of the ranges there.
+// Boundaries, a start and an end, the boundaries of the gaps from one to the other, and those of
+// the ranges there.
 type Row<'a> = (&'a [i8], i8, i8, &'a [i8], &'a [i8]);
 
 const WITHIN: [Row; 26] = [
@@ -45,7 +47,8 @@ pub(crate) fn are_ranges<T: Ord>(ranges: RangesWithin<T>, want: &[T]) -> bool {
     rest.next().is_none()
 }
 
-// Whether the gaps and the ranges of the set are these, and it has the whole where there is no gap, plain and counted.
+// Whether the gaps and the ranges of the set are these, and it has the whole where there is no gap,
+// plain and counted.
 fn are_parts(set: Option<RangeSet2<i8>>, row: &Row) -> Option<bool> {
     let (set, low, high, off, on) = (set?, row.1, row.2, row.3, row.4);
     let (mut a, mut b, mut c) = (Comparisons::new(), Comparisons::new(), Comparisons::new());

@@ -1,4 +1,5 @@
-//! One range put into a set and taken out of it, where the set lies: nothing is copied, and what is compared is counted.
+//! One range put into a set and taken out of it, where the set lies: nothing is copied, and what is
+//! compared is counted.
 ghost use Rattle.std.specs.Prelude.{◌<◌, ◌^◌};
 
 use range_collections::{Comparisons, EntryClone, RangeSet, RangeSet2};
@@ -43,14 +44,16 @@ impl Call {
     }
 }
 
-// Boundaries, where a range begins and where it ends, and the boundaries with the range put in and with it taken out.
+// Boundaries, where a range begins and where it ends, and the boundaries with the range put in and
+// with it taken out.
 type Row<'a> = (&'a [i64], i64, i64, &'a [i64], &'a [i64]);
 
 const LEAST: i64 = i64::MIN;
 
 const MOST: i64 = i64::MAX;
 
-// Ranges beside those of the set, within and across them, of sets without an end, at the ends of the type, and of nothing.
+// Ranges beside those of the set, within and across them, of sets without an end, at the ends of
+// the type, and of nothing.
 const ROWS: [Row; 34] = [
     (&[], 5, 10, &[5, 10], &[]),
     (&[0, 10], 10, 20, &[0, 20], &[0, 10]),
@@ -156,7 +159,8 @@ fn costs(alloc: Global, items: &[i64], call: Call, ends: (i64, i64)) -> Option<(
     Some((tally.get(), count.made()))
 }
 
-// Whether the counted call raises the tally by as much as its counter, and the plain one by as much as that.
+// Whether the counted call raises the tally by as much as its counter, and the plain one by as much
+// as that.
 fn costs_agree(alloc: Global, items: &[i64], calls: [Call; 2], ends: (i64, i64)) -> bool {
     let [plain, counted] = calls;
     let plain = costs(alloc, items, plain, ends);

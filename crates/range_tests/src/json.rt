@@ -39,10 +39,16 @@ fn is_read(alloc: Global, text: &str, want: &[i64]) -> bool {
     }
 }
 
+// Whether the value is the one that is read from this text, and is written so.
+fn is_value(alloc: Global, json: &Value, want: &str) -> Option<bool> {
+    let is_same = *json == Value::from_str(alloc, want).ok()?;
+    Some(is_same && json.to_string(alloc).ok()?.as_str() == want)
+}
+
 // Whether the set that is read from the text has this text.
 fn is_written(alloc: Global, text: &str, want: &str) -> Option<bool> {
     let json = read(alloc, text)?.ok()?.to_json().ok()?;
-    Some(json.to_string(alloc).ok()?.as_str() == want)
+    is_value(alloc, &json, want)
 }
 
 #[test]

@@ -1,4 +1,5 @@
-//! Made-up pairs of lists, by one generator that always begins alike. What is expected of them is found by membership alone, point by point.
+//! Made-up pairs of lists, by one generator that always begins alike. What is expected of them is
+//! found by membership alone, point by point.
 ghost use Rattle.std.specs.Prelude.{◌<◌, ◌≤◌};
 
 use crate::connectives::combines;
@@ -18,7 +19,8 @@ const PAIRS: u64 = 1_000;
 
 const LISTS: u64 = 4_000;
 
-// What the lists are made of, in order. No boundary lies between two of these, so a set is the same at all elements from one of them up to the next.
+// What the lists are made of, in order. No boundary lies between two of these, so a set is the same
+// at all elements from one of them up to the next.
 const POINTS: [i64; 19] = [
     i64::MIN,
     -4,
@@ -157,7 +159,8 @@ fn every_connective_of_made_up_pairs(rt: HostRuntime) -> Result<(), Fail> {
     Ok(())
 }
 
-// Whether both parts of a set at this point, and of its view, agree with it on their side of the point.
+// Whether both parts of a set at this point, and of its view, agree with it on their side of the
+// point.
 fn splits(set: &RangeSet2<i64>, place: usize, at: i64) -> bool {
     let (below, from) = set.split(at);
     let (low, high) = set.as_ref().split(at);
@@ -175,7 +178,8 @@ fn read_again(alloc: Global, set: &RangeSet2<i64>) -> Option<RangeSet2<i64>> {
     RangeSet::from_json(alloc, &value).ok()
 }
 
-// What leads from a list to another one than it should, if anything does: the parts at some point, its JSON, or `!`.
+// What leads from a list to another one than it should, if anything does: the parts at some point,
+// its JSON, or `!`.
 fn wrong_list(alloc: Global, items: &[i64]) -> Result<Option<&'static str>, AllocError> {
     let Some(set) = set_of(alloc, items) else {
         return Ok(Some("the set"));

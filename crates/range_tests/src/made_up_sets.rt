@@ -1,4 +1,5 @@
-//! The everyday calls on made-up sets: what they answer is what asking for each value of a small type finds.
+//! The everyday calls on made-up sets: what they answer is what asking for each value of a small
+//! type finds.
 use crate::gaps::are_ranges;
 use range_collections::{Countable, RangeSetRef};
 use range_tests_kit::generator::Generator;
@@ -42,7 +43,8 @@ fn ask_each<T: Ord + Copy>(
     Ok(asked)
 }
 
-// The boundaries of the longest stretches of these values that are members, or that are none; the last one ends where `end` is, if there is one.
+// The boundaries of the longest stretches of these values that are members, or that are none; the
+// last one ends where `end` is, if there is one.
 fn stretches<T: Copy>(
     alloc: Global,
     asked: &[(T, bool)],
@@ -102,7 +104,8 @@ fn has_members<T: Countable + Copy + Drop>(
     Ok(set.covered() == counted(asked) && are_held(asked, set, members.as_slice()))
 }
 
-// Whether the gaps and the ranges from one value to another are the stretches of those between, and the whole is in the set where there is no gap.
+// Whether the gaps and the ranges from one value to another are the stretches of those between, and
+// the whole is in the set where there is no gap.
 fn are_parted<'a, T: Ord + Copy + Drop>(
     alloc: Global,
     between: &[(T, bool)],
@@ -119,7 +122,8 @@ fn are_parted<'a, T: Ord + Copy + Drop>(
     )
 }
 
-// Whether the view of these boundaries answers so, also with made-up ends, of which the first may be the higher one.
+// Whether the view of these boundaries answers so, also with made-up ends, of which the first may
+// be the higher one.
 fn is_right<T: Countable + Copy + Drop>(
     alloc: Global,
     values: &[T],

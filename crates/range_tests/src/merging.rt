@@ -1,4 +1,5 @@
-//! Searches, first runs and merges of lists of numbers: by a comparer and a copier of the tests' own into a list, a count and a test, and by sets and views into a count, a test and a slice.
+//! Searches, first runs and merges of lists of numbers: by a comparer and a copier of the tests'
+//! own into a list, a count and a test, and by sets and views into a count, a test and a slice.
 ghost use Rattle.std.specs.Prelude.{◌≡◌, false};
 
 use crate::operations::{Call, Case};
@@ -27,7 +28,8 @@ fn merged<P: Copier<i64>, O: MergeOperation>(
     Ok((list, numbers.made()))
 }
 
-// The merge on a state over two lists and a list that holds -1 already, and how many comparisons it took, if it used up both lists.
+// The merge on a state over two lists and a list that holds -1 already, and how many comparisons it
+// took, if it used up both lists.
 fn appended<O: MergeOperation>(
     alloc: Global,
     left: RangeSetRef<i64>,
@@ -41,7 +43,8 @@ fn appended<O: MergeOperation>(
     Ok((state.result(), ended.then_some(numbers.made())))
 }
 
-// Whether the merges into a list find this one, after what was there, in at most so many comparisons.
+// Whether the merges into a list find this one, after what was there, in at most so many
+// comparisons.
 fn gives_list<O: MergeOperation>(
     alloc: Global,
     left: RangeSetRef<i64>,
@@ -128,7 +131,8 @@ pub(crate) fn gives_written<O: MergeOperation>(
     is_front(of_set, &out, want) && is_front(of_view, &again, want)
 }
 
-// How many comparisons the tests of two lists, of a state over them, of a set and of its view make, where all find that something is taken, or all that nothing is.
+// How many comparisons the tests of two lists, of a state over them, of a set and of its view make,
+// where all find that something is taken, or all that nothing is.
 fn tests<O: MergeOperation>(
     set: &RangeSet2<i64>,
     that: RangeSetRef<i64>,
@@ -141,15 +145,18 @@ fn tests<O: MergeOperation>(
     let (mut numbers, mut others) = (Numbers { made: 0 }, Numbers { made: 0 });
     let (mut count, mut again) = (Comparisons::new(), Comparisons::new());
     let mut state = BoolOpMergeState::new(a, b);
-    let ended = merge(&mut state, op, &mut others) == Ok(true);
+
+    // The state stops where it takes, and that is no refusal.
+    if merge(&mut state, op, &mut others) != Ok(!want) {
+        return None;
+    }
     let found = [
-        !ended,
         state.result(),
         BoolOpMergeState::merge(a, b, op, &mut numbers),
         set.merge_test(that, op, &mut count),
         set.as_ref().merge_test(that, op, &mut again),
     ];
-    (found == [want; 5]).then_some([numbers.made(), others.made(), count.made(), again.made()])
+    (found == [want; 4]).then_some([numbers.made(), others.made(), count.made(), again.made()])
 }
 
 // Whether they do, each in at most so many.
@@ -168,7 +175,8 @@ pub(crate) fn gives_test<O: MergeOperation>(
     }
 }
 
-// The first merge of a case by the operation that answers otherwise, or compares more often than it may.
+// The first merge of a case by the operation that answers otherwise, or compares more often than it
+// may.
 fn wrong_by<O: MergeOperation>(alloc: Global, case: Case, op: &O) -> Option<Call>
     requires { O.connective op.now false false ≡ false }
 {
@@ -201,7 +209,8 @@ pub(crate) fn wrong_merge(alloc: Global, case: Case) -> Option<Call> {
     }
 }
 
-// Two lists of which something is taken, and how many comparisons find it: one where it is a first item, of however long a run.
+// Two lists of which something is taken, and how many comparisons find it: one where it is a first
+// item, of however long a run.
 const FOUND: [(Operation, &[i64], &[i64], u128); 12] = [
     (Operation::Union, &[0, 1, 2, 3], &[10, 20], 1),
     (Operation::Union, &[10, 20], &[0, 1, 2, 3], 1),
@@ -251,7 +260,8 @@ fn a_refused_copy_refuses_the_merge(rt: HostRuntime) {
     assert!(rt; !refuses_copies(&[], &[], rt.alloc()));
 }
 
-// What an operation answers where both sides are off, the left alone is on, the right alone is on, and both are.
+// What an operation answers where both sides are off, the left alone is on, the right alone is on,
+// and both are.
 fn answers<O: MergeOperation>(op: &O) -> [bool; 4] {
     let off = op.when_off();
     let left = off != op.takes_a(false);
@@ -259,7 +269,8 @@ fn answers<O: MergeOperation>(op: &O) -> [bool; 4] {
     [off, left, right, left != op.takes_b(true)]
 }
 
-// What an operation takes: of the left, of the right and of both, each by how the sides that matter stood before.
+// What an operation takes: of the left, of the right and of both, each by how the sides that matter
+// stood before.
 fn takes<O: MergeOperation>(op: &O) -> [bool; 8] {
     [
         op.takes_a(false),

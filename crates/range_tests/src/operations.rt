@@ -1,4 +1,5 @@
-//! The four operations in every form: the list that each gives, how often it may compare, and whose boundaries stay.
+//! The four operations in every form: the list that each gives, how often it may compare, and whose
+//! boundaries stay.
 use crate::merging::wrong_merge;
 use range_collections::{Comparisons, RangeSet, RangeSet2};
 use range_tests_kit::elements::Lettered;
@@ -16,7 +17,8 @@ macro_rules! row {
     };
 }
 
-// Two lists, their union, intersection, difference and symmetric difference, and how many comparisons each may take.
+// Two lists, their union, intersection, difference and symmetric difference, and how many
+// comparisons each may take.
 pub(crate) const ROWS: [Row; 20] = [
     row!([], [] => [], [], [], []; 0),
     row!([], [0, 5] => [0, 5], [], [], [0, 5]; 4),
@@ -138,7 +140,8 @@ fn every_form_gives_the_rows(rt: HostRuntime) {
     }
 }
 
-// Lists that lie apart, every other number, and lists of which the one's last half is the other's first.
+// Lists that lie apart, every other number, and lists of which the one's last half is the other's
+// first.
 #[test]
 fn every_form_gives_long_lists(rt: HostRuntime) -> Result<(), Fail> {
     let alloc = rt.alloc();
@@ -205,7 +208,8 @@ fn one_boundary_beside_ten_thousand(rt: HostRuntime) -> Result<(), Fail> {
     Ok(())
 }
 
-// Whether the items are these numbers, those of the left list with the letter `a` and all others with `b`.
+// Whether the items are these numbers, those of the left list with the letter `a` and all others
+// with `b`.
 fn are_lettered(items: &[Lettered], want: &[i64], left: &[i64]) -> bool {
     for (item, number) in items.iter().zip(want) {
         let letter = if left.contains(number) { b'a' } else { b'b' };

@@ -2,7 +2,8 @@
 use range_collections::{Expected, ParseError, RangeSet, RangeSet2, RangeSetRange, check_ranges};
 use range_tests_kit::lists::gives;
 
-// Texts that write no ranges, with the byte after the longest front that begins some text of ranges, and what was expected there.
+// Texts that write no ranges, with the byte after the longest front that begins some text of
+// ranges, and what was expected there.
 const MALFORMED: [(&str, usize, Expected); 67] = [
     ("x", 0, Expected::Number),
     ("-", 1, Expected::Number),

@@ -1,4 +1,5 @@
-//! What is asked of one set and of two, answered by members: of sets and of their views, plain and counted.
+//! What is asked of one set and of two, answered by members: of sets and of their views, plain and
+//! counted.
 use range_collections::{BoolOpMergeState, Comparisons, IntersectionOp, RangeSet2, RangeSetRef};
 use range_tests_kit::elements::from_end;
 use range_tests_kit::lists::{lettered, numbers, own};
@@ -6,39 +7,50 @@ use std::alloc::Global;
 use std::cmp::Ordering::{self, Equal, Greater, Less};
 use std::test::Fail;
 
-// Boundaries, an element, and whether it is a member.
-const MEMBERS: [(&[u64], u64, bool); 16] = [
-    (&[0, 2], 0, true),
-    (&[0, 2], 1, true),
-    (&[0, 2], 2, false),
-    (&[0, 2, 4, 8], 2, false),
-    (&[0, 2, 4, 8], 3, false),
-    (&[0, 2, 4, 8], 4, true),
-    (&[0, 2, 4, 8], 8, false),
-    (&[0, 10], 0, true),
-    (&[0, 10], 1, true),
-    (&[0, 10], 9, true),
-    (&[0, 10], 10, false),
-    (&[0, 10, 20], 10, false),
-    (&[], 0, false),
-    (&[7], 6, false),
-    (&[7], 7, true),
-    (&[u64::MAX], u64::MAX, true),
+// Boundaries, an element, whether it is a member, and how many comparisons may tell that.
+const MEMBERS: [(&[u64], u64, bool, u128); 8] = [
+    (&[0, 2], 0, true, 2),
+    (&[0, 2], 1, true, 2),
+    (&[0, 2], 2, false, 2),
+    (&[0, 2, 4, 8], 2, false, 3),
+    (&[0, 2, 4, 8], 3, false, 3),
+    (&[0, 2, 4, 8], 4, true, 3),
+    (&[0, 2, 4, 8], 8, false, 3),
+    (&[u64::MAX], u64::MAX, true, 1),
 ];
 
-// Whether the set and its view say of an element that it is a member or not, plain and counted.
-fn has<T: Ord + Drop>(set: Option<RangeSet2<T>>, item: &T, want: bool) -> Option<bool> {
+// The same of numbers with a sign.
+const SIGNED: [(&[i64], i64, bool, u128); 9] = [
+    (&[0, 10], -1, false, 2),
+    (&[0, 10], 0, true, 2),
+    (&[0, 10], 1, true, 2),
+    (&[0, 10], 9, true, 2),
+    (&[0, 10], 10, false, 2),
+    (&[0, 10, 20], 10, false, 2),
+    (&[], 0, false, 0),
+    (&[7], 6, false, 1),
+    (&[7], 7, true, 1),
+];
+
+// Whether the set and its view say of an element that it is a member or not, plain and counted, in
+// at most so many comparisons.
+fn has<T: Ord + Drop>(set: Option<RangeSet2<T>>, item: &T, want: bool, most: u128) -> Option<bool> {
     let (set, mut count, mut again) = (set?, Comparisons::new(), Comparisons::new());
     let counted = set.contains_counted(item, &mut count) == want
         && set.as_ref().contains_counted(item, &mut again) == want;
-    Some(counted && set.contains(item) == want && set.as_ref().contains(item) == want)
+    let few = count.made().max(again.made()) <= most;
+    Some(counted && few && set.contains(item) == want && set.as_ref().contains(item) == want)
 }
 
 #[test]
 fn elements_are_members(rt: HostRuntime) {
     let (alloc, back) = (rt.alloc(), [from_end(255), from_end(250)]);
-    for (items, item, want) in MEMBERS {
-        let found = has(own(alloc, items), &item, want);
+    for (items, item, want, most) in MEMBERS {
+        let found = has(own(alloc, items), &item, want, most);
+        assert!(rt; found == Some(true), "{item} in {items:?}");
+    }
+    for (items, item, want, most) in SIGNED {
+        let found = has(own(alloc, items), &item, want, most);
         assert!(rt; found == Some(true), "{item} in {items:?}");
     }
     for (c, want) in [
@@ -49,19 +61,17 @@ fn elements_are_members(rt: HostRuntime) {
         ('\u{E000}', false),
     ] {
         assert!(rt;
-            has(own(alloc, &['a', '{']), &c, want) == Some(true),
+            has(own(alloc, &['a', '{']), &c, want, 2) == Some(true),
             "{c:?}"
         );
     }
-    assert!(rt; has(own(alloc, &[255u8]), &255, true) == Some(true));
-    assert!(rt; has(own(alloc, &[255u8]), &254, false) == Some(true));
-    assert!(rt; has(own(alloc, &[u128::MAX]), &u128::MAX, true) == Some(true));
-    assert!(rt; has(own(alloc, &[0i64, 10]), &1, true) == Some(true));
-    assert!(rt; has(own(alloc, &[0i64, 10]), &-1, false) == Some(true));
-    assert!(rt; has(own(alloc, &back), &from_end(251), true) == Some(true));
-    assert!(rt; has(own(alloc, &back), &from_end(250), false) == Some(true));
-    assert!(rt; has(own(alloc, &["b", "d"]), &"c", true) == Some(true));
-    assert!(rt; has(own(alloc, &["b", "d"]), &"d", false) == Some(true));
+    assert!(rt; has(own(alloc, &[255u8]), &255, true, 1) == Some(true));
+    assert!(rt; has(own(alloc, &[255u8]), &254, false, 1) == Some(true));
+    assert!(rt; has(own(alloc, &[u128::MAX]), &u128::MAX, true, 1) == Some(true));
+    assert!(rt; has(own(alloc, &back), &from_end(251), true, 2) == Some(true));
+    assert!(rt; has(own(alloc, &back), &from_end(250), false, 2) == Some(true));
+    assert!(rt; has(own(alloc, &["b", "d"]), &"c", true, 2) == Some(true));
+    assert!(rt; has(own(alloc, &["b", "d"]), &"d", false, 2) == Some(true));
 }
 
 // Whether the set, and its view, have no member.
@@ -73,7 +83,7 @@ fn is_empty<T: Ord + Drop>(set: Option<RangeSet2<T>>) -> Option<[bool; 2]> {
 #[test]
 fn sets_without_a_boundary_are_empty(rt: HostRuntime) {
     let alloc = rt.alloc();
-    for (items, _, _) in MEMBERS {
+    for (items, _, _, _) in SIGNED {
         let want = items.len() == 0;
         assert!(rt; is_empty(own(alloc, items)) == Some([want; 2]), "{items:?}");
     }
@@ -82,7 +92,8 @@ fn sets_without_a_boundary_are_empty(rt: HostRuntime) {
 
 const LEAST: i64 = i64::MIN;
 
-// Two lists of boundaries, whether the first intersects, is a subset and is a superset of the second, and how they stand in order.
+// Two lists of boundaries, whether the first intersects, is a subset and is a superset of the
+// second, and how they stand in order.
 type Row<'a> = (&'a [i64], &'a [i64], [bool; 3], Ordering);
 
 const PAIRS: [Row; 11] = [

@@ -1,6 +1,8 @@
-//! The ranges of a set: one after the other, from both ends, at a value, the first and the last, and how many there are; the next member and the next gap; whether one has a member; their ends.
-use range_collections::{Comparisons, Iter, RangeSet2, RangeSetRange};
-use range_tests_kit::lists::{is_range, own};
+//! The ranges of a set: one after the other, from both ends, at a value, the first and the last,
+//! and how many there are; the next member and the next gap; whether one has a member; their ends.
+use range_collections::{Comparisons, Iter, RangeSet, RangeSet2, RangeSetRange, RangeSetRef};
+use range_tests_kit::lists::{gives, is_range, own};
+use std::alloc::Global;
 use std::ops::Bound;
 
 // Boundaries, and those of each of their ranges.
@@ -12,7 +14,8 @@ const IN_ORDER: [(&[i64], &[&[i64]]); 5] = [
     (&[0, 10, 20], &[&[0, 10], &[20]]),
 ];
 
-// Whether the iterator gives these ranges, tells before each how many are left, and gives none after the last.
+// Whether the iterator gives these ranges, tells before each how many are left, and gives none
+// after the last.
 fn are_in_order(mut ranges: Iter<i64>, want: &[&[i64]]) -> bool {
     for (i, range) in want.iter().enumerate() {
         let left = want.len() - i;
@@ -34,7 +37,7 @@ fn are_in_order_from_the_end(mut ranges: Iter<i64>, want: &[&[i64]]) -> bool {
 }
 
 // Whether the set's ranges, and those of its view, come in order.
-fn gives(set: Option<RangeSet2<i64>>, want: &[&[i64]]) -> Option<bool> {
+fn come_in_order(set: Option<RangeSet2<i64>>, want: &[&[i64]]) -> Option<bool> {
     let set = set?;
     let view = set.as_ref();
     let made_iterators = are_in_order((&set).into_iter(), want)
@@ -47,7 +50,7 @@ fn gives(set: Option<RangeSet2<i64>>, want: &[&[i64]]) -> Option<bool> {
 fn ranges_come_in_order_and_then_none(rt: HostRuntime) {
     for (items, want) in IN_ORDER {
         assert!(rt;
-            gives(own(rt.alloc(), items), want) == Some(true),
+            come_in_order(own(rt.alloc(), items), want) == Some(true),
             "{items:?}"
         );
     }
@@ -128,7 +131,8 @@ fn a_value_is_followed_by_a_member_and_by_a_gap(rt: HostRuntime) {
     }
 }
 
-// Boundaries, the first range, the last one, the range from one to the other, and how many there are.
+// Boundaries, the first range, the last one, the range from one to the other, and how many there
+// are.
 type Extent<'a> = (&'a [i8], &'a [i8], &'a [i8], &'a [i8], usize);
 
 const EXTENTS: [Extent; 8] = [
@@ -163,16 +167,23 @@ fn sets_begin_and_end_with_their_ranges(rt: HostRuntime) {
 }
 
 // Boundaries, a range, and whether it has a member.
-const MEETINGS: [(&[u64], u64, u64, bool); 13] = [
+const MEETINGS: [(&[u64], u64, u64, bool); 6] = [
     (&[0, 2], 0, 2, true),
     (&[0, 2], 2, 4, false),
     (&[0, 2, 4, 8], 0, 2, true),
     (&[0, 2, 4, 8], 2, 4, false),
     (&[0, 2, 4, 8], 4, 8, true),
     (&[0, 2, 4, 8], 8, 12, false),
+];
+
+// The same of numbers with a sign.
+const SIGNED_MEETINGS: [(&[i64], i64, i64, bool); 10] = [
     (&[0, 10], 5, 3, false),
     (&[0, 10], 5, 6, true),
     (&[0, 10], 10, 12, false),
+    (&[0, 2, 4, 8], 2, 4, false),
+    (&[0, 2, 4, 8], 4, 8, true),
+    (&[0, 2, 4, 8], 8, 12, false),
     (&[0, 10], 5, 5, false),
     (&[4, 10], 2, 5, true),
     (&[3, 5], 4, 9, true),
@@ -180,7 +191,7 @@ const MEETINGS: [(&[u64], u64, u64, bool); 13] = [
 ];
 
 // Whether the range has a member of the set, and of its view.
-fn meets(set: Option<RangeSet2<u64>>, start: u64, end: u64) -> Option<[bool; 2]> {
+fn meets<T: Ord + Copy + Drop>(set: Option<RangeSet2<T>>, start: T, end: T) -> Option<[bool; 2]> {
     let set = set?;
     Some([
         set.intersects_range(start..end),
@@ -194,13 +205,48 @@ fn ranges_meet_sets_with_a_member_in_them(rt: HostRuntime) {
         let found = meets(own(rt.alloc(), row.0), row.1, row.2);
         assert!(rt; found == Some([row.3; 2]), "{row:?}");
     }
+    for row in &SIGNED_MEETINGS {
+        let found = meets(own(rt.alloc(), row.0), row.1, row.2);
+        assert!(rt; found == Some([row.3; 2]), "{row:?}");
+    }
+}
+
+// Whether the range begins at the start, and ends before the end, or has none.
+fn has_bounds(range: &RangeSetRange<i64>, start: i64, end: Option<i64>) -> bool {
+    let is_end = match range.end_bound() {
+        Bound::Excluded(last) => end == Some(*last),
+        Bound::Unbounded => end.is_none(),
+        Bound::Included(_) => false,
+    };
+    is_end && matches!(range.start_bound(), Bound::Included(first) if *first == start)
+}
+
+// Whether the copy of a borrowed range, and a clone of that, are this range, with these bounds, and
+// it makes this set.
+fn is_copied(
+    alloc: Global,
+    borrowed: Option<RangeSetRange<&i64>>,
+    start: i64,
+    end: Option<i64>,
+    items: &[i64],
+) -> bool {
+    let want = match end {
+        Some(end) => RangeSetRange::from(start..end),
+        None => RangeSetRange::from(start..),
+    };
+    let Some(Ok(copied)) = borrowed.map(|range| range.cloned()) else {
+        return false;
+    };
+    matches!(copied.clone(), Ok(again) if again == want)
+        && copied == want
+        && has_bounds(&copied, start, end)
+        && gives(RangeSet::from_range_set_range(alloc, copied), items)
 }
 
 #[test]
-fn ranges_have_bounds(rt: HostRuntime) {
-    let (range, open) = (RangeSetRange::from(2i64..5), RangeSetRange::from(7i64..));
-    assert!(rt; matches!(range.start_bound(), Bound::Included(start) if *start == 2));
-    assert!(rt; matches!(range.end_bound(), Bound::Excluded(end) if *end == 5));
-    assert!(rt; matches!(open.start_bound(), Bound::Included(start) if *start == 7));
-    assert!(rt; matches!(open.end_bound(), Bound::Unbounded));
+fn ranges_are_copied_with_their_bounds(rt: HostRuntime) {
+    let mut ranges = RangeSetRef::new(&[0i64, 2, 4]).unwrap_or_default().iter();
+    assert!(rt; is_copied(rt.alloc(), ranges.next(), 0, Some(2), &[0, 2]));
+    assert!(rt; is_copied(rt.alloc(), ranges.next(), 4, None, &[4]));
+    assert!(rt; ranges.next().is_none() && ranges.next().is_none());
 }

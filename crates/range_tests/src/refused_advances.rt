@@ -1,4 +1,6 @@
-//! Merges over a state that refuses one of its advances, each in turn: the merge is refused exactly there, makes no advance afterwards, and its comparisons stay within twice the weight of the lists.
+//! Merges over a state that refuses one of its advances, each in turn: the merge is refused exactly
+//! there, makes no advance afterwards, and its comparisons stay within twice the weight of the
+//! lists.
 ghost use Rattle.std.specs.Prelude.{◌≡◌, ⊤, false};
 
 use range_collections::{Comparisons, RangeSetRef};
@@ -127,7 +129,8 @@ impl<'a, K> MergeStateMut for Refusing<'a, K> {
 // Two lists of boundaries, how many runs they have, and twice their weight.
 type Row<'a> = (&'a [i64], &'a [i64], usize, u128);
 
-// Whether the merge whose advance after so many is refused ends there, or at the end where it makes no more of them.
+// Whether the merge whose advance after so many is refused ends there, or at the end where it makes
+// no more of them.
 fn ends_rightly(table: [u8; 4], row: &Row, until: usize) -> bool {
     let (a, b, runs, most) = *row;
     let (Some(left), Some(right)) = (RangeSetRef::new(a), RangeSetRef::new(b)) else {

@@ -12,7 +12,8 @@ use std::alloc::{AllocError, Global};
 // Of how many values one is a boundary.
 const ONE_IN: [u64; 5] = [1, 2, 10, 40, 100];
 
-// Whether the set keeps room for at most twice its boundaries, or for the two that it holds in itself.
+// Whether the set keeps room for at most twice its boundaries, or for the two that it holds in
+// itself.
 fn keeps_little(set: RangeSet2<u8>) -> bool {
     let most = set.boundaries().len().saturating_mul(2).max(2);
     set.into_inner().capacity() <= most
@@ -69,7 +70,8 @@ fn new_sets_keep_little_room(rt: HostRuntime) -> Result<(), AllocError> {
     Ok(())
 }
 
-// The room of the union of the numbers up to 60 with those from there up to 100, which are the boundaries of both.
+// The room of the union of the numbers up to 60 with those from there up to 100, which are the
+// boundaries of both.
 fn room_of_both(alloc: Global) -> Option<usize> {
     let (low, high) = (numbers(alloc, 0, 60).ok()?, numbers(alloc, 60, 100).ok()?);
     let (left, right) = (
@@ -86,7 +88,8 @@ fn a_long_set_has_room_for_both_sides(rt: HostRuntime) {
     assert_eq!(rt; room_of_both(rt.alloc()), Some(100));
 }
 
-// Whether so many boundaries, without four others before them, lie in the set itself, which has room for eight.
+// Whether so many boundaries, without four others before them, lie in the set itself, which has
+// room for eight.
 fn set_is_inline(alloc: Global, len: i64) -> Option<bool> {
     let items = numbers(alloc, 0, len).ok()?;
     let right = RangeSetRef::new(&[-4, -3, -2, -1])?;
@@ -121,7 +124,8 @@ fn results_lie_inline_as_far_as_they_fit(rt: HostRuntime) {
     }
 }
 
-// Whether the negation keeps little of a set with room for 200 boundaries, whose first one is the least value.
+// Whether the negation keeps little of a set with room for 200 boundaries, whose first one is the
+// least value.
 fn negation_keeps_little(alloc: Global, len: u8) -> Option<bool> {
     let mut list = SmallVec::with_capacity(alloc, 200).ok()?;
     for item in 0..=len {

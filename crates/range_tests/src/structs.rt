@@ -29,7 +29,8 @@ fn booked(alloc: Global, house: u32) -> Result<Bookings, AllocError> {
     })
 }
 
-// Whether the clone of the bookings is equal to them, and stays as it is where another room is taken.
+// Whether the clone of the bookings is equal to them, and stays as it is where another room is
+// taken.
 fn are_cloned(mut one: Bookings) -> Result<bool, AllocError> {
     let copied = one.clone()?;
     let is_equal = copied == one;

@@ -72,15 +72,20 @@ fn sets_are_written_by_their_ranges(rt: HostRuntime) {
 }
 
 // Characters, and the text of their set: each stands between quotes, as Rust prints it.
-const CHARACTERS: [(&[char], &str); 5] = [
+const CHARACTERS: [(&[char], &str); 9] = [
     (&[], ""),
     (&['a'], "'a'.."),
     (&['a', '{'], "'a'..'{'"),
     (&['\n', ' ', '\''], "'\\n'..' ', '\\''.."),
     (&['\0', '\u{7f}', 'é'], "'\\0'..'\\u{7f}', 'é'.."),
+    (&['é'], "'é'.."),
+    (&['a', 'é'], "'a'..'é'"),
+    (&['é', '日'], "'é'..'日'"),
+    (&['é', 'ö', '日', '本'], "'é'..'ö', '日'..'本'"),
 ];
 
-// Whether a set of these characters and its view have this text, and the set is printed so, between braces.
+// Whether a set of these characters and its view have this text, and the set is printed so, between
+// braces.
 fn characters_are_written(alloc: Global, items: &[char], want: &str) -> Option<bool> {
     let set: RangeSet2<char> = own(alloc, items)?;
     let braced = format!(in alloc; "RangeSet{{{want}}}").ok()?;

@@ -1,7 +1,7 @@
 //! One advance of a state over a list: what it answers where a copy or memory may be refused.
 use crate::elements::{Flagged, FlaggedCopier};
+use crate::starving::Answer;
 use range_merge::{MergeState, MergeStateMut, SmallVecMergeState};
-use range_starving::Answer;
 use smallvec::SmallVec;
 use std::alloc::{AllocError, Global};
 
@@ -44,7 +44,8 @@ impl Advance {
     }
 }
 
-/// An advance over two lists, the items that the list of the state begins with, at most two, and whether the advance takes what it passes, and those items, if it does.
+/// An advance over two lists, the items that the list of the state begins with, at most two, and
+/// whether the advance takes what it passes, and those items, if it does.
 #[derive(Clone, Copy)]
 pub struct Passing<'a> {
     pub advance: Advance,

@@ -17,7 +17,8 @@ pub fn flagged(
     Ok(items)
 }
 
-/// Which items have their flag set: none, the one at this place of the left list or of the right one, or in both lists all from this place on.
+/// Which items have their flag set: none, the one at this place of the left list or of the right
+/// one, or in both lists all from this place on.
 #[derive(Clone, Copy, PartialEq, Eq, Debug)]
 pub enum Flags {
     None,

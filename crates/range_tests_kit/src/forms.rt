@@ -1,11 +1,11 @@
 //! The four operations, and the forms in which each of them can be called, all by one driver.
 ghost use Rattle.std.specs.Prelude.{◌≡◌, ◌<◌, ◌^◌, false};
 
+use crate::starving::Answer;
 use range_collections::{
     Comparisons, DiffOp, EntryClone, IntersectionOp, MergeOperation, RangeSet, RangeSetRef,
     UnionOp, XorOp,
 };
-use range_starving::Answer;
 use smallvec::SmallVec;
 use std::alloc::{AllocError, Global};
 use std::default::MadeWith;
@@ -40,7 +40,8 @@ impl Operation {
     }
 }
 
-/// A form of an operation: the named call, the operator, the change in place and the counted merges, by how each side is passed.
+/// A form of an operation: the named call, the operator, the change in place and the counted
+/// merges, by how each side is passed.
 #[derive(Clone, Copy, PartialEq, Eq, Debug)]
 pub enum Form {
     OfViews,
@@ -72,7 +73,9 @@ pub const FORMS: [Form; 12] = [
     Form::MergeOwned,
 ];
 
-/// Two lists of boundaries, those of their union, intersection, difference and symmetric difference, and how many comparisons each may take: twice the binary digits of the lengths of all runs, where a shared boundary is a run of one.
+/// Two lists of boundaries, those of their union, intersection, difference and symmetric
+/// difference, and how many comparisons each may take: twice the binary digits of the lengths of
+/// all runs, where a shared boundary is a run of one.
 pub type Row<'a> = (&'a [i64], &'a [i64], [&'a [i64]; 4], u128);
 
 type Made<T, const N: usize> = Result<RangeSet<T, N>, AllocError>;
@@ -125,7 +128,8 @@ impl<T: Ord + Drop, const N: usize> Outcome<T, N> {
         }
     }
 
-    /// What the call answered where memory may be refused. A refused change leaves both sides as they were.
+    /// What the call answered where memory may be refused. A refused change leaves both sides as
+    /// they were.
     pub fn answer(&self, want: &[T], left: &[T], right: &[T]) -> Answer {
         match (&self.made, &self.kept) {
             (None, None) => Answer::Refused,

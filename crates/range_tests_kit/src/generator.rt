@@ -1,4 +1,5 @@
-//! Made-up numbers, by one generator that always begins alike, so that a number names what it makes.
+//! Made-up numbers, by one generator that always begins alike, so that a number names what it
+//! makes.
 ghost use Rattle.std.specs.Prelude.{◌<◌, ◌≤◌};
 
 use std::alloc::{AllocError, Global};
@@ -32,7 +33,8 @@ impl Generator {
         self.bits() % limit
     }
 
-    /// The next range of numbers up to 256: mostly a short one, now and then a long, an empty or a reversed one.
+    /// The next range of numbers up to 256: mostly a short one, now and then a long, an empty or a
+    /// reversed one.
     pub fn range(&mut self) -> Range<u64> {
         let start = self.below(256);
         let length = if self.below(16) == 0 { 200 } else { 12 };

@@ -1,4 +1,5 @@
-//! What the tests share: element types of their own, every form of every operation by one call, lists, membership by counting, made-up numbers, and words with the lines that answer them.
+//! What the tests share: element types of their own, every form of every operation by one call,
+//! lists, membership by counting, made-up numbers, and words with the lines that answer them.
 #![tactic(auto)]
 
 pub mod advances;
@@ -9,5 +10,6 @@ pub mod forms;
 pub mod generator;
 pub mod lists;
 pub mod membership;
+pub mod starving;
 pub mod ways;
 pub mod words;

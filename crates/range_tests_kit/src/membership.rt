@@ -2,7 +2,8 @@
 use range_collections::Connective;
 use std::alloc::{AllocError, Global};
 
-/// The answers of each connective where neither side is on, the left alone is, the right alone is, and both are.
+/// The answers of each connective where neither side is on, the left alone is, the right alone is,
+/// and both are.
 pub const TABLES: [[u8; 4]; 16] = [
     [0, 0, 0, 0],
     [0, 0, 0, 1],
@@ -67,7 +68,8 @@ pub fn agree<T: Ord>(points: &[T], items: &[T], others: &[T]) -> bool {
     true
 }
 
-/// Points in order, and which of two sides are on at each of them, as the place of the answer in a table.
+/// Points in order, and which of two sides are on at each of them, as the place of the answer in a
+/// table.
 #[derive(Drop)]
 pub struct Stands<'a, T> {
     points: &'a [T],

@@ -1,15 +1,19 @@
-//! Every call on two lists of boundaries, by one driver: what each answers where a copy or memory may be refused.
+//! Every call on two lists of boundaries, by one driver: what each answers where a copy or memory
+//! may be refused.
 use crate::elements::{Flagged, FlaggedCopier};
 use crate::forms::{Form, Operation, Row};
 use crate::lists::own;
 use crate::membership::connective;
-use range_collections::{Comparisons, RangeSet};
+use crate::starving::Answer;
+use range_collections::{Comparisons, EntryClone, EntryCopier, RangeSet, RangeSetEntry};
 use range_merge::{InPlaceMergeState, InPlaceMergeStateRef, SmallVecMergeState, merge};
-use range_starving::Answer;
 use smallvec::SmallVec;
 use std::alloc::{AllocError, Global};
+use std::default::MadeWith;
 
-/// A call: an operation in a form, the connective of views and of a set and a view, a merge of lists into a new one and in place with the right one borrowed or owned, and one over a state of each kind.
+/// A call: an operation in a form, the connective of views and of a set and a view, a merge of
+/// lists into a new one and in place with the right one borrowed or owned, and one over a state of
+/// each kind.
 #[derive(Clone, Copy, PartialEq, Eq, Debug)]
 pub enum Way {
     Form(Form),
@@ -56,11 +60,6 @@ impl Way {
         }
     }
 
-    /// Whether the call goes over a state that owns its left list, whose room in itself has to be known.
-    pub fn is_state_in_place(self) -> bool {
-        matches!(self, Way::StateBorrowed | Way::StateOwned)
-    }
-
     /// Whether the items of the right side become the result's without a copy.
     pub fn takes_right(self) -> bool {
         match self {
@@ -70,7 +69,8 @@ impl Way {
     }
 }
 
-/// The answers of a connective and the operation that it is, if it is one, two lists, the items that a state begins with, what is made of both lists, and how many comparisons that may take.
+/// The answers of a connective and the operation that it is, if it is one, two lists, the items
+/// that a state begins with, what is made of both lists, and how many comparisons that may take.
 #[derive(Clone, Copy)]
 pub struct Case<'a, T> {
     pub table: [u8; 4],
@@ -135,12 +135,10 @@ pub fn set_is<T: Ord + Drop, const N: usize>(
     }
 }
 
-type Set<const N: usize> = RangeSet<Flagged, N>;
-
 /// Both sides of a call, with room for N in themselves.
-pub type Sides<const N: usize> = (RangeSet<Flagged, N>, RangeSet<Flagged, N>);
+pub type Sides<T, const N: usize> = (RangeSet<T, N>, RangeSet<T, N>);
 
-impl<'a> Case<'a, Flagged> {
+impl<'a, T: RangeSetEntry + EntryClone + MadeWith<Global> + Drop + Copy> Case<'a, T> {
     /// Whether there is a call in this way: lists are merged where nothing is on at first.
     pub fn has(&self, way: Way) -> bool {
         match way {
@@ -151,29 +149,12 @@ impl<'a> Case<'a, Flagged> {
     }
 
     /// What the call is given.
-    pub fn sides<const N: usize>(&self, alloc: Global) -> Option<Sides<N>> {
+    pub fn sides<const N: usize>(&self, alloc: Global) -> Option<Sides<T, N>> {
         Some((own(alloc, self.left)?, own(alloc, self.right)?))
     }
 
-    /// What the call answers of sets with room for two.
-    pub fn answer(&self, way: Way, alloc: Global, sides: Sides<2>) -> Answer {
-        match (way, self.op) {
-            (Way::Form(form), Some(op)) => self.formed(form, op, alloc, sides),
-            (Way::StateOwned, _) => self.over_owned(sides.0, sides.1),
-            (Way::StateBorrowed, _) => self.over_borrowed(sides.0, &sides.1),
-            _ => self.listed(way, alloc, sides),
-        }
-    }
-
-    /// What the call answers of sets with room for eight, but where it goes over a state in place.
-    pub fn answer_with_room(&self, way: Way, alloc: Global, sides: Sides<8>) -> Answer {
-        match (way, self.op) {
-            (Way::Form(form), Some(op)) => self.formed_with_room(form, op, alloc, sides),
-            _ => self.listed(way, alloc, sides),
-        }
-    }
-
-    fn listed<const N: usize>(&self, way: Way, alloc: Global, sides: Sides<N>) -> Answer {
+    // By a merge of lists, or by a connective.
+    fn listed<const N: usize>(&self, way: Way, alloc: Global, sides: Sides<T, N>) -> Answer {
         match way {
             Way::MergeOwned => self.changed_by_owned(sides.0, sides.1),
             Way::MergeBorrowed => self.changed_by_borrowed(sides.0, &sides.1),
@@ -193,37 +174,19 @@ impl<'a> Case<'a, Flagged> {
     }
 
     // Out of memory, if both lists are as they were.
-    fn stand(&self, left: &[Flagged], right: &[Flagged]) -> Answer {
+    fn stand(&self, left: &[T], right: &[T]) -> Answer {
         refused_if(left == self.left && right == self.right)
-    }
-
-    fn formed(&self, form: Form, op: Operation, alloc: Global, sides: Sides<2>) -> Answer {
-        let mut count = Comparisons::new();
-        let outcome = form.call(op, alloc, sides.0, sides.1, &mut count);
-        self.within(&count, outcome.answer(self.want, self.left, self.right))
-    }
-
-    fn formed_with_room(
-        &self,
-        form: Form,
-        op: Operation,
-        alloc: Global,
-        sides: Sides<8>,
-    ) -> Answer {
-        let mut count = Comparisons::new();
-        let outcome = form.call(op, alloc, sides.0, sides.1, &mut count);
-        self.within(&count, outcome.answer(self.want, self.left, self.right))
     }
 
     fn combined<const N: usize>(
         &self,
         way: Way,
         alloc: Global,
-        left: &Set<N>,
-        right: &Set<N>,
+        left: &RangeSet<T, N>,
+        right: &RangeSet<T, N>,
     ) -> Answer {
         let (op, mut count) = (connective(self.table), Comparisons::new());
-        let made: Result<Set<N>, AllocError> = if way == Way::CombineViews {
+        let made: Result<RangeSet<T, N>, AllocError> = if way == Way::CombineViews {
             left.as_ref()
                 .combine(alloc, right.as_ref(), &op, &mut count)
         } else {
@@ -233,11 +196,16 @@ impl<'a> Case<'a, Flagged> {
     }
 
     // By a merge of lists into a new one.
-    fn merged<const N: usize>(&self, alloc: Global, left: &Set<N>, right: &Set<N>) -> Answer {
+    fn merged<const N: usize>(
+        &self,
+        alloc: Global,
+        left: &RangeSet<T, N>,
+        right: &RangeSet<T, N>,
+    ) -> Answer {
         let (op, mut count) = (connective(self.table), Comparisons::new());
-        let list: SmallVec<Flagged, N> = SmallVec::new(alloc);
+        let list: SmallVec<T, N> = SmallVec::new(alloc);
         let (a, b) = (left.boundaries(), right.boundaries());
-        let answer = match SmallVecMergeState::merge(list, a, b, &FlaggedCopier, &op, &mut count) {
+        let answer = match SmallVecMergeState::merge(list, a, b, &EntryCopier, &op, &mut count) {
             Ok(list) => Answer::right_if(list.as_slice() == self.want),
             Err(_) => Answer::Refused,
         };
@@ -248,15 +216,15 @@ impl<'a> Case<'a, Flagged> {
     fn appended<'x, const N: usize>(
         &self,
         alloc: Global,
-        left: &'x Set<N>,
-        right: &'x Set<N>,
+        left: &'x RangeSet<T, N>,
+        right: &'x RangeSet<T, N>,
     ) -> Answer {
         let (op, mut count) = (connective(self.table), Comparisons::new());
-        let Ok(list) = SmallVec::<Flagged, N>::from_slice(alloc, self.first) else {
+        let Ok(list) = SmallVec::<T, N>::from_slice(alloc, self.first) else {
             return Answer::Wrong;
         };
         let (a, b) = (left.boundaries(), right.boundaries());
-        let mut state = SmallVecMergeState::new(a, b, list, &FlaggedCopier);
+        let mut state = SmallVecMergeState::new(a, b, list, &EntryCopier);
         let answer = match merge(&mut state, &op, &mut count) {
             Ok(ended) => {
                 let list = state.result();
@@ -268,7 +236,11 @@ impl<'a> Case<'a, Flagged> {
         self.within(&count, answer)
     }
 
-    fn changed_by_owned<const N: usize>(&self, left: Set<N>, right: Set<N>) -> Answer {
+    fn changed_by_owned<const N: usize>(
+        &self,
+        left: RangeSet<T, N>,
+        right: RangeSet<T, N>,
+    ) -> Answer {
         let (op, mut count) = (connective(self.table), Comparisons::new());
         let mut list = left.into_inner();
         let answer = match InPlaceMergeState::merge(
@@ -283,13 +255,17 @@ impl<'a> Case<'a, Flagged> {
         self.within(&count, answer)
     }
 
-    fn changed_by_borrowed<const N: usize>(&self, left: Set<N>, right: &Set<N>) -> Answer {
+    fn changed_by_borrowed<const N: usize>(
+        &self,
+        left: RangeSet<T, N>,
+        right: &RangeSet<T, N>,
+    ) -> Answer {
         let (op, mut count) = (connective(self.table), Comparisons::new());
         let (mut list, b) = (left.into_inner(), right.boundaries());
         let answer = match InPlaceMergeStateRef::merge(
             &mut list,
             b,
-            &FlaggedCopier,
+            &EntryCopier,
             &op,
             &mut count,
         ) {
@@ -298,29 +274,122 @@ impl<'a> Case<'a, Flagged> {
         };
         self.within(&count, answer)
     }
+}
 
-    fn over_owned(&self, left: Set<2>, right: Set<2>) -> Answer {
-        let (op, mut count) = (connective(self.table), Comparisons::new());
-        let answer = match InPlaceMergeState::new(left.into_inner(), right.into_inner()) {
+// What a call answers that holds an outcome or a state by value: a function can't do so, since both
+// the elements and the room of their sets have to be known.
+macro_rules! formed {
+    ($case:expr, $form:expr, $op:expr, $alloc:expr, $sides:expr) => {{
+        let mut count = Comparisons::new();
+        let outcome = $form.call($op, $alloc, $sides.0, $sides.1, &mut count);
+        $case.within(&count, outcome.answer($case.want, $case.left, $case.right))
+    }};
+}
+
+macro_rules! over_owned {
+    ($case:expr, $sides:expr) => {{
+        let (op, mut count) = (connective($case.table), Comparisons::new());
+        let (left, right) = ($sides.0.into_inner(), $sides.1.into_inner());
+        let answer = match InPlaceMergeState::new(left, right) {
             Ok(mut state) => {
                 let ended = merge(&mut state, &op, &mut count) == Ok(true);
-                Answer::right_if(ended && state.result().as_slice() == self.want)
+                Answer::right_if(ended && state.result().as_slice() == $case.want)
             }
-            Err((_, left, right)) => self.stand(left.as_slice(), right.as_slice()),
+            Err((_, left, right)) => $case.stand(left.as_slice(), right.as_slice()),
         };
-        self.within(&count, answer)
+        $case.within(&count, answer)
+    }};
+}
+
+macro_rules! over_borrowed {
+    ($case:expr, $copier:expr, $sides:expr) => {{
+        let (op, mut count) = (connective($case.table), Comparisons::new());
+        let (list, b) = ($sides.0.into_inner(), $sides.1.boundaries());
+        let answer = match InPlaceMergeStateRef::new(list, b, &$copier) {
+            Ok(mut state) => {
+                let ended = merge(&mut state, &op, &mut count) == Ok(true);
+                Answer::right_if(ended && state.result().as_slice() == $case.want)
+            }
+            Err((_, left)) => $case.stand(left.as_slice(), b),
+        };
+        $case.within(&count, answer)
+    }};
+}
+
+impl<'a> Case<'a, i64> {
+    /// What the call in this way answers.
+    pub fn answer(&self, way: Way, alloc: Global, sides: Sides<i64, 2>) -> Answer {
+        match (way, self.op) {
+            (Way::Form(form), Some(op)) => self.formed(form, op, alloc, sides),
+            (Way::StateOwned, _) => self.over_owned(sides),
+            (Way::StateBorrowed, _) => self.over_borrowed(sides),
+            _ => self.listed(way, alloc, sides),
+        }
     }
 
-    fn over_borrowed(&self, left: Set<2>, right: &Set<2>) -> Answer {
-        let (op, mut count) = (connective(self.table), Comparisons::new());
-        let (list, b) = (left.into_inner(), right.boundaries());
-        let answer = match InPlaceMergeStateRef::new(list, b, &FlaggedCopier) {
-            Ok(mut state) => {
-                let ended = merge(&mut state, &op, &mut count) == Ok(true);
-                Answer::right_if(ended && state.result().as_slice() == self.want)
-            }
-            Err((_, left)) => self.stand(left.as_slice(), b),
-        };
-        self.within(&count, answer)
+    fn formed(&self, form: Form, op: Operation, alloc: Global, sides: Sides<i64, 2>) -> Answer {
+        formed!(self, form, op, alloc, sides)
+    }
+
+    fn over_owned(&self, sides: Sides<i64, 2>) -> Answer {
+        over_owned!(self, sides)
+    }
+
+    fn over_borrowed(&self, sides: Sides<i64, 2>) -> Answer {
+        over_borrowed!(self, EntryCopier, sides)
+    }
+}
+
+impl<'a> Case<'a, Flagged> {
+    /// What the call in this way answers.
+    pub fn answer(&self, way: Way, alloc: Global, sides: Sides<Flagged, 2>) -> Answer {
+        match (way, self.op) {
+            (Way::Form(form), Some(op)) => self.formed(form, op, alloc, sides),
+            (Way::StateOwned, _) => self.over_owned(sides),
+            (Way::StateBorrowed, _) => self.over_borrowed(sides),
+            _ => self.listed(way, alloc, sides),
+        }
+    }
+
+    fn formed(&self, form: Form, op: Operation, alloc: Global, sides: Sides<Flagged, 2>) -> Answer {
+        formed!(self, form, op, alloc, sides)
+    }
+
+    fn over_owned(&self, sides: Sides<Flagged, 2>) -> Answer {
+        over_owned!(self, sides)
+    }
+
+    fn over_borrowed(&self, sides: Sides<Flagged, 2>) -> Answer {
+        over_borrowed!(self, FlaggedCopier, sides)
+    }
+}
+
+impl<'a> Case<'a, Flagged> {
+    /// What the call in this way answers of sets with room for eight.
+    pub fn answer_with_room(&self, way: Way, alloc: Global, sides: Sides<Flagged, 8>) -> Answer {
+        match (way, self.op) {
+            (Way::Form(form), Some(op)) => self.formed_with_room(form, op, alloc, sides),
+            (Way::StateOwned, _) => self.over_owned_with_room(sides),
+            (Way::StateBorrowed, _) => self.over_borrowed_with_room(sides),
+            _ => self.listed(way, alloc, sides),
+        }
+    }
+
+    fn formed_with_room(
+        &self,
+        form: Form,
+        op: Operation,
+        alloc: Global,
+        sides: Sides<Flagged, 8>,
+    ) -> Answer {
+        formed!(self, form, op, alloc, sides)
+    }
+
+    fn over_owned_with_room(&self, sides: Sides<Flagged, 8>) -> Answer {
+        over_owned!(self, sides)
+    }
+
+    fn over_borrowed_with_room(&self, sides: Sides<Flagged, 8>) -> Answer {
+        over_borrowed!(self, FlaggedCopier, sides)
     }
 }

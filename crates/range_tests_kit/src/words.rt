@@ -159,7 +159,8 @@ pub const TEXTS: [Row; 6] = [
     (" [ 2 , 1 ] ", "1,2"),
 ];
 
-/// Texts of `json` that are no array of whole numbers. The empty text, the only one that asks for no memory, isn't among them.
+/// Texts of `json` that are no array of whole numbers. The empty text, the only one that asks for
+/// no memory, isn't among them.
 pub const UNREAD: [Row; 25] = [
     ("{}", "bad json"),
     ("null", "bad json"),

@@ -1,9 +1,10 @@
 //! Keeps track of offsets that are there, as of a file that comes in pieces.
 //!
-//! It reads commands from its input, one a line, and answers each with one line before it reads the next. Its one argument is the most boundaries that there may be.
+//! It reads commands from its input, one a line, and answers each with one line before it reads the
+//! next. Its one argument is the most boundaries that there may be.
 #![tactic(auto)]
 
-use range_serve::{Status, limit_asked, serve};
+use range_track_answers::{Status, limit_asked, serve};
 use std::env;
 use std::io::{self, BufReader, BufWriter, ErrorKind};
 use std::process::ExitCode;

@@ -134,7 +134,8 @@ IsListOf-first_forgotten had range p = record {
   offsets = λ n. member-nil nat_cmp n ∙ sym (ap (λ b. b && not (is_within range n)) (nothing_there had p n));
 }
 
--- a change where the list lies: `fails` says that it was refused, which it isn't where the list doesn't grow or has at most two boundaries
+-- a change where the list lies: `fails` says that it was refused, which it isn't where the list
+-- doesn't grow or has at most two boundaries
 
 module _ (f : Table) (a : List ℕ) (range : Range ℕ)
     (fails : (items : List ℕ) → Means nat_cmp f items a (range_items nat_cmp range.start range.end) →

@@ -22,7 +22,8 @@ after_command (Forget range) had = λ n. had n && not (is_within range n)
 
 -- what a command may be answered, where these offsets are there
 pub record MayAnswer (limit : ℕ) (had : Offsets) (command : Command) (reply : Reply) : Type 0 where
-  -- too many, with their number, exactly where the list of boundaries after the command is longer than the limit
+  -- too many, with their number, exactly where the list of boundaries after the command is longer
+  -- than the limit
   pub too_many : (n : ℕ) →
       (reply ≡ Err (TooMany n)) ↔ (HasBoundaries (after_command command had) n × (limit < n))
   -- memory doesn't run out where that list is no longer than the one before
@@ -42,7 +43,8 @@ after_replies (command ∷ commands) (reply ∷ replies) had =
     after_replies commands replies (after_reply command reply had)
 after_replies _ _ had = had
 
--- there is a reply for each command, and each is one that the command may be answered after the accepted ones before it
+-- there is a reply for each command, and each is one that the command may be answered after the
+-- accepted ones before it
 abbrev pub AreReplies : ℕ → Offsets → List Command → List Reply → Type 0
 AreReplies limit had [] [] = Unit {0}
 AreReplies limit had (command ∷ commands) (reply ∷ replies) =

@@ -4,7 +4,8 @@ use Rattle.std.specs.Ordering.{nat_cmp}
 use Rattle.range_merge.specs.Boundaries.{IsAscending, is_odd, member}
 use Rattle.range_tracker.specs.Offsets.{Offsets}
 
--- the strictly sorted boundaries of the offsets that are there, and how many boundaries there may be
+-- the strictly sorted boundaries of the offsets that are there, and how many boundaries there may
+-- be
 pub record Tracked : Type 0 where
   pub boundaries : List ℕ
   pub limit : ℕ
@@ -13,7 +14,8 @@ pub record Tracked : Type 0 where
 abbrev pub recorded : Tracked → Offsets
 recorded tracker = member nat_cmp tracker.boundaries
 
--- the boundaries are strictly sorted, the last range has its end, there are no more of them than the limit, and the limit leaves room for two more
+-- the boundaries are strictly sorted, the last range has its end, there are no more of them than
+-- the limit, and the limit leaves room for two more
 pub record IsWithinLimit (boundaries : List ℕ) (limit : ℕ) : Type 0 where
   pub sorted : IsAscending nat_cmp boundaries
   pub ended : is_odd (length boundaries) ≡ false

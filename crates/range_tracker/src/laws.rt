@@ -1,4 +1,5 @@
-//! A law of what a tracker answers: a function that does nothing, and whose contract is a theorem on the words of the other contracts.
+//! A law of what a tracker answers: a function that does nothing, and whose contract is a theorem
+//! on the words of the other contracts.
 ghost use Rattle.std.specs.Prelude.{◌<◌, ◌≤◌, ℕ, Err};
 ghost use Rattle.range_tracker.specs.Offsets.{Offsets, HasBoundaries};
 ghost use Rattle.range_tracker.specs.Commands.{MayAnswer, after_command};

@@ -1,4 +1,5 @@
-//! A tracker of received offsets, as of a file that comes in pieces: which are there, which are missing, and no more boundaries than a limit.
+//! A tracker of received offsets, as of a file that comes in pieces: which are there, which are
+//! missing, and no more boundaries than a limit.
 #![tactic(auto)]
 
 mod command;

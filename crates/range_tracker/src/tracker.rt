@@ -1,6 +1,8 @@
-//! A tracker of offsets: the strictly sorted list of their boundaries, which never has more of them than a limit.
+//! A tracker of offsets: the strictly sorted list of their boundaries, which never has more of them
+//! than a limit.
 //!
-//! A command is first measured, without memory, and refused if it would leave too many boundaries. Then it changes the list in place.
+//! A command is first measured, without memory, and refused if it would leave too many boundaries.
+//! Then it changes the list in place.
 ghost use Rattle.std.specs.Prelude.{◌≡◌, ◌≢◌, ◌↔◌, ◌-◌, ◌^◌, ◌<◌, ◌≤◌, ◌&&◌, ℕ, true, false, not, nat_lt, [], ◌∷◌, length, IsTrue, IsSome, IsOk, IfOk, OnOk, OnErr, Err};
 ghost use Rattle.std.specs.Ordering.{nat_cmp};
 ghost use Rattle.range_merge.specs.Boundaries.{IsAscending, is_odd};
@@ -21,9 +23,11 @@ use std::alloc::{AllocError, Global};
 use std::marker::Model;
 use std::ops::Range;
 
-/// Which offsets are there. A clause reads it as the strictly sorted list of their boundaries and the limit.
+/// Which offsets are there. A clause reads it as the strictly sorted list of their boundaries and
+/// the limit.
 ///
-/// An offset is there where an odd number of boundaries is at or below it. The list never has more boundaries than the limit.
+/// An offset is there where an odd number of boundaries is at or below it. The list never has more
+/// boundaries than the limit.
 #[derive(Drop)]
 pub struct Tracker {
     alloc: Global,
@@ -42,7 +46,8 @@ impl Model for Tracker {
 }
 
 impl Tracker {
-    /// A tracker without offsets that will have at most `limit` boundaries, which are twice as many as ranges. It takes no memory.
+    /// A tracker without offsets that will have at most `limit` boundaries, which are twice as many
+    /// as ranges. It takes no memory.
     pub fn new(alloc: Global, limit: usize) -> Tracker
         requires { limit ≤ usize.MAX - 2 }
         ensures boundaries { result.boundaries ≡ [] }
@@ -57,7 +62,9 @@ impl Tracker {
 
     /// The offsets of the range are there from now on. An empty or reversed range changes nothing.
     ///
-    /// It returns `TooMany` exactly if the list would have more boundaries than the limit, which is known before memory is asked for. If the list doesn't grow, or if nothing was there, it isn't `OutOfMemory`. An error leaves the tracker as it was.
+    /// It returns `TooMany` exactly if the list would have more boundaries than the limit, which is
+    /// known before memory is asked for. If the list doesn't grow, or if nothing was there, it
+    /// isn't `OutOfMemory`. An error leaves the tracker as it was.
     pub fn record(&mut self, range: Range<u64>) -> Result<(), TrackError>
         ensures answer { MayAnswer self.old.limit (recorded self.old) (Command.Add range) result }
         ensures ok { OnOk result ((n : ℕ) →
@@ -70,9 +77,12 @@ impl Tracker {
         Ok(())
     }
 
-    /// The offsets of the range aren't there from now on. An empty or reversed range changes nothing.
+    /// The offsets of the range aren't there from now on. An empty or reversed range changes
+    /// nothing.
     ///
-    /// It returns `TooMany` exactly if the list would have more boundaries than the limit, which is known before memory is asked for. If the list doesn't grow, or if nothing was there, it isn't `OutOfMemory`. An error leaves the tracker as it was.
+    /// It returns `TooMany` exactly if the list would have more boundaries than the limit, which is
+    /// known before memory is asked for. If the list doesn't grow, or if nothing was there, it
+    /// isn't `OutOfMemory`. An error leaves the tracker as it was.
     pub fn forget(&mut self, range: Range<u64>) -> Result<(), TrackError>
         ensures answer { MayAnswer self.old.limit (recorded self.old)
             (Command.Forget range) result }
@@ -86,7 +96,8 @@ impl Tracker {
         Ok(())
     }
 
-    /// Does each command in turn, goes on after an error, and puts each reply at its command's index.
+    /// Does each command in turn, goes on after an error, and puts each reply at its command's
+    /// index.
     pub fn run(&mut self, commands: &[Command], replies: &mut [Result<(), TrackError>])
         requires { length commands.now ≡ length replies.old }
         ensures replies { AreReplies self.old.limit (recorded self.old) commands.now replies.new }
@@ -107,7 +118,8 @@ impl Tracker {
         self.set.contains_range(range)
     }
 
-    /// The offsets below `len` that aren't there. It fails only if memory runs out, and never if nothing is there.
+    /// The offsets below `len` that aren't there. It fails only if memory runs out, and never if
+    /// nothing is there.
     pub fn missing(&self, len: u64) -> Result<RangeSet2<u64>, AllocError>
         ensures missing { IfOk result (λ set.
             IsListOf set (λ n. nat_lt n len && not (recorded self.now n))) }
@@ -126,7 +138,8 @@ impl Tracker {
         self.set.iter()
     }
 
-    /// How many offsets are there. `None` would stand for a set without an end, which no command makes.
+    /// How many offsets are there. `None` would stand for a set without an end, which no command
+    /// makes.
     pub fn covered(&self) -> Option<u128>
         ensures value { result ≡ covered_of nat_cmp (λ n. n) (2 ^ 64) self.now.boundaries }
         ensures ended { IsSome result }
@@ -134,7 +147,8 @@ impl Tracker {
         self.set.covered()
     }
 
-    /// The parts of a range that aren't there, from the lowest on: none is empty, and each ends below the start of the next. It takes no memory.
+    /// The parts of a range that aren't there, from the lowest on: none is empty, and each ends
+    /// below the start of the next. It takes no memory.
     pub fn gaps<'a>(&'a self, within: Range<&'a u64>) -> Gaps<'a, u64>
         ensures { Means nat_cmp difference_table result
             (range_items nat_cmp within.entry.start.now within.entry.end.now) self.now.boundaries }
@@ -156,7 +170,8 @@ impl Tracker {
         }
     }
 
-    // Refuses where the operation with the range would leave more boundaries than the limit. It takes no memory.
+    // Refuses where the operation with the range would leave more boundaries than the limit. It
+    // takes no memory.
     fn admit<O: MergeOperation>(&self, range: &Range<u64>, op: &O) -> Result<(), TrackError>
         requires { O.connective op.now false false ≡ false }
         ensures too_many { (n : ℕ) → (result ≡ Err (TrackError.TooMany n)) ↔
@@ -176,7 +191,8 @@ impl Tracker {
     }
 }
 
-// The offsets from the first number up to the second, which is out: none where the first isn't below the second.
+// The offsets from the first number up to the second, which is out: none where the first isn't
+// below the second.
 fn offsets_between(ends: &[u64; 2]) -> RangeSetRef<'_, u64>
     ensures { (start end : ℕ) →
         ends.now ≡ start ∷ end ∷ [] → result.boundaries.now ≡ range_items nat_cmp start end }

@@ -17,6 +17,7 @@ from operator import index
 from typing import Any, Iterator, Literal, Protocol, SupportsIndex, overload
 
 from . import _core
+from ._arrays import contains_each
 from ._numbers import range_list
 
 
@@ -195,13 +196,17 @@ def is_empty(a: Buffer) -> bool:
     return _core.is_empty(a)
 
 
-def contains(a: Buffer, value: SupportsIndex) -> bool:
-    """Whether the number is a member.
+@overload
+def contains(a: Buffer, value: Buffer) -> Any: ...
+@overload
+def contains(a: Buffer, value: SupportsIndex) -> bool: ...
+def contains(a: Buffer, value: Any) -> Any:
+    """Whether the number is a member; or, of a numpy array of numbers, an array that says so of each.
 
     >>> contains(array("q", [0, 10]), 9), contains(array("q", [0, 10]), 10)
     (True, False)
     """
-    return _core.contains(a, value)
+    return contains_each(a, value) if getattr(value, "ndim", 0) else _core.contains(a, value)
 
 
 def contains_range(a: Buffer, start: SupportsIndex, end: SupportsIndex) -> bool:

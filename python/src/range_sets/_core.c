@@ -1,21 +1,5 @@
-/* Functions over buffers of 64-bit whole numbers, by the proved calls for C.
- *
- * This is the one file of the package that knows those calls. It borrows each buffer for the length of a call and tells the
- * type of its numbers by its format. A new list is a memoryview over bytes, which nothing changes. It is tested, not proved. */
-#define PY_SSIZE_T_CLEAN
-#include <Python.h>
-#include "range_set.h"
-
-/* From so many boundaries on, other threads run during a call that goes over them. */
-enum { MANY = 4096 };
-
-/* Numbers that are borrowed from a buffer, or a copy of them where they don't lie at multiples of 8 bytes. */
-typedef struct {
-    Py_buffer view;
-    void *items, *copy;
-    size_t len;
-    bool is_signed;
-} List;
+/* Functions over buffers of 64-bit whole numbers, by the proved calls for C. They are tested, not proved. */
+#include "_lists.h"
 
 /* What a call is given: up to two lists, then up to two numbers of their type and a count, as bits. */
 typedef struct {
@@ -23,9 +7,6 @@ typedef struct {
     int held;
     uint64_t numbers[3];
 } Arguments;
-
-/* A list as a set. Operations and questions of two lists see first that they are sorted; searches don't, and stay within any list. */
-#define SET(type, list) ((range_set_##type){(list).items, (list).len})
 
 /* A call of range_set.h for the type of the lists, and what it is given. */
 #define CALL(name, arguments) \
@@ -36,69 +17,6 @@ typedef struct {
 #define LIST_AND_NUMBERS(type) LIST_AND_NUMBER(type), given->numbers[1]
 
 /* ---- What a call is given ---- */
-
-static bool refuse(PyObject *error, const char *text)
-{
-    PyErr_SetString(error, text);
-    return false;
-}
-
-/* Tells the type of the numbers by the format: one letter, before which the order of the bytes may stand. */
-static bool read_format(List *list)
-{
-    const char *format = list->view.format ? list->view.format : "B";
-    const char *letter = format + (*format && strchr(PY_LITTLE_ENDIAN ? "@=<" : "@=>", *format) != NULL);
-    list->is_signed = *letter == 'q' || *letter == 'l';
-    if (list->view.itemsize == 8 && *letter && strchr("qlQL", *letter) && letter[1] == '\0') return true;
-    PyErr_Format(PyExc_TypeError, "64-bit whole numbers in this machine's order of bytes are wanted, as array('q') and numpy's "
-                 "int64 and uint64 have them, not those of the format '%s'", format);
-    return false;
-}
-
-static bool read_shape(List *list, bool pairs)
-{
-    const Py_buffer *view = &list->view;
-    if (view->ndim != 1 && !(pairs && view->ndim == 2 && view->shape[1] == 2))
-        return refuse(PyExc_TypeError, pairs ? "a list of starts and ends in turn is wanted, or a table with two columns"
-                                             : "a list is wanted, with one dimension");
-    list->len = view->len / 8;
-    if (pairs && list->len % 2 != 0) return refuse(PyExc_ValueError, "a start and an end each are wanted");
-    return PyBuffer_IsContiguous(view, 'C')
-           || refuse(PyExc_TypeError, "numbers that lie side by side are wanted: copy the buffer first, as numpy's a.copy() does");
-}
-
-static bool read_place(List *list, bool writable)
-{
-    list->items = list->view.buf;
-    if (writable && list->view.readonly) return refuse(PyExc_TypeError, "the buffer can't be written to");
-    if ((uintptr_t)list->items % 8 == 0 || list->len == 0) return true;
-    if (writable) return refuse(PyExc_ValueError, "the buffer's numbers don't lie at multiples of 8 bytes");
-    list->items = list->copy = PyMem_Malloc(8 * list->len);
-    if (list->copy == NULL) return PyErr_NoMemory() != NULL;
-    memcpy(list->copy, list->view.buf, 8 * list->len);
-    return true;
-}
-
-static void release(List *list)
-{
-    PyMem_Free(list->copy);
-    PyBuffer_Release(&list->view);
-}
-
-/* Borrows the numbers of a buffer. With `pairs` it may have a row for each two of them. */
-static bool borrow(PyObject *object, List *list, bool pairs, bool writable)
-{
-    if (!PyObject_CheckBuffer(object)) {
-        PyErr_Format(PyExc_TypeError, "a buffer of 64-bit whole numbers is wanted, as an array('q') or a numpy array, not %.100s",
-                     Py_TYPE(object)->tp_name);
-        return false;
-    }
-    list->copy = NULL;
-    if (PyObject_GetBuffer(object, &list->view, PyBUF_FULL_RO) < 0) return false;
-    if (read_format(list) && read_shape(list, pairs) && read_place(list, writable)) return true;
-    release(list);
-    return false;
-}
 
 static bool read_number(PyObject *object, bool is_signed, uint64_t *bits)
 {
@@ -135,42 +53,7 @@ static bool read_arguments(Arguments *given, PyObject *const *args, Py_ssize_t n
     return fits;
 }
 
-static PyObject *raise_status(range_set_status status, size_t needed)
-{
-    PyObject *errors = PyImport_ImportModule("range_sets._errors"), *error;
-    if (errors == NULL) return NULL;
-    if (status == RANGE_SET_NOT_SORTED) error = PyObject_CallMethod(errors, "NotSorted", "s", "a list isn't strictly sorted");
-    else if (status == RANGE_SET_NO_ROOM) error = PyObject_CallMethod(errors, "NoRoom", "n", (Py_ssize_t)needed);
-    else error = PyObject_CallFunction(PyExc_ValueError, "s", "the buffer overlaps a list");
-    if (error != NULL) PyErr_SetObject((PyObject *)Py_TYPE(error), error);
-    Py_XDECREF(error);
-    Py_DECREF(errors);
-    return NULL;
-}
-
-/* Lets other threads run where there are many boundaries to go over. */
-static PyThreadState *let_others_run(size_t len)
-{
-    return len < MANY ? NULL : PyEval_SaveThread();
-}
-
-static void go_on(PyThreadState *thread)
-{
-    if (thread != NULL) PyEval_RestoreThread(thread);
-}
-
 /* ---- Operations ---- */
-
-/* The first numbers of some bytes, which it takes over, as a list. */
-static PyObject *list_over(PyObject *bytes, size_t len, bool is_signed)
-{
-    if (_PyBytes_Resize(&bytes, 8 * len) < 0) return NULL;
-    PyObject *view = PyMemoryView_FromObject(bytes);
-    Py_DECREF(bytes);
-    PyObject *list = view == NULL ? NULL : PyObject_CallMethod(view, "cast", "s", is_signed ? "q" : "Q");
-    Py_XDECREF(view);
-    return list;
-}
 
 typedef range_set_status Operation(const Arguments *given, void *out, size_t room, size_t *written);
 
@@ -178,13 +61,7 @@ typedef range_set_status Operation(const Arguments *given, void *out, size_t roo
 static range_set_status check_sorted(const Arguments *given)
 {
     range_set_status status = RANGE_SET_DONE;
-    for (int i = 0; status == RANGE_SET_DONE && i < given->held; i++) {
-        const List *list = &given->lists[i];
-        range_set_i64 of_signed;
-        range_set_u64 of_unsigned;
-        status = list->is_signed ? range_set_i64_view(list->items, list->len, &of_signed)
-                                 : range_set_u64_view(list->items, list->len, &of_unsigned);
-    }
+    for (int i = 0; status == RANGE_SET_DONE && i < given->held; i++) status = check_list(&given->lists[i]);
     return status;
 }
 
@@ -296,6 +173,50 @@ ARRANGEMENT(from_boundaries, view, false, copy->len)
 ARRANGEMENT(from_unsorted, from_unsorted, false, copy->len)
 ARRANGEMENT(from_ranges, from_ranges, true, copy->len / 2)
 
+/* A range for each number, and whether one of the numbers is the greatest, which no end is above. */
+static bool fill_ranges(const List *values, uint64_t *ranges)
+{
+    const uint64_t *numbers = values->items, greatest = values->is_signed ? INT64_MAX : UINT64_MAX;
+    bool has_greatest = false;
+    for (size_t i = 0; i < values->len; i++) {
+        uint64_t number = numbers[i];
+        has_greatest |= number == greatest;
+        ranges[2 * i] = number;
+        ranges[2 * i + 1] = number + (number != greatest);
+    }
+    return has_greatest;
+}
+
+/* The set with all that is in a list and the greatest number. */
+static PyObject *with_greatest(PyObject *list, bool is_signed)
+{
+    uint64_t greatest = is_signed ? INT64_MAX : UINT64_MAX;
+    PyObject *bytes = PyBytes_FromStringAndSize((char *)&greatest, 8);
+    PyObject *other = bytes == NULL ? NULL : list_over(bytes, 1, is_signed);
+    PyObject *both = other == NULL ? NULL : core_union(NULL, (PyObject *[]){list, other}, 2);
+    Py_XDECREF(other);
+    return both;
+}
+
+static PyObject *core_from_values(PyObject *module, PyObject *object)
+{
+    List list, ranges;
+    size_t written = 0;
+    if (!borrow(object, &list, false, false)) return NULL;
+    PyObject *bytes = PyBytes_FromStringAndSize(NULL, 16 * list.len), *made = NULL;
+    if (bytes != NULL) {
+        ranges = (List){.items = PyBytes_AS_STRING(bytes), .len = 2 * list.len, .is_signed = list.is_signed};
+        PyThreadState *thread = let_others_run(list.len);
+        bool has_greatest = fill_ranges(&list, ranges.items);
+        arrange_from_ranges(&ranges, &written);
+        go_on(thread);
+        made = list_over(bytes, written, list.is_signed);
+        if (made != NULL && has_greatest) Py_SETREF(made, with_greatest(made, list.is_signed));
+    }
+    release(&list);
+    return made;
+}
+
 /* ---- Questions ---- */
 
 typedef bool Question(const Arguments *given);
@@ -327,6 +248,25 @@ QUESTION(is_disjoint, 2, 0, CALL(is_disjoint, LISTS))
 QUESTION(intersects, 2, 0, CALL(intersects, LISTS))
 QUESTION(is_subset, 2, 0, CALL(is_subset, LISTS))
 QUESTION(equal, 2, 0, CALL(equal, LISTS))
+
+/* For each number of the second list whether it is a member of the first, as bytes. */
+static PyObject *core_contains_each(PyObject *module, PyObject *const *args, Py_ssize_t n)
+{
+    Arguments given;
+    if (!read_arguments(&given, args, n, 2, 0, 0)) return NULL;
+    const List *set = &given.lists[0], *values = &given.lists[1];
+    PyObject *bytes = PyBytes_FromStringAndSize(NULL, values->len);
+    if (bytes != NULL) {
+        char *answers = PyBytes_AS_STRING(bytes);
+        PyThreadState *thread = let_others_run(values->len);
+        for (size_t i = 0; i < values->len; i++)
+            answers[i] = set->is_signed ? range_set_i64_contains(SET(i64, *set), ((const int64_t *)values->items)[i])
+                                        : range_set_u64_contains(SET(u64, *set), ((const uint64_t *)values->items)[i]);
+        go_on(thread);
+    }
+    release_all(&given);
+    return bytes;
+}
 
 /* ---- Numbers and ranges ---- */
 
@@ -386,7 +326,9 @@ static PyMethodDef methods[] = {
     METHOD(union), METHOD(intersection), METHOD(difference), METHOD(symmetric_difference), METHOD(negation),
     METHOD_OF_ONE(from_boundaries), METHOD_OF_ONE(from_unsorted), METHOD_OF_ONE(from_ranges), METHOD(is_signed), METHOD(is_sorted),
     METHOD(is_empty), METHOD(contains), METHOD(contains_range), METHOD(is_disjoint), METHOD(intersects), METHOD(is_subset),
-    METHOD(equal), METHOD(range_at), METHOD(split), METHOD(first_fit), METHOD(covered), {NULL, NULL, 0, NULL},
+    METHOD(equal), METHOD(range_at), METHOD(split), METHOD(first_fit), METHOD(covered), METHOD(parse),
+    METHOD_OF_ONE(print), METHOD_OF_ONE(pack), METHOD_OF_ONE(unpack), METHOD_OF_ONE(from_values), METHOD(contains_each),
+    {NULL, NULL, 0, NULL},
 };
 
 static struct PyModuleDef definition = {PyModuleDef_HEAD_INIT, .m_name = "range_sets._core", .m_methods = methods,

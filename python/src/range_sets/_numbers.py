@@ -23,14 +23,23 @@ def number(value: SupportsIndex, unsigned: bool) -> int:
     """A whole number of the type, or the error that says what is wanted."""
     found = index(value)
     if not least(unsigned) <= found <= most(unsigned):
-        limits = "from 0 to 2**64 - 1" if unsigned else "from -2**63 to 2**63 - 1"
-        raise OverflowError(f"a number {limits} is wanted")
+        raise OverflowError(f"{wanted(unsigned)} is wanted")
     return found
+
+
+def wanted(unsigned: bool) -> str:
+    return "a number from 0 to 2**64 - 1" if unsigned else "a number from -2**63 to 2**63 - 1"
 
 
 def empty_list(unsigned: bool) -> memoryview:
     """The boundaries of the set of nothing."""
     return memoryview(b"").cast(code_of(unsigned))
+
+
+def number_list(value: SupportsIndex, unsigned: bool) -> memoryview:
+    """The boundaries of the set of one number."""
+    one = number(value, unsigned)
+    return range_list(one, None if one == most(unsigned) else one + 1, unsigned)
 
 
 def range_list(start: SupportsIndex | None, end: SupportsIndex | None, unsigned: bool) -> memoryview:

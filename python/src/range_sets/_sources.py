@@ -1,33 +1,61 @@
-"""Lists of boundaries made of what Python programs have: pairs, `range` objects, sets, buffers, lists of numbers."""
+"""Lists of boundaries made of what Python programs have: pairs, `range` objects, networks, sets, buffers, lists of elements."""
 
 from __future__ import annotations
 
 import reprlib
 import struct
 from array import array
+from ipaddress import IPv4Network
 from itertools import chain
-from typing import Any, Iterable, Literal, SupportsIndex, Union
+from typing import Any, Callable, Iterable, Union
 
 from . import _core, _ranges
-from ._numbers import code_of, empty_list, least, number, range_list
+from ._kinds import DELTA, FLOAT, SIGNED, UNSIGNED, UNTOLD, Element, Kind, Now, mixed, of, of_dtype, of_some, whole
+from ._numbers import code_of, range_list
 
-# The start and the end of a range. None as a start is the least number, and as an end says that there is none.
-Pair = tuple["SupportsIndex | None", "SupportsIndex | None"]
+# The start and the end of a range. None as a start is the least element, and as an end says that there is none.
+Pair = tuple["Element | None", "Element | None"]
 # What a set is made of. A table is a buffer with two columns, as a numpy array of starts and ends.
-Source = Union["_ranges.AnyRangeSet", range, Pair, "Iterable[_ranges.AnyRangeSet | range | Pair]"]
+Source = Union["_ranges.AnyRangeSet", range, IPv4Network, Pair, "Iterable[_ranges.AnyRangeSet | range | IPv4Network | Pair]"]
+
+# What a range is given as without a second argument for its end.
+OneRange = Union[Element, range, IPv4Network, Pair]
 
 
-def two_ends(start: Any, end: Any) -> Pair:
-    """A start and an end, which are given as two arguments, as a pair or as a `range`. Without an end, that is `...`."""
-    return ends_of(start, "a start and an end, a pair or a range") if end is ... else (start, end)
+def codes_of(start: Any, end: Any, kind: Kind) -> tuple[int, int | None, Kind]:
+    """The numbers of a start and an end, which may be out of range, and their kind. They are given as two arguments, as a pair, as a
+    `range`, as a network or as one element. Without an end, that is `...`."""
+    if end is ...:
+        found = of(start)
+        if found is not None:
+            kind = found if kind is UNTOLD else kind
+            return *kind.one(start), kind
+        start, end = ends_of(start, "a number, a start and an end, a pair or a range")
+    if kind is UNTOLD:
+        kind = of_some((start, end)) or SIGNED
+    return kind.start(start), kind.end(end), kind
+
+
+def range_of(start: Any, end: Any, kind: Kind) -> Now:
+    """The set of a range that is given as `codes_of` takes it."""
+    if end is not ... and kind.is_whole and kind is not UNTOLD:
+        return range_list(start, end, kind.unsigned), kind
+    first, last, kind = codes_of(start, end, kind)
+    return kind.listed(first, last), kind
 
 
 def ends_of(item: Any, wanted: str) -> Pair:
-    """The start and the end of a pair or a `range`."""
+    """The start and the end of a pair, a `range` or a network."""
+    if type(item) is tuple and len(item) == 2:
+        start, end = item
+        return start, end
     if isinstance(item, range):
         if item.step != 1:
             raise ValueError(f"a range with step 1 is wanted, not {item!r}")
         return item.start, item.stop
+    if isinstance(item, IPv4Network):
+        last = item.broadcast_address
+        return item.network_address, None if int(last) == 2**32 - 1 else last + 1
     if not isinstance(item, (str, bytes, bytearray, dict, set, frozenset)):
         try:
             start, end = item
@@ -37,71 +65,185 @@ def ends_of(item: Any, wanted: str) -> Pair:
     raise TypeError(f"{wanted} is wanted, not {reprlib.repr(item)}")
 
 
-def gather(source: Any, unsigned: bool | None) -> memoryview:
-    """The boundaries of the union of what a set is made of."""
+def gather(source: Any, kind: Kind | None) -> Now:
+    """The union of what a set is made of."""
     if isinstance(source, _ranges.AnyRangeSet):
-        return _of_type(source.boundaries, unsigned)
-    if isinstance(source, range) or _is_pair(source):
+        return _of_kind(source._now, kind)
+    if isinstance(source, (range, IPv4Network)) or _is_pair(source):
         source = (source,)
     elif not isinstance(source, (list, tuple)):
-        table = _as_buffer(source)
-        if table is not None:
-            return _ranges_of_table(table, unsigned)
-        source = _items_of(source)
-    if unsigned is None:
-        unsigned = any(item.unsigned for item in source if isinstance(item, _ranges.AnyRangeSet))
-    plain = _plain_pairs(source, code_of(unsigned))
+        table = _table_of(source) if hasattr(source, "closed") and hasattr(source, "left") else source
+        if getattr(getattr(table, "dtype", None), "kind", "") == "O" and hasattr(table, "tolist"):
+            table = table.tolist()
+        if _is_buffer(table):
+            return _ranges_of_table(table, kind)
+        source = _items_of(table)
+    plain = _plain_pairs(source, kind)
     if plain is not None:
-        return _core.from_ranges(plain)
-    return _gather_each(source, unsigned)
+        return _core.from_ranges(plain), kind or (SIGNED if source else UNTOLD)
+    return _gather_each(source, kind)
 
 
-def union_of(lists: list[memoryview], unsigned: bool) -> memoryview:
-    """The union of many lists, two by two, so that no number is copied more often than there are doublings."""
+def union_of(sets: list[Now], kind: Kind | None = None) -> Now:
+    """The union of many sets. Without one it is the set of nothing."""
+    lists, found = _of_one_kind(sets, kind)
+    return _two_by_two(_core.union, lists) if lists else found.nothing, found
+
+
+def intersection_of(sets: list[Now], kind: Kind | None = None) -> Now:
+    """The intersection of many sets. Without one it is the set of all elements."""
+    lists, found = _of_one_kind(sets, kind)
+    if not lists:
+        found = SIGNED if found is UNTOLD else found
+        return found.all(), found
+    return _two_by_two(_core.intersection, lists), found
+
+
+def _of_one_kind(sets: list[Now], kind: Kind | None) -> tuple[list[memoryview], Kind]:
+    """The lists of sets of one kind, which a set of nothing takes if its own isn't told."""
+    if kind is None:
+        kind = next((it for _, it in sets if it is not UNTOLD), UNTOLD)
+    return [_of_kind(it, kind)[0] for it in sets], kind
+
+
+def _two_by_two(call: Callable[[memoryview, memoryview], memoryview], lists: list[memoryview]) -> memoryview:
+    """Joins many lists so that no number is copied more often than there are doublings."""
     while len(lists) > 1:
         last = lists[-1:] if len(lists) % 2 else []
-        lists = [_core.union(a, b) for a, b in zip(lists[::2], lists[1::2])] + last
-    return lists[0] if lists else empty_list(unsigned)
+        lists = [call(a, b) for a, b in zip(lists[::2], lists[1::2])] + last
+    return lists[0]
 
 
-def boundaries_of(items: Any, unsigned: bool | None) -> memoryview:
-    """A list of the boundaries in a buffer or an iterable of numbers, which is checked to be strictly sorted."""
-    buffer = _as_buffer(items)
-    if buffer is None:
-        buffer = memoryview(_array_of(list(items), bool(unsigned)))
-    return _of_type(_core.from_boundaries(buffer), unsigned)
+def boundaries_of(items: Any, kind: Kind | None) -> Now:
+    """The set of the boundaries in a buffer or an iterable, which are checked to be strictly sorted."""
+    numbers, kind = _numbers_of(items, kind)
+    return _core.from_boundaries(numbers), kind
+
+
+def values_of(items: Any, kind: Kind | None) -> Now:
+    """The set of the elements in a buffer or an iterable."""
+    numbers, kind = _numbers_of(items, kind)
+    if kind is FLOAT:
+        kind.one(None)
+    return kind.trimmed(_core.from_values(numbers)), kind
+
+
+def ranges_of(items: Any, kind: Kind | None) -> Now:
+    """The union of the ranges in a buffer."""
+    if not _is_buffer(items):
+        return _core.from_ranges(items), SIGNED
+    shape = tuple(items.shape if hasattr(items, "shape") else memoryview(items).shape or ())
+    if len(shape) != 1 and shape[1:] != (2,):
+        raise TypeError("a list of starts and ends in turn is wanted, or a table with two columns")
+    numbers, kind = _side_by_side(items, kind)
+    return _core.from_ranges(numbers), kind
+
+
+def _numbers_of(items: Any, kind: Kind | None) -> tuple[Any, Kind]:
+    """The numbers of elements in a buffer or an iterable, and their kind."""
+    if not _is_buffer(items):
+        values = list(items)
+        kind = kind or of_some(values) or UNTOLD
+        return _array_of(values, kind), kind
+    if (items.ndim if hasattr(items, "ndim") else memoryview(items).ndim) != 1:
+        raise TypeError("a list is wanted, with one dimension")
+    return _side_by_side(items, kind)
+
+
+def _side_by_side(items: Any, kind: Kind | None) -> tuple[Any, Kind]:
+    """The numbers of a buffer one after the other and of 64 bits, and the kind of its elements. Smaller whole numbers stay signed or
+    unsigned unless a kind is told."""
+    if _has_times(items):
+        return _numbers_of_times(items, kind)
+    buffer = memoryview(items)
+    code = (buffer.format or "B").removeprefix("@")
+    if code in ("d", "f") and kind in (None, FLOAT):
+        return array("q", map(FLOAT.code, memoryview(buffer.tobytes()).cast(code))), FLOAT
+    if code not in tuple("bBhHiIlLqQ"):
+        # It says which buffers are wanted.
+        return _core.from_boundaries(buffer), SIGNED
+    found = whole(code.isupper())
+    if kind is not None and not kind.is_whole:
+        raise TypeError(mixed(kind, found))
+    if buffer.itemsize == 8:
+        if kind not in (None, UNTOLD, found):
+            raise TypeError(f"signed and unsigned numbers don't mix: a set of {'un' * (found is SIGNED)}signed ones is wanted")
+        return buffer if buffer.c_contiguous else memoryview(buffer.tobytes()).cast(code), found
+    kind = found if kind is None else kind
+    return _array_of(memoryview(buffer.tobytes()).cast(code).tolist(), kind), kind
+
+
+def _has_times(items: Any) -> bool:
+    """Whether it is a numpy array of times, which is no buffer."""
+    dtype = getattr(items, "dtype", None)
+    return getattr(dtype, "kind", "") in ("M", "m") and "," not in str(dtype)
+
+
+def _numbers_of_times(items: Any, kind: Kind | None) -> tuple[Any, Kind]:
+    import numpy
+
+    found = numpy.asarray(items)
+    found = numpy.ascontiguousarray(found, dtype=found.dtype.newbyteorder("="))
+    if kind is None or kind is UNTOLD:
+        kind = DELTA if found.dtype == numpy.dtype(DELTA.dtype) else of_dtype(found.dtype)
+    elif kind.dtype is None or numpy.dtype(kind.dtype) != found.dtype:
+        raise TypeError(f"{kind.element} each is wanted, not an array of numpy's {found.dtype.name}")
+    if numpy.isnat(found).any():
+        raise ValueError("NaT is in no order, and no element of a set")
+    numbers = found.view("i8")
+    for it in (numbers.min(), numbers.max()) if numbers.size else ():
+        kind.within(int(it))
+    return memoryview(numbers), kind
+
+
+def _table_of(intervals: Any) -> Any:
+    """The starts and the ends of an array of intervals, or of one, as pandas has them."""
+    import numpy
+
+    if intervals.closed != "left":
+        raise ValueError(f"intervals with their start and without their end are wanted, closed='left' and not {intervals.closed!r}")
+    return numpy.stack([intervals.left, intervals.right], axis=-1).reshape(-1, 2)
 
 
 def _is_pair(source: Any) -> bool:
-    return isinstance(source, tuple) and len(source) == 2 and all(end is None or hasattr(end, "__index__") for end in source)
+    return isinstance(source, tuple) and len(source) == 2 and all(end is None or of(end) is not None for end in source)
 
 
-def _as_buffer(items: Any) -> memoryview | None:
+def _is_buffer(items: Any) -> bool:
+    if _has_times(items):
+        return True
     try:
-        return memoryview(items)
+        return memoryview(items) is not None
     except TypeError:
-        return None
+        return False
 
 
-def _array_of(items: list[Any], unsigned: bool) -> array[int]:
-    try:
-        return array(code_of(unsigned), items)
-    except (TypeError, OverflowError):
-        # One of them isn't a number of the type: it is found, and the error says what is wanted.
-        return array(code_of(unsigned), [number(item, unsigned) for item in items])
+def _array_of(items: list[Any], kind: Kind) -> array[int]:
+    if kind.is_whole:
+        try:
+            return array(code_of(kind.unsigned), items)
+        except (TypeError, OverflowError):
+            # One of them isn't a number of the type: it is found, and the error says what is wanted.
+            pass
+    return array(code_of(kind.unsigned), [kind.number(item) for item in items])
 
 
-def _of_type(boundaries: memoryview, unsigned: bool | None) -> memoryview:
-    """The list, unless another type of numbers is wanted."""
-    if unsigned is not None and boundaries.format != code_of(unsigned):
-        raise TypeError(f"signed and unsigned numbers don't mix: a set of {'unsigned' if unsigned else 'signed'} ones is wanted")
-    return boundaries
+def _of_kind(now: Now, kind: Kind | None) -> Now:
+    """The set, unless another kind is wanted."""
+    boundaries, found = now
+    if kind is None or found is kind:
+        return now
+    if found is UNTOLD and not boundaries:
+        return kind.nothing, kind
+    if kind.is_whole and found.is_whole:
+        raise TypeError(f"signed and unsigned numbers don't mix: a set of {'unsigned' if kind.unsigned else 'signed'} ones is wanted")
+    raise TypeError(mixed(kind, found))
 
 
-def _ranges_of_table(table: memoryview, unsigned: bool | None) -> memoryview:
-    if table.ndim != 2:
+def _ranges_of_table(table: Any, kind: Kind | None) -> Now:
+    if (table.ndim if hasattr(table, "ndim") else memoryview(table).ndim) != 2:
         raise TypeError("a table with two columns is wanted; RangeSet.from_boundaries reads a list of boundaries")
-    return _of_type(_core.from_ranges(table), unsigned)
+    return ranges_of(table, kind)
 
 
 def _items_of(source: Any) -> list[Any]:
@@ -113,26 +255,32 @@ def _items_of(source: Any) -> list[Any]:
         raise TypeError(f"pairs, ranges or sets are wanted, not {reprlib.repr(source)}") from None
 
 
-def _plain_pairs(items: list[Any] | tuple[Any, ...], code: Literal["q", "Q"]) -> memoryview | None:
-    """The numbers of pairs, where all are pairs of numbers of the type. No loop in Python looks at them."""
-    if not (set(map(type, items)) <= {tuple, list} and set(map(len, items)) <= {2}):
+def _plain_pairs(items: list[Any] | tuple[Any, ...], kind: Kind | None) -> memoryview | None:
+    """The numbers of pairs, where all are pairs of whole numbers of the kind. No loop in Python looks at them."""
+    if not (kind is None or kind.is_whole) or not (set(map(type, items)) <= {tuple, list} and set(map(len, items)) <= {2}):
         return None
+    code = code_of(kind is UNSIGNED)
     try:
         return memoryview(struct.pack(f"{2 * len(items)}{code}", *chain.from_iterable(items))).cast(code)
     except struct.error:
         return None
 
 
-def _gather_each(items: Iterable[Any], unsigned: bool) -> memoryview:
-    pairs, lists = array(code_of(unsigned)), []
-    for item in items:
-        if isinstance(item, _ranges.AnyRangeSet):
-            lists.append(item.boundaries)
-            continue
-        start, end = ends_of(item, "a pair (start, end), a range or a set")
-        if end is None:
-            lists.append(range_list(start, None, unsigned))
+def _gather_each(items: list[Any] | tuple[Any, ...], kind: Kind | None) -> Now:
+    sets = [it._now for it in items if isinstance(it, _ranges.AnyRangeSet)]
+    pairs = [ends_of(it, "a pair (start, end), a range or a set") for it in items if not isinstance(it, _ranges.AnyRangeSet)]
+    if kind is None:
+        told = (found for _, found in sets if found is not UNTOLD)
+        kind = next(told, None) or of_some(chain.from_iterable(pairs)) or (SIGNED if pairs else UNTOLD)
+    codes = [*map(kind.code, chain.from_iterable(it for it in pairs if it[0] is not None and it[1] is not None))]
+    others = [it for it in pairs if it[0] is None or it[1] is None]
+    if codes and (min(codes) < kind.least or max(codes) > kind.most):
+        # One of them is an error, or an end past the greatest.
+        codes, others = [], pairs
+    for start, end in others:
+        first, last = kind.start(start), kind.end(end)
+        if last is None:
+            sets.append((kind.listed(first, None), kind))
         else:
-            pairs.append(least(unsigned) if start is None else number(start, unsigned))
-            pairs.append(number(end, unsigned))
-    return union_of([_core.from_ranges(pairs), *lists], unsigned)
+            codes += kind.within(first), kind.within(last)
+    return union_of([(_core.from_ranges(array(code_of(kind.unsigned), codes)), kind), *sets], kind)

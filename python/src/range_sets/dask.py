@@ -29,10 +29,10 @@ if TYPE_CHECKING:
 __all__ = ["covered_by_key", "union_all"]
 
 
-def union_all(parts: Bag | Iterable[Delayed], split_every: int = 8, cuts: Sequence[int] = ()) -> Delayed:
+def union_all(parts: Bag | Iterable[Delayed], split_every: int = 8, cuts: Sequence[Any] = ()) -> Delayed:
     """The union of the sets in a bag, or of delayed sets: a delayed `RangeSet`.
 
-    With `cuts`, numbers in ascending order, each part is cut there, which copies nothing.
+    With `cuts`, elements in ascending order, each part is cut there, which copies nothing.
 
     >>> from dask import delayed
     >>> made = [delayed(RangeSet)([(10 * n, 10 * n + 25)]) for n in range(0, 9, 4)]
@@ -92,25 +92,25 @@ def _tree(pieces: list[Delayed], split_every: int, combine: Callable[[list[Any]]
 
 
 def _union(sets: Iterable[AnyRangeSet]) -> RangeSet:
-    # A part of nothing doesn't know which numbers the others have.
+    # A part of nothing doesn't know which elements the others have.
     known = list(sets)
-    return RangeSet.union_all([it for it in known if it], unsigned=any(it.unsigned for it in known))
+    return RangeSet.union_all([it for it in known if it] or [it for it in known if it.kind is not None][-1:])
 
 
-def _cut_set(part: Any, cuts: list[int]) -> list[RangeSet]:
+def _cut_set(part: Any, cuts: list[Any]) -> list[RangeSet]:
     """The pieces of a set, which lie in its memory. Each is the set from its cut to the next, and may go on beyond."""
     whole = part if isinstance(part, AnyRangeSet) else _union(part)
     if not whole:
         return [RangeSet(whole)] * (len(cuts) + 1)
-    boundaries = whole.boundaries
-    places = [_core.split(boundaries, it) for it in cuts]
+    boundaries, kind = whole._now
+    places = [_core.split(boundaries, kind.number(it)) for it in cuts]
     starts = [0, *(right_start for _, right_start in places)]
     ends = [*(left_len for left_len, _ in places), len(boundaries)]
-    return [RangeSet._over(boundaries[start:end]) for start, end in zip(starts, ends)]
+    return [RangeSet._over(boundaries[start:end], kind) for start, end in zip(starts, ends)]
 
 
-def _clipped(piece: RangeSet, start: int | None, end: int | None) -> RangeSet:
-    return piece & RangeSet([(start, end)], unsigned=piece.unsigned) if piece else piece
+def _clipped(piece: RangeSet, start: Any, end: Any) -> RangeSet:
+    return piece & RangeSet([(start, end)], kind=piece.kind) if piece else piece
 
 
 def _cut_keys(part: Any, cuts: list[Any]) -> list[dict[Hashable, RangeSet]]:

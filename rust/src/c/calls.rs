@@ -16,7 +16,7 @@ macro_rules! calls {
             };
             use super::owned::{Allocator, Owned};
             use super::{operations, texts, Status};
-            use crate::generated::range_c::$proved::*;
+            use crate::generated::range_c::generated::$proved::*;
             use std::os::raw::c_uint;
 
             type Numbers = Set<$number>;
@@ -283,16 +283,14 @@ macro_rules! calls {
                 room: usize,
                 result: *mut Numbers,
             ) -> Status {
-                let join = |items: &mut [$number]| {
+                let join = |items: &mut [$number], open: Option<$number>| {
                     let pairs: *mut $range = items.as_mut_ptr().cast();
-                    2 * proved_from_ranges(unsafe { room_at(pairs, items.len() / 2) })
+                    let pairs = unsafe { room_at(pairs, items.len() / 2) };
+                    let mut start = open.unwrap_or(0);
+                    let count = proved_union_from(pairs, open.is_some(), &mut start);
+                    (count, open.map(|_| start))
                 };
-                let below = |list: &[$number], at| {
-                    let (mut left_len, mut right_start) = (0, 0);
-                    proved_split(list, at, &mut left_len, &mut right_start);
-                    left_len
-                };
-                unsafe { operations::union_all(sets, count, out, room, result, join, below) }
+                unsafe { operations::union_all(sets, count, out, room, result, join) }
             }
 
             // ---- Texts ----
@@ -321,7 +319,14 @@ macro_rules! calls {
                     text_len,
                     fault,
                 };
-                unsafe { text.read(out, room, result, proved_check_text, proved_parse) }
+                let read = |text: &[u8], items: &mut [$number]| {
+                    let pairs: *mut $range = items.as_mut_ptr().cast();
+                    let pairs = unsafe { room_at(pairs, items.len() / 2) };
+                    let (mut is_open, mut start) = (false, 0);
+                    let count = proved_parse(text, pairs, &mut is_open, &mut start);
+                    (count, is_open.then_some(start))
+                };
+                unsafe { text.read(out, room, result, proved_check_text, read) }
             }
 
             // ---- Sets in a buffer ----
@@ -396,8 +401,10 @@ macro_rules! calls {
             }
 
             #[export_name = concat!("range_set_", $name, "_owned_free")]
-            unsafe extern "C" fn owned_free(owned: &mut Owned<$number>) {
-                unsafe { owned.clear() };
+            unsafe extern "C" fn owned_free(owned: Option<&mut Owned<$number>>) {
+                if let Some(owned) = owned {
+                    unsafe { owned.clear() };
+                }
             }
 
             #[export_name = concat!("range_set_", $name, "_owned_reserve")]
@@ -435,9 +442,8 @@ macro_rules! calls {
                 keep: c_uint,
             ) -> Status {
                 let more = usize::from(keep & NEITHER != 0);
-                let room = owned.within.set.len + other.length() + more;
                 unsafe {
-                    owned.rewrite(room, |set, out, result| {
+                    owned.combine(other, more, |set, other, out, room, result| {
                         combine(set, other, keep, out, room, result)
                     })
                 }

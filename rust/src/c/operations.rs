@@ -53,10 +53,7 @@ pub(super) unsafe fn written<T>(
     }
 }
 
-/// The set of the numbers in any of `count` sets. `join` makes a set of the ranges in a list, at its front, and answers its length; `below` is the length of the part of a list below a number.
-///
-/// The ranges with an end are copied and joined. Of those without, the one that starts first stays: what lies below it is
-/// kept, and where that has no member right below it its start.
+/// The set of the numbers in any of `count` sets. `join` is given ranges with an end, and where the first of the others starts; it makes the set of them, as [`opened`] takes it.
 ///
 /// # Safety
 ///
@@ -67,8 +64,7 @@ pub(super) unsafe fn union_all<T: Copy + Ord>(
     out: *mut T,
     room: usize,
     result: *mut Set<T>,
-    join: impl FnOnce(&mut [T]) -> usize,
-    below: impl FnOnce(&[T], T) -> usize,
+    join: impl FnOnce(&mut [T], Option<T>) -> (usize, Option<T>),
 ) -> Status {
     let of_sets = Bytes::of(sets, count);
     if !is_array(sets, count)
@@ -94,14 +90,8 @@ pub(super) unsafe fn union_all<T: Copy + Ord>(
             len += closed.len();
             open = open.into_iter().chain(last).min();
         }
-        let len = join(&mut items[..len]);
-        match open {
-            Some(open) => {
-                let len = below(&items[..len], open);
-                opened(items, len, open)
-            }
-            None => len,
-        }
+        let (count, open) = join(&mut items[..len], open);
+        opened(items, count, open)
     };
     unsafe { written(sets, out, room, result, write) }
 }
@@ -112,11 +102,13 @@ fn parts<T: Copy>(list: &[T]) -> (&[T], Option<T>) {
     (closed, rest.first().copied())
 }
 
-/// Adds all numbers from `open` on to the set of the first `len` boundaries, which all lie below, and answers its length.
-fn opened<T>(items: &mut [T], len: usize, open: T) -> usize {
-    if len % 2 == 1 {
-        return len;
+/// The set of so many ranges at the front of a buffer, and of all numbers from `open` on: how many boundaries it has.
+pub(super) fn opened<T>(items: &mut [T], count: usize, open: Option<T>) -> usize {
+    match open {
+        Some(open) => {
+            items[2 * count] = open;
+            2 * count + 1
+        }
+        None => 2 * count,
     }
-    items[len] = open;
-    len + 1
 }

@@ -1,6 +1,6 @@
 //! Owned sets: a buffer that grows, by the caller's allocator.
 
-use super::lists::{Buffer, Set};
+use super::lists::{Buffer, Bytes, Set};
 use super::Status;
 use core::mem::size_of;
 use core::ptr;
@@ -125,14 +125,13 @@ impl<T: Copy> Owned<T> {
         Status::Done
     }
 
-    /// Sees that there is room for two more boundaries. A set that grows doubles its room.
-    unsafe fn grow(&mut self) -> Status {
-        let room = self.within.room;
-        if self.within.set.len + 2 <= room {
+    /// Sees that there is room for so many boundaries. A set that grows has room for half as many more, so that it asks seldom.
+    unsafe fn grow(&mut self, needed: usize) -> Status {
+        if needed <= self.within.room {
             return Status::Done;
         }
-        let larger = if room < 4 { 8 } else { room.saturating_mul(2) };
-        unsafe { self.reserve(larger) }
+        let more = if needed < 8 { 8 } else { needed + needed / 2 };
+        unsafe { self.reserve(more) }
     }
 
     /// Changes the set by `change`, once more with a larger buffer where there was no room.
@@ -141,7 +140,7 @@ impl<T: Copy> Owned<T> {
             Status::NoRoom => {}
             status => return status,
         }
-        match unsafe { self.grow() } {
+        match unsafe { self.grow(self.within.needed) } {
             Status::Done => change(&mut self.within),
             status => status,
         }
@@ -168,25 +167,52 @@ impl<T: Copy> Owned<T> {
         Status::Done
     }
 
-    /// Leaves what `write` makes of the set in a buffer with room for so many boundaries.
-    pub(super) unsafe fn rewrite(
+    /// Leaves what `write` makes of the set and another, which is at most `more` boundaries longer than both. It is given both, the place for what it writes, and how much room there is.
+    ///
+    /// The set moves behind room for the longest result, which is written at the front. The other set may be a part of it, and moves
+    /// with it then; it mustn't lie elsewhere in the buffer.
+    pub(super) unsafe fn combine(
         &mut self,
-        room: usize,
-        write: impl FnOnce(Set<T>, *mut T, *mut Set<T>) -> Status,
+        mut other: Set<T>,
+        more: usize,
+        write: impl FnOnce(Set<T>, Set<T>, *mut T, usize, *mut Set<T>) -> Status,
     ) -> Status {
-        let items = unsafe { self.allocated(room) };
-        if items.is_null() && room > 0 {
-            return Status::NoMemory;
+        let mut set = self.within.set;
+        let longest = set.len + other.length() + more;
+        let part = match self.part(&other) {
+            Ok(part) => part,
+            Err(status) => return status,
+        };
+        match unsafe { self.grow(longest + set.len) } {
+            Status::Done => {}
+            status => return status,
         }
-        let mut result = Set::of(ptr::null(), 0);
-        let status = write(self.within.set, items, &mut result);
-        unsafe {
-            if status == Status::Done {
-                self.replace(items, room, result.len);
-            } else {
-                self.release(items, room);
-            }
+        let items = self.within.items;
+        if set.len > 0 {
+            let moved = unsafe { items.add(longest) };
+            unsafe { ptr::copy(items, moved, set.len) };
+            set.boundaries = moved;
         }
-        status
+        if let Some(at) = part {
+            other.boundaries = unsafe { set.boundaries.add(at) };
+        }
+        write(set, other, items, longest, &mut self.within.set)
+    }
+
+    /// Where the other set begins within this one, if it is a part of it. Else it mustn't lie in the buffer.
+    fn part(&self, other: &Set<T>) -> Result<Option<usize>, Status> {
+        if Bytes::of(self, 1).overlap(other.bytes()) {
+            return Err(Status::BadArgument);
+        }
+        if !self.within.bytes().overlap(other.bytes()) {
+            return Ok(None);
+        }
+        let at =
+            (other.boundaries as usize).wrapping_sub(self.within.items as usize) / size_of::<T>();
+        let len = self.within.set.len;
+        if at > len || other.length() > len - at {
+            return Err(Status::BadArgument);
+        }
+        Ok(Some(at))
     }
 }

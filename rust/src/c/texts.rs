@@ -1,7 +1,7 @@
 //! Texts of sets, written into a buffer and read from one.
 
 use super::lists::{is_array, is_result, items_at, put, room_at, Bytes, Set};
-use super::operations::answered;
+use super::operations::{answered, opened};
 use super::Status;
 
 /// No boundary has a text of so many bytes, with what stands between two of them.
@@ -45,7 +45,7 @@ pub(super) struct Text {
 }
 
 impl Text {
-    /// Leaves the set of the text's ranges in a buffer. `check` tells whether it is a text of ranges, and how many numbers it has; `read` reads it.
+    /// Leaves the set of the text's ranges in a buffer. `check` tells whether it is a text of ranges, and how many numbers it has; `read` reads it into so much room, and leaves a set as [`opened`] takes it.
     ///
     /// # Safety
     ///
@@ -56,7 +56,7 @@ impl Text {
         room: usize,
         result: *mut Set<T>,
         check: impl FnOnce(&[u8], &mut usize) -> u32,
-        read: impl FnOnce(&[u8], &mut [T]) -> usize,
+        read: impl FnOnce(&[u8], &mut [T]) -> (usize, Option<T>),
     ) -> Status {
         if !self.is_apart(out, room, result) {
             return Status::BadArgument;
@@ -66,8 +66,9 @@ impl Text {
         match check(text, &mut told) {
             0 if told > room => unsafe { answered(told, out, room, result) },
             0 => unsafe {
-                let len = read(text, room_at(out, room));
-                answered(len, out, room, result)
+                let items = room_at(out, room);
+                let (count, open) = read(text, &mut items[..told]);
+                answered(opened(items, count, open), out, room, result)
             },
             2 => Status::OutOfRange,
             _ => {

@@ -1,5 +1,6 @@
 //! What changes a set. All memory is asked for before anything changes.
 
+use crate::any_range::AnyRange;
 use crate::array::{Array, List};
 use crate::fallible::{AllocError, EntryClone, RangeSet};
 use crate::generated::range_collections::EntryCopier;
@@ -7,14 +8,13 @@ use crate::generated::range_merge::{DiffOp, IntersectionOp, UnionOp, XorOp};
 use crate::range::RangeSetRange;
 use crate::range_set;
 use crate::view::RangeSetRef;
-use core::ops::Range;
 
 impl<T: Ord, A: Array<Item = T>> RangeSet<A> {
-    /// Adds the values of a range. An empty or a reversed range changes nothing.
+    /// Adds the values of a range [of any kind](AnyRange). An empty or a reversed range changes nothing.
     ///
     /// # Errors
     ///
-    /// If memory is refused, which is asked for only where the set grows by two boundaries and has no room for them.
+    /// If memory is refused. The set is then as it was. Memory is asked for only where the set grows and has no room.
     ///
     /// # Examples
     ///
@@ -23,18 +23,43 @@ impl<T: Ord, A: Array<Item = T>> RangeSet<A> {
     ///
     /// let mut busy = RangeSet2::try_from(11..12)?;
     /// busy.insert(12..14)?;
-    /// assert_eq!(busy.boundaries(), [11, 14]);
+    /// busy.insert(20..)?;
+    /// assert_eq!(busy.boundaries(), [11, 14, 20]);
     /// # Ok::<(), AllocError>(())
     /// ```
-    pub fn insert(&mut self, range: Range<T>) -> Result<(), AllocError> {
-        self.0.list_mut().set_range(range, true)
+    #[inline]
+    pub fn insert(&mut self, range: impl AnyRange<T>) -> Result<(), AllocError> {
+        self.0.list_mut().set_range(range.into(), true)
     }
 
-    /// Takes the values of a range out. An empty or a reversed range changes nothing.
+    /// Adds the values of a range. The answer is `true` if one of them wasn't a member.
     ///
     /// # Errors
     ///
-    /// If memory is refused, which is asked for only where the set grows by two boundaries and has no room for them.
+    /// If memory is refused. The set is then as it was.
+    ///
+    /// # Examples
+    ///
+    /// ```
+    /// use range_sets::fallible::{AllocError, RangeSet2};
+    ///
+    /// let mut seen = RangeSet2::try_from(0..10)?;
+    /// assert!(seen.insert_changed(5..12)?);
+    /// assert!(!seen.insert_changed(3..=11)?);
+    /// # Ok::<(), AllocError>(())
+    /// ```
+    pub fn insert_changed(&mut self, range: impl AnyRange<T>) -> Result<bool, AllocError> {
+        let range = range.into();
+        let changes = self.lacks_some(&range);
+        self.0.list_mut().set_range(range, true)?;
+        Ok(changes)
+    }
+
+    /// Takes the values of a range [of any kind](AnyRange) out. An empty or a reversed range changes nothing.
+    ///
+    /// # Errors
+    ///
+    /// If memory is refused. The set is then as it was. Memory is asked for only where the set grows and has no room.
     ///
     /// # Examples
     ///
@@ -46,8 +71,32 @@ impl<T: Ord, A: Array<Item = T>> RangeSet<A> {
     /// assert_eq!(open.boundaries(), [9, 12, 13, 17]);
     /// # Ok::<(), AllocError>(())
     /// ```
-    pub fn remove(&mut self, range: Range<T>) -> Result<(), AllocError> {
-        self.0.list_mut().set_range(range, false)
+    #[inline]
+    pub fn remove(&mut self, range: impl AnyRange<T>) -> Result<(), AllocError> {
+        self.0.list_mut().set_range(range.into(), false)
+    }
+
+    /// Takes the values of a range out. The answer is `true` if one of them was a member.
+    ///
+    /// # Errors
+    ///
+    /// If memory is refused. The set is then as it was.
+    ///
+    /// # Examples
+    ///
+    /// ```
+    /// use range_sets::fallible::{AllocError, RangeSet2};
+    ///
+    /// let mut free = RangeSet2::try_from(0..10)?;
+    /// assert!(free.remove_changed(8..)?);
+    /// assert!(!free.remove_changed(8..10)?);
+    /// # Ok::<(), AllocError>(())
+    /// ```
+    pub fn remove_changed(&mut self, range: impl AnyRange<T>) -> Result<bool, AllocError> {
+        let range = range.into();
+        let changes = self.has_some(&range);
+        self.0.list_mut().set_range(range, false)?;
+        Ok(changes)
     }
 
     /// Adds the values of the ranges, which stand in any order.

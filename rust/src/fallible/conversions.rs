@@ -1,5 +1,6 @@
 //! Sets from ranges and from text.
 
+use crate::any_range::NextValue;
 use crate::array::{Array, List};
 use crate::entry::RangeSetEntry;
 use crate::fallible::{AllocError, EntryClone, RangeSet};
@@ -7,7 +8,7 @@ use crate::generated::range_collections::WholeNumber;
 use crate::range::RangeSetRange;
 use crate::range_set;
 use crate::text::ParseError;
-use core::ops::{Range, RangeFrom, RangeFull, RangeTo};
+use core::ops::{Range, RangeFrom, RangeFull, RangeInclusive, RangeTo, RangeToInclusive};
 use core::str::FromStr;
 
 impl<A: Array> From<range_set::RangeSet<A>> for RangeSet<A> {
@@ -37,6 +38,35 @@ impl<T: Ord, A: Array<Item = T>> TryFrom<RangeFrom<T>> for RangeSet<A> {
 
     fn try_from(range: RangeFrom<T>) -> Result<Self, AllocError> {
         A::List::of_range(range.into()).map(Self::of_list)
+    }
+}
+
+/// The values of the range: none if it is empty or reversed.
+impl<T: NextValue, A: Array<Item = T>> TryFrom<RangeInclusive<T>> for RangeSet<A> {
+    type Error = AllocError;
+
+    fn try_from(range: RangeInclusive<T>) -> Result<Self, AllocError> {
+        A::List::of_range(range.into()).map(Self::of_list)
+    }
+}
+
+/// The values up to the last one.
+impl<T: RangeSetEntry + NextValue, A: Array<Item = T>> TryFrom<RangeToInclusive<T>>
+    for RangeSet<A>
+{
+    type Error = AllocError;
+
+    fn try_from(range: RangeToInclusive<T>) -> Result<Self, AllocError> {
+        A::List::of_range(range.into()).map(Self::of_list)
+    }
+}
+
+/// The union of the ranges, which stand in any order.
+impl<T: Ord, A: Array<Item = T>, const N: usize> TryFrom<[Range<T>; N]> for RangeSet<A> {
+    type Error = AllocError;
+
+    fn try_from(ranges: [Range<T>; N]) -> Result<Self, AllocError> {
+        Self::from_ranges(ranges)
     }
 }
 

@@ -1,12 +1,13 @@
 //! Sets from ranges, and ranges from sets.
 
+use crate::any_range::NextValue;
 use crate::array::{Array, List};
 use crate::entry::RangeSetEntry;
 use crate::iter::{IntoIter, Iter};
 use crate::memory::expect_memory;
 use crate::range::RangeSetRange;
 use crate::range_set::RangeSet;
-use core::ops::{BitOrAssign, Range, RangeFrom, RangeFull, RangeTo};
+use core::ops::{Range, RangeFrom, RangeFull, RangeInclusive, RangeTo, RangeToInclusive};
 
 /// All values for `true`, none for `false`.
 impl<T: RangeSetEntry, A: Array<Item = T>> From<bool> for RangeSet<A> {
@@ -48,6 +49,35 @@ impl<T: RangeSetEntry, A: Array<Item = T>> From<RangeFull> for RangeSet<A> {
 }
 
 /// The values of the range: none if it is empty or reversed.
+impl<T: NextValue, A: Array<Item = T>> From<RangeInclusive<T>> for RangeSet<A> {
+    fn from(range: RangeInclusive<T>) -> Self {
+        RangeSetRange::from(range).into()
+    }
+}
+
+/// The values up to the last one.
+impl<T: RangeSetEntry + NextValue, A: Array<Item = T>> From<RangeToInclusive<T>> for RangeSet<A> {
+    fn from(range: RangeToInclusive<T>) -> Self {
+        RangeSetRange::from(range).into()
+    }
+}
+
+/// The union of the ranges, which stand in any order.
+///
+/// # Examples
+///
+/// ```
+/// use range_sets::RangeSet2;
+///
+/// assert_eq!(RangeSet2::from([15..18, 9..11, 10..12]).to_string(), "9..12, 15..18");
+/// ```
+impl<T: Ord, A: Array<Item = T>, const N: usize> From<[Range<T>; N]> for RangeSet<A> {
+    fn from(ranges: [Range<T>; N]) -> Self {
+        Self::from_ranges(ranges)
+    }
+}
+
+/// The values of the range: none if it is empty or reversed.
 impl<T: Ord, A: Array<Item = T>> From<RangeSetRange<T>> for RangeSet<A> {
     fn from(range: RangeSetRange<T>) -> Self {
         Self::of_list(expect_memory::<T, _, _>(A::List::of_range(range)))
@@ -64,7 +94,7 @@ impl<T: Ord, A: Array<Item = T>, R: Into<RangeSetRange<T>>> FromIterator<R> for 
 /// Adds the values of the ranges, which stand in any order.
 impl<T: Ord, A: Array<Item = T>, R: Into<RangeSetRange<T>>> Extend<R> for RangeSet<A> {
     fn extend<I: IntoIterator<Item = R>>(&mut self, ranges: I) {
-        self.bitor_assign(Self::from_ranges(ranges));
+        *self |= Self::from_ranges(ranges);
     }
 }
 

@@ -1,14 +1,14 @@
 //! What changes a set. Of two equal boundaries the set's own stays.
 
+use crate::any_range::AnyRange;
 use crate::array::{Array, List};
 use crate::generated::range_merge::{DiffOp, IntersectionOp, UnionOp, XorOp};
 use crate::memory::{expect_memory, ByClone};
 use crate::range_set::RangeSet;
 use crate::view::RangeSetRef;
-use core::ops::Range;
 
 impl<T: Ord, A: Array<Item = T>> RangeSet<A> {
-    /// Adds the values of a range. An empty or a reversed range changes nothing.
+    /// Adds the values of a range [of any kind](AnyRange). An empty or a reversed range changes nothing.
     ///
     /// It makes *O*(log *n*) comparisons, and moves the boundaries after the range at most.
     ///
@@ -20,13 +20,33 @@ impl<T: Ord, A: Array<Item = T>> RangeSet<A> {
     /// let mut busy: RangeSet2<u32> = (11..12).into();
     /// busy.insert(12..14);
     /// busy.insert(9..10);
-    /// assert_eq!(busy.to_string(), "9..10, 11..14");
+    /// busy.insert(22..);
+    /// assert_eq!(busy.to_string(), "9..10, 11..14, 22..");
     /// ```
-    pub fn insert(&mut self, range: Range<T>) {
-        expect_memory::<T, _, _>(self.list_mut().set_range(range, true));
+    #[inline]
+    pub fn insert(&mut self, range: impl AnyRange<T>) {
+        expect_memory::<T, _, _>(self.list_mut().set_range(range.into(), true));
     }
 
-    /// Takes the values of a range out. An empty or a reversed range changes nothing.
+    /// Adds the values of a range, as [`insert`](Self::insert) does. Returns `true` if one of them wasn't a member.
+    ///
+    /// # Examples
+    ///
+    /// ```
+    /// use range_sets::RangeSet2;
+    ///
+    /// let mut seen: RangeSet2<u32> = (0..10).into();
+    /// assert!(seen.insert_changed(5..12));
+    /// assert!(!seen.insert_changed(3..=11));
+    /// ```
+    pub fn insert_changed(&mut self, range: impl AnyRange<T>) -> bool {
+        let range = range.into();
+        let changes = self.view().lacks_some(&range);
+        expect_memory::<T, _, _>(self.list_mut().set_range(range, true));
+        changes
+    }
+
+    /// Takes the values of a range [of any kind](AnyRange) out. An empty or a reversed range changes nothing.
     ///
     /// It makes *O*(log *n*) comparisons, and moves the boundaries after the range at most.
     ///
@@ -39,8 +59,27 @@ impl<T: Ord, A: Array<Item = T>> RangeSet<A> {
     /// open.remove(12..13);
     /// assert_eq!(open.to_string(), "9..12, 13..17");
     /// ```
-    pub fn remove(&mut self, range: Range<T>) {
+    #[inline]
+    pub fn remove(&mut self, range: impl AnyRange<T>) {
+        expect_memory::<T, _, _>(self.list_mut().set_range(range.into(), false));
+    }
+
+    /// Takes the values of a range out, as [`remove`](Self::remove) does. Returns `true` if one of them was a member.
+    ///
+    /// # Examples
+    ///
+    /// ```
+    /// use range_sets::RangeSet2;
+    ///
+    /// let mut free: RangeSet2<u32> = (0..10).into();
+    /// assert!(free.remove_changed(8..));
+    /// assert!(!free.remove_changed(8..10));
+    /// ```
+    pub fn remove_changed(&mut self, range: impl AnyRange<T>) -> bool {
+        let range = range.into();
+        let changes = self.view().has_some(&range);
         expect_memory::<T, _, _>(self.list_mut().set_range(range, false));
+        changes
     }
 }
 

@@ -17,6 +17,12 @@ pub(crate) struct Joining<A: Array> {
 }
 
 impl<T: Ord, A: Array<Item = T>> Joining<A> {
+    /// No set waits.
+    pub(crate) fn new() -> Self {
+        Joining {
+            waiting: Vec::new(),
+        }
+    }
     /// The union of ranges.
     pub(crate) fn of_ranges<R>(
         ranges: impl IntoIterator<Item = R>,
@@ -24,11 +30,9 @@ impl<T: Ord, A: Array<Item = T>> Joining<A> {
     where
         R: Into<RangeSetRange<T>>,
     {
-        let mut joining = Joining {
-            waiting: Vec::new(),
-        };
+        let mut joining = Self::new();
         for range in ranges {
-            joining.add(RangeSet::of_list(A::List::of_range(range.into())?))?;
+            joining.add_range(range.into())?;
         }
         joining.finish()
     }
@@ -42,13 +46,16 @@ impl<T: Ord, A: Array<Item = T>> Joining<A> {
         S: AsRef<RangeSetRef<T>>,
         P: Copier<T>,
     {
-        let mut joining = Joining {
-            waiting: Vec::new(),
-        };
+        let mut joining = Self::new();
         for set in sets {
             joining.add(RangeSet::copied(set.as_ref(), copier)?)?;
         }
         joining.finish()
+    }
+
+    /// Adds a range.
+    pub(crate) fn add_range(&mut self, range: RangeSetRange<T>) -> Result<(), AllocError> {
+        self.add(RangeSet::of_list(A::List::of_range(range)?))
     }
 
     fn add(&mut self, set: RangeSet<A>) -> Result<(), AllocError> {
@@ -76,7 +83,8 @@ impl<T: Ord, A: Array<Item = T>> Joining<A> {
         }
     }
 
-    fn finish(mut self) -> Result<RangeSet<A>, AllocError> {
+    /// The union of all that was added.
+    pub(crate) fn finish(mut self) -> Result<RangeSet<A>, AllocError> {
         while self.waiting.len() > 1 {
             self.join_last()?;
         }

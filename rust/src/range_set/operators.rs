@@ -1,4 +1,4 @@
-//! `|`, `&`, `^`, `-` and `!` on sets and on references to sets, and `|=`, `&=`, `^=`, `-=` with a set.
+//! `|`, `&`, `^`, `-` and `!` on sets and on references to sets, and `|=`, `&=`, `^=`, `-=` with either.
 
 use crate::array::{Array, List};
 use crate::entry::RangeSetEntry;
@@ -60,25 +60,45 @@ operators! {
 }
 
 macro_rules! assigning_operators {
-    ($($(#[$doc:meta])* $operator:ident $call:ident = $op:ident;)*) => {$(
+    ($($(#[$doc:meta])* $operator:ident $call:ident = $op:ident $with:ident;)*) => {$(
         $(#[$doc])*
+        ///
+        /// It moves the right set's boundaries, and clones none.
         impl<T: Ord, A: Array<Item = T>> $operator for RangeSet<A> {
             fn $call(&mut self, that: Self) {
                 expect_memory::<T, _, _>(self.list_mut().merge_owned(that.into_list(), &$op));
+            }
+        }
+
+        $(#[$doc])*
+        ///
+        /// It clones the right set's boundaries.
+        impl<T: Ord + Clone, A: Array<Item = T>> $operator<&RangeSet<A>> for RangeSet<A> {
+            fn $call(&mut self, that: &RangeSet<A>) {
+                self.$with(that);
+            }
+        }
+
+        $(#[$doc])*
+        ///
+        /// It clones the right set's boundaries.
+        impl<T: Ord + Clone, A: Array<Item = T>> $operator<&RangeSetRef<T>> for RangeSet<A> {
+            fn $call(&mut self, that: &RangeSetRef<T>) {
+                self.$with(that);
             }
         }
     )*};
 }
 
 assigning_operators! {
-    /// Adds the members of the right set. It moves its boundaries and clones none.
-    BitOrAssign bitor_assign = UnionOp;
+    /// Adds the members of the right set.
+    BitOrAssign bitor_assign = UnionOp union_with;
     /// Keeps the members that are members of the right set too.
-    BitAndAssign bitand_assign = IntersectionOp;
+    BitAndAssign bitand_assign = IntersectionOp intersection_with;
     /// Takes the members of the right set out and adds those that weren't in.
-    BitXorAssign bitxor_assign = XorOp;
+    BitXorAssign bitxor_assign = XorOp symmetric_difference_with;
     /// Takes the members of the right set out.
-    SubAssign sub_assign = DiffOp;
+    SubAssign sub_assign = DiffOp difference_with;
 }
 
 /// The values that are no members.

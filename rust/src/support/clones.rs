@@ -1,4 +1,4 @@
-//! Copies of elements that Rattle's sources don't know: std's own texts and lists, and numbers other than 0.
+//! Copies of elements that Rattle's sources don't know: std's own texts and lists, numbers other than 0, addresses and durations.
 
 use super::AllocError;
 use crate::generated::range_entry::EntryClone;
@@ -8,6 +8,9 @@ use core::num::{
     NonZeroI128, NonZeroI16, NonZeroI32, NonZeroI64, NonZeroI8, NonZeroIsize, NonZeroU128,
     NonZeroU16, NonZeroU32, NonZeroU64, NonZeroU8, NonZeroUsize,
 };
+use core::time::Duration;
+#[cfg(feature = "std")]
+use std::net::{Ipv4Addr, Ipv6Addr};
 
 /// The same text, or an error where there is no memory for it.
 impl EntryClone for String {
@@ -33,7 +36,7 @@ impl<T: EntryClone> EntryClone for Vec<T> {
 
 macro_rules! copied {
     ($($number:ty)*) => {$(
-        /// The number itself.
+        /// The value itself.
         impl EntryClone for $number {
             #[inline(always)]
             fn entry_clone(&self) -> Result<$number, AllocError> {
@@ -51,4 +54,8 @@ macro_rules! copied {
 copied! {
     NonZeroU8 NonZeroU16 NonZeroU32 NonZeroU64 NonZeroU128 NonZeroUsize
     NonZeroI8 NonZeroI16 NonZeroI32 NonZeroI64 NonZeroI128 NonZeroIsize
+    Duration
 }
+
+#[cfg(feature = "std")]
+copied!(Ipv4Addr Ipv6Addr);

@@ -33,7 +33,8 @@ impl<K, const N: usize> InPlaceMergeState<K, N> {
         if let Err(error) = prepared(a, extra) {
             return Err((error, b));
         }
-        merge_opened(a, OwnedRight::over(Given::over(&mut b)), extra, op, cmp);
+        let mut given = Given::over(&mut b);
+        merge_opened(a, OwnedRight::over(&mut given), extra, op, cmp);
         Ok(())
     }
 }
@@ -57,7 +58,8 @@ impl<K, P: Copier<K>, const N: usize> InPlaceMergeStateRef<K, P, N> {
             return Ok(());
         }
         let mut copies = prepared_copies(a, b, copier)?;
-        let right = CopiedRight::<_, OfSlots<P>, _>::over(slots, Given::over(&mut copies));
+        let mut given = Given::over(&mut copies);
+        let right = CopiedRight::<_, OfSlots<P>, _>::over(slots, &mut given);
         merge_opened(a, right, b.len(), op, cmp);
         Ok(())
     }

@@ -206,6 +206,8 @@ impl<K, const N: usize> Drop for Opened<'_, K, N> {
 }
 
 /// A borrowed list whose items are taken from its front. What isn't taken is dropped, and the list is left empty.
+///
+/// A merge borrows it, so that what is left is dropped once the merge's own list is closed.
 pub struct Given<'a, K, const N: usize> {
     items: *mut Slot<K>,
     front: usize,
@@ -239,7 +241,7 @@ impl<'a, K, const N: usize> Given<'a, K, N> {
     }
 }
 
-impl<K, const N: usize> Indexed<Slot<K>> for Given<'_, K, N> {
+impl<K, const N: usize> Indexed<Slot<K>> for &mut Given<'_, K, N> {
     #[inline(always)]
     fn len(&self) -> usize {
         self.len
@@ -253,7 +255,7 @@ impl<K, const N: usize> Indexed<Slot<K>> for Given<'_, K, N> {
     }
 }
 
-impl<K, const N: usize> Shelf<Slot<K>> for Given<'_, K, N> {
+impl<K, const N: usize> Shelf<Slot<K>> for &mut Given<'_, K, N> {
     #[inline(always)]
     fn swap_with(&mut self, at: usize, others: &mut [Slot<K>]) {
         let n = others.len();

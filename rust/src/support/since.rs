@@ -13,6 +13,13 @@ impl DivUp for usize {
     }
 }
 
+impl DivUp for u128 {
+    #[inline(always)]
+    fn div_up(self, by: u128) -> u128 {
+        self / by + u128::from(self % by != 0)
+    }
+}
+
 /// `ilog2`, since 1.67.
 pub trait Log2Down {
     /// The logarithm to the base 2, rounded down.
@@ -41,5 +48,15 @@ impl<T> IsSortedWith<T> for [T] {
     #[inline(always)]
     fn is_sorted_with(&self, mut is_below: impl FnMut(&T, &T) -> bool) -> bool {
         self.windows(2).all(|pair| is_below(&pair[0], &pair[1]))
+    }
+}
+
+/// `std::hint::select_unpredictable`, since 1.88: the one or the other, by no branch if the compiler sees it so.
+#[inline(always)]
+pub fn select_unpredictable<T>(first: bool, one: T, other: T) -> T {
+    if first {
+        one
+    } else {
+        other
     }
 }

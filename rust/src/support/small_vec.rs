@@ -1,6 +1,9 @@
 //! The list of the crate `smallvec`, with calls that answer where an allocation fails.
 
+use super::opened::Opened;
 use super::{AllocError, AllocFailed, Global, Vec};
+use crate::generated::range_merge::indexed::Indexed;
+use crate::generated::range_merge::place::Place;
 use core::ops::{Deref, DerefMut, Range};
 
 /// A list with room for `N` items in the value itself.
@@ -10,8 +13,8 @@ pub struct SmallVec<T, const N: usize>(smallvec::SmallVec<[T; N]>);
 impl<T, const N: usize> SmallVec<T, N> {
     /// An empty list. It takes no memory.
     #[inline(always)]
-    pub fn new(_: Global) -> Self {
-        SmallVec(smallvec::SmallVec::new())
+    pub const fn new(_: Global) -> Self {
+        SmallVec(smallvec::SmallVec::new_const())
     }
 
     /// An empty list with room for `n` items.
@@ -114,10 +117,14 @@ impl<T, const N: usize> SmallVec<T, N> {
         self.0.remove(at)
     }
 
-    /// Takes the items of a range out and drops them.
+    /// Takes the items of a range out and drops them. If a drop panics, the list is left empty.
     #[inline]
     pub fn drain(&mut self, range: Range<usize>) {
-        self.0.drain(range);
+        let mut list = Opened::over(self);
+        let after = list.len() - range.end;
+        list.move_down(range.start, range.end, after);
+        list.truncate(range.start + after);
+        list.close();
     }
 
     /// Drops each item that is equal to the one before it.

@@ -279,13 +279,14 @@ fn what_is_not_taken_of_a_list_is_dropped() {
     let mut items = list::<4>(0b1111_1111, 0, &there);
     let mut room = list::<4>(0b11, 0, &there);
     let mut opened = Opened::over(&mut room);
-    let mut right = OwnedRight::over(Given::over(&mut items));
+    let mut given = Given::over(&mut items);
+    let mut right = OwnedRight::over(&mut given);
     opened.truncate(0);
     assert_eq!(there.get(), 8);
     opened.open_gap(0, 2);
     opened.put_from(0, 2, &mut right);
     assert_eq!(there.get(), 8);
-    drop(right);
+    drop(given);
     opened.close();
     assert_eq!(
         (seen(&room), items.len(), there.get()),
@@ -339,7 +340,7 @@ fn what_was_taken_of_a_list_is_not_read() {
 
     let mut items = SmallVec::<u8, 8>::new(Global);
     (0..6).for_each(|n| items.push_reserved(n));
-    let mut given = Given::over(&mut items);
+    let mut given = &mut Given::over(&mut items);
     given.swap_with(1, &mut [Slot::of(0), Slot::of(0)]);
     for i in [0, 2, 6] {
         // SAFETY: nothing is given.

@@ -1,7 +1,7 @@
 //! std's list, with calls that answer where an allocation fails.
 
-use super::{AllocError, Global};
-use core::ops::Deref;
+use super::{AllocError, AllocFailed, Global};
+use core::ops::{Deref, DerefMut, RangeBounds};
 
 /// A list on the heap.
 #[derive(Debug)]
@@ -51,6 +51,55 @@ impl<T> Vec<T> {
         self.0.push(value);
     }
 
+    /// Appends an item, or gives it back if there is no memory for it.
+    #[inline(always)]
+    pub fn push(&mut self, value: T) -> Result<(), AllocFailed<T>> {
+        if self.0.try_reserve(1).is_err() {
+            return Err(AllocFailed { value });
+        }
+        self.0.push(value);
+        Ok(())
+    }
+
+    /// Removes the item at `at`, and moves the later ones down.
+    #[inline(always)]
+    pub fn remove(&mut self, at: usize) -> T {
+        self.0.remove(at)
+    }
+
+    /// Drops the items of a range, and moves the later ones down. If a drop panics, the others are dropped too, and the
+    /// list is as if none had.
+    #[inline(always)]
+    pub fn drain(&mut self, range: impl RangeBounds<usize>) {
+        self.0.drain(range);
+    }
+
+    /// Drops the items from `len` on. If a drop panics, the others are dropped too.
+    #[inline(always)]
+    pub fn truncate(&mut self, len: usize) {
+        self.0.truncate(len);
+    }
+
+    /// Drops all items, and keeps the room. If a drop panics, the others are dropped too.
+    #[inline(always)]
+    pub fn clear(&mut self) {
+        self.0.clear();
+    }
+
+    /// Moves the items from `at` on to a list of their own.
+    #[inline]
+    pub fn split_off(&mut self, at: usize) -> Result<Self, AllocError> {
+        let mut moved = Self::with_capacity(Global, self.0.len() - at)?;
+        moved.0.extend(self.0.drain(at..));
+        Ok(moved)
+    }
+
+    /// The allocator.
+    #[inline(always)]
+    pub fn allocator(&self) -> &Global {
+        &Global
+    }
+
     /// Appends copies of the items.
     #[inline]
     pub fn extend_from_slice(&mut self, items: &[T]) -> Result<(), AllocError>
@@ -81,6 +130,23 @@ impl<T> Deref for Vec<T> {
     #[inline(always)]
     fn deref(&self) -> &[T] {
         &self.0
+    }
+}
+
+impl<T> DerefMut for Vec<T> {
+    #[inline(always)]
+    fn deref_mut(&mut self) -> &mut [T] {
+        &mut self.0
+    }
+}
+
+impl<T> IntoIterator for Vec<T> {
+    type Item = T;
+    type IntoIter = alloc::vec::IntoIter<T>;
+
+    #[inline(always)]
+    fn into_iter(self) -> Self::IntoIter {
+        self.0.into_iter()
     }
 }
 

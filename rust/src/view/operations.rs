@@ -26,6 +26,7 @@ impl<T: Ord + Clone> RangeSetRef<T> {
     /// let b = RangeSetRef::new(&[10, 20]).unwrap();
     /// assert_eq!(a.union::<[i32; 2]>(b).boundaries(), [0, 20]);
     /// ```
+    #[must_use]
     pub fn union<A>(&self, that: &RangeSetRef<T>) -> RangeSet<A>
     where
         A: Array<Item = T>,
@@ -44,6 +45,7 @@ impl<T: Ord + Clone> RangeSetRef<T> {
     /// let b = RangeSetRef::new(&[5, 20]).unwrap();
     /// assert_eq!(a.intersection::<[i32; 2]>(b).boundaries(), [5, 10]);
     /// ```
+    #[must_use]
     pub fn intersection<A>(&self, that: &RangeSetRef<T>) -> RangeSet<A>
     where
         A: Array<Item = T>,
@@ -62,6 +64,7 @@ impl<T: Ord + Clone> RangeSetRef<T> {
     /// let b = RangeSetRef::new(&[5, 20]).unwrap();
     /// assert_eq!(a.difference::<[i32; 2]>(b).boundaries(), [0, 5]);
     /// ```
+    #[must_use]
     pub fn difference<A>(&self, that: &RangeSetRef<T>) -> RangeSet<A>
     where
         A: Array<Item = T>,
@@ -80,6 +83,7 @@ impl<T: Ord + Clone> RangeSetRef<T> {
     /// let b = RangeSetRef::new(&[5, 20]).unwrap();
     /// assert_eq!(a.symmetric_difference::<[i32; 4]>(b).boundaries(), [0, 5, 10, 20]);
     /// ```
+    #[must_use]
     pub fn symmetric_difference<A>(&self, that: &RangeSetRef<T>) -> RangeSet<A>
     where
         A: Array<Item = T>,
@@ -101,6 +105,7 @@ impl<T: Ord + Clone> RangeSetRef<T> {
     /// let b = RangeSetRef::new(&[5, 20]).unwrap();
     /// assert_eq!(a.combine::<[u8; 2]>(b, Connective::NEITHER).boundaries(), [20]);
     /// ```
+    #[must_use]
     pub fn combine<A>(&self, that: &RangeSetRef<T>, op: Connective) -> RangeSet<A>
     where
         A: Array<Item = T>,

@@ -1,6 +1,9 @@
 //! The ranges of a set, and what of it lies before, within or after something.
 
-use crate::iter::{Gaps, Iter, RangesWithin};
+use crate::any_range::Within;
+use crate::generated::range_collections::Comparisons;
+use crate::generated::range_merge::{count_up_to, search};
+use crate::iter::Iter;
 use crate::range::RangeSetRange;
 use crate::view::RangeSetRef;
 use core::ops::Range;
@@ -51,6 +54,7 @@ impl<T: Ord> RangeSetRef<T> {
     /// assert_eq!(left.boundaries(), [0, 2, 4]);
     /// assert_eq!(right.boundaries(), [4, 8]);
     /// ```
+    #[must_use]
     pub fn split(&self, at: T) -> (&Self, &Self) {
         let (left, right) = self.proved().split(at);
         (Self::of_proved(left), Self::of_proved(right))
@@ -158,24 +162,29 @@ impl<T: Ord> RangeSetRef<T> {
 
     /// Returns an iterator over the parts of a range that aren't in the set, from the lowest on.
     ///
-    /// None of them is empty. It makes *O*(log *n*) comparisons, and none for a step.
+    /// None of them is empty. It makes *O*(log *n*) comparisons, and none for a step. The range may be of any kind:
+    /// [`Within`] says what its parts are.
     ///
     /// # Examples
     ///
     /// ```
-    /// use range_sets::RangeSetRef;
+    /// use range_sets::{RangeSetRange, RangeSetRef};
     ///
     /// let busy = RangeSetRef::new(&[9, 11, 12, 15]).unwrap();
     /// let free: Vec<_> = busy.gaps(&8..&18).collect();
     /// assert_eq!(free, [&8..&9, &11..&12, &15..&18]);
+    ///
+    /// let later: Vec<RangeSetRange<&i32>> = busy.gaps(&11..).collect();
+    /// assert_eq!(later, [(&11..&12).into(), (&15..).into()]);
     /// ```
-    pub fn gaps<'a>(&'a self, within: Range<&'a T>) -> Gaps<'a, T> {
-        self.proved().gaps(within)
+    pub fn gaps<'a, R: Within<'a, T>>(&'a self, within: R) -> R::Parts {
+        within.parts_of(self, false)
     }
 
     /// Returns an iterator over the parts of a range that are in the set, from the lowest on.
     ///
-    /// None of them is empty. It makes *O*(log *n*) comparisons, and none for a step.
+    /// None of them is empty. It makes *O*(log *n*) comparisons, and none for a step. The range may be of any kind:
+    /// [`Within`] says what its parts are. [`overlapping`](Self::overlapping) gives ranges that aren't cut.
     ///
     /// # Examples
     ///
@@ -186,8 +195,36 @@ impl<T: Ord> RangeSetRef<T> {
     /// let parts: Vec<_> = busy.ranges_within(&10..&13).collect();
     /// assert_eq!(parts, [&10..&11, &12..&13]);
     /// ```
-    pub fn ranges_within<'a>(&'a self, within: Range<&'a T>) -> RangesWithin<'a, T> {
-        self.proved().ranges_within(within)
+    pub fn ranges_within<'a, R: Within<'a, T>>(&'a self, within: R) -> R::Parts {
+        within.parts_of(self, true)
+    }
+
+    /// Returns an iterator over the ranges of the set that share a value with a range, from the lowest on. They aren't
+    /// cut.
+    ///
+    /// It makes *O*(log *n*) comparisons, and none for a step.
+    ///
+    /// # Examples
+    ///
+    /// ```
+    /// use range_sets::RangeSetRef;
+    ///
+    /// let busy = RangeSetRef::new(&[9, 11, 12, 15, 20]).unwrap();
+    /// let met: Vec<_> = busy.overlapping(&10..&13).collect();
+    /// assert_eq!(met, [(&9..&11).into(), (&12..&15).into()]);
+    /// ```
+    pub fn overlapping(&self, range: Range<&T>) -> Iter<'_, T> {
+        let items = self.boundaries();
+        if range.is_empty() {
+            return Iter::new(&[]);
+        }
+        let count = &mut Comparisons::new();
+        let from = count_up_to(items, range.start, count);
+        let to = match search(items, range.end, count) {
+            Ok(i) | Err(i) => i,
+        };
+        // The start of the first range lies before an odd number, and the end of the last one after it.
+        Iter::new(&items[from - from % 2..items.len().min(to + to % 2)])
     }
 }
 

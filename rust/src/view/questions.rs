@@ -1,9 +1,11 @@
 //! What is asked of one set, or of two. Nothing here takes memory.
 
+use crate::any_range::AnyRange;
 use crate::entry::RangeSetEntry;
 use crate::generated::range_collections::{Comparisons, Countable, Unsigned};
 use crate::generated::range_merge::NoRoom;
 use crate::operation::Connective;
+use crate::range::RangeSetRange;
 use crate::view::RangeSetRef;
 use core::ops::Range;
 
@@ -118,7 +120,8 @@ impl<T: Ord> RangeSetRef<T> {
         self.proved().is_superset(that.proved())
     }
 
-    /// Returns `true` if every value of the range is a member. It is so for an empty or a reversed range.
+    /// Returns `true` if every value of a range [of any kind](AnyRange) is a member. It is so for an empty or a
+    /// reversed range.
     ///
     /// It makes *O*(log *n*) comparisons.
     ///
@@ -129,13 +132,19 @@ impl<T: Ord> RangeSetRef<T> {
     ///
     /// let day = RangeSetRef::new(&[9, 17]).unwrap();
     /// assert!(day.contains_range(10..17));
-    /// assert!(!day.contains_range(16..18));
+    /// assert!(!day.contains_range(10..=17));
+    /// assert!(!day.contains_range(16..));
     /// ```
-    pub fn contains_range(&self, range: Range<T>) -> bool {
-        self.proved().contains_range(range)
+    #[inline]
+    pub fn contains_range(&self, range: impl AnyRange<T>) -> bool {
+        match range.into() {
+            RangeSetRange::Range(range) => self.proved().contains_range(range),
+            RangeSetRange::RangeFrom(range) => self.next_gap(&range.start).is_none(),
+        }
     }
 
-    /// Returns `true` if some value of the range is a member. An empty or a reversed range has none.
+    /// Returns `true` if some value of a range [of any kind](AnyRange) is a member. An empty or a reversed range has
+    /// none.
     ///
     /// It makes *O*(log *n*) comparisons.
     ///
@@ -146,10 +155,34 @@ impl<T: Ord> RangeSetRef<T> {
     ///
     /// let day = RangeSetRef::new(&[9, 17]).unwrap();
     /// assert!(day.intersects_range(16..18));
-    /// assert!(!day.intersects_range(17..18));
+    /// assert!(!day.intersects_range(17..));
+    /// assert!(day.intersects_range(..=9));
     /// ```
-    pub fn intersects_range(&self, range: Range<T>) -> bool {
-        self.proved().intersects_range(range)
+    #[inline]
+    pub fn intersects_range(&self, range: impl AnyRange<T>) -> bool {
+        match range.into() {
+            RangeSetRange::Range(range) => self.proved().intersects_range(range),
+            RangeSetRange::RangeFrom(range) => self.next_member(&range.start).is_some(),
+        }
+    }
+
+    /// Whether some value of the range is no member.
+    pub(crate) fn lacks_some(&self, range: &RangeSetRange<T>) -> bool {
+        match range {
+            RangeSetRange::Range(range) => self.gaps(&range.start..&range.end).next().is_some(),
+            RangeSetRange::RangeFrom(range) => self.next_gap(&range.start).is_some(),
+        }
+    }
+
+    /// Whether some value of the range is a member.
+    pub(crate) fn has_some(&self, range: &RangeSetRange<T>) -> bool {
+        match range {
+            RangeSetRange::Range(range) => self
+                .ranges_within(&range.start..&range.end)
+                .next()
+                .is_some(),
+            RangeSetRange::RangeFrom(range) => self.next_member(&range.start).is_some(),
+        }
     }
 
     /// Returns how many values are members, or `None` if the set has no end.

@@ -73,7 +73,7 @@ impl Random {
         match self.below(4) {
             0 => self.next(),
             1 => self.next() & self.next() & self.next(),
-            2 => (1 << self.below(63)) - 1 ^ (1 << self.below(63)) - 1,
+            2 => ((1 << self.below(63)) - 1) ^ ((1 << self.below(63)) - 1),
             _ => {
                 let (mut bits, mut place, mut on) = (0, 0, false);
                 while place < 64 {

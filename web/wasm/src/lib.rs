@@ -1,8 +1,9 @@
 //! What the page calls: sets and a tracker of u64 in numbered places.
 //!
-//! WebAssembly passes numbers alone. So a text goes in through the bytes that [`input`] opens; a text comes out at
-//! [`text`], and boundaries come out at [`numbers`], each with the length that the call before returned. A place that
-//! isn't there is an error of the page, and ends the program.
+//! WebAssembly passes numbers alone. So a text goes in through the bytes that [`input`] opens; a
+//! text comes out at [`text`], and boundaries come out at [`numbers`], each with the length that
+//! the call before returned. A place that isn't there is an error of the page, and ends the
+//! program.
 #![forbid(unsafe_op_in_unsafe_fn)]
 #![warn(missing_docs)]
 

@@ -4,9 +4,9 @@ use crate::page::{with_page, Set};
 use range_sets::{Connective, Expected, ParseError, RangeSetRange};
 use std::ops::Range;
 
-/// Reads the input as a set into a place. Returns 0, or what is wrong: 1, 2 or 3 where a number, a dot or a comma was
-/// expected at the byte of [`fault`], 4 where a number is too large, 5 where the input is no text. The place then keeps
-/// what it had.
+/// Reads the input as a set into a place. Returns 0, or what is wrong: 1, 2 or 3 if a number, a dot
+/// or a comma was expected at the byte of [`fault`], 4 if a number is none of u64, 5 if the input
+/// is no text, 6 if memory ran out. The place then keeps what it had.
 #[no_mangle]
 pub extern "C" fn parse(place: usize) -> u32 {
     with_page(|page| {
@@ -27,7 +27,8 @@ pub extern "C" fn parse(place: usize) -> u32 {
                     Expected::Comma => 3,
                 }
             }
-            Err(_) => 4,
+            Err(ParseError::OutOfRange) => 4,
+            Err(ParseError::OutOfMemory) => 6,
         }
     })
 }
@@ -44,16 +45,17 @@ pub extern "C" fn copy(from: usize, to: usize) {
     with_page(|page| page.sets[to] = page.sets[from].clone());
 }
 
-/// Puts the result of an operation on two sets into a place. The operation is told by its four answers: 1 for values in
-/// neither set, 2 for those in the left one alone, 4 for those in the right one alone, 8 for those in both.
+/// Puts the result of an operation on two sets into a place. The operation is given by its four
+/// answers: 1 for values in the left set alone, 2 for those in the right one alone, 4 for those in
+/// both, 8 for those in neither.
 #[no_mangle]
 pub extern "C" fn combine(left: usize, right: usize, answers: u32, to: usize) {
     with_page(|page| {
         let op = Connective {
-            neither: answers & 1 != 0,
-            left: answers & 2 != 0,
-            right: answers & 4 != 0,
-            both: answers & 8 != 0,
+            left: answers & 1 != 0,
+            right: answers & 2 != 0,
+            both: answers & 4 != 0,
+            neither: answers & 8 != 0,
         };
         page.sets[to] = combined(&page.sets[left], &page.sets[right], op);
     });
@@ -119,7 +121,8 @@ pub extern "C" fn boundaries_len(place: usize) -> usize {
     with_page(|page| page.sets[place].boundaries().len())
 }
 
-/// Writes how many values are members, as a text, and returns its length: 0 where the set has no end.
+/// Writes how many values are members, as a text, and returns its length: 0 where the set has no
+/// end.
 #[no_mangle]
 pub extern "C" fn covered(place: usize) -> usize {
     with_page(|page| match page.sets[place].covered() {
@@ -146,8 +149,8 @@ pub extern "C" fn boundaries(place: usize) -> usize {
     })
 }
 
-/// Writes the boundaries of the ranges that reach into a window, whole, and returns how many there are. A range that
-/// starts at the window's end is one of them.
+/// Writes the boundaries of the ranges that reach into a window, whole, and returns how many there
+/// are. A range that starts at the window's end is one of them.
 #[no_mangle]
 pub extern "C" fn part(place: usize, start: u64, end: u64) -> usize {
     with_page(|page| {
@@ -159,7 +162,8 @@ pub extern "C" fn part(place: usize, start: u64, end: u64) -> usize {
     })
 }
 
-/// Writes the range that has a value, and returns how many boundaries it has: 0 if the value is no member.
+/// Writes the range that has a value, and returns how many boundaries it has: 0 if the value is no
+/// member.
 #[no_mangle]
 pub extern "C" fn range_at(place: usize, value: u64) -> usize {
     with_page(|page| {
@@ -172,7 +176,8 @@ pub extern "C" fn range_at(place: usize, value: u64) -> usize {
     })
 }
 
-/// Writes the lowest and the highest boundary, and returns how many numbers these are: 0 if the set is empty.
+/// Writes the lowest and the highest boundary, and returns how many numbers these are: 0 if the set
+/// is empty.
 #[no_mangle]
 pub extern "C" fn ends(place: usize) -> usize {
     with_page(|page| {
@@ -187,7 +192,8 @@ pub extern "C" fn ends(place: usize) -> usize {
     })
 }
 
-/// Writes the start and the end of each gap within a window, and returns how many numbers there are.
+/// Writes the start and the end of each gap within a window, and returns how many numbers there
+/// are.
 #[no_mangle]
 pub extern "C" fn gaps(place: usize, start: u64, end: u64) -> usize {
     with_page(|page| {
@@ -197,7 +203,8 @@ pub extern "C" fn gaps(place: usize, start: u64, end: u64) -> usize {
     })
 }
 
-/// Writes for each of some columns of a window whether none of its values are members (0), some (1) or all (2).
+/// Writes for each of some columns of a window whether none of its values are members (0), some (1)
+/// or all (2).
 #[no_mangle]
 pub extern "C" fn shades(place: usize, start: u64, end: u64, columns: u64) -> usize {
     with_page(|page| {

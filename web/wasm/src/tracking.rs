@@ -9,12 +9,13 @@ pub extern "C" fn track(limit: usize) {
     with_page(|page| page.tracker = Tracker::new(limit));
 }
 
-/// Records that a piece is there. Returns 0, or 1 if that would take as many boundaries as [`needed`] says: too many.
+/// Records that a piece is there. Returns 0, or 1 if that would take as many boundaries as
+/// [`needed`] says: too many.
 #[no_mangle]
 pub extern "C" fn record(start: u64, end: u64) -> u32 {
     with_page(|page| {
         let answer = page.tracker.record(start..end);
-        told(page, answer)
+        status_of(page, answer)
     })
 }
 
@@ -23,11 +24,11 @@ pub extern "C" fn record(start: u64, end: u64) -> u32 {
 pub extern "C" fn forget(start: u64, end: u64) -> u32 {
     with_page(|page| {
         let answer = page.tracker.forget(start..end);
-        told(page, answer)
+        status_of(page, answer)
     })
 }
 
-fn told(page: &mut Page, answer: Result<(), TrackError>) -> u32 {
+fn status_of(page: &mut Page, answer: Result<(), TrackError>) -> u32 {
     match answer {
         Ok(()) => 0,
         Err(TrackError::TooMany { boundaries }) => {

@@ -7,6 +7,9 @@
 //! Each pointer is that of as many numbers as the length beside it says, which the driver leaves alone during the call.
 #![allow(clippy::missing_safety_doc)]
 
+mod growing;
+mod tree;
+
 use range_sets::{Connective, RangeSet2, RangeSetRange, RangeSetRef};
 use std::slice::{from_raw_parts as list, from_raw_parts_mut as room};
 

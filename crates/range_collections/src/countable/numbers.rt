@@ -1,4 +1,5 @@
-//! Whole numbers in a row: from 0 up each is its own place, and with a sign the least one stands at place 0.
+//! Whole numbers in a row: from 0 up each is its own place, and with a sign the least one stands at
+//! place 0.
 ghost use Rattle.std.specs.Prelude.{◌^◌};
 ghost use Rattle.std.proofs.Common.{rules, refl};
 ghost use Rattle.range_collections.specs.Countable.{signed_place, signed_value, signed_place-fits, signed_value-fits, signed_place-value, signed_place-order};

@@ -8,7 +8,8 @@ ghost use Rattle.range_collections.specs.Unions.{IsUnionOf};
 
 use range_entry::EntryClone;
 
-/// Two strictly sorted lists have the same members exactly if they have one length and are equal item by item.
+/// Two strictly sorted lists have the same members exactly if they have one length and are equal
+/// item by item.
 pub fn same_members_are_equal_items<T: Ord>()
     ensures { (a b : List T) →
         IsAscending T.cmp a → IsAscending T.cmp b → IsSameSet T.cmp a b ↔ AreEqual T.cmp a b }
@@ -32,7 +33,8 @@ pub fn operations_commute<T: Ord>()
         Means T.cmp symmetric_difference_table s b a → AreEqual T.cmp r s }
 {}
 
-/// Union, intersection and symmetric difference of three sets give the same, whichever two come first.
+/// Union, intersection and symmetric difference of three sets give the same, whichever two come
+/// first.
 pub fn operations_associate<T: Ord>()
     ensures union { (a b c ab bc r s : List T) →
         Means T.cmp union_table ab a b → Means T.cmp union_table r ab c →
@@ -48,7 +50,8 @@ pub fn operations_associate<T: Ord>()
         Means T.cmp symmetric_difference_table s a bc → AreEqual T.cmp r s }
 {}
 
-/// Subset is reflexive and transitive, and two strictly sorted lists that are subsets of each other are equal item by item.
+/// Subset is reflexive and transitive, and two strictly sorted lists that are subsets of each other
+/// are equal item by item.
 pub fn subset_is_an_order<T: Ord>()
     ensures reflexive { (a : List T) → IsSubset T.cmp a a }
     ensures transitive { (a b c : List T) →
@@ -69,7 +72,8 @@ pub fn subset_is_an_empty_difference<T: Ord>()
         Means T.cmp difference_table r a b → IsSubset T.cmp a b ↔ (r ≡ []) }
 {}
 
-/// What an operation that found memory gives, by its members: those of one set or both, of both, of the first alone, of just one of them.
+/// What an operation that found memory gives, by its members: those of one set or both, of both, of
+/// the first alone, of just one of them.
 pub fn operations_give_their_members<T: EntryClone>()
     ensures sorted { (f : Table) (room : ℕ) (a b items : List T) →
         GivesOperation T.cmp T.is_copy T.is_infallible f room a b (Ok items) →
@@ -91,7 +95,9 @@ pub fn operations_give_their_members<T: EntryClone>()
         ⊎ ((member T.cmp a x ≡ false) × (member T.cmp b x ≡ true))) }
 {}
 
-/// The union of many lists is pinned: two that have its members are equal item by item. That of two lists is what the connective means, and the union of the unions of some and of others is that of all.
+/// The union of many lists is pinned: two that have its members are equal item by item. That of two
+/// lists is what the connective means, and the union of the unions of some and of others is that of
+/// all.
 pub fn unions_are_pinned<T: Ord>()
     ensures pinned { (parts : List (List T)) (r s : List T) →
         IsUnionOf T.cmp (λ part. part) parts r → IsUnionOf T.cmp (λ part. part) parts s →

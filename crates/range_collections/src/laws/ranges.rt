@@ -1,4 +1,5 @@
-//! The ranges of a set: they make it again, in texts and arrays too; where they begin and end, how many values they have, and which numbers fit beside them.
+//! The ranges of a set: they make it again, in texts and arrays too; where they begin and end, how
+//! many values they have, and which numbers fit beside them.
 ghost use Rattle.std.specs.Prelude.{◌≡◌, ◌↔◌, ◌+◌, ◌/◌, ℤ, true, List, length, All, FitsSigned, ◌^◌, ◌<◌, ◌≤◌, ℕ, [], None, decimal, false, Some, slice_get, ◌-◌};
 ghost use Rattle.std.specs.Int.{w64};
 ghost use Rattle.std.specs.List.{Any, AllAdjacentBelow, last_or};
@@ -19,7 +20,8 @@ use crate::countable::{Countable, Unsigned};
 use crate::range_set_range::RangeSetRange;
 use crate::whole_number::WholeNumber;
 
-/// The ranges of a strictly sorted list: half as many as its items, rounded up; each has an element; each ends below the start of the next; together they have exactly the members.
+/// The ranges of a strictly sorted list: half as many as its items, rounded up; each has an
+/// element; each ends below the start of the next; together they have exactly the members.
 pub fn ranges_make_the_set<T: Ord>()
     ensures count { (items : List T) → length (ranges_of items) ≡ (length items + 1) / 2 }
     ensures filled { (items : List T) →
@@ -39,7 +41,8 @@ pub fn arrays_read_back()
         IsReadingOf (array_of numbers) items → items ≡ numbers }
 {}
 
-/// What is written of a set is read back: it is a text of ranges, and these are the set's. So of numbers of up to 128 bits without a sign, and of up to 128 bits besides one.
+/// What is written of a set is read back: it is a text of ranges, and these are the set's. So of
+/// numbers of up to 128 bits without a sign, and of up to 128 bits besides one.
 pub fn texts_read_back<T: WholeNumber>()
     ensures ranges { (items : List T) →
         T.number [] ≡ None → All (IsReadBack T.number T.digits) items →
@@ -57,7 +60,8 @@ pub fn texts_read_back<T: WholeNumber>()
         ranges_of items) }
 {}
 
-/// The range from the start of a set's first range to the end of its last one starts at the first boundary, and ends before the last one where their number is even. Else it has no end.
+/// The range from the start of a set's first range to the end of its last one starts at the first
+/// boundary, and ends before the last one where their number is even. Else it has no end.
 pub fn spans_go_from_the_first_boundary_to_the_last<T>()
     ensures start { (items : List T) (s : RangeSetRange T) → IsSpan (ranges_of items) s →
         slice_get items 0 ≡ Some (range_start s) }
@@ -68,7 +72,8 @@ pub fn spans_go_from_the_first_boundary_to_the_last<T>()
         is_odd (length items) ≡ true → range_end s ≡ Unbounded }
 {}
 
-/// A range has as many values as lie from its start on, up to its end. Where two sets have an end, their union and their intersection have one too, and together as many values as both sets.
+/// A range has as many values as lie from its start on, up to its end. Where two sets have an end,
+/// their union and their intersection have one too, and together as many values as both sets.
 pub fn values_are_counted<T: Countable>()
     ensures range { (start end : T) → T.is_value start → T.is_value end →
         covered_of T.cmp T.value T.count (range_items T.cmp start end) ≡
@@ -80,7 +85,8 @@ pub fn values_are_counted<T: Countable>()
         (covered_of T.cmp T.value T.count both ≡ Some l) × (k + l ≡ m + n) }
 {}
 
-/// Where some numbers fit, each of them lies in the range and is no member. Where no number of a range is a member, just as many as it has fit at its start.
+/// Where some numbers fit, each of them lies in the range and is no member. Where no number of a
+/// range is a member, just as many as it has fit at its start.
 pub fn as_many_fit_as_lie_in_a_range_of_no_members<T: Unsigned>()
     ensures inside { (items : List T) (start end len x y : T) →
         Fits T.cmp T.place items start end len x →

@@ -7,14 +7,16 @@ ghost use Rattle.range_collections.specs.Values.{Negates, MeansAmong, AreSameAmo
 
 use range_entry::RangeSetEntry;
 
-/// Two strictly sorted lists of values that have the same members among values are equal item by item.
+/// Two strictly sorted lists of values that have the same members among values are equal item by
+/// item.
 pub fn same_members_among_values_are_equal_items<T: RangeSetEntry>()
     ensures { (a b : List T) →
         All T.is_value a → All T.is_value b → IsAscending T.cmp a → IsAscending T.cmp b →
         AreSameAmongValues T.cmp T.is_value a b → AreEqual T.cmp a b }
 {}
 
-/// A strictly sorted list of values that is negated twice is equal item by item to what it was, also where the least value is a boundary.
+/// A strictly sorted list of values that is negated twice is equal item by item to what it was,
+/// also where the least value is a boundary.
 pub fn negating_twice_gives_the_same<T: RangeSetEntry>()
     ensures { (a b c : List T) → All T.is_value a → All T.is_value c → IsAscending T.cmp a →
         Negates T.cmp T.is_value b a → Negates T.cmp T.is_value c b → AreEqual T.cmp a c }
@@ -34,7 +36,8 @@ pub fn off_connectives_speak_of_every_element<T: RangeSetEntry>()
         f false false ≡ false → MeansAmong T.cmp T.is_value f r a b ↔ Means T.cmp f r a b }
 {}
 
-/// The same connective of the same sets gives lists that are equal item by item: where it is on while both sides are off, those of them that are lists of values.
+/// The same connective of the same sets gives lists that are equal item by item: where it is on
+/// while both sides are off, those of them that are lists of values.
 pub fn combined_sets_are_pinned<T: RangeSetEntry>()
     ensures { (f : Table) (a b a2 b2 r s : List T) →
         (f false false ≡ true → All T.is_value r × All T.is_value s) →

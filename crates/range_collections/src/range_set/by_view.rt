@@ -1,14 +1,13 @@
 //! What the set's view answers, in the order of the view's calls.
-ghost use Rattle.std.specs.Prelude.{◌≡◌, ◌↔◌, ◌+◌, ◌*◌, ◌<◌, ◌^◌, List, length, false, IsTrue, [], None, Some, MatchOption, slice_get, true, Contains, IsSome, IfSome, ◌≤◌, IfNone, All, IsOk, IfOk, ◌&&◌, not};
+ghost use Rattle.std.specs.Prelude.{◌≡◌, ◌↔◌, ◌+◌, ◌*◌, ◌<◌, ◌^◌, List, length, false, IsTrue, [], None, Some, MatchOption, slice_get, true, Contains, IsSome, IfSome, ◌≤◌, IfNone, ◌&&◌, not};
 ghost use Rattle.std.specs.List.{last_or};
 ghost use Rattle.range_merge.specs.Boundaries.{member};
 ghost use Rattle.range_merge.specs.Changes.{changes};
-ghost use Rattle.range_merge.specs.Connective.{Means, intersection_table, difference_table, union_table, symmetric_difference_table};
+ghost use Rattle.range_merge.specs.Connective.{Means, intersection_table, difference_table};
 ghost use Rattle.range_merge.specs.Counting.{AddsAtMost};
 ghost use Rattle.range_merge.specs.Runs.{digits, weight};
-ghost use Rattle.range_merge.specs.Copies.{AreCopies};
 ghost use Rattle.range_collections.specs.Sets.{IsSubset, Intersects, IsDisjoint, HasMember};
-ghost use Rattle.range_collections.specs.Values.{IsEverything, MeansAmong, AreFlipped};
+ghost use Rattle.range_collections.specs.Values.{IsEverything};
 ghost use Rattle.range_collections.specs.Intersects.{HasMemberWithin};
 ghost use Rattle.range_collections.specs.Extent.{IsSpan, HasAllWithin, IsNext};
 ghost use Rattle.range_collections.specs.Ranges.{ranges_of, range_now, IsInRange};
@@ -16,7 +15,6 @@ ghost use Rattle.range_collections.specs.Split.{split_left, split_right, IsLeast
 ghost use Rattle.range_collections.specs.Within.{GivesParts};
 ghost use Rattle.range_collections.specs.Covered.{covered_of};
 ghost use Rattle.range_collections.specs.Fits.{Fits};
-ghost use Rattle.range_collections.specs.Operators.{GivesOperation};
 ghost use Rattle.range_collections.specs.Buffers.{WritesOperation};
 ghost use Rattle.std.specs.Ordering.{is_le, is_lt};
 
@@ -26,10 +24,8 @@ use crate::iter::{Gaps, Iter, RangesWithin};
 use crate::range_set::RangeSet;
 use crate::range_set_range::RangeSetRange;
 use crate::view::RangeSetRef;
-use range_entry::{EntryClone, RangeSetEntry};
+use range_entry::RangeSetEntry;
 use range_merge::{MergeOperation, NoRoom};
-use std::alloc::{AllocError, Global};
-use std::default::MadeWith;
 use std::ops::Range;
 
 impl<T: Ord, const N: usize> RangeSet<T, N> {
@@ -41,7 +37,8 @@ impl<T: Ord, const N: usize> RangeSet<T, N> {
         self.as_ref().contains(value)
     }
 
-    /// The same, counted: at most as many comparisons as the number of boundaries has binary digits.
+    /// The same, counted: at most as many comparisons as the number of boundaries has binary
+    /// digits.
     #[inline]
     pub fn contains_counted(&self, value: &T, count: &mut Comparisons) -> bool
         requires { count.old < 2 ^ 64 }
@@ -59,7 +56,8 @@ impl<T: Ord, const N: usize> RangeSet<T, N> {
         self.as_ref().is_empty()
     }
 
-    /// Whether the operation's result has a member. It counts its comparisons, at most twice the weight of the two lists.
+    /// Whether the operation's result has a member. It counts its comparisons, at most twice the
+    /// weight of the two lists.
     pub fn merge_test<O: MergeOperation>(
         &self,
         that: RangeSetRef<T>,
@@ -76,7 +74,8 @@ impl<T: Ord, const N: usize> RangeSet<T, N> {
         self.as_ref().merge_test(that, op, count)
     }
 
-    /// How many boundaries the operation's result has, without making it. Both lengths together must fit a `usize`. It counts its comparisons, at most twice the weight of the two lists.
+    /// How many boundaries the operation's result has, without making it. Both lengths together
+    /// must fit a `usize`. It counts its comparisons, at most twice the weight of the two lists.
     pub fn merge_len<O: MergeOperation>(
         &self,
         that: RangeSetRef<T>,
@@ -153,7 +152,8 @@ impl<T: Ord, const N: usize> RangeSet<T, N> {
         self.as_ref().last()
     }
 
-    /// The hull: from the start of the first range to the end of the last one, or without an end if that has none. `None` if the set is empty.
+    /// The hull: from the start of the first range to the end of the last one, or without an end if
+    /// that has none. `None` if the set is empty.
     #[inline]
     pub fn span(&self) -> Option<RangeSetRange<&T>>
         ensures { MatchOption result (self.now ≡ []) (λ range.
@@ -182,7 +182,8 @@ impl<T: Ord, const N: usize> RangeSet<T, N> {
         self.as_ref().range_at(value)
     }
 
-    /// The same, counted: at most as many comparisons as the number of boundaries has binary digits.
+    /// The same, counted: at most as many comparisons as the number of boundaries has binary
+    /// digits.
     #[inline]
     pub fn range_at_counted(&self, value: &T, count: &mut Comparisons) -> Option<RangeSetRange<&T>>
         requires { count.old < 2 ^ 64 }
@@ -196,7 +197,9 @@ impl<T: Ord, const N: usize> RangeSet<T, N> {
         self.as_ref().range_at_counted(value, count)
     }
 
-    /// The least member at or above `from`, or `None` if there is none. It is `from` itself if that is a member, or else the start of the next range. It takes no memory, and makes at most as many comparisons as the number of boundaries has binary digits (seen by reading).
+    /// The least member at or above `from`, or `None` if there is none. It is `from` itself if that
+    /// is a member, or else the start of the next range. It takes no memory, and makes at most as
+    /// many comparisons as the number of boundaries has binary digits (seen by reading).
     #[inline]
     pub fn next_member<'a>(&'a self, from: &'a T) -> Option<&'a T>
         ensures next { IfSome result (λ next.
@@ -207,7 +210,10 @@ impl<T: Ord, const N: usize> RangeSet<T, N> {
         self.as_ref().next_member(from)
     }
 
-    /// The least element at or above `from` that isn't a member. It is `from` itself if that isn't one, or else the end of the range that holds it, or `None` if that range has no end. It takes no memory, and makes at most as many comparisons as the number of boundaries has binary digits (seen by reading).
+    /// The least element at or above `from` that isn't a member. It is `from` itself if that isn't
+    /// one, or else the end of the range that holds it, or `None` if that range has no end. It
+    /// takes no memory, and makes at most as many comparisons as the number of boundaries has
+    /// binary digits (seen by reading).
     #[inline]
     pub fn next_gap<'a>(&'a self, from: &'a T) -> Option<&'a T>
         ensures next { IfSome result (λ next.
@@ -228,7 +234,8 @@ impl<T: Ord, const N: usize> RangeSet<T, N> {
         self.as_ref().contains_range(range)
     }
 
-    /// The same, counted: at most `2 * d + 1` comparisons, where `d` is the number of binary digits of the number of boundaries.
+    /// The same, counted: at most `2 * d + 1` comparisons, where `d` is the number of binary digits
+    /// of the number of boundaries.
     #[inline]
     pub fn contains_range_counted(&self, range: Range<T>, count: &mut Comparisons) -> bool
     where
@@ -250,7 +257,8 @@ impl<T: Ord, const N: usize> RangeSet<T, N> {
         self.as_ref().intersects_range(range)
     }
 
-    /// The shortest list with the same members below `at`, and the shortest one with the same members from `at` on. Both are slices of this set's list.
+    /// The shortest list with the same members below `at`, and the shortest one with the same
+    /// members from `at` on. Both are slices of this set's list.
     #[inline]
     pub fn split(&self, at: T) -> (RangeSetRef<'_, T>, RangeSetRef<'_, T>)
     where
@@ -263,7 +271,8 @@ impl<T: Ord, const N: usize> RangeSet<T, N> {
         self.as_ref().split(at)
     }
 
-    /// The same, counted: at most as many comparisons as the number of boundaries has binary digits.
+    /// The same, counted: at most as many comparisons as the number of boundaries has binary
+    /// digits.
     #[inline]
     pub fn split_counted(
         &self,
@@ -282,7 +291,9 @@ impl<T: Ord, const N: usize> RangeSet<T, N> {
         self.as_ref().split_counted(at, count)
     }
 
-    /// The parts of `within` that aren't in the set, from the lowest on. None is empty, and each ends below the start of the next. An empty or reversed range has none. Where a boundary equals an end of `within`, the end of `within` is given.
+    /// The parts of `within` that aren't in the set, from the lowest on. None is empty, and each
+    /// ends below the start of the next. An empty or reversed range has none. Where a boundary
+    /// equals an end of `within`, the end of `within` is given.
     #[inline]
     pub fn gaps<'a>(&'a self, within: Range<&'a T>) -> Gaps<'a, T>
         ensures gives { GivesParts T.cmp difference_table within.entry self.now result }
@@ -293,7 +304,8 @@ impl<T: Ord, const N: usize> RangeSet<T, N> {
         self.as_ref().gaps(within)
     }
 
-    /// The same, counted: at most `2 * d + 1` comparisons, where `d` is the number of binary digits of the number of boundaries. The iterator's steps make none.
+    /// The same, counted: at most `2 * d + 1` comparisons, where `d` is the number of binary digits
+    /// of the number of boundaries. The iterator's steps make none.
     #[inline]
     pub fn gaps_counted<'a>(&'a self, within: Range<&'a T>, count: &mut Comparisons) -> Gaps<'a, T>
         requires { count.old < 2 ^ 64 }
@@ -306,7 +318,9 @@ impl<T: Ord, const N: usize> RangeSet<T, N> {
         self.as_ref().gaps_counted(within, count)
     }
 
-    /// The parts of `within` that are in the set, from the lowest on. None is empty, and each ends below the start of the next. An empty or reversed range has none. Where a boundary equals an end of `within`, the end of `within` is given.
+    /// The parts of `within` that are in the set, from the lowest on. None is empty, and each ends
+    /// below the start of the next. An empty or reversed range has none. Where a boundary equals an
+    /// end of `within`, the end of `within` is given.
     #[inline]
     pub fn ranges_within<'a>(&'a self, within: Range<&'a T>) -> RangesWithin<'a, T>
         ensures gives { GivesParts T.cmp intersection_table within.entry self.now result }
@@ -317,7 +331,8 @@ impl<T: Ord, const N: usize> RangeSet<T, N> {
         self.as_ref().ranges_within(within)
     }
 
-    /// The same, counted: at most `2 * d + 1` comparisons, where `d` is the number of binary digits of the number of boundaries. The iterator's steps make none.
+    /// The same, counted: at most `2 * d + 1` comparisons, where `d` is the number of binary digits
+    /// of the number of boundaries. The iterator's steps make none.
     #[inline]
     pub fn ranges_within_counted<'a>(
         &'a self,
@@ -334,9 +349,13 @@ impl<T: Ord, const N: usize> RangeSet<T, N> {
         self.as_ref().ranges_within_counted(within, count)
     }
 
-    /// Writes the boundaries of the operation's result to the start of `out`, and returns how many there are. Both lengths together must fit a `usize`.
+    /// Writes the boundaries of the operation's result to the start of `out`, and returns how many
+    /// there are. Both lengths together must fit a `usize`.
     ///
-    /// Of two equal boundaries this set's is written, and the rest of `out` stays as it was. It is an error exactly if `out` is too short: the error says how long it must be, and nothing is said of what `out` then holds. It takes no memory, and counts its comparisons, at most twice the weight of the two lists.
+    /// Of two equal boundaries this set's is written, and the rest of `out` stays as it was. It is
+    /// an error exactly if `out` is too short: the error says how long it must be, and nothing is
+    /// said of what `out` then holds. It takes no memory, and counts its comparisons, at most twice
+    /// the weight of the two lists.
     pub fn merge_into<O: MergeOperation>(
         &self,
         that: RangeSetRef<T>,
@@ -368,7 +387,8 @@ impl<T: RangeSetEntry, const N: usize> RangeSet<T, N> {
 }
 
 impl<T: Countable, const N: usize> RangeSet<T, N> {
-    /// The cardinality: how many values are members, or `None` if the set has no end. A set with an end has fewer members than there are values.
+    /// The cardinality: how many values are members, or `None` if the set has no end. A set with an
+    /// end has fewer members than there are values.
     ///
     /// It looks at each boundary once and takes no memory.
     pub fn covered(&self) -> Option<u128>
@@ -380,7 +400,9 @@ impl<T: Countable, const N: usize> RangeSet<T, N> {
 }
 
 impl<T: Unsigned, const N: usize> RangeSet<T, N> {
-    /// The least number from which `len` numbers lie in the range, none of them a member, or `None` if there is no such number. If `len` is 0, it is the start of the range, unless that is reversed.
+    /// The least number from which `len` numbers lie in the range, none of them a member, or `None`
+    /// if there is no such number. If `len` is 0, it is the start of the range, unless that is
+    /// reversed.
     ///
     /// It looks at each gap from the start up to the answer, and takes no memory.
     pub fn first_fit(&self, within: Range<T>, len: T) -> Option<T>
@@ -393,103 +415,5 @@ impl<T: Unsigned, const N: usize> RangeSet<T, N> {
             ¬ (Fits T.cmp T.place self.now within.start within.end len x)) }
     {
         self.as_ref().first_fit(within, len)
-    }
-}
-
-impl<T: EntryClone + MadeWith<Global> + Drop, const N: usize> RangeSet<T, N> {
-    /// The operation's result, counting the comparisons.
-    ///
-    /// Of two equal boundaries this set's is copied. It fails only if an allocation or a copy does. It makes at most twice the weight of the two lists in comparisons, even if it fails.
-    pub fn merge_new<O: MergeOperation, const M: usize>(
-        &self,
-        that: RangeSetRef<T>,
-        op: &O,
-        count: &mut Comparisons,
-    ) -> Result<RangeSet<T, M>, AllocError>
-        requires off { O.connective op.now false false ≡ false }
-        requires made { count.old < 2 ^ 64 }
-        ensures gives { GivesOperation T.cmp T.is_copy T.is_infallible (O.connective op.now) M
-            self.now that.entry.boundaries.now result }
-        ensures comparisons { AddsAtMost count.old count.new
-            (2 * weight T.cmp self.now that.entry.boundaries.now) }
-    {
-        self.as_ref().merge_new(self.allocator(), that, op, count)
-    }
-
-    /// The union: the elements that are members of either set. Of two equal boundaries this set's is copied. It fails only if an allocation or a copy does, and makes at most twice the weight of the two lists in comparisons.
-    pub fn union<const M: usize>(&self, that: RangeSetRef<T>) -> Result<RangeSet<T, M>, AllocError>
-        ensures gives { GivesOperation T.cmp T.is_copy T.is_infallible union_table M
-            self.now that.entry.boundaries.now result }
-    {
-        self.as_ref().union(self.allocator(), that)
-    }
-
-    /// The intersection: the elements that are members of both sets. Of two equal boundaries this set's is copied. It fails only if an allocation or a copy does, and makes at most twice the weight of the two lists in comparisons.
-    pub fn intersection<const M: usize>(
-        &self,
-        that: RangeSetRef<T>,
-    ) -> Result<RangeSet<T, M>, AllocError>
-        ensures gives { GivesOperation T.cmp T.is_copy T.is_infallible intersection_table M
-            self.now that.entry.boundaries.now result }
-    {
-        self.as_ref().intersection(self.allocator(), that)
-    }
-
-    /// The difference: the members of this set that aren't members of `that`. Of two equal boundaries this set's is copied. It fails only if an allocation or a copy does, and makes at most twice the weight of the two lists in comparisons.
-    pub fn difference<const M: usize>(
-        &self,
-        that: RangeSetRef<T>,
-    ) -> Result<RangeSet<T, M>, AllocError>
-        ensures gives { GivesOperation T.cmp T.is_copy T.is_infallible difference_table M
-            self.now that.entry.boundaries.now result }
-    {
-        self.as_ref().difference(self.allocator(), that)
-    }
-
-    /// The symmetric difference: the elements that are members of exactly one of the sets. Of two equal boundaries this set's is copied. It fails only if an allocation or a copy does, and makes at most twice the weight of the two lists in comparisons.
-    pub fn symmetric_difference<const M: usize>(
-        &self,
-        that: RangeSetRef<T>,
-    ) -> Result<RangeSet<T, M>, AllocError>
-        ensures gives { GivesOperation T.cmp T.is_copy T.is_infallible symmetric_difference_table M
-            self.now that.entry.boundaries.now result }
-    {
-        self.as_ref().symmetric_difference(self.allocator(), that)
-    }
-}
-
-impl<T: RangeSetEntry + EntryClone + MadeWith<Global> + Drop, const N: usize> RangeSet<T, N> {
-    /// The result of any boolean operation (a connective), counting the comparisons. If the connective is on while both sides are off, the result is that among values.
-    ///
-    /// It copies the boundaries at which the connective changes, of two equal ones this set's. If the connective is on while both sides are off, it then removes a first boundary that is the least value, or else puts the least value before the others. It makes at most twice the weight of the two lists in comparisons, even if it fails.
-    pub fn combine<O: MergeOperation, const M: usize>(
-        &self,
-        that: RangeSetRef<T>,
-        op: &O,
-        count: &mut Comparisons,
-    ) -> Result<RangeSet<T, M>, AllocError>
-        requires made { count.old < 2 ^ 64 }
-        ensures means { IfOk result (λ set. MeansAmong T.cmp T.is_value (O.connective op.now) set
-            self.now that.entry.boundaries.now) }
-        ensures left_own_item { O.connective op.now false false ≡ false → IfOk result (λ set.
-            AreCopies T.is_copy (changes T.cmp (O.connective op.now)
-            self.now that.entry.boundaries.now) set) }
-
-        // On while both sides are off: the copies, with the least value removed from the start or put there.
-        ensures flipped { O.connective op.now false false ≡ true → IfOk result (λ set.
-            AreFlipped T.cmp T.least (AreCopies T.is_copy (changes T.cmp (O.connective op.now)
-            self.now that.entry.boundaries.now)) set) }
-        ensures succeeds { O.connective op.now false false ≡ false →
-            length self.now + length that.entry.boundaries.now ≤ M →
-            All T.is_infallible self.now → All T.is_infallible that.entry.boundaries.now →
-            IsOk result }
-        ensures succeeds_flipped { O.connective op.now false false ≡ true →
-            length self.now + length that.entry.boundaries.now < M →
-            All T.is_infallible self.now → All T.is_infallible that.entry.boundaries.now →
-            T.is_min_infallible → IsOk result }
-        ensures comparisons { AddsAtMost count.old count.new
-            (2 * weight T.cmp self.now that.entry.boundaries.now) }
-    {
-        self.as_ref().combine(self.allocator(), that, op, count)
     }
 }

@@ -25,7 +25,8 @@ use std::default::MadeWith;
 use std::ops::{Range, RangeFrom, RangeFull, RangeTo};
 
 impl<T: Ord + MadeWith<Global> + Drop, const N: usize> RangeSet<T, N> {
-    /// The elements from the start up to the end, which isn't a member. An empty or reversed range gives the empty set.
+    /// The elements from the start up to the end, which isn't a member. An empty or reversed range
+    /// gives the empty set.
     pub fn from_range(alloc: Global, range: Range<T>) -> Result<Self, AllocError>
         ensures boundaries { IfOk result (λ set. set ≡ range_items T.cmp range.start range.end) }
         ensures members { IfOk result (λ set. (x : T) →
@@ -49,7 +50,8 @@ impl<T: Ord + MadeWith<Global> + Drop, const N: usize> RangeSet<T, N> {
         Ok(RangeSet::new_unchecked(one_item(alloc, range.start)?))
     }
 
-    /// The elements of the range, as `from_range` or `from_range_from` gives them. It fails only if an allocation does.
+    /// The elements of the range, as `from_range` or `from_range_from` gives them. It fails only if
+    /// an allocation does.
     pub fn from_range_set_range(alloc: Global, range: RangeSetRange<T>) -> Result<Self, AllocError>
         ensures boundaries { IfOk result (λ set. set ≡ range_boundaries T.cmp range) }
         ensures members { IfOk result (λ set. (x : T) →
@@ -62,7 +64,8 @@ impl<T: Ord + MadeWith<Global> + Drop, const N: usize> RangeSet<T, N> {
         }
     }
 
-    /// The set whose boundaries are the distinct items of the list, in order. Of equal items the first is kept.
+    /// The set whose boundaries are the distinct items of the list, in order. Of equal items the
+    /// first is kept.
     ///
     /// The sort takes memory for more than 20 items. If that fails, the list is dropped.
     pub fn from_unsorted(list: SmallVec<T, N>) -> Result<Self, AllocError>
@@ -79,7 +82,8 @@ impl<T: Ord + MadeWith<Global> + Drop, const N: usize> RangeSet<T, N> {
 }
 
 impl<T: RangeSetEntry + MadeWith<Global> + Drop, const N: usize> RangeSet<T, N> {
-    /// The values below the end. The boundaries are the least value and the end; if these are equal, there are none.
+    /// The values below the end. The boundaries are the least value and the end; if these are
+    /// equal, there are none.
     pub fn from_range_until(alloc: Global, range: RangeTo<T>) -> Result<Self, AllocError>
         ensures members { IfOk result (λ set. (x : T) →
             T.is_value x → member T.cmp set x ≡ is_lt (T.cmp x range.end)) }
@@ -174,7 +178,8 @@ impl<T: EntryClone + MadeWith<Global> + Drop, const N: usize> RangeSet<T, N> {
 
     /// The union of many sets, counting the comparisons.
     ///
-    /// It copies each boundary once. The union of the first half of the sets takes in that of the second half, and so on within each half.
+    /// It copies each boundary once. The union of the first half of the sets takes in that of the
+    /// second half, and so on within each half.
     pub fn union_all_counted(
         alloc: Global,
         sets: &[RangeSetRef<T>],
@@ -191,9 +196,12 @@ impl<T: EntryClone + MadeWith<Global> + Drop, const N: usize> RangeSet<T, N> {
         union_of(alloc, sets, count)
     }
 
-    /// The elements that lie in at least one of the ranges. The ranges may come in any order, and may overlap, touch or be empty.
+    /// The elements that lie in at least one of the ranges. The ranges may come in any order, and
+    /// may overlap, touch or be empty.
     ///
-    /// It copies the ends of each range that isn't empty. If the ranges come in the order of their starts, each is added at the set's end. Else a few at a time make a set, and halves of these are joined as `union_all` does.
+    /// It copies the ends of each range that isn't empty. If the ranges come in the order of their
+    /// starts, each is added at the set's end. Else a few at a time make a set, and halves of these
+    /// are joined as `union_all` does.
     pub fn from_ranges(alloc: Global, ranges: &[RangeSetRange<T>]) -> Result<Self, AllocError>
         ensures gives { GivesUnion T.cmp T.is_copy T.is_infallible (range_boundaries T.cmp) N
             ranges.now result }

@@ -1,10 +1,14 @@
 //! Operations that change a set in place. Of two equal boundaries, this set's own stays.
 //!
-//! Each asks for all its memory before it changes a boundary: room in this set for the boundaries of the other, and with a borrowed set a copy of each of these, even of those that aren't kept, unless copies of the element type never fail. If an allocation or a copy fails, this set is as it was, and an owned right side comes back as it was.
+//! Each asks for all its memory before it changes a boundary: room in this set for the boundaries
+//! of the other, and with a borrowed set a copy of each of these, even of those that aren't kept,
+//! unless copies of the element type never fail. If an allocation or a copy fails, this set is as
+//! it was, and an owned right side comes back as it was.
 ghost use Rattle.std.specs.Prelude.{◌≡◌, ◌*◌, ◌^◌, ◌<◌, false};
 ghost use Rattle.range_merge.specs.Connective.{union_table, intersection_table, difference_table, symmetric_difference_table};
 ghost use Rattle.range_merge.specs.Counting.{AddsAtMost};
 ghost use Rattle.range_merge.specs.Runs.{weight};
+ghost use Rattle.range_collections.specs.Headline.{BecomesTheResult, BecomesTheOwnResult, IsCounted};
 ghost use Rattle.range_collections.specs.InPlace.{IsChangedByView, IsChangedByOwned};
 
 use crate::comparisons::{Comparisons, EntryCopier};
@@ -19,9 +23,11 @@ use std::alloc::{AllocError, Global};
 use std::default::MadeWith;
 
 impl<T: EntryClone + MadeWith<Global> + Drop, const N: usize> RangeSet<T, N> {
-    /// Changes this set to the operation's result. It counts its comparisons, at most twice the weight of the two lists.
+    /// Changes this set to the operation's result. It counts its comparisons, at most twice the
+    /// weight of the two lists.
     ///
-    /// Of two equal boundaries this set's own stays. If an allocation or a copy fails, this set is as it was.
+    /// Of two equal boundaries this set's own stays. If an allocation or a copy fails, this set is
+    /// as it was.
     pub fn merge_ref<O: MergeOperation>(
         &mut self,
         that: RangeSetRef<T>,
@@ -30,6 +36,9 @@ impl<T: EntryClone + MadeWith<Global> + Drop, const N: usize> RangeSet<T, N> {
     ) -> Result<(), AllocError>
         requires off { O.connective op.now false false ≡ false }
         requires made { count.old < 2 ^ 64 }
+        ensures headline { IsCounted T.cmp self.old that.entry.boundaries.now count.old count.new
+            (BecomesTheResult T.cmp T.is_copy (O.connective op.now)
+            self.old that.entry.boundaries.now self.new result) }
         ensures changed { IsChangedByView T.cmp T.is_copy T.is_infallible (O.connective op.now) N
             self.old that.entry.boundaries.now self.new result }
         ensures comparisons { AddsAtMost count.old count.new
@@ -48,8 +57,11 @@ impl<T: EntryClone + MadeWith<Global> + Drop, const N: usize> RangeSet<T, N> {
 
     /// Keeps the elements that are members of both sets.
     ///
-    /// Of two equal boundaries this set's own stays. If an allocation or a copy fails, this set is as it was.
+    /// Of two equal boundaries this set's own stays. If an allocation or a copy fails, this set is
+    /// as it was.
     pub fn intersection_with(&mut self, that: RangeSetRef<T>) -> Result<(), AllocError>
+        ensures headline { BecomesTheResult T.cmp T.is_copy intersection_table
+            self.old that.entry.boundaries.now self.new result }
         ensures changed { IsChangedByView T.cmp T.is_copy T.is_infallible intersection_table N
             self.old that.entry.boundaries.now self.new result }
     {
@@ -58,8 +70,11 @@ impl<T: EntryClone + MadeWith<Global> + Drop, const N: usize> RangeSet<T, N> {
 
     /// Adds the members of `that`.
     ///
-    /// Of two equal boundaries this set's own stays. If an allocation or a copy fails, this set is as it was.
+    /// Of two equal boundaries this set's own stays. If an allocation or a copy fails, this set is
+    /// as it was.
     pub fn union_with(&mut self, that: RangeSetRef<T>) -> Result<(), AllocError>
+        ensures headline { BecomesTheResult T.cmp T.is_copy union_table
+            self.old that.entry.boundaries.now self.new result }
         ensures changed { IsChangedByView T.cmp T.is_copy T.is_infallible union_table N
             self.old that.entry.boundaries.now self.new result }
     {
@@ -68,8 +83,11 @@ impl<T: EntryClone + MadeWith<Global> + Drop, const N: usize> RangeSet<T, N> {
 
     /// Removes the members of `that`.
     ///
-    /// Of two equal boundaries this set's own stays. If an allocation or a copy fails, this set is as it was.
+    /// Of two equal boundaries this set's own stays. If an allocation or a copy fails, this set is
+    /// as it was.
     pub fn difference_with(&mut self, that: RangeSetRef<T>) -> Result<(), AllocError>
+        ensures headline { BecomesTheResult T.cmp T.is_copy difference_table
+            self.old that.entry.boundaries.now self.new result }
         ensures changed { IsChangedByView T.cmp T.is_copy T.is_infallible difference_table N
             self.old that.entry.boundaries.now self.new result }
     {
@@ -78,8 +96,11 @@ impl<T: EntryClone + MadeWith<Global> + Drop, const N: usize> RangeSet<T, N> {
 
     /// Leaves the elements that are members of exactly one of the sets.
     ///
-    /// Of two equal boundaries this set's own stays. If an allocation or a copy fails, this set is as it was.
+    /// Of two equal boundaries this set's own stays. If an allocation or a copy fails, this set is
+    /// as it was.
     pub fn symmetric_difference_with(&mut self, that: RangeSetRef<T>) -> Result<(), AllocError>
+        ensures headline { BecomesTheResult T.cmp T.is_copy symmetric_difference_table
+            self.old that.entry.boundaries.now self.new result }
         ensures changed { IsChangedByView T.cmp T.is_copy T.is_infallible
             symmetric_difference_table N self.old that.entry.boundaries.now self.new result }
     {
@@ -88,9 +109,11 @@ impl<T: EntryClone + MadeWith<Global> + Drop, const N: usize> RangeSet<T, N> {
 }
 
 impl<T: Ord + MadeWith<Global> + Drop, const N: usize> RangeSet<T, N> {
-    /// Changes this set to the operation's result. It counts its comparisons, at most twice the weight of the two lists.
+    /// Changes this set to the operation's result. It counts its comparisons, at most twice the
+    /// weight of the two lists.
     ///
-    /// Of two equal boundaries this set's own stays. If an allocation fails, this set is as it was, and `that` comes back with the error.
+    /// Of two equal boundaries this set's own stays. If an allocation fails, this set is as it was,
+    /// and `that` comes back with the error.
     pub fn merge_owned<O: MergeOperation>(
         &mut self,
         that: Self,
@@ -99,6 +122,8 @@ impl<T: Ord + MadeWith<Global> + Drop, const N: usize> RangeSet<T, N> {
     ) -> Result<(), (AllocError, Self)>
         requires off { O.connective op.now false false ≡ false }
         requires made { count.old < 2 ^ 64 }
+        ensures headline { IsCounted T.cmp self.old that count.old count.new
+            (BecomesTheOwnResult T.cmp (O.connective op.now) self.old that self.new result) }
         ensures changed { IsChangedByOwned T.cmp (O.connective op.now) N
             self.old that self.new result }
         ensures comparisons { AddsAtMost count.old count.new (2 * weight T.cmp self.old that) }
@@ -113,8 +138,11 @@ impl<T: Ord + MadeWith<Global> + Drop, const N: usize> RangeSet<T, N> {
 
     /// Keeps the elements that are members of both sets.
     ///
-    /// Of two equal boundaries this set's own stays. If an allocation fails, this set is as it was, and `that` comes back with the error.
+    /// Of two equal boundaries this set's own stays. If an allocation fails, this set is as it was,
+    /// and `that` comes back with the error.
     pub fn bitand_assign(&mut self, that: Self) -> Result<(), (AllocError, Self)>
+        ensures headline { BecomesTheOwnResult T.cmp intersection_table
+            self.old that self.new result }
         ensures changed { IsChangedByOwned T.cmp intersection_table N
             self.old that self.new result }
     {
@@ -123,8 +151,11 @@ impl<T: Ord + MadeWith<Global> + Drop, const N: usize> RangeSet<T, N> {
 
     /// Adds the members of `that`.
     ///
-    /// Of two equal boundaries this set's own stays. If an allocation fails, this set is as it was, and `that` comes back with the error.
+    /// Of two equal boundaries this set's own stays. If an allocation fails, this set is as it was,
+    /// and `that` comes back with the error.
     pub fn bitor_assign(&mut self, that: Self) -> Result<(), (AllocError, Self)>
+        ensures headline { BecomesTheOwnResult T.cmp union_table
+            self.old that self.new result }
         ensures changed { IsChangedByOwned T.cmp union_table N self.old that self.new result }
     {
         self.merge_owned(that, &UnionOp, &mut Comparisons::new())
@@ -132,8 +163,11 @@ impl<T: Ord + MadeWith<Global> + Drop, const N: usize> RangeSet<T, N> {
 
     /// Removes the members of `that`.
     ///
-    /// Of two equal boundaries this set's own stays. If an allocation fails, this set is as it was, and `that` comes back with the error.
+    /// Of two equal boundaries this set's own stays. If an allocation fails, this set is as it was,
+    /// and `that` comes back with the error.
     pub fn sub_assign(&mut self, that: Self) -> Result<(), (AllocError, Self)>
+        ensures headline { BecomesTheOwnResult T.cmp difference_table
+            self.old that self.new result }
         ensures changed { IsChangedByOwned T.cmp difference_table N self.old that self.new result }
     {
         self.merge_owned(that, &DiffOp, &mut Comparisons::new())
@@ -141,8 +175,11 @@ impl<T: Ord + MadeWith<Global> + Drop, const N: usize> RangeSet<T, N> {
 
     /// Leaves the elements that are members of exactly one of the sets.
     ///
-    /// Of two equal boundaries this set's own stays. If an allocation fails, this set is as it was, and `that` comes back with the error.
+    /// Of two equal boundaries this set's own stays. If an allocation fails, this set is as it was,
+    /// and `that` comes back with the error.
     pub fn bitxor_assign(&mut self, that: Self) -> Result<(), (AllocError, Self)>
+        ensures headline { BecomesTheOwnResult T.cmp symmetric_difference_table
+            self.old that self.new result }
         ensures changed { IsChangedByOwned T.cmp symmetric_difference_table N
             self.old that self.new result }
     {

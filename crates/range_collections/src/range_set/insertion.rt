@@ -1,6 +1,7 @@
 //! A range put into a set or taken out of it, in place.
 //!
-//! The start and the end are searched for. What lies between gives way to those of the two at which the set changes. The list grows by two boundaries or not at all.
+//! The start and the end are searched for. What lies between gives way to those of the two at which
+//! the set changes. The list grows by two boundaries or not at all.
 ghost use Rattle.std.specs.Prelude.{◌+◌, ◌*◌, ◌^◌, ◌<◌, length, ◌≡◌, ◌&&◌, OnOk, ◌||◌, not};
 ghost use Rattle.range_merge.specs.Connective.{union_table, difference_table};
 ghost use Rattle.range_merge.specs.Counting.{AddsAtMost};
@@ -18,11 +19,15 @@ use std::default::MadeWith;
 use std::ops::Range;
 
 impl<T: Ord + MadeWith<Global> + Drop, const N: usize> RangeSet<T, N> {
-    /// Adds the elements of the range. An empty or reversed range changes nothing. Of two equal boundaries, this set's own stays.
+    /// Adds the elements of the range. An empty or reversed range changes nothing. Of two equal
+    /// boundaries, this set's own stays.
     ///
-    /// Each call moves the boundaries after the range. If there are many ranges, make a set of them by `from_ranges` and add it by `union_with`: of 100,000 ranges at random, one call each takes over 30 times as long, and of as many in order some 4 times.
+    /// Each call moves the boundaries after the range. If there are many ranges, make a set of them
+    /// by `from_ranges` and add it by `union_with`: of 100,000 ranges at random, one call each
+    /// takes over 30 times as long, and of as many in order some 4 times.
     ///
-    /// It asks for memory only if the set grows by two boundaries and has no room for them, and before it changes anything. If that fails, the set is as it was and the range is dropped.
+    /// It asks for memory only if the set grows by two boundaries and has no room for them, and
+    /// before it changes anything. If that fails, the set is as it was and the range is dropped.
     pub fn insert(&mut self, range: Range<T>) -> Result<(), AllocError>
         ensures changed { IsChangedByRange T.cmp union_table N
             self.old (range_items T.cmp range.start range.end) self.new result }
@@ -32,7 +37,8 @@ impl<T: Ord + MadeWith<Global> + Drop, const N: usize> RangeSet<T, N> {
         self.insert_counted(range, &mut Comparisons::new())
     }
 
-    /// The same, counted: one comparison of the start with the end, and for each of the two at most as many as the number of boundaries has binary digits.
+    /// The same, counted: one comparison of the start with the end, and for each of the two at most
+    /// as many as the number of boundaries has binary digits.
     pub fn insert_counted(
         &mut self,
         range: Range<T>,
@@ -48,9 +54,11 @@ impl<T: Ord + MadeWith<Global> + Drop, const N: usize> RangeSet<T, N> {
         set_range(&mut self.list, range, true, count)
     }
 
-    /// Removes the elements of the range. An empty or reversed range changes nothing. Of two equal boundaries, this set's own stays.
+    /// Removes the elements of the range. An empty or reversed range changes nothing. Of two equal
+    /// boundaries, this set's own stays.
     ///
-    /// It asks for memory only if the set grows by two boundaries and has no room for them, and before it changes anything. If that fails, the set is as it was and the range is dropped.
+    /// It asks for memory only if the set grows by two boundaries and has no room for them, and
+    /// before it changes anything. If that fails, the set is as it was and the range is dropped.
     pub fn remove(&mut self, range: Range<T>) -> Result<(), AllocError>
         ensures changed { IsChangedByRange T.cmp difference_table N
             self.old (range_items T.cmp range.start range.end) self.new result }
@@ -60,7 +68,8 @@ impl<T: Ord + MadeWith<Global> + Drop, const N: usize> RangeSet<T, N> {
         self.remove_counted(range, &mut Comparisons::new())
     }
 
-    /// The same, counted: one comparison of the start with the end, and for each of the two at most as many as the number of boundaries has binary digits.
+    /// The same, counted: one comparison of the start with the end, and for each of the two at most
+    /// as many as the number of boundaries has binary digits.
     pub fn remove_counted(
         &mut self,
         range: Range<T>,

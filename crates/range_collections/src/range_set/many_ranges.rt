@@ -1,6 +1,9 @@
-//! The set of many ranges. Those that come in the order of their starts are added one by one, each at the set's end; else the ranges are halved, down to a few, and the sets of the halves are joined.
+//! The set of many ranges. Those that come in the order of their starts are added one by one, each
+//! at the set's end; else the ranges are halved, down to a few, and the sets of the halves are
+//! joined.
 //!
-//! What is added may come in any order: where it doesn't belong at the end, its place is searched for.
+//! What is added may come in any order: where it doesn't belong at the end, its place is searched
+//! for.
 ghost use Rattle.std.specs.Prelude.{◌≡◌, ◌+◌, ◌≤◌, true, List, ◌∷◌, [], length, IsOk, OnOk, Ok};
 ghost use Rattle.std.specs.Ordering.{is_lt};
 ghost use Rattle.std.specs.declared.cmp.Ordering.TheVariants.{Less};
@@ -122,7 +125,8 @@ fn add_all<T: Ord + MadeWith<Global> + Drop, const N: usize>(
     }
 }
 
-// Adds the elements of the range to the set with these boundaries, with copies of its ends if it has elements.
+// Adds the elements of the range to the set with these boundaries, with copies of its ends if it
+// has elements.
 fn add_range<T: EntryClone + MadeWith<Global> + Drop, const N: usize>(
     list: &mut SmallVec<T, N>,
     range: &Range<T>,
@@ -160,7 +164,8 @@ fn put<T: Ord + MadeWith<Global> + Drop, const N: usize>(
     splice(list, from, to, start, end)
 }
 
-// Where the items are cut around an element, so that an odd number stands before, and the element where it has to be put there for that. It is compared with the last two items first.
+// Where the items are cut around an element, so that an odd number stands before, and the element
+// where it has to be put there for that. It is compared with the last two items first.
 #[inline]
 fn cut_near_end<T: Ord + Drop>(items: &[T], at: T) -> (usize, Option<T>)
     requires { IsAscending T.cmp items.now }

@@ -1,8 +1,10 @@
 //! `&`, `|`, `^` and `-` on sets and references to them, and `!`, each into a new set.
 //!
-//! The form with two references does the work, and the others call it; what was owned is dropped, also where memory is refused.
-ghost use Rattle.std.specs.Prelude.{◌<◌, ◌⊎◌, All, length};
+//! The form with two references does the work, and the others call it; what was owned is dropped,
+//! also where memory is refused.
+ghost use Rattle.std.specs.Prelude.{◌<◌, ◌⊎◌, All, IfOk, length};
 ghost use Rattle.range_merge.specs.Connective.{intersection_table, union_table, symmetric_difference_table, difference_table};
+ghost use Rattle.range_collections.specs.Headline.{GivesTheResult, IsTheNegation};
 ghost use Rattle.range_collections.specs.Operators.{GivesOperation};
 ghost use Rattle.range_collections.specs.Values.{GivesNegation, GivesOwnNegation, BeginsAt};
 
@@ -22,7 +24,8 @@ impl<T: EntryClone + MadeWith<Global> + Drop, const N: usize> BitAnd<&RangeSet<T
     type Output = Result<RangeSet<T, N>, AllocError>;
 
     ghost bitand_gives = { λ a b r.
-        GivesOperation T.cmp T.is_copy T.is_infallible intersection_table N a.now b.now r };
+        GivesOperation T.cmp T.is_copy T.is_infallible intersection_table N a.now b.now r
+        × GivesTheResult T.cmp T.is_copy intersection_table a.now b.now r };
 
     /// The intersection, as `intersection` gives it. It fails only if an allocation or a copy does.
     fn bitand(self, that: &RangeSet<T, N>) -> Result<RangeSet<T, N>, AllocError> {
@@ -35,7 +38,8 @@ impl<T: EntryClone + MadeWith<Global> + Drop, const N: usize> BitAnd<RangeSet<T,
     type Output = Result<RangeSet<T, N>, AllocError>;
 
     ghost bitand_gives = { λ a b r.
-        GivesOperation T.cmp T.is_copy T.is_infallible intersection_table N a.now b r };
+        GivesOperation T.cmp T.is_copy T.is_infallible intersection_table N a.now b r
+        × GivesTheResult T.cmp T.is_copy intersection_table a.now b r };
 
     /// The same of a reference and a set, which is dropped even if it fails.
     fn bitand(self, that: RangeSet<T, N>) -> Result<RangeSet<T, N>, AllocError> {
@@ -48,7 +52,8 @@ impl<T: EntryClone + MadeWith<Global> + Drop, const N: usize> BitAnd<&RangeSet<T
     type Output = Result<RangeSet<T, N>, AllocError>;
 
     ghost bitand_gives = { λ a b r.
-        GivesOperation T.cmp T.is_copy T.is_infallible intersection_table N a b.now r };
+        GivesOperation T.cmp T.is_copy T.is_infallible intersection_table N a b.now r
+        × GivesTheResult T.cmp T.is_copy intersection_table a b.now r };
 
     /// The same of a set, which is dropped even if it fails, and a reference.
     fn bitand(self, that: &RangeSet<T, N>) -> Result<RangeSet<T, N>, AllocError> {
@@ -60,7 +65,8 @@ impl<T: EntryClone + MadeWith<Global> + Drop, const N: usize> BitAnd for RangeSe
     type Output = Result<RangeSet<T, N>, AllocError>;
 
     ghost bitand_gives = { λ a b r.
-        GivesOperation T.cmp T.is_copy T.is_infallible intersection_table N a b r };
+        GivesOperation T.cmp T.is_copy T.is_infallible intersection_table N a b r
+        × GivesTheResult T.cmp T.is_copy intersection_table a b r };
 
     /// The same of two sets, which are dropped even if it fails.
     fn bitand(self, that: RangeSet<T, N>) -> Result<RangeSet<T, N>, AllocError> {
@@ -73,7 +79,8 @@ impl<T: EntryClone + MadeWith<Global> + Drop, const N: usize> BitOr<&RangeSet<T,
     type Output = Result<RangeSet<T, N>, AllocError>;
 
     ghost bitor_gives = { λ a b r.
-        GivesOperation T.cmp T.is_copy T.is_infallible union_table N a.now b.now r };
+        GivesOperation T.cmp T.is_copy T.is_infallible union_table N a.now b.now r
+        × GivesTheResult T.cmp T.is_copy union_table a.now b.now r };
 
     /// The union, as `union` gives it. It fails only if an allocation or a copy does.
     fn bitor(self, that: &RangeSet<T, N>) -> Result<RangeSet<T, N>, AllocError> {
@@ -86,7 +93,8 @@ impl<T: EntryClone + MadeWith<Global> + Drop, const N: usize> BitOr<RangeSet<T, 
     type Output = Result<RangeSet<T, N>, AllocError>;
 
     ghost bitor_gives = { λ a b r.
-        GivesOperation T.cmp T.is_copy T.is_infallible union_table N a.now b r };
+        GivesOperation T.cmp T.is_copy T.is_infallible union_table N a.now b r
+        × GivesTheResult T.cmp T.is_copy union_table a.now b r };
 
     /// The same of a reference and a set, which is dropped even if it fails.
     fn bitor(self, that: RangeSet<T, N>) -> Result<RangeSet<T, N>, AllocError> {
@@ -99,7 +107,8 @@ impl<T: EntryClone + MadeWith<Global> + Drop, const N: usize> BitOr<&RangeSet<T,
     type Output = Result<RangeSet<T, N>, AllocError>;
 
     ghost bitor_gives = { λ a b r.
-        GivesOperation T.cmp T.is_copy T.is_infallible union_table N a b.now r };
+        GivesOperation T.cmp T.is_copy T.is_infallible union_table N a b.now r
+        × GivesTheResult T.cmp T.is_copy union_table a b.now r };
 
     /// The same of a set, which is dropped even if it fails, and a reference.
     fn bitor(self, that: &RangeSet<T, N>) -> Result<RangeSet<T, N>, AllocError> {
@@ -111,7 +120,8 @@ impl<T: EntryClone + MadeWith<Global> + Drop, const N: usize> BitOr for RangeSet
     type Output = Result<RangeSet<T, N>, AllocError>;
 
     ghost bitor_gives = { λ a b r.
-        GivesOperation T.cmp T.is_copy T.is_infallible union_table N a b r };
+        GivesOperation T.cmp T.is_copy T.is_infallible union_table N a b r
+        × GivesTheResult T.cmp T.is_copy union_table a b r };
 
     /// The same of two sets, which are dropped even if it fails.
     fn bitor(self, that: RangeSet<T, N>) -> Result<RangeSet<T, N>, AllocError> {
@@ -124,9 +134,11 @@ impl<T: EntryClone + MadeWith<Global> + Drop, const N: usize> BitXor<&RangeSet<T
     type Output = Result<RangeSet<T, N>, AllocError>;
 
     ghost bitxor_gives = { λ a b r.
-        GivesOperation T.cmp T.is_copy T.is_infallible symmetric_difference_table N a.now b.now r };
+        GivesOperation T.cmp T.is_copy T.is_infallible symmetric_difference_table N a.now b.now r
+        × GivesTheResult T.cmp T.is_copy symmetric_difference_table a.now b.now r };
 
-    /// The symmetric difference, as `symmetric_difference` gives it. It fails only if an allocation or a copy does.
+    /// The symmetric difference, as `symmetric_difference` gives it. It fails only if an allocation
+    /// or a copy does.
     fn bitxor(self, that: &RangeSet<T, N>) -> Result<RangeSet<T, N>, AllocError> {
         self.symmetric_difference(that.as_ref())
     }
@@ -137,7 +149,8 @@ impl<T: EntryClone + MadeWith<Global> + Drop, const N: usize> BitXor<RangeSet<T,
     type Output = Result<RangeSet<T, N>, AllocError>;
 
     ghost bitxor_gives = { λ a b r.
-        GivesOperation T.cmp T.is_copy T.is_infallible symmetric_difference_table N a.now b r };
+        GivesOperation T.cmp T.is_copy T.is_infallible symmetric_difference_table N a.now b r
+        × GivesTheResult T.cmp T.is_copy symmetric_difference_table a.now b r };
 
     /// The same of a reference and a set, which is dropped even if it fails.
     fn bitxor(self, that: RangeSet<T, N>) -> Result<RangeSet<T, N>, AllocError> {
@@ -150,7 +163,8 @@ impl<T: EntryClone + MadeWith<Global> + Drop, const N: usize> BitXor<&RangeSet<T
     type Output = Result<RangeSet<T, N>, AllocError>;
 
     ghost bitxor_gives = { λ a b r.
-        GivesOperation T.cmp T.is_copy T.is_infallible symmetric_difference_table N a b.now r };
+        GivesOperation T.cmp T.is_copy T.is_infallible symmetric_difference_table N a b.now r
+        × GivesTheResult T.cmp T.is_copy symmetric_difference_table a b.now r };
 
     /// The same of a set, which is dropped even if it fails, and a reference.
     fn bitxor(self, that: &RangeSet<T, N>) -> Result<RangeSet<T, N>, AllocError> {
@@ -162,7 +176,8 @@ impl<T: EntryClone + MadeWith<Global> + Drop, const N: usize> BitXor for RangeSe
     type Output = Result<RangeSet<T, N>, AllocError>;
 
     ghost bitxor_gives = { λ a b r.
-        GivesOperation T.cmp T.is_copy T.is_infallible symmetric_difference_table N a b r };
+        GivesOperation T.cmp T.is_copy T.is_infallible symmetric_difference_table N a b r
+        × GivesTheResult T.cmp T.is_copy symmetric_difference_table a b r };
 
     /// The same of two sets, which are dropped even if it fails.
     fn bitxor(self, that: RangeSet<T, N>) -> Result<RangeSet<T, N>, AllocError> {
@@ -175,7 +190,8 @@ impl<T: EntryClone + MadeWith<Global> + Drop, const N: usize> Sub<&RangeSet<T, N
     type Output = Result<RangeSet<T, N>, AllocError>;
 
     ghost sub_gives = { λ a b r.
-        GivesOperation T.cmp T.is_copy T.is_infallible difference_table N a.now b.now r };
+        GivesOperation T.cmp T.is_copy T.is_infallible difference_table N a.now b.now r
+        × GivesTheResult T.cmp T.is_copy difference_table a.now b.now r };
 
     /// The difference, as `difference` gives it. It fails only if an allocation or a copy does.
     fn sub(self, that: &RangeSet<T, N>) -> Result<RangeSet<T, N>, AllocError> {
@@ -188,7 +204,8 @@ impl<T: EntryClone + MadeWith<Global> + Drop, const N: usize> Sub<RangeSet<T, N>
     type Output = Result<RangeSet<T, N>, AllocError>;
 
     ghost sub_gives = { λ a b r.
-        GivesOperation T.cmp T.is_copy T.is_infallible difference_table N a.now b r };
+        GivesOperation T.cmp T.is_copy T.is_infallible difference_table N a.now b r
+        × GivesTheResult T.cmp T.is_copy difference_table a.now b r };
 
     /// The same of a reference and a set, which is dropped even if it fails.
     fn sub(self, that: RangeSet<T, N>) -> Result<RangeSet<T, N>, AllocError> {
@@ -201,7 +218,8 @@ impl<T: EntryClone + MadeWith<Global> + Drop, const N: usize> Sub<&RangeSet<T, N
     type Output = Result<RangeSet<T, N>, AllocError>;
 
     ghost sub_gives = { λ a b r.
-        GivesOperation T.cmp T.is_copy T.is_infallible difference_table N a b.now r };
+        GivesOperation T.cmp T.is_copy T.is_infallible difference_table N a b.now r
+        × GivesTheResult T.cmp T.is_copy difference_table a b.now r };
 
     /// The same of a set, which is dropped even if it fails, and a reference.
     fn sub(self, that: &RangeSet<T, N>) -> Result<RangeSet<T, N>, AllocError> {
@@ -213,7 +231,8 @@ impl<T: EntryClone + MadeWith<Global> + Drop, const N: usize> Sub for RangeSet<T
     type Output = Result<RangeSet<T, N>, AllocError>;
 
     ghost sub_gives = { λ a b r.
-        GivesOperation T.cmp T.is_copy T.is_infallible difference_table N a b r };
+        GivesOperation T.cmp T.is_copy T.is_infallible difference_table N a b r
+        × GivesTheResult T.cmp T.is_copy difference_table a b r };
 
     /// The same of two sets, which are dropped even if it fails.
     fn sub(self, that: RangeSet<T, N>) -> Result<RangeSet<T, N>, AllocError> {
@@ -226,9 +245,12 @@ impl<T: RangeSetEntry + MadeWith<Global> + Drop, const N: usize> Not for RangeSe
 
     ghost not_gives = { λ a r.
         GivesOwnNegation T.cmp T.is_value T.least
-        (BeginsAt T.cmp T.least a ⊎ ((length a < N) × T.is_min_infallible)) a r };
+        (BeginsAt T.cmp T.least a ⊎ ((length a < N) × T.is_min_infallible)) a r
+        × IfOk r (IsTheNegation T.cmp T.is_value a) };
 
-    /// The complement. It removes a first boundary that is the least value, or else puts the least value before the others, which are the set's own. The clause says the members among values, and the list, item by item.
+    /// The complement. It removes a first boundary that is the least value, or else puts the least
+    /// value before the others, which are the set's own. The clause says the members among values,
+    /// and the list, item by item.
     fn not(self) -> Result<RangeSet<T, N>, AllocError> {
         let alloc = self.allocator();
         let mut list = self.into_inner();
@@ -251,9 +273,12 @@ impl<T: RangeSetEntry + EntryClone + MadeWith<Global> + Drop, const N: usize> No
 
     ghost not_gives = { λ a r.
         GivesNegation T.cmp T.is_value T.is_copy T.least
-        ((length a.now < N) × All T.is_infallible a.now × T.is_min_infallible) a.now r };
+        ((length a.now < N) × All T.is_infallible a.now × T.is_min_infallible) a.now r
+        × IfOk r (IsTheNegation T.cmp T.is_value a.now) };
 
-    /// The complement, as the connective "not left" of this set and the empty one. It copies the boundaries, and removes a first one that is the least value, or else puts the least value before the others. It makes at most twice the weight of the two lists in comparisons.
+    /// The complement, as the connective "not left" of this set and the empty one. It copies the
+    /// boundaries, and removes a first one that is the least value, or else puts the least value
+    /// before the others. It makes at most twice the weight of the two lists in comparisons.
     fn not(self) -> Result<RangeSet<T, N>, AllocError> {
         changes_are_marked_truly::<T, Comparisons>();
         changes_mean_the_opposite::<T, Comparisons>();

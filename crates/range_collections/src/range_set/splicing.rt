@@ -1,4 +1,5 @@
-//! One range set in a list of boundaries: the list is cut around the start and around the end, and what lies between the cuts gives way to those of the two that are put.
+//! One range set in a list of boundaries: the list is cut around the start and around the end, and
+//! what lies between the cuts gives way to those of the two that are put.
 ghost use Rattle.std.specs.Prelude.{◌≡◌, ◌+◌, ◌*◌, ◌≤◌, ◌<◌, ◌^◌, ◌⊎◌, ◌∷◌, ◌++◌, false, [], List, length, take, drop, IsOk, OnOk, OnErr};
 ghost use Rattle.std.specs.Option.{option_to_list};
 ghost use Rattle.std.specs.Ordering.{is_lt};
@@ -17,9 +18,12 @@ use range_merge::search;
 use smallvec::SmallVec;
 use std::alloc::{AllocError, Global};
 use std::default::MadeWith;
+use std::mem;
 use std::ops::Range;
 
-// Leaves in the list the boundaries of the same members, but that the elements of the range are members where `inside` is true, and else no members. It asks for memory only where the list grows by two and has no room for two more, and before it changes anything.
+// Leaves in the list the boundaries of the same members, but that the elements of the range are
+// members where `inside` is true, and else no members. It asks for memory only where the list grows
+// by two and has no room for two more, and before it changes anything.
 pub(crate) fn set_range<T: Ord + MadeWith<Global> + Drop, const N: usize>(
     list: &mut SmallVec<T, N>,
     range: Range<T>,
@@ -51,7 +55,9 @@ pub(crate) fn set_range<T: Ord + MadeWith<Global> + Drop, const N: usize>(
     splice(list, from, to, start, end)
 }
 
-// Where the items are cut around an element, so that an odd number stands before exactly if `inside`, and the element where it has to be put there for that. An item that is equal to it stands before the cut or after it, as the number asks.
+// Where the items are cut around an element, so that an odd number stands before exactly if
+// `inside`, and the element where it has to be put there for that. An item that is equal to it
+// stands before the cut or after it, as the number asks.
 #[inline]
 pub(super) fn cut_at<T: Ord + Drop>(
     items: &[T],
@@ -72,7 +78,8 @@ pub(super) fn cut_at<T: Ord + Drop>(
     }
 }
 
-// Replaces the items between `from` and `to` by the start and the end, where they are given. It asks for memory only if both are put and nothing gives way.
+// Replaces the items between `from` and `to` by the start and the end, where they are given. It
+// asks for memory only if both are put and nothing gives way.
 pub(super) fn splice<T: MadeWith<Global> + Drop, const N: usize>(
     list: &mut SmallVec<T, N>,
     from: usize,
@@ -99,7 +106,8 @@ pub(super) fn splice<T: MadeWith<Global> + Drop, const N: usize>(
     }
 }
 
-// Replaces the items between `from` and `to` by at most as many.
+// Replaces the items between `from` and `to` by at most as many. In Rust a drop may panic, so those
+// that give way to the start and the end are dropped once the list is whole.
 fn replace_between<T: MadeWith<Global> + Drop, const N: usize>(
     list: &mut SmallVec<T, N>,
     from: usize,
@@ -111,36 +119,42 @@ fn replace_between<T: MadeWith<Global> + Drop, const N: usize>(
     requires within { to ≤ length list.old.items }
     ensures items { list.new.items ≡ spliced list.old.items from to start end }
 {
-    let after = overwrite_both(list.as_mut_slice(), from, start, end);
+    let (after, _replaced) = replace_both(list.as_mut_slice(), from, start, end);
     list.drain(after..to);
 }
 
-// Replaces as many items from index `from` on by the start and the end, where they are given. Returns the index after them.
+// Replaces as many items from index `from` on by the start and the end, where they are given.
+// Returns the index after them, and what they replaced.
 #[inline(always)]
-fn overwrite_both<T: Drop>(items: &mut [T], from: usize, start: Option<T>, end: Option<T>) -> usize
+fn replace_both<T: Drop>(
+    items: &mut [T],
+    from: usize,
+    start: Option<T>,
+    end: Option<T>,
+) -> (usize, (Option<T>, Option<T>))
     requires { from + length (option_to_list start) + length (option_to_list end) ≤
         length items.old }
-    ensures items { items.new ≡ spliced items.old from result start end }
-    ensures after { result ≡ from + length (option_to_list start) + length (option_to_list end) }
+    ensures items { items.new ≡ spliced items.old from result.0 start end }
+    ensures after { result.0 ≡
+        from + length (option_to_list start) + length (option_to_list end) }
 {
-    let after = overwrite(items, from, start);
-    overwrite(items, after, end)
+    let (next, first) = replace(items, from, start);
+    let (after, second) = replace(items, next, end);
+    (after, (first, second))
 }
 
-// Replaces the item at index `at` by this one, if there is one. Returns the index after it.
+// Replaces the item at index `at` by this one, if there is one. Returns the index after it, and
+// what it replaced.
 #[inline(always)]
-fn overwrite<T: Drop>(items: &mut [T], at: usize, item: Option<T>) -> usize
+fn replace<T: Drop>(items: &mut [T], at: usize, item: Option<T>) -> (usize, Option<T>)
     requires { at + length (option_to_list item) ≤ length items.old }
     ensures items { items.new ≡
-        take at items.old ++ (option_to_list item ++ drop result items.old) }
-    ensures after { result ≡ at + length (option_to_list item) }
+        take at items.old ++ (option_to_list item ++ drop result.0 items.old) }
+    ensures after { result.0 ≡ at + length (option_to_list item) }
 {
     match item {
-        Some(item) => {
-            items[at] = item;
-            at + 1
-        }
-        None => at,
+        Some(item) => (at + 1, Some(mem::replace(&mut items[at], item))),
+        None => (at, None),
     }
 }
 
@@ -176,7 +190,8 @@ fn move_last_two<T>(items: &mut [T], at: usize)
     last_two_to_front(&mut items[at..]);
 }
 
-// So many items are turned by two places at once, which first clears a buffer of 4 KB. Fewer are turned twice by one place, which takes none.
+// So many items are turned by two places at once, which first clears a buffer of 4 KB. Fewer are
+// turned twice by one place, which takes none.
 const MANY: usize = 512;
 
 // Moves the last two items to the front.

@@ -1,4 +1,5 @@
-//! The texts of sets of characters, quoted as Rust prints them: `'a'..'{'`. The contracts have the bytes where all boundaries are ASCII; of others the library says nothing.
+//! The texts of sets of characters, quoted as Rust prints them: `'a'..'{'`. The contracts have the
+//! bytes where all boundaries are ASCII; of others the library says nothing.
 use crate::range_set::RangeSet;
 use crate::range_set_range::{RangeSetRange, write_range};
 use crate::text::write_ranges;

@@ -11,7 +11,8 @@ use crate::view::RangeSetRef;
 use std::ops::Range;
 
 impl<'a, T: Countable> RangeSetRef<'a, T> {
-    /// The cardinality: how many values are members, or `None` if the set has no end. A set with an end has fewer members than there are values.
+    /// The cardinality: how many values are members, or `None` if the set has no end. A set with an
+    /// end has fewer members than there are values.
     ///
     /// It looks at each boundary once and takes no memory.
     pub fn covered(&self) -> Option<u128>
@@ -26,7 +27,9 @@ impl<'a, T: Countable> RangeSetRef<'a, T> {
 }
 
 impl<'a, T: Unsigned> RangeSetRef<'a, T> {
-    /// The least number from which `len` numbers lie in the range, none of them a member, or `None` if there is no such number. If `len` is 0, it is the start of the range, unless that is reversed.
+    /// The least number from which `len` numbers lie in the range, none of them a member, or `None`
+    /// if there is no such number. If `len` is 0, it is the start of the range, unless that is
+    /// reversed.
     ///
     /// It looks at each gap from the start up to the answer, and takes no memory.
     pub fn first_fit(&self, within: Range<T>, len: T) -> Option<T>

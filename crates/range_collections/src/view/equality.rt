@@ -1,4 +1,5 @@
-//! Views compared: equal if their members are the same, which is that their boundaries are equal item by item, and in the lexicographic order of their boundaries.
+//! Views compared: equal if their members are the same, which is that their boundaries are equal
+//! item by item, and in the lexicographic order of their boundaries.
 ghost use Rattle.std.specs.Prelude.{◌≡◌, ◌↔◌, IsTrue, Some};
 ghost use Rattle.std.proofs.Common.{refl};
 ghost use Rattle.std.specs.Cmp.{on_per, on_equiv, on_total, po};

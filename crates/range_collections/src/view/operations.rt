@@ -1,10 +1,12 @@
-//! Operations on two views: into a new set with copies of their boundaries, or into a borrowed slice, which takes no memory. Of two equal boundaries, this set's is taken.
+//! Operations on two views: into a new set with copies of their boundaries, or into a borrowed
+//! slice, which takes no memory. Of two equal boundaries, this set's is taken.
 ghost use Rattle.std.specs.Prelude.{◌≡◌, ◌+◌, ◌*◌, ◌^◌, ◌<◌, ◌≤◌, false, length, All, IsOk, IfOk, true};
 ghost use Rattle.range_merge.specs.Changes.{changes};
 ghost use Rattle.range_merge.specs.Connective.{Means, opposite, union_table, intersection_table, difference_table, symmetric_difference_table};
 ghost use Rattle.range_merge.specs.Copies.{AreCopies};
 ghost use Rattle.range_merge.specs.Counting.{AddsAtMost};
 ghost use Rattle.range_merge.specs.Runs.{weight};
+ghost use Rattle.range_collections.specs.Headline.{GivesTheResult, IsTheResult, IsCounted};
 ghost use Rattle.range_collections.specs.Operators.{GivesOperation};
 ghost use Rattle.range_collections.specs.Values.{MeansAmong, AreFlipped};
 ghost use Rattle.range_collections.specs.Buffers.{WritesOperation};
@@ -15,7 +17,8 @@ use crate::range_set::RangeSet;
 use crate::view::RangeSetRef;
 use range_entry::{EntryClone, RangeSetEntry};
 use range_merge::laws::{
-    changes_are_at_most_the_lengths, changes_mean_the_connective, changes_mean_the_opposite,
+    changes_are_at_most_the_lengths, changes_are_marked_truly, changes_mean_the_connective,
+    changes_mean_the_opposite,
 };
 use range_merge::{
     BufferMergeState, DiffOp, IntersectionOp, MergeOperation, NoRoom, SmallVecMergeState, UnionOp,
@@ -28,7 +31,8 @@ use std::default::MadeWith;
 impl<'a, T: EntryClone + MadeWith<Global> + Drop> RangeSetRef<'a, T> {
     /// The operation's result, counting the comparisons.
     ///
-    /// Of two equal boundaries this set's is copied. It fails only if an allocation or a copy does. It makes at most twice the weight of the two lists in comparisons, even if it fails.
+    /// Of two equal boundaries this set's is copied. It fails only if an allocation or a copy does.
+    /// It makes at most twice the weight of the two lists in comparisons, even if it fails.
     pub fn merge_new<O: MergeOperation, const M: usize>(
         &self,
         alloc: Global,
@@ -38,6 +42,9 @@ impl<'a, T: EntryClone + MadeWith<Global> + Drop> RangeSetRef<'a, T> {
     ) -> Result<RangeSet<T, M>, AllocError>
         requires off { O.connective op.now false false ≡ false }
         requires made { count.old < 2 ^ 64 }
+        ensures headline { IsCounted T.cmp self.now.boundaries.now that.entry.boundaries.now
+            count.old count.new (GivesTheResult T.cmp T.is_copy (O.connective op.now)
+            self.now.boundaries.now that.entry.boundaries.now result) }
         ensures gives { GivesOperation T.cmp T.is_copy T.is_infallible (O.connective op.now) M
             self.now.boundaries.now that.entry.boundaries.now result }
         ensures comparisons { AddsAtMost count.old count.new
@@ -46,7 +53,8 @@ impl<'a, T: EntryClone + MadeWith<Global> + Drop> RangeSetRef<'a, T> {
         self.merged(alloc, that, op, count)
     }
 
-    // The set of copies of the boundaries at which the connective changes. Its members are what the operation says, or where the connective is on while both sides are off, the others.
+    // The set of copies of the boundaries at which the connective changes. Its members are what the
+    // operation says, or where the connective is on while both sides are off, the others.
     pub(super) fn merged<O: MergeOperation, const M: usize>(
         &self,
         alloc: Global,
@@ -55,6 +63,9 @@ impl<'a, T: EntryClone + MadeWith<Global> + Drop> RangeSetRef<'a, T> {
         count: &mut Comparisons,
     ) -> Result<RangeSet<T, M>, AllocError>
         requires made { count.old < 2 ^ 64 }
+        ensures headline { O.connective op.now false false ≡ false →
+            GivesTheResult T.cmp T.is_copy (O.connective op.now)
+            self.now.boundaries.now that.entry.boundaries.now result }
         ensures gives { O.connective op.now false false ≡ false →
             GivesOperation T.cmp T.is_copy T.is_infallible (O.connective op.now) M
             self.now.boundaries.now that.entry.boundaries.now result }
@@ -73,6 +84,7 @@ impl<'a, T: EntryClone + MadeWith<Global> + Drop> RangeSetRef<'a, T> {
     {
         changes_mean_the_connective::<T, Comparisons>();
         changes_mean_the_opposite::<T, Comparisons>();
+        changes_are_marked_truly::<T, Comparisons>();
         let mut list = SmallVecMergeState::<T, EntryCopier, M>::merge(
             SmallVec::new(alloc),
             self.boundaries,
@@ -87,12 +99,15 @@ impl<'a, T: EntryClone + MadeWith<Global> + Drop> RangeSetRef<'a, T> {
 
     /// The union: the elements that are members of either set.
     ///
-    /// Of two equal boundaries this set's is copied. It fails only if an allocation or a copy does, and makes at most twice the weight of the two lists in comparisons.
+    /// Of two equal boundaries this set's is copied. It fails only if an allocation or a copy does,
+    /// and makes at most twice the weight of the two lists in comparisons.
     pub fn union<const M: usize>(
         &self,
         alloc: Global,
         that: RangeSetRef<T>,
     ) -> Result<RangeSet<T, M>, AllocError>
+        ensures headline { GivesTheResult T.cmp T.is_copy union_table
+            self.now.boundaries.now that.entry.boundaries.now result }
         ensures gives { GivesOperation T.cmp T.is_copy T.is_infallible union_table M
             self.now.boundaries.now that.entry.boundaries.now result }
     {
@@ -101,12 +116,15 @@ impl<'a, T: EntryClone + MadeWith<Global> + Drop> RangeSetRef<'a, T> {
 
     /// The intersection: the elements that are members of both sets.
     ///
-    /// Of two equal boundaries this set's is copied. It fails only if an allocation or a copy does, and makes at most twice the weight of the two lists in comparisons.
+    /// Of two equal boundaries this set's is copied. It fails only if an allocation or a copy does,
+    /// and makes at most twice the weight of the two lists in comparisons.
     pub fn intersection<const M: usize>(
         &self,
         alloc: Global,
         that: RangeSetRef<T>,
     ) -> Result<RangeSet<T, M>, AllocError>
+        ensures headline { GivesTheResult T.cmp T.is_copy intersection_table
+            self.now.boundaries.now that.entry.boundaries.now result }
         ensures gives { GivesOperation T.cmp T.is_copy T.is_infallible intersection_table M
             self.now.boundaries.now that.entry.boundaries.now result }
     {
@@ -115,12 +133,15 @@ impl<'a, T: EntryClone + MadeWith<Global> + Drop> RangeSetRef<'a, T> {
 
     /// The difference: the members of this set that aren't members of `that`.
     ///
-    /// Of two equal boundaries this set's is copied. It fails only if an allocation or a copy does, and makes at most twice the weight of the two lists in comparisons.
+    /// Of two equal boundaries this set's is copied. It fails only if an allocation or a copy does,
+    /// and makes at most twice the weight of the two lists in comparisons.
     pub fn difference<const M: usize>(
         &self,
         alloc: Global,
         that: RangeSetRef<T>,
     ) -> Result<RangeSet<T, M>, AllocError>
+        ensures headline { GivesTheResult T.cmp T.is_copy difference_table
+            self.now.boundaries.now that.entry.boundaries.now result }
         ensures gives { GivesOperation T.cmp T.is_copy T.is_infallible difference_table M
             self.now.boundaries.now that.entry.boundaries.now result }
     {
@@ -129,12 +150,15 @@ impl<'a, T: EntryClone + MadeWith<Global> + Drop> RangeSetRef<'a, T> {
 
     /// The symmetric difference: the elements that are members of exactly one of the sets.
     ///
-    /// Of two equal boundaries this set's is copied. It fails only if an allocation or a copy does, and makes at most twice the weight of the two lists in comparisons.
+    /// Of two equal boundaries this set's is copied. It fails only if an allocation or a copy does,
+    /// and makes at most twice the weight of the two lists in comparisons.
     pub fn symmetric_difference<const M: usize>(
         &self,
         alloc: Global,
         that: RangeSetRef<T>,
     ) -> Result<RangeSet<T, M>, AllocError>
+        ensures headline { GivesTheResult T.cmp T.is_copy symmetric_difference_table
+            self.now.boundaries.now that.entry.boundaries.now result }
         ensures gives { GivesOperation T.cmp T.is_copy T.is_infallible symmetric_difference_table M
             self.now.boundaries.now that.entry.boundaries.now result }
     {
@@ -143,9 +167,13 @@ impl<'a, T: EntryClone + MadeWith<Global> + Drop> RangeSetRef<'a, T> {
 }
 
 impl<'a, T: RangeSetEntry + EntryClone + MadeWith<Global> + Drop> RangeSetRef<'a, T> {
-    /// The result of any boolean operation (a connective), counting the comparisons. If the connective is on while both sides are off, the result is that among values.
+    /// The result of any boolean operation (a connective), counting the comparisons. If the
+    /// connective is on while both sides are off, the result is that among values.
     ///
-    /// It copies the boundaries at which the connective changes, of two equal ones this set's. If the connective is on while both sides are off, it then removes a first boundary that is the least value, or else puts the least value before the others. It makes at most twice the weight of the two lists in comparisons, even if it fails.
+    /// It copies the boundaries at which the connective changes, of two equal ones this set's. If
+    /// the connective is on while both sides are off, it then removes a first boundary that is the
+    /// least value, or else puts the least value before the others. It makes at most twice the
+    /// weight of the two lists in comparisons, even if it fails.
     pub fn combine<O: MergeOperation, const M: usize>(
         &self,
         alloc: Global,
@@ -154,13 +182,17 @@ impl<'a, T: RangeSetEntry + EntryClone + MadeWith<Global> + Drop> RangeSetRef<'a
         count: &mut Comparisons,
     ) -> Result<RangeSet<T, M>, AllocError>
         requires made { count.old < 2 ^ 64 }
+        ensures headline { IsCounted T.cmp self.now.boundaries.now that.entry.boundaries.now
+            count.old count.new (IfOk result (IsTheResult T.cmp T.is_value (O.connective op.now)
+            self.now.boundaries.now that.entry.boundaries.now T.is_copy T.is_copy)) }
         ensures means { IfOk result (λ set. MeansAmong T.cmp T.is_value (O.connective op.now) set
             self.now.boundaries.now that.entry.boundaries.now) }
         ensures left_own_item { O.connective op.now false false ≡ false → IfOk result (λ set.
             AreCopies T.is_copy (changes T.cmp (O.connective op.now)
             self.now.boundaries.now that.entry.boundaries.now) set) }
 
-        // On while both sides are off: the copies, with the least value removed from the start or put there.
+        // On while both sides are off: the copies, with the least value removed from the start or
+        // put there.
         ensures flipped { O.connective op.now false false ≡ true → IfOk result (λ set.
             AreFlipped T.cmp T.least (AreCopies T.is_copy (changes T.cmp (O.connective op.now)
             self.now.boundaries.now that.entry.boundaries.now)) set) }
@@ -176,6 +208,7 @@ impl<'a, T: RangeSetEntry + EntryClone + MadeWith<Global> + Drop> RangeSetRef<'a
             (2 * weight T.cmp self.now.boundaries.now that.entry.boundaries.now) }
     {
         changes_are_at_most_the_lengths::<T, Comparisons>();
+        changes_are_marked_truly::<T, Comparisons>();
         let merged = self.merged(alloc, that, op, count)?;
         let flips = op.when_off();
         if flips { !merged } else { Ok(merged) }
@@ -183,9 +216,13 @@ impl<'a, T: RangeSetEntry + EntryClone + MadeWith<Global> + Drop> RangeSetRef<'a
 }
 
 impl<'a, T: Ord> RangeSetRef<'a, T> {
-    /// Writes the boundaries of the operation's result to the start of `out`, and returns how many there are. Both lengths together must fit a `usize`.
+    /// Writes the boundaries of the operation's result to the start of `out`, and returns how many
+    /// there are. Both lengths together must fit a `usize`.
     ///
-    /// Of two equal boundaries this set's is written, and the rest of `out` stays as it was. It is an error exactly if `out` is too short: the error says how long it must be, and nothing is said of what `out` then holds. It takes no memory, and counts its comparisons, at most twice the weight of the two lists.
+    /// Of two equal boundaries this set's is written, and the rest of `out` stays as it was. It is
+    /// an error exactly if `out` is too short: the error says how long it must be, and nothing is
+    /// said of what `out` then holds. It takes no memory, and counts its comparisons, at most twice
+    /// the weight of the two lists.
     pub fn merge_into<O: MergeOperation>(
         &self,
         that: RangeSetRef<T>,

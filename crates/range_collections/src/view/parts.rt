@@ -1,4 +1,5 @@
-//! The parts of a view: it cut in two at an element, and the parts of a range of elements that are in it or not. They are slices of the view's own list, and nothing is copied.
+//! The parts of a view: it cut in two at an element, and the parts of a range of elements that are
+//! in it or not. They are slices of the view's own list, and nothing is copied.
 ghost use Rattle.std.specs.Prelude.{◌≡◌, ◌+◌, ◌<◌, ◌≤◌, ◌^◌, length, take, drop, ◌*◌, ◌&&◌, not};
 ghost use Rattle.range_merge.specs.Counting.{AddsAtMost};
 ghost use Rattle.range_merge.specs.Runs.{digits};
@@ -17,7 +18,8 @@ use range_merge::{count_up_to, search};
 use std::ops::Range;
 
 impl<'a, T: Ord> RangeSetRef<'a, T> {
-    /// The shortest list with the same members below `at`, and the shortest one with the same members from `at` on.
+    /// The shortest list with the same members below `at`, and the shortest one with the same
+    /// members from `at` on.
     #[inline]
     pub fn split(&self, at: T) -> (RangeSetRef<'a, T>, RangeSetRef<'a, T>)
     where
@@ -31,7 +33,8 @@ impl<'a, T: Ord> RangeSetRef<'a, T> {
         self.split_counted(at, &mut Comparisons::new())
     }
 
-    /// The same, counted: at most as many comparisons as the number of boundaries has binary digits.
+    /// The same, counted: at most as many comparisons as the number of boundaries has binary
+    /// digits.
     #[inline]
     pub fn split_counted(
         &self,
@@ -73,7 +76,9 @@ impl<'a, T: Ord> RangeSetRef<'a, T> {
         (left, right)
     }
 
-    /// The parts of `within` that aren't in the set, from the lowest on. None is empty, and each ends below the start of the next. An empty or reversed range has none. Where a boundary equals an end of `within`, the end of `within` is given.
+    /// The parts of `within` that aren't in the set, from the lowest on. None is empty, and each
+    /// ends below the start of the next. An empty or reversed range has none. Where a boundary
+    /// equals an end of `within`, the end of `within` is given.
     #[inline]
     pub fn gaps(&self, within: Range<&'a T>) -> Gaps<'a, T>
         ensures gives { GivesParts T.cmp difference_table
@@ -85,7 +90,8 @@ impl<'a, T: Ord> RangeSetRef<'a, T> {
         self.gaps_counted(within, &mut Comparisons::new())
     }
 
-    /// The same, counted: at most `2 * d + 1` comparisons, where `d` is the number of binary digits of the number of boundaries. The iterator's steps make none.
+    /// The same, counted: at most `2 * d + 1` comparisons, where `d` is the number of binary digits
+    /// of the number of boundaries. The iterator's steps make none.
     #[inline]
     pub fn gaps_counted(&self, within: Range<&'a T>, count: &mut Comparisons) -> Gaps<'a, T>
         requires { count.old < 2 ^ 64 }
@@ -100,7 +106,9 @@ impl<'a, T: Ord> RangeSetRef<'a, T> {
         self.parts_within(within, false, count)
     }
 
-    /// The parts of `within` that are in the set, from the lowest on. None is empty, and each ends below the start of the next. An empty or reversed range has none. Where a boundary equals an end of `within`, the end of `within` is given.
+    /// The parts of `within` that are in the set, from the lowest on. None is empty, and each ends
+    /// below the start of the next. An empty or reversed range has none. Where a boundary equals an
+    /// end of `within`, the end of `within` is given.
     #[inline]
     pub fn ranges_within(&self, within: Range<&'a T>) -> RangesWithin<'a, T>
         ensures gives { GivesParts T.cmp intersection_table
@@ -112,7 +120,8 @@ impl<'a, T: Ord> RangeSetRef<'a, T> {
         self.ranges_within_counted(within, &mut Comparisons::new())
     }
 
-    /// The same, counted: at most `2 * d + 1` comparisons, where `d` is the number of binary digits of the number of boundaries. The iterator's steps make none.
+    /// The same, counted: at most `2 * d + 1` comparisons, where `d` is the number of binary digits
+    /// of the number of boundaries. The iterator's steps make none.
     #[inline]
     pub fn ranges_within_counted(
         &self,

@@ -1,4 +1,5 @@
-//! What can be asked of a set and of two, each answered by the members, at every element, and whether a set has every value. Nothing here takes memory.
+//! What can be asked of a set and of two, each answered by the members, at every element, and
+//! whether a set has every value. Nothing here takes memory.
 ghost use Rattle.std.specs.Prelude.{◌≡◌, ◌↔◌, ◌+◌, ◌*◌, ◌<◌, ◌^◌, List, length, false, IsTrue};
 ghost use Rattle.range_merge.specs.Boundaries.{member};
 ghost use Rattle.range_merge.specs.Changes.{changes};
@@ -26,7 +27,8 @@ impl<'a, T: Ord> RangeSetRef<'a, T> {
         self.contains_counted(value, &mut Comparisons::new())
     }
 
-    /// The same, counted: at most as many comparisons as the number of boundaries has binary digits.
+    /// The same, counted: at most as many comparisons as the number of boundaries has binary
+    /// digits.
     #[inline]
     pub fn contains_counted(&self, value: &T, count: &mut Comparisons) -> bool
         requires { count.old < 2 ^ 64 }
@@ -45,7 +47,8 @@ impl<'a, T: Ord> RangeSetRef<'a, T> {
         self.boundaries.is_empty()
     }
 
-    /// Whether the operation's result has a member. It counts its comparisons, at most twice the weight of the two lists, and stops at the first change (no clause says so).
+    /// Whether the operation's result has a member. It counts its comparisons, at most twice the
+    /// weight of the two lists, and stops at the first change (no clause says so).
     pub fn merge_test<O: MergeOperation>(
         &self,
         that: RangeSetRef<T>,
@@ -63,7 +66,8 @@ impl<'a, T: Ord> RangeSetRef<'a, T> {
         BoolOpMergeState::merge(self.boundaries, that.boundaries, op, count)
     }
 
-    /// How many boundaries the operation's result has, without making it. Both lengths together must fit a `usize`. It counts its comparisons, at most twice the weight of the two lists.
+    /// How many boundaries the operation's result has, without making it. Both lengths together
+    /// must fit a `usize`. It counts its comparisons, at most twice the weight of the two lists.
     pub fn merge_len<O: MergeOperation>(
         &self,
         that: RangeSetRef<T>,

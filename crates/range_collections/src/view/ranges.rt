@@ -1,4 +1,5 @@
-//! The ranges of a view: all of them, the first and the last, the one at an element; and one range of elements against the view.
+//! The ranges of a view: all of them, the first and the last, the one at an element; and one range
+//! of elements against the view.
 ghost use Rattle.std.specs.Prelude.{◌≡◌, ◌↔◌, IsTrue, [], length, None, Some, MatchOption, slice_get, ◌+◌, ◌*◌, ◌<◌, ◌≤◌, ◌^◌, true, Contains, IsSome, IfSome, false, not, IfNone};
 ghost use Rattle.std.specs.List.{last_or, AllWithin};
 ghost use Rattle.std.specs.Ordering.{is_le};
@@ -45,7 +46,8 @@ impl<'a, T: Ord> RangeSetRef<'a, T> {
         self.iter().next_back()
     }
 
-    /// The hull: from the start of the first range to the end of the last one, or without an end if that has none. `None` if the set is empty.
+    /// The hull: from the start of the first range to the end of the last one, or without an end if
+    /// that has none. `None` if the set is empty.
     #[inline]
     pub fn span(&self) -> Option<RangeSetRange<&'a T>>
         ensures { MatchOption result (self.now.boundaries.now ≡ []) (λ range.
@@ -82,7 +84,8 @@ impl<'a, T: Ord> RangeSetRef<'a, T> {
         self.range_at_counted(value, &mut Comparisons::new())
     }
 
-    /// The same, counted: at most as many comparisons as the number of boundaries has binary digits.
+    /// The same, counted: at most as many comparisons as the number of boundaries has binary
+    /// digits.
     #[inline]
     pub fn range_at_counted(
         &self,
@@ -106,7 +109,9 @@ impl<'a, T: Ord> RangeSetRef<'a, T> {
         Iter::new(&self.boundaries[before - 1..]).next()
     }
 
-    /// The least member at or above `from`, or `None` if there is none. It is `from` itself if that is a member, or else the start of the next range. It takes no memory, and makes at most as many comparisons as the number of boundaries has binary digits (seen by reading).
+    /// The least member at or above `from`, or `None` if there is none. It is `from` itself if that
+    /// is a member, or else the start of the next range. It takes no memory, and makes at most as
+    /// many comparisons as the number of boundaries has binary digits (seen by reading).
     #[inline]
     pub fn next_member(&self, from: &'a T) -> Option<&'a T>
         ensures next { IfSome result (λ next.
@@ -117,7 +122,10 @@ impl<'a, T: Ord> RangeSetRef<'a, T> {
         self.next_at(from, true)
     }
 
-    /// The least element at or above `from` that isn't a member. It is `from` itself if that isn't one, or else the end of the range that holds it, or `None` if that range has no end. It takes no memory, and makes at most as many comparisons as the number of boundaries has binary digits (seen by reading).
+    /// The least element at or above `from` that isn't a member. It is `from` itself if that isn't
+    /// one, or else the end of the range that holds it, or `None` if that range has no end. It
+    /// takes no memory, and makes at most as many comparisons as the number of boundaries has
+    /// binary digits (seen by reading).
     #[inline]
     pub fn next_gap(&self, from: &'a T) -> Option<&'a T>
         ensures next { IfSome result (λ next.
@@ -138,7 +146,8 @@ impl<'a, T: Ord> RangeSetRef<'a, T> {
         self.contains_range_counted(range, &mut Comparisons::new())
     }
 
-    /// The same, counted: at most `2 * d + 1` comparisons, where `d` is the number of binary digits of the number of boundaries.
+    /// The same, counted: at most `2 * d + 1` comparisons, where `d` is the number of binary digits
+    /// of the number of boundaries.
     #[inline]
     pub fn contains_range_counted(&self, range: Range<T>, count: &mut Comparisons) -> bool
     where
@@ -177,7 +186,8 @@ impl<'a, T: Ord> RangeSetRef<'a, T> {
         self.is_next_below(count, &range.end)
     }
 
-    // The least element at or above `from` that is a member, where `inside` is true, or else that is none.
+    // The least element at or above `from` that is a member, where `inside` is true, or else that
+    // is none.
     #[inline(always)]
     fn next_at(&self, from: &'a T, inside: bool) -> Option<&'a T>
         ensures next { IfSome result (λ next.

@@ -13,7 +13,8 @@ use crate::merging;
 use crate::operations::MergeOperation;
 use std::alloc::AllocError;
 
-/// A state that stops the merge at the first item that is taken, and remembers that there was one. It takes no memory and never fails.
+/// A state that stops the merge at the first item that is taken, and remembers that there was one.
+/// It takes no memory and never fails.
 pub type BoolOpMergeState<'a, K> = SliceMergeState<'a, K, bool>;
 
 impl<'a, K> BoolOpMergeState<'a, K> {
@@ -30,7 +31,8 @@ impl<'a, K> BoolOpMergeState<'a, K> {
 
     /// Whether the connective of `op` changes anywhere between the two strictly sorted lists.
     ///
-    /// It stops at the first place where it does (no clause says so). It takes no memory, and makes at most twice the weight of the two lists in comparisons.
+    /// It stops at the first place where it does (no clause says so). It takes no memory, and makes
+    /// at most twice the weight of the two lists in comparisons.
     pub fn merge<O: MergeOperation, C: Compare<K>>(
         a: &'a [K],
         b: &'a [K],

@@ -1,6 +1,7 @@
 //! A merge that writes what is taken into a borrowed slice.
 //!
-//! The count goes on when the slice is full, so that it tells how long a slice must be. While it is within the slice, the slice begins with what was taken, and after that it is as it was.
+//! The count goes on when the slice is full, so that it tells how long a slice must be. While it is
+//! within the slice, the slice begins with what was taken, and after that it is as it was.
 ghost use Rattle.std.specs.Prelude.{◌≡◌, ◌↔◌, ◌+◌, ◌*◌, ◌^◌, ◌<◌, ◌≤◌, ◌++◌, false, length, take, drop, map, IsErr, IfOk, IfErr, ⊤};
 ghost use Rattle.range_merge.specs.Boundaries.{IsAscending};
 ghost use Rattle.range_merge.specs.Changes.{changes, from_left, taken_items};
@@ -15,7 +16,8 @@ use crate::merging;
 use crate::operations::MergeOperation;
 use std::alloc::AllocError;
 
-/// A state that writes the items that are taken into a borrowed slice, and counts them. It never stops the merge, takes no memory and never fails.
+/// A state that writes the items that are taken into a borrowed slice, and counts them. It never
+/// stops the merge, takes no memory and never fails.
 pub type BufferMergeState<'a, 'o, K> = SliceMergeState<'a, K, Buffer<'o, K>>;
 
 /// The borrowed slice is too short for the list.
@@ -35,7 +37,8 @@ pub struct Buffer<'o, K> {
 }
 
 impl<'a, 'o, K: Copy> BufferMergeState<'a, 'o, K> {
-    /// All items of both slices unread, both sides off, and nothing written. Both lengths together fit a `usize`.
+    /// All items of both slices unread, both sides off, and nothing written. Both lengths together
+    /// fit a `usize`.
     pub fn new(a: &'a [K], b: &'a [K], out: &'o mut [K]) -> Self
         requires fits { length a.now + length b.now < 2 ^ 64 }
         ensures left { result.left ≡ a.now }
@@ -58,9 +61,13 @@ impl<'a, 'o, K: Copy> BufferMergeState<'a, 'o, K> {
         )
     }
 
-    /// Writes the items at which the connective of `op` changes between two strictly sorted lists into `out`, whose lengths together fit a `usize`.
+    /// Writes the items at which the connective of `op` changes between two strictly sorted lists
+    /// into `out`, whose lengths together fit a `usize`.
     ///
-    /// It returns how many items it wrote; after them `out` is as it was. It is an error exactly if `out` is shorter than the list: the error says how long it must be, and nothing is said of what `out` then holds. It takes no memory, and makes at most twice the weight of the two lists in comparisons.
+    /// It returns how many items it wrote; after them `out` is as it was. It is an error exactly if
+    /// `out` is shorter than the list: the error says how long it must be, and nothing is said of
+    /// what `out` then holds. It takes no memory, and makes at most twice the weight of the two
+    /// lists in comparisons.
     pub fn merge<O: MergeOperation, C: Compare<K>>(
         a: &'a [K],
         b: &'a [K],
@@ -109,7 +116,8 @@ impl<'a, 'o, K: Copy> BufferMergeState<'a, 'o, K> {
     }
 }
 
-// The items that the slice had at first count as taken before those that it is given. It stays the same slice.
+// The items that the slice had at first count as taken before those that it is given. It stays the
+// same slice.
 impl<'o, K: Copy> Output<K, ()> for Buffer<'o, K> {
     ghost may_be = { λ buffer slice ts. (buffer.items.ghost_name ≡ slice) × IsFilled ts buffer.given buffer.items.now };
 

@@ -12,11 +12,13 @@ use crate::merging;
 use crate::operations::MergeOperation;
 use std::alloc::AllocError;
 
-/// A state that counts the items that are taken. It never stops the merge, takes no memory and never fails.
+/// A state that counts the items that are taken. It never stops the merge, takes no memory and
+/// never fails.
 pub type CountMergeState<'a, K> = SliceMergeState<'a, K, usize>;
 
 impl<'a, K> CountMergeState<'a, K> {
-    /// All items of both slices unread, both sides off, and nothing counted. Both lengths together fit a `usize`.
+    /// All items of both slices unread, both sides off, and nothing counted. Both lengths together
+    /// fit a `usize`.
     pub fn new(a: &'a [K], b: &'a [K]) -> Self
         requires fits { length a.now + length b.now < 2 ^ 64 }
         ensures left { result.left ≡ a.now }
@@ -28,9 +30,11 @@ impl<'a, K> CountMergeState<'a, K> {
         Self::over(a, b, 0, ())
     }
 
-    /// At how many items the connective of `op` changes between two strictly sorted lists, whose lengths together fit a `usize`.
+    /// At how many items the connective of `op` changes between two strictly sorted lists, whose
+    /// lengths together fit a `usize`.
     ///
-    /// It is the length of the list that a merge into a list would give. It takes no memory, and makes at most twice the weight of the two lists in comparisons.
+    /// It is the length of the list that a merge into a list would give. It takes no memory, and
+    /// makes at most twice the weight of the two lists in comparisons.
     pub fn merge<O: MergeOperation, C: Compare<K>>(
         a: &'a [K],
         b: &'a [K],

@@ -18,7 +18,8 @@ use std::default::MadeWith;
 use std::marker::{Model, PhantomData};
 use std::mem;
 
-/// A state that keeps items of its left list and puts items of its right list between them. Once made, it takes no memory and never fails.
+/// A state that keeps items of its left list and puts items of its right list between them. Once
+/// made, it takes no memory and never fails.
 pub type InPlaceMergeState<K, const N: usize> = PlacingMergeState<
     K,
     N,
@@ -53,10 +54,12 @@ impl<K: MadeWith<Global> + Drop, const N: usize> InPlaceMergeState<K, N> {
         }
     }
 
-    /// Leaves in `a` the items at which the connective of `op` changes between two strictly sorted lists. Of two equal items it is the one of `a` that stays.
+    /// Leaves in `a` the items at which the connective of `op` changes between two strictly sorted
+    /// lists. Of two equal items it is the one of `a` that stays.
     ///
-    /// It asks for room in `a` for the items of `b` before it changes anything, and succeeds if both lengths together are at most `N`. If it fails, the items of `a` are as they were, and `b` comes back.
-    /// It makes at most twice the weight of the two lists in comparisons.
+    /// It asks for room in `a` for the items of `b` before it changes anything, and succeeds if
+    /// both lengths together are at most `N`. If it fails, the items of `a` are as they were, and
+    /// `b` comes back. It makes at most twice the weight of the two lists in comparisons.
     pub fn merge<O: MergeOperation, C: Compare<K>>(
         a: &mut SmallVec<K, N>,
         mut b: SmallVec<K, N>,
@@ -88,7 +91,8 @@ impl<K: MadeWith<Global> + Drop, const N: usize> InPlaceMergeState<K, N> {
     }
 }
 
-/// A right list that is owned: its items, of which the first are done with. What was exchanged for an item lies in its place.
+/// A right list that is owned: its items, of which the first are done with. What was exchanged for
+/// an item lies in its place.
 #[derive(Drop)]
 pub struct OwnedRight<K, L: Shelf<K>> {
     list: L,

@@ -22,7 +22,8 @@ use std::default::MadeWith;
 use std::marker::{Model, PhantomData};
 use std::mem;
 
-/// A state that keeps items of its left list and puts copies of items of its right list between them. The copies are made with the state, so once made, it takes no memory and never fails.
+/// A state that keeps items of its left list and puts copies of items of its right list between
+/// them. The copies are made with the state, so once made, it takes no memory and never fails.
 pub type InPlaceMergeStateRef<'a, K, P, const N: usize> = PlacingMergeState<
     K,
     N,
@@ -38,7 +39,8 @@ impl<'a, K: MadeWith<Global> + Drop, P: Copier<K>, const N: usize> InPlaceMergeS
 > {
     /// All items of both lists unread, both sides off, and nothing kept.
     ///
-    /// It asks for room in `a` for the items of `b`, and for a copy of each item of `b`, even of those that will be dropped. If that fails, `a` comes back.
+    /// It asks for room in `a` for the items of `b`, and for a copy of each item of `b`, even of
+    /// those that will be dropped. If that fails, `a` comes back.
     pub fn new(
         mut a: SmallVec<K, N>,
         b: &'a [K],
@@ -61,10 +63,14 @@ impl<'a, K: MadeWith<Global> + Drop, P: Copier<K>, const N: usize> InPlaceMergeS
         }
     }
 
-    /// Leaves in `a` the items at which the connective of `op` changes between two strictly sorted lists: its own, and copies of those of `b`. Of two equal items it is the one of `a` that stays.
+    /// Leaves in `a` the items at which the connective of `op` changes between two strictly sorted
+    /// lists: its own, and copies of those of `b`. Of two equal items it is the one of `a` that
+    /// stays.
     ///
-    /// It asks for room in `a` for the items of `b`, and, unless copies never fail, for a copy of each item of `b`, before it changes anything. It succeeds if both lengths together are at most `N` and no copy fails. If it fails, the items of `a` are as they were.
-    /// It makes at most twice the weight of the two lists in comparisons.
+    /// It asks for room in `a` for the items of `b`, and, unless copies never fail, for a copy of
+    /// each item of `b`, before it changes anything. It succeeds if both lengths together are at
+    /// most `N` and no copy fails. If it fails, the items of `a` are as they were. It makes at most
+    /// twice the weight of the two lists in comparisons.
     pub fn merge<O: MergeOperation, C: Compare<K>>(
         a: &mut SmallVec<K, N>,
         b: &'a [K],

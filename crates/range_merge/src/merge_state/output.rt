@@ -5,7 +5,8 @@ ghost use Rattle.range_merge.specs.Copies.{items_if};
 
 use std::alloc::AllocError;
 
-/// What the items that are taken are appended to, by a means such as a copier. From which side they come makes no difference.
+/// What the items that are taken are appended to, by a means such as a copier. From which side they
+/// come makes no difference.
 pub trait Output<K, By> {
     // What was taken so far may be this list, by the number that no items change.
     ghost may_be: { Self → ℕ → List (Taken K) → Type 0 };
@@ -25,7 +26,8 @@ pub trait Output<K, By> {
     // This item is never refused where there is room.
     ghost is_infallible: { K → Type 0 };
 
-    /// Appends the items, if they are taken. `false` stops the merge. It is an error if an allocation or a copy fails.
+    /// Appends the items, if they are taken. `false` stops the merge. It is an error if an
+    /// allocation or a copy fails.
     fn append(&mut self, items: &[K], take: bool, by: &By) -> Result<bool, AllocError>
         requires some { 1 ≤ length items.now }
         requires fits { (n : ℕ) × (length items.now ≤ n) × fits self.old n }
@@ -37,7 +39,8 @@ pub trait Output<K, By> {
         ensures succeeds { (n : ℕ) → length items.now ≤ n → has_room self.old n → All is_infallible items.now → IsOk result }
         ensures has_room { (m n : ℕ) → length items.now + m ≤ n → has_room self.old n → OnOk result (has_room self.new m) };
 
-    /// Whether one item that is taken is as good as many: `true` only of an output that stops the merge there.
+    /// Whether one item that is taken is as good as many: `true` only of an output that stops the
+    /// merge there.
     #[inline(always)]
     fn stops(&self) -> bool
         ensures { IsTrue result → can_stop ≡ true }

@@ -57,7 +57,8 @@ impl<'a, K, O: Output<K, By>, By: Drop> SliceMergeState<'a, K, O, By> {
         }
     }
 
-    /// What was taken: whether anything was, how many items, or a list with copies of them at its end.
+    /// What was taken: whether anything was, how many items, or a list with copies of them at its
+    /// end.
     pub fn result(self) -> O
         ensures { result ≡ self.entry.taken }
     {

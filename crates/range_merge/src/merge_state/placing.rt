@@ -15,7 +15,9 @@ use crate::place::Place;
 use std::alloc::AllocError;
 use std::marker::Model;
 
-/// A state that keeps items of its left list, and puts what its right side gives between them. Once made, it takes no memory and never fails. `L` is the list, by value where a caller makes the state.
+/// A state that keeps items of its left list, and puts what its right side gives between them. Once
+/// made, it takes no memory and never fails. `L` is the list, by value where a caller makes the
+/// state.
 #[derive(Drop)]
 pub struct PlacingMergeState<K, const N: usize, R: RightSide<K>, L: Place<K>> {
     builder: InPlaceBuilder<K, N, L>,
@@ -60,7 +62,9 @@ impl<K, const N: usize, R: RightSide<K>, L: Place<K>> PlacingMergeState<K, N, R,
         }
     }
 
-    // The list, with the items at which the connective of `op` changes. It stands here, and not over the list and the right side, since a state made of those would owe the proof that it fits in memory.
+    // The list, with the items at which the connective of `op` changes. It stands here, and not
+    // over the list and the right side, since a state made of those would owe the proof that it
+    // fits in memory.
     #[inline(always)]
     pub(crate) fn merged<O: MergeOperation, C: Compare<K>>(mut self, op: &O, cmp: &mut C) -> L
         requires left_ascending { IsAscending C.order self.left }
@@ -163,7 +167,8 @@ impl<K, const N: usize, R: RightSide<K>, L: Place<K>> MergeStateMut
     }
 }
 
-// Removes the first `n` unread items of the right side, and puts what stands for them if they are wanted.
+// Removes the first `n` unread items of the right side, and puts what stands for them if they are
+// wanted.
 #[inline(always)]
 fn put_front<K, const N: usize, R: RightSide<K>, L: Place<K>>(
     builder: &mut InPlaceBuilder<K, N, L>,

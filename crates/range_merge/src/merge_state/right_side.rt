@@ -10,7 +10,8 @@ pub trait RightSide<K>: Indexed<K> + Drop {
     // What is kept may be this list, where those items were taken.
     ghost may_be: { List (Taken K) → List K → Type 0 };
 
-    /// Removes as many unread items from the front as there are slots, and puts what stands for them there.
+    /// Removes as many unread items from the front as there are slots, and puts what stands for
+    /// them there.
     fn put_front(&mut self, slots: &mut [K])
         requires { length slots.old ≤ length (Self.items self.old) }
         ensures rest { Self.items self.new ≡ drop (length slots.old) (Self.items self.old) }

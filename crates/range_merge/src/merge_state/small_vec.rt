@@ -28,9 +28,11 @@ pub type SmallVecMergeState<'a, K, P, const M: usize> = SliceMergeState<
 >;
 
 impl<'a, K: MadeWith<Global> + Drop, P: Copier<K>, const M: usize> SmallVecMergeState<'a, K, P, M> {
-    /// All items of both slices unread, both sides off, and the items of `r` as what was taken so far, from the left.
+    /// All items of both slices unread, both sides off, and the items of `r` as what was taken so
+    /// far, from the left.
     ///
-    /// Copies of what is taken are appended to them. No advance fails if the items of `r` and those of both slices together are at most `M`, and no copy fails. It takes no memory.
+    /// Copies of what is taken are appended to them. No advance fails if the items of `r` and those
+    /// of both slices together are at most `M`, and no copy fails. It takes no memory.
     pub fn new(a: &'a [K], b: &'a [K], r: SmallVec<K, M>, copier: &'a P) -> Self
         ensures left { result.left ≡ a.now }
         ensures right { result.right ≡ b.now }
@@ -48,10 +50,14 @@ impl<'a, K: MadeWith<Global> + Drop, P: Copier<K>, const M: usize> SmallVecMerge
         Self::over(a, b, r, Copying { copier, began })
     }
 
-    /// Fills the empty list `r` with copies of the items at which the connective of `op` changes between two strictly sorted lists.
+    /// Fills the empty list `r` with copies of the items at which the connective of `op` changes
+    /// between two strictly sorted lists.
     ///
-    /// It asks for room for both lengths at once if they are more than a few; if that fails, and for a few, it asks for each run that is taken. Copies ask for what they need (seen by reading). It succeeds if both lengths together are at most `M` and no copy fails. If it fails, `r` is dropped.
-    /// It makes at most twice the weight of the two lists in comparisons, even if it fails.
+    /// It asks for room for both lengths at once if they are more than a few; if that fails, and
+    /// for a few, it asks for each run that is taken. Copies ask for what they need (seen by
+    /// reading). It succeeds if both lengths together are at most `M` and no copy fails. If it
+    /// fails, `r` is dropped. It makes at most twice the weight of the two lists in comparisons,
+    /// even if it fails.
     pub fn merge<O: MergeOperation, C: Compare<K>>(
         r: SmallVec<K, M>,
         a: &'a [K],
@@ -98,7 +104,8 @@ impl<'a, K: MadeWith<Global> + Drop, P: Copier<K>, const M: usize> SmallVecMerge
         Ok(mem::replace(state.result(), SmallVec::new(alloc)))
     }
 
-    // Appends to a `Vec`, whose end is found without a look at where it lies. What fits inline comes to lie there at the end.
+    // Appends to a `Vec`, whose end is found without a look at where it lies. What fits inline
+    // comes to lie there at the end.
     fn merge_many<O: MergeOperation, C: Compare<K>>(
         r: SmallVec<K, M>,
         a: &'a [K],
@@ -147,7 +154,8 @@ fn fit_together(a: usize, b: usize, room: usize) -> bool
     a <= room && b <= room - a
 }
 
-/// How a list is appended to: by copies that the copier makes, after the items that it had at first.
+/// How a list is appended to: by copies that the copier makes, after the items that it had at
+/// first.
 #[derive(Drop)]
 pub struct Copying<'a, P> {
     pub copier: &'a P,

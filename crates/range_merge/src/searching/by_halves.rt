@@ -9,7 +9,8 @@ ghost use Rattle.range_merge.specs.Runs.{digits};
 use crate::compare::Compare;
 use std::cmp::Ordering;
 
-/// The index of the item that is equal to `key`, or in an `Err` the index where such an item would go.
+/// The index of the item that is equal to `key`, or in an `Err` the index where such an item would
+/// go.
 pub(super) fn search_by_halves<K, C: Compare<K>>(
     items: &[K],
     key: &K,

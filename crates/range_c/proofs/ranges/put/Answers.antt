@@ -23,9 +23,10 @@ returns-then-is_lt-2-clause-put g c =
     let some : 0 < c.args.kept = omega (arith, c.if-kept-eq0.false) in
     let touches : is_lt (g.E.Number.Ord.cmp (g.E.Ends.last b) (g.E.Ends.first c.args.range)) ≡ false = search rules in
     let far : is_lt (g.E.Number.Ord.cmp (g.E.Ends.last b) (g.E.Ends.last c.args.range)) ≡ true = search rules in
-    let ends : g.E.Ends.last c.until.result ≡ g.E.Ends.last c.args.range = search rules in
+    let starts : g.E.Ends.first c.of.result ≡ g.E.Ends.first b = search rules in
+    let ends : g.E.Ends.last c.of.result ≡ g.E.Ends.last c.args.range = search rules in
     put-longer g.met.E.Number.Ord.total g.E.Ends.first g.E.Ends.last c.args.ranges.now c.args.kept b c.args.range some c.requires.room c.index-ranges-kept.is
-    c.requires.sorted c.requires.low c.until.result touches far c.until.ensures.starts ends
+    c.requires.sorted c.requires.low c.of.result touches far starts ends
 
 pub returns-else-is_lt-2-clause-put : goal.returns-else-is_lt-2-clause-put
 returns-else-is_lt-2-clause-put g c =

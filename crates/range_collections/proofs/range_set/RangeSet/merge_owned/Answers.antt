@@ -3,6 +3,7 @@ use Rattle.std.proofs.lemmas.Result.{on_ok_weaker}
 use Rattle.range_merge.specs.Changes.{changes}
 use Rattle.range_merge.specs.Connective.{Means}
 use Rattle.range_collections.specs.InPlace.{AreOwnElseOf}
+use Rattle.range_collections.proofs.Headline.{BecomesTheOwnResult-by_owned}
 use Rattle.range_collections.proofs.OwnItems.{AreOwnElseOf-marked, IsAscending-taken}
 use Rattle.range_collections.proofs.range_set.RangeSet.merge_owned.Goals.{in-Ok, in-Err}
 use Rattle.range_collections.proofs.range_set.RangeSet.merge_owned.Goals as goal
@@ -70,3 +71,9 @@ invariant_of-self g c =
     IsAscending-taken g.met.T.Ord.total f c.merge.result (changes g.T.Ord.cmp f a b) c.merge.new.a.items a b
     (c.changes_mean_the_connective.ensures.means f a b c.requires.off c.self.invariant c.into_inner.ensures.sorted)
     c.self.invariant c.merge.ensures.taken c.merge.ensures.unchanged
+
+pub returns-clause-headline : goal.returns-clause-headline
+returns-clause-headline g c = record {
+  fact = BecomesTheOwnResult-by_owned g.met.T.Ord.total _ _ _ _ _ _ (returns-clause-changed g c);
+  comparisons = returns-clause-comparisons g c;
+}

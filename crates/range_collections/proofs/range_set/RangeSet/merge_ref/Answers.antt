@@ -1,5 +1,6 @@
 use Rattle.std.proofs.lemmas.Result.{on_ok_weaker}
 use Rattle.range_merge.specs.Changes.{changes}
+use Rattle.range_collections.proofs.Headline.{BecomesTheResult-by_view}
 use Rattle.range_collections.proofs.OwnItems.{AreOwnElseCopies-marked, Means-own_or_copies, IsAscending-copied}
 use Rattle.range_collections.proofs.range_set.RangeSet.merge_ref.Goals as goal
 
@@ -36,3 +37,9 @@ invariant_of-self g c =
     IsAscending-copied g.met.T.Ord.total g.met.T.EntryClone.copy_is_equal f c.merge.result (changes g.T.Ord.cmp f a b) c.merge.new.a.items a b
     (c.changes_mean_the_connective.ensures.means f a b c.requires.off c.self.invariant c.args.that.sorted)
     c.self.invariant c.merge.ensures.taken c.merge.ensures.unchanged
+
+pub returns-clause-headline : goal.returns-clause-headline
+returns-clause-headline g c = record {
+  fact = BecomesTheResult-by_view g.met.T.Ord.total _ _ _ _ _ _ _ _ (returns-clause-changed g c);
+  comparisons = returns-clause-comparisons g c;
+}

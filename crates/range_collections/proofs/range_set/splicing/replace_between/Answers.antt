@@ -8,10 +8,10 @@ use Rattle.range_collections.proofs.range_set.splicing.replace_between.Goals as 
 pub returns : goal.returns
 returns g c =
     let items = c.args.list.now.items in
-    let after = c.overwrite_both-after.result in
-    let new = c.overwrite_both-after.new.items in
-    let put : new ≡ spliced items c.args.from after c.args.start c.args.end = rw c.as_mut_slice.ensures.value at c.overwrite_both-after.ensures.items in
-    let few = c.overwrite_both-after.ensures.after in
+    let after = c.replace_both-after.result.0 in
+    let new = c.replace_both-after.new.items in
+    let put : new ≡ spliced items c.args.from after c.args.start c.args.end = rw c.as_mut_slice.ensures.value at c.replace_both-after.ensures.items in
+    let few = c.replace_both-after.ensures.after in
     let same : length new ≡ length items =
     ap length put ∙ length-spliced_same items c.args.from after c.args.start c.args.end (omega (arith, c.requires.room, c.requires.within)) few (omega (arith, few, c.requires.room, c.requires.within)) in
     let done : c.drop-drain.new.self.0.items ≡ spliced items c.args.from c.args.to c.args.start c.args.end =

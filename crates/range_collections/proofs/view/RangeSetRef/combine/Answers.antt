@@ -1,8 +1,9 @@
-use Rattle.std.proofs.Common.{inr, refl, sym, ◌∙◌, arith, true≢false}
+use Rattle.std.proofs.Common.{Ok, inr, refl, sym, ◌∙◌, arith, true≢false}
 use Rattle.std.proofs.lemmas.Bool.{false≢true}
 use Rattle.std.proofs.lemmas.Result.{IfOk-from_err, IfOk-weaker}
 use Rattle.range_collections.specs.Values.{IsFlipped}
 use Rattle.range_collections.proofs.Combined.{MeansAmong-from_means, IfOk-negated}
+use Rattle.range_collections.proofs.Headline.{IsTheResult-combined}
 use Rattle.range_collections.proofs.view.RangeSetRef.combine.Goals as goal
 
 pub returns-then-flips-clause-means : goal.returns-then-flips-clause-means
@@ -12,19 +13,19 @@ returns-then-flips-clause-means g c =
     let b = c.args.that.boundaries.now in
     let on = sym c.when_off-flips.ensures ∙ c.if-flips.true in
     IfOk-negated g.T.Ord.cmp g.T.RangeSetEntry.is_value f c.in_ok-merged.merged a b c.not.result on
-    (c.in_ok-merged.ensures.opposite on) c.not.ensures.negates
+    (c.in_ok-merged.ensures.opposite on) c.not.ensures.0.negates
 
 pub returns-then-flips-clause-flipped : goal.returns-then-flips-clause-flipped
 returns-then-flips-clause-flipped g c = λ _.
     let Flipped = IsFlipped g.T.Ord.cmp g.T.RangeSetEntry.least c.in_ok-merged.merged in
-    IfOk-weaker c.not.result Flipped _ (λ items w. (c.in_ok-merged.merged, c.in_ok-merged.ensures.copies, w)) c.not.ensures.flipped
+    IfOk-weaker c.not.result Flipped _ (λ items w. (c.in_ok-merged.merged, c.in_ok-merged.ensures.copies, w)) c.not.ensures.0.flipped
 
 pub returns-then-flips-clause-succeeds_flipped : goal.returns-then-flips-clause-succeeds_flipped
 returns-then-flips-clause-succeeds_flipped g c = λ _ room _ _ infallible.
     let f = g.O.MergeOperation.connective c.args.op.now in
     let a = c.args.self.now.boundaries.now in
     let b = c.args.that.boundaries.now in
-    c.not.ensures.succeeds (inr (omega (arith, room, c.changes_are_at_most_the_lengths.ensures.at_most f a b, c.in_ok-merged.ensures.len), infallible))
+    c.not.ensures.0.succeeds (inr (omega (arith, room, c.changes_are_at_most_the_lengths.ensures.at_most f a b, c.in_ok-merged.ensures.len), infallible))
 
 pub returns-else-flips-clause-means : goal.returns-else-flips-clause-means
 returns-else-flips-clause-means g c =
@@ -75,3 +76,42 @@ returns-else-flips-clause-succeeds_flipped g c = λ on. absurd (true≢false (sy
 
 pub returns-else-flips-clause-comparisons : goal.returns-else-flips-clause-comparisons
 returns-else-flips-clause-comparisons g c = c.merged.ensures.comparisons
+
+pub returns-then-flips-clause-headline : goal.returns-then-flips-clause-headline
+returns-then-flips-clause-headline g c =
+    let f = g.O.MergeOperation.connective c.args.op.now in
+    let a = c.args.self.now.boundaries.now in
+    let b = c.args.that.boundaries.now in
+    record {
+      fact =
+          IsTheResult-combined g.met.T.Ord.total g.met.T.EntryClone.copy_is_equal g.T.RangeSetEntry.is_value g.T.RangeSetEntry.least
+          g.met.T.RangeSetEntry.least_is_least f a b _ (c.changes_are_marked_truly.ensures.marks f a b c.args.self.now.sorted c.args.that.sorted)
+          (returns-then-flips-clause-means g c) (returns-then-flips-clause-left_own_item g c) (returns-then-flips-clause-flipped g c);
+      comparisons = returns-then-flips-clause-comparisons g c;
+    }
+
+pub returns-else-flips-clause-headline : goal.returns-else-flips-clause-headline
+returns-else-flips-clause-headline g c =
+    let f = g.O.MergeOperation.connective c.args.op.now in
+    let a = c.args.self.now.boundaries.now in
+    let b = c.args.that.boundaries.now in
+    record {
+      fact =
+          IsTheResult-combined g.met.T.Ord.total g.met.T.EntryClone.copy_is_equal g.T.RangeSetEntry.is_value g.T.RangeSetEntry.least
+          g.met.T.RangeSetEntry.least_is_least f a b (Ok c.in_ok-merged.merged) (c.changes_are_marked_truly.ensures.marks f a b c.args.self.now.sorted c.args.that.sorted)
+          (returns-else-flips-clause-means g c) (returns-else-flips-clause-left_own_item g c) (returns-else-flips-clause-flipped g c);
+      comparisons = returns-else-flips-clause-comparisons g c;
+    }
+
+pub returns-in_err-merged-clause-headline : goal.returns-in_err-merged-clause-headline
+returns-in_err-merged-clause-headline g c =
+    let f = g.O.MergeOperation.connective c.args.op.now in
+    let a = c.args.self.now.boundaries.now in
+    let b = c.args.that.boundaries.now in
+    record {
+      fact =
+          IsTheResult-combined g.met.T.Ord.total g.met.T.EntryClone.copy_is_equal g.T.RangeSetEntry.is_value g.T.RangeSetEntry.least
+          g.met.T.RangeSetEntry.least_is_least f a b _ (c.changes_are_marked_truly.ensures.marks f a b c.args.self.now.sorted c.args.that.sorted)
+          (returns-in_err-merged-clause-means g c) (returns-in_err-merged-clause-left_own_item g c) (returns-in_err-merged-clause-flipped g c);
+      comparisons = returns-in_err-merged-clause-comparisons g c;
+    }

@@ -6,6 +6,7 @@ use Rattle.range_merge.specs.Changes.{changes, taken_items}
 use Rattle.range_merge.specs.Connective.{opposite}
 use Rattle.range_collections.specs.Sets.{AreEqual}
 use Rattle.range_collections.proofs.Combined.{by_Bool, AreEqual-copies, Means-equal, length-merged}
+use Rattle.range_collections.proofs.Headline.{GivesTheResult-copied}
 use Rattle.range_collections.proofs.Copies.{IsAscending-copies, copied-equal}
 use Rattle.range_collections.proofs.view.RangeSetRef.merged.Goals as goal
 
@@ -80,3 +81,14 @@ returns-in_err-list-clause-gives g c = λ off. record {
 
 pub returns-in_err-list-clause-opposite : goal.returns-in_err-list-clause-opposite
 returns-in_err-list-clause-opposite g c = λ on. IfOk-from_err c.from_residual.result _ c.from_residual.ensures.0
+
+pub returns-clause-headline : goal.returns-clause-headline
+returns-clause-headline g c = λ off.
+    let f = g.O.MergeOperation.connective c.args.op.now in
+    let a = c.args.self.now.boundaries.now in
+    let b = c.args.that.boundaries.now in
+    GivesTheResult-copied g.met.T.Ord.total g.met.T.EntryClone.copy_is_equal _ f _ a b _
+    (c.changes_are_marked_truly.ensures.marks f a b c.args.self.now.sorted c.args.that.sorted) (returns-clause-gives g c off)
+
+pub returns-in_err-list-clause-headline : goal.returns-in_err-list-clause-headline
+returns-in_err-list-clause-headline g c = λ off. IfOk-from_err c.from_residual.result _ c.from_residual.ensures.0

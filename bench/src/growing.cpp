@@ -1,0 +1,182 @@
+#include "growing.hpp"
+
+#include "plain.hpp"
+
+#include <algorithm>
+#include <chrono>
+#include <cstdio>
+#include <fstream>
+#include <malloc.h>
+#include <numeric>
+#include <random>
+#include <stdexcept>
+
+namespace {
+
+using Clock = std::chrono::steady_clock;
+
+constexpr std::size_t fewest = 1000;
+constexpr std::size_t asked = 100000;
+
+// Each round has a set of its own. The least of the rounds counts.
+constexpr std::size_t rounds = 3;
+
+// Who took longer for a size isn't asked for ten times as many, which may take a hundred times as long.
+constexpr double longest_ns = 1e9;
+
+volatile std::size_t kept;
+
+// So many ranges of 6 at distances of 10, put in in one random order and taken out in another, and values among them.
+struct Work {
+    Commands in;
+    Commands out;
+    Boundaries values;
+};
+
+Commands shuffled(std::size_t ranges, std::mt19937_64& random) {
+    std::vector<std::int64_t> places(ranges);
+    std::iota(places.begin(), places.end(), 0);
+    std::shuffle(places.begin(), places.end(), random);
+    Commands commands;
+    for (std::int64_t place : places) {
+        commands.starts.push_back(10 + place * 10);
+        commands.ends.push_back(16 + place * 10);
+    }
+    return commands;
+}
+
+Work work_of(std::size_t ranges) {
+    std::mt19937_64 random(ranges);
+    Work work{shuffled(ranges, random), shuffled(ranges, random), {}};
+    std::uniform_int_distribution<std::int64_t> any(0, static_cast<std::int64_t>(ranges) * 10 + 20);
+    for (std::size_t i = 0; i < asked; i++) {
+        work.values.push_back(any(random));
+    }
+    return work;
+}
+
+// The boundaries of the ranges, in order.
+Boundaries all_of(const Commands& commands) {
+    Boundaries all = commands.starts;
+    all.insert(all.end(), commands.ends.begin(), commands.ends.end());
+    std::sort(all.begin(), all.end());
+    return all;
+}
+
+// The bytes that the program has from malloc.
+std::size_t live_bytes() {
+    struct mallinfo2 all = mallinfo2();
+    return all.uordblks + all.hblkhd;
+}
+
+template <class Run> double ns_of(Run run) {
+    Clock::time_point start = Clock::now();
+    run();
+    return std::chrono::duration<double, std::nano>(Clock::now() - start).count();
+}
+
+// Nanoseconds for each range or value, and bytes for each range.
+struct Times {
+    double insert = 0;
+    double contains = 0;
+    double iter = 0;
+    double remove = 0;
+    double bytes = 0;
+};
+
+Times timed(const GrowingKind& kind, const Work& work) {
+    double ranges = static_cast<double>(work.in.starts.size());
+    Times times;
+    std::size_t before = live_bytes();
+    std::unique_ptr<Growing> set = kind.make();
+    times.insert = ns_of([&] { set->insert(work.in); }) / ranges;
+    times.bytes = static_cast<double>(live_bytes() - before) / ranges;
+    times.contains = ns_of([&] { kept = set->contains(work.values); }) / static_cast<double>(asked);
+    if (set->can_iter()) {
+        times.iter = ns_of([&] { kept = set->iter(); }) / ranges;
+    }
+    times.remove = ns_of([&] { set->remove(work.out); }) / ranges;
+    return times;
+}
+
+Times least(const Times& a, const Times& b) {
+    return {std::min(a.insert, b.insert), std::min(a.contains, b.contains), std::min(a.iter, b.iter),
+            std::min(a.remove, b.remove), std::min(a.bytes, b.bytes)};
+}
+
+[[noreturn]] void fail(const GrowingKind& kind, const std::string& what) {
+    throw std::runtime_error("wrong: " + kind.name + ", ranges one by one: " + what);
+}
+
+void check(const GrowingKind& kind, const Work& work) {
+    Boundaries all = all_of(work.in);
+    Commands half{{work.out.starts.begin(), work.out.starts.begin() + static_cast<std::ptrdiff_t>(all.size() / 4)},
+                  {work.out.ends.begin(), work.out.ends.begin() + static_cast<std::ptrdiff_t>(all.size() / 4)}};
+    std::unique_ptr<Growing> set = kind.make();
+    set->insert(work.in);
+    if (set->boundaries() != all) {
+        fail(kind, "insert");
+    }
+    std::size_t members = 0;
+    for (std::int64_t value : work.values) {
+        members += (std::upper_bound(all.begin(), all.end(), value) - all.begin()) % 2 != 0;
+    }
+    if (set->contains(work.values) != members) {
+        fail(kind, "contains");
+    }
+    if (set->can_iter() && set->iter() != work.in.starts.size() * 6) {
+        fail(kind, "iter");
+    }
+    set->remove(half);
+    if (set->boundaries() != plain(Operation::subtract, all, all_of(half))) {
+        fail(kind, "remove");
+    }
+}
+
+} // namespace
+
+std::size_t check_growing(const std::vector<GrowingKind>& kinds, std::size_t ranges) {
+    Work work = work_of(ranges);
+    std::size_t compared = 0;
+    for (const GrowingKind& kind : kinds) {
+        check(kind, work);
+        compared += kind.make()->can_iter() ? 4 : 3;
+    }
+    return compared;
+}
+
+void time_growing(const std::vector<GrowingKind>& kinds, std::size_t most, const std::string& csv) {
+    std::ofstream file(csv);
+    if (!file) {
+        throw std::runtime_error("cannot write " + csv);
+    }
+    file << "ranges,contender,insert_ns,contains_ns,iter_ns,remove_ns,bytes\n";
+    std::printf("%8s %-16s %9s %9s %7s %9s %6s\n", "ranges", "contender", "insert", "contains", "iter", "remove",
+                "bytes");
+    std::vector<bool> too_slow(kinds.size());
+    for (std::size_t ranges = fewest; ranges <= most; ranges *= 10) {
+        Work work = work_of(ranges);
+        std::vector<Times> all(kinds.size());
+        for (std::size_t round = 0; round < rounds; round++) {
+            for (std::size_t i = 0; i < kinds.size(); i++) {
+                if (!too_slow[i]) {
+                    Times times = timed(kinds[i], work);
+                    all[i] = round == 0 ? times : least(all[i], times);
+                }
+            }
+        }
+        for (std::size_t i = 0; i < kinds.size(); i++) {
+            if (too_slow[i]) {
+                continue;
+            }
+            const Times& times = all[i];
+            const char* name = kinds[i].name.c_str();
+            std::printf("%8zu %-16s %9.0f %9.1f %7.1f %9.0f %6.1f\n", ranges, name, times.insert, times.contains,
+                        times.iter, times.remove, times.bytes);
+            file << ranges << ',' << name << ',' << times.insert << ',' << times.contains << ',' << times.iter << ','
+                 << times.remove << ',' << times.bytes << '\n';
+            too_slow[i] = times.insert * static_cast<double>(ranges) > longest_ns;
+        }
+        std::fflush(stdout);
+    }
+}

@@ -1,0 +1,43 @@
+// Ranges one by one: a contender is a set that stays while it is changed and asked.
+#pragma once
+
+#include "sets.hpp"
+
+#include <cstddef>
+#include <functional>
+#include <memory>
+#include <string>
+#include <vector>
+
+class Growing {
+public:
+    virtual ~Growing() = default;
+
+    // One range after the other.
+    virtual void insert(const Commands& commands) = 0;
+    virtual void remove(const Commands& commands) = 0;
+
+    // How many of the values are members.
+    virtual std::size_t contains(const Boundaries& values) const = 0;
+
+    // How many members there are, summed up range by range, by those that have a list of ranges.
+    virtual bool can_iter() const = 0;
+    virtual std::size_t iter() const = 0;
+
+    virtual Boundaries boundaries() const = 0;
+};
+
+// A kind of set by its name, and how an empty one is made.
+struct GrowingKind {
+    std::string name;
+    std::function<std::unique_ptr<Growing>()> make;
+};
+
+// Those that were built in.
+std::vector<GrowingKind> growing_kinds();
+
+// Compares what each contender holds and answers at one size with what is right. How many results that were.
+std::size_t check_growing(const std::vector<GrowingKind>& kinds, std::size_t ranges);
+
+// Times all contenders at sizes from 1,000 ranges to `most`, and writes a table and the CSV.
+void time_growing(const std::vector<GrowingKind>& kinds, std::size_t most, const std::string& csv);

@@ -1,0 +1,18 @@
+use Rattle.std.proofs.Common.{refl}
+use Rattle.std.specs.Fmt.{signed_decimal}
+use Rattle.range_collections.specs.Text.{set_text}
+use Rattle.range_calc_answers.specs.Words.{of_list}
+use Rattle.range_calc_answers.specs.declared.commands.OneList.TheVariants.{Show, ToJson}
+use Rattle.range_calc_answers.specs.Line.{array_text}
+use Rattle.range_calc_answers.proofs.Outcomes.{IsReplyText-line}
+use Rattle.range_calc_answers.proofs.replies.set_reply.Goals as goal
+
+pub returns-in-Show : goal.returns-in-Show
+returns-in-Show c =
+    rw c.in-Show.is (IsReplyText-line c.debug_line.result (of_list Show c.args.set) (set_text signed_decimal c.args.set) refl c.debug_line.ensures)
+
+pub returns-in-Not : goal.returns-in-Not
+returns-in-Not c = rw c.in-Not.is c.negation_reply.ensures
+
+pub returns-in-ToJson : goal.returns-in-ToJson
+returns-in-ToJson c = rw c.in-ToJson.is (IsReplyText-line c.array_line.result (of_list ToJson c.args.set) (array_text c.args.set) refl c.array_line.ensures)

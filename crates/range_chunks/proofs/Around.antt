@@ -1,0 +1,57 @@
+-- The range whose start stands before a place.
+use Rattle.std.proofs.Common.{◌≡◌, sym, ap, ◌∙◌, ℕ, zero, suc, ◌+◌, ◌-◌, ◌≤◌, ◌<◌, List, [], ◌∷◌, length, drop, get_or, arith, refl}
+use Rattle.range_collections.specs.Ranges.{ranges_of}
+use Rattle.range_collections.specs.declared.range_set_range.RangeSetRange.TheVariants.{Range, RangeFrom}
+use Rattle.range_chunks.specs.declared.chunk.Chunk.{Chunk}
+use Rattle.range_chunks.specs.Chunks.{items_of, flat, start_of}
+use Rattle.range_chunks.proofs.Flat.{item-at, start-next}
+
+module _ {K : Type 0} where
+  drop-item : (xs : List K) (n : ℕ) (x : K) → n < length xs → x ≡ get_or xs n x → drop n xs ≡ x ∷ drop (suc n) xs
+  drop-item [] n x within read = absurd (omega arith)
+  drop-item (y ∷ ys) zero x within read = ap (λ z. z ∷ ys) (sym read)
+  drop-item (y ∷ ys) (suc n) x within read = drop-item ys n x (omega arith) read
+
+  drop-past : (n : ℕ) (xs : List K) → length xs ≤ n → drop n xs ≡ []
+  drop-past zero [] le = refl
+  drop-past (suc n) [] le = refl
+  drop-past zero (x ∷ xs) le = absurd (omega (arith, le))
+  drop-past (suc n) (x ∷ xs) le = drop-past n xs (omega (arith, le))
+
+  module _ (xs : List K) (n : ℕ) (start : K) (some : 0 < n) (within : n ≤ length xs) (first : (d : K) → start ≡ get_or xs (n - 1) d) where
+    from-start : drop (n - 1) xs ≡ start ∷ drop n xs
+    from-start =
+        let one : suc (n - 1) ≡ n = omega (arith, some) in
+        drop-item xs (n - 1) start (omega (arith, some, within)) (first start) ∙ ap (λ k. start ∷ drop k xs) one
+
+    pub ranges_of-two : (end : K) → n < length xs → ((d : K) → end ≡ get_or xs n d) →
+        ranges_of (drop (n - 1) xs) ≡ Range (record { start = start; end = end }) ∷ ranges_of (drop (n + 1) xs)
+    ranges_of-two end more last =
+        let next : suc n ≡ n + 1 = omega arith in
+        ap ranges_of (from-start ∙ ap (λ ys. start ∷ ys) (drop-item xs n end more (last end) ∙ ap (λ k. end ∷ drop k xs) next))
+
+    pub ranges_of-one : length xs ≤ n → ranges_of (drop (n - 1) xs) ≡ RangeFrom (record { start = start }) ∷ ranges_of (drop (n + 1) xs)
+    ranges_of-one none =
+        ap ranges_of (from-start ∙ ap (λ ys. start ∷ ys) (drop-past n xs none))
+        ∙ ap (λ ys. RangeFrom (record { start = start }) ∷ ranges_of ys) (sym (drop-past (n + 1) xs (omega (arith, none))))
+
+module _ {T : Type 0} where
+  -- behind some boundaries, where a chunk starts, there is a chunk before it
+  pub chunk-before : (xs : List (Chunk T)) (k i : ℕ) → 0 < start_of xs k + i → i ≡ 0 → 0 < k
+  chunk-before xs zero i some none = absurd (omega (arith, some, none))
+  chunk-before xs (suc k) i some none = omega arith
+
+  -- the boundary before an index of a chunk
+  pub before-index : (xs : List (Chunk T)) (k i : ℕ) (x : Chunk T) (v : T) → k < length xs → x ≡ get_or xs k x → 0 < i → i ≤ length (items_of x) →
+      ((d : T) → v ≡ get_or (items_of x) (i - 1) d) → (d : T) → v ≡ get_or (flat xs) (start_of xs k + i - 1) d
+  before-index xs k i x v within read some fits last d =
+      let e : start_of xs k + (i - 1) ≡ start_of xs k + i - 1 = omega (arith, some) in
+      last d ∙ sym (item-at xs k (i - 1) x d within read (omega (arith, some, fits))) ∙ ap (λ n. get_or (flat xs) n d) e
+
+  -- the boundary before a chunk
+  pub before-chunk : (xs : List (Chunk T)) (k i b : ℕ) (x : Chunk T) (v : T) → k ≤ length xs → i ≡ 0 → suc b ≡ k → x ≡ get_or xs b x →
+      ((d : T) → v ≡ get_or (items_of x) (length (items_of x) - 1) d) → (d : T) → v ≡ get_or (flat xs) (start_of xs k + i - 1) d
+  before-chunk xs k i b x v within none e read last d =
+      let there : b < length xs = omega (arith, within, e) in
+      let n : start_of xs b + length (items_of x) - 1 ≡ start_of xs k + i - 1 = omega (arith, none, start-next xs b x there read, ap (λ m. start_of xs m) e) in
+      before-index xs b (length (items_of x)) x v there read (omega arith) (omega arith) last d ∙ ap (λ m. get_or (flat xs) m d) n

@@ -1,0 +1,14 @@
+pub mod Flat
+pub mod Chunked
+pub mod Found
+pub mod InOrder
+pub mod Removed
+pub mod Inserted
+pub mod Emptied
+pub mod Joined
+pub mod Changed
+pub mod Copied
+pub mod Moved
+pub mod ToTheEnd
+pub mod Lengths
+pub mod Around

@@ -1,0 +1,24 @@
+use Rattle.std.proofs.Common.{sym, false}
+use Rattle.std.proofs.lemmas.Result.{on_ok_weaker}
+use Rattle.range_merge.specs.Connective.{difference_table}
+use Rattle.range_collections.specs.Splicing.{range_table}
+use Rattle.range_collections.proofs.Insertion.{Means-alike, difference-alike}
+use Rattle.range_chunks.specs.Chunks.{flat}
+use Rattle.range_chunks.proofs.ToTheEnd.{members-taken_from}
+use Rattle.range_chunks.proofs.set.ChunkedRangeSet.remove_from.Goals as goal
+
+pub returns-clause-changed : goal.returns-clause-changed
+returns-clause-changed g c =
+    rw (← c.self.view_is)
+    (record {
+      means = on_ok_weaker c.set_from.result (Means-alike (range_table false) difference_table difference-alike (flat c.set_from.new.chunks.items) (flat c.self.inside.chunks.items) _) c.set_from.ensures.changed.means;
+      left_own_item = c.set_from.ensures.changed.left_own_item;
+      unchanged = c.set_from.ensures.changed.unchanged;
+      succeeds = λ items m few. c.set_from.ensures.changed.succeeds items (Means-alike difference_table (range_table false) (λ x y. sym (difference-alike x y)) items (flat c.self.inside.chunks.items) _ m) few;
+      empty = c.set_from.ensures.changed.empty;
+    })
+
+pub returns-clause-members : goal.returns-clause-members
+returns-clause-members g c =
+    rw (← c.self.view_is)
+    (on_ok_weaker c.set_from.result (members-taken_from g.met.T.Ord.total c.args.range.start (flat c.set_from.new.chunks.items) (flat c.self.inside.chunks.items)) c.set_from.ensures.changed.means)

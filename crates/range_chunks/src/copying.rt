@@ -1,0 +1,67 @@
+//! Chunks of clones: those of a list in chunks, and those of a slice.
+ghost use Rattle.std.specs.Prelude.{◌≡◌, ◌∷◌, IfOk};
+ghost use Rattle.std.specs.List.{AllZip};
+ghost use Rattle.range_chunks.specs.Chunks.{items_of, flat, AreChunks};
+
+use crate::chunk::{Chunk, MOST};
+use range_collections::EntryClone;
+use std::alloc::{AllocError, Global};
+
+/// Clones of the boundaries, in chunks as long as theirs.
+pub fn clones<T: EntryClone + Drop>(
+    alloc: Global,
+    chunks: &[Chunk<T>],
+) -> Result<Vec<Chunk<T>>, AllocError>
+    requires { AreChunks chunks.now }
+    ensures copies { IfOk result (λ copied. AllZip T.is_copy (flat chunks.now) (flat copied.items)) }
+    ensures chunks { IfOk result (λ copied. AreChunks copied.items) }
+{
+    let mut copied = Vec::with_capacity(alloc, chunks.len())?;
+    for chunk in chunks {
+        copied.push_reserved(chunk_of_clones(
+            alloc,
+            &chunk.first,
+            chunk.rest.as_slice(),
+            chunk.odd,
+        )?);
+    }
+    Ok(copied)
+}
+
+/// Clones of the boundaries in a slice, in full chunks and a last one.
+pub fn clones_of<T: EntryClone + Drop>(
+    alloc: Global,
+    items: &[T],
+) -> Result<Vec<Chunk<T>>, AllocError>
+    ensures copies { IfOk result (λ copied. AllZip T.is_copy items.now (flat copied.items)) }
+    ensures chunks { IfOk result (λ copied. AreChunks copied.items) }
+{
+    let mut copied = Vec::with_capacity(alloc, items.len().div_ceil(MOST))?;
+    let mut unread = items;
+    while let Some((first, others)) = unread.split_first() {
+        let (rest, behind) = others.split_at(others.len().min(MOST - 1));
+        copied.push(chunk_of_clones(alloc, first, rest, false)?)?;
+        unread = behind;
+    }
+    Ok(copied)
+}
+
+// A chunk of clones of the first boundary and the rest.
+fn chunk_of_clones<T: EntryClone + Drop>(
+    alloc: Global,
+    first: &T,
+    rest: &[T],
+    odd: bool,
+) -> Result<Chunk<T>, AllocError>
+    ensures copies { IfOk result (λ chunk. AllZip T.is_copy (first.now ∷ rest.now) (items_of chunk)) }
+    ensures odd { IfOk result (λ chunk. chunk.odd ≡ odd) }
+{
+    let first = first.entry_clone()?;
+    let mut list = Vec::with_capacity(alloc, rest.len())?;
+    T::append_clones(&mut list, rest)?;
+    Ok(Chunk {
+        first,
+        rest: list,
+        odd,
+    })
+}

@@ -1,0 +1,196 @@
+//! The ranges of a set in chunks, from the lowest on and from the highest down.
+ghost use Rattle.std.specs.Prelude.{◌≡◌, length};
+ghost use Rattle.std.specs.Cmp.Lexicographic.{pointwise};
+ghost use Rattle.std.specs.Iterator.{YieldsFirstBy, YieldsLastBy, item_count};
+ghost use Rattle.range_merge.specs.Boundaries.{is_odd};
+ghost use Rattle.range_collections.specs.Ranges.{ranges_of, range_now};
+ghost use Rattle.range_chunks.specs.Chunks.{flat, AreChunks};
+
+use crate::chunk::Chunk;
+use range_collections::RangeSetRange;
+use std::iter::FusedIterator;
+use std::marker::Model;
+use std::ops::{Range, RangeFrom};
+
+/// The ranges of the boundaries that are still unread. A clause reads it as the list of those
+/// boundaries.
+#[derive(Drop)]
+pub struct Iter<'a, T> {
+    unread: Unread<'a, T>,
+    /// Whether the last range has no end.
+    endless: bool,
+}
+
+impl<'a, T> Model for Iter<'a, T> {
+    ghost use Rattle.std.specs.Prelude.{◌≡◌, List, length};
+    ghost use Rattle.range_merge.specs.Boundaries.{is_odd};
+
+    ghost Value = { List T };
+
+    ghost view = { λ it. it.unread };
+
+    ghost invariant = { λ it. it.endless ≡ is_odd (length it.unread) };
+}
+
+impl<'a, T> Iter<'a, T> {
+    // The ranges of the boundaries in these chunks.
+    #[inline(always)]
+    pub(crate) fn new(chunks: &'a [Chunk<T>]) -> Self
+        requires { AreChunks chunks.now }
+        ensures { result ≡ flat chunks.now }
+    {
+        Iter {
+            unread: Unread::new(chunks),
+            endless: is_endless(chunks),
+        }
+    }
+}
+
+impl<'a, T> Iterator for Iter<'a, T> {
+    type Item = RangeSetRange<&'a T>;
+
+    ghost next_gives = { YieldsFirstBy range_now ranges_of };
+
+    ghost remaining = { item_count ranges_of };
+
+    #[inline]
+    fn next(&mut self) -> Option<RangeSetRange<&'a T>> {
+        let start = self.unread.take_first()?;
+        match self.unread.take_first() {
+            Some(end) => Some(RangeSetRange::Range(Range { start, end })),
+            None => {
+                self.endless = false;
+                Some(RangeSetRange::RangeFrom(RangeFrom { start }))
+            }
+        }
+    }
+}
+
+impl<'a, T> DoubleEndedIterator for Iter<'a, T> {
+    ghost next_back_gives = { YieldsLastBy range_now ranges_of };
+
+    fn next_back(&mut self) -> Option<RangeSetRange<&'a T>> {
+        let last = self.unread.take_last()?;
+        if self.endless {
+            self.endless = false;
+            return Some(RangeSetRange::RangeFrom(RangeFrom { start: last }));
+        }
+        let start = self.unread.take_last()?;
+        Some(RangeSetRange::Range(Range { start, end: last }))
+    }
+}
+
+impl<'a, T> FusedIterator for Iter<'a, T> {}
+
+/// Whether the last range of the boundaries in these chunks has no end: their number is odd.
+#[inline]
+pub(crate) fn is_endless<T>(chunks: &[Chunk<T>]) -> bool
+    requires { AreChunks chunks.now }
+    ensures { result ≡ is_odd (length (flat chunks.now)) }
+{
+    if chunks.is_empty() {
+        return false;
+    }
+    let at = chunks.len() - 1;
+    let last = &chunks[at];
+    last.is_inside(last.len())
+}
+
+/// Whether both have equal boundaries, and as many.
+pub(crate) fn are_equal<T: PartialEq>(these: &[Chunk<T>], those: &[Chunk<T>]) -> bool
+    ensures { result ≡ pointwise T.eq (flat these.now) (flat those.now) }
+{
+    let (mut these, mut those) = (Unread::new(these), Unread::new(those));
+    while let Some(this) = these.take_first() {
+        match those.take_first() {
+            Some(that) if this == that => {}
+            _ => return false,
+        }
+    }
+    those.take_first().is_none()
+}
+
+// Boundaries by reference: those of a slice, those of chunks, one where it is given, and those of
+// another slice. A clause reads it as the list of them.
+#[derive(Drop)]
+struct Unread<'a, T> {
+    front: &'a [T],
+    chunks: &'a [Chunk<T>],
+    first: Option<&'a T>,
+    back: &'a [T],
+}
+
+impl<'a, T> Model for Unread<'a, T> {
+    ghost use Rattle.std.specs.Prelude.{List, ◌++◌, option_copied};
+    ghost use Rattle.std.specs.Option.{option_to_list};
+    ghost use Rattle.range_chunks.specs.Chunks.{flat};
+
+    ghost Value = { List T };
+
+    ghost view = { λ it. it.front.now ++ (flat it.chunks.now ++ (option_to_list (option_copied it.first) ++ it.back.now)) };
+}
+
+impl<'a, T> Unread<'a, T> {
+    // The boundaries in these chunks.
+    #[inline(always)]
+    fn new(chunks: &'a [Chunk<T>]) -> Self
+        ensures { result ≡ flat chunks.now }
+    {
+        Unread {
+            front: &[],
+            chunks,
+            first: None,
+            back: &[],
+        }
+    }
+
+    // Takes the first boundary out.
+    #[inline(always)]
+    fn take_first(&mut self) -> Option<&'a T>
+        ensures { YieldsFirstBy (λ x. x.now) (λ items. items) self.old result self.new }
+    {
+        if let Some((first, rest)) = self.front.split_first() {
+            self.front = rest;
+            return Some(first);
+        }
+        if let Some((chunk, chunks)) = self.chunks.split_first() {
+            self.front = chunk.rest.as_slice();
+            self.chunks = chunks;
+            return Some(&chunk.first);
+        }
+        if let Some(first) = self.first.take() {
+            return Some(first);
+        }
+        let (first, rest) = self.back.split_first()?;
+        self.back = rest;
+        Some(first)
+    }
+
+    // Takes the last boundary out.
+    #[inline(always)]
+    fn take_last(&mut self) -> Option<&'a T>
+        ensures { YieldsLastBy (λ x. x.now) (λ items. items) self.old result self.new }
+    {
+        if let Some((last, rest)) = self.back.split_last() {
+            self.back = rest;
+            return Some(last);
+        }
+        if let Some(first) = self.first.take() {
+            return Some(first);
+        }
+        if let Some((chunk, chunks)) = self.chunks.split_last() {
+            self.chunks = chunks;
+            return match chunk.rest.as_slice().split_last() {
+                Some((last, rest)) => {
+                    self.first = Some(&chunk.first);
+                    self.back = rest;
+                    Some(last)
+                }
+                None => Some(&chunk.first),
+            };
+        }
+        let (last, rest) = self.front.split_last()?;
+        self.front = rest;
+        Some(last)
+    }
+}

@@ -1,0 +1,23 @@
+//! Sets of ranges that are changed one by one and grow to millions. The boundaries lie in chunks,
+//! so a change moves those of one chunk, and now and then the list of chunks.
+#![tactic(auto)]
+
+mod chunk;
+mod copying;
+mod counting;
+mod cutting;
+mod inserting;
+mod iter;
+mod moving;
+mod overwriting;
+mod place;
+mod questions;
+mod ranges;
+mod removing;
+mod searching;
+mod set;
+mod splicing;
+mod to_the_end;
+
+pub use iter::Iter;
+pub use set::ChunkedRangeSet;

@@ -1,0 +1,8 @@
+//! Places in a list in chunks.
+
+/// Before the boundary at an index of a chunk, or at the chunk's end.
+#[derive(Clone, Copy)]
+pub struct Place {
+    pub chunk: usize,
+    pub index: usize,
+}

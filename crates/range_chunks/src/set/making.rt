@@ -1,0 +1,101 @@
+//! Sets made from views and other sets, and moved into a set of one list.
+ghost use Rattle.std.specs.Prelude.{◌≡◌, ◌↔◌, IsTrue, IfOk, IfErr};
+ghost use Rattle.std.specs.Cmp.Lexicographic.{pointwise, lists_per, lists_equiv};
+ghost use Rattle.std.specs.List.{AllZip};
+ghost use Rattle.range_merge.specs.Boundaries.{IsSameSet};
+ghost use Rattle.range_collections.specs.Sets.{AreEqual};
+
+use crate::copying::{clones, clones_of};
+use crate::iter::are_equal;
+use crate::moving::{cut_up, join_up, room_for};
+use crate::set::ChunkedRangeSet;
+use range_collections::{EntryClone, RangeSet, RangeSetRef};
+use smallvec::SmallVec;
+use std::alloc::{AllocError, Global};
+use std::default::MadeWith;
+
+impl<T: EntryClone + Drop> ChunkedRangeSet<T> {
+    /// The set of the view's members, with clones of its boundaries.
+    pub fn from_view(alloc: Global, view: RangeSetRef<T>) -> Result<Self, AllocError>
+        ensures copies { IfOk result (λ set. AllZip T.is_copy view.entry.boundaries.now set) }
+        ensures equal { IfOk result (λ set. AreEqual T.cmp view.entry.boundaries.now set) }
+    {
+        Ok(ChunkedRangeSet {
+            chunks: clones_of(alloc, view.boundaries())?,
+        })
+    }
+
+    /// A set of clones of the boundaries.
+    pub fn clone(&self) -> Result<Self, AllocError>
+        ensures copies { IfOk result (λ set. AllZip T.is_copy self.now set) }
+        ensures equal { IfOk result (λ set. AreEqual T.cmp self.now set) }
+    {
+        Ok(ChunkedRangeSet {
+            chunks: clones(*self.chunks.allocator(), self.chunks.as_slice())?,
+        })
+    }
+}
+
+impl<T: Ord + MadeWith<Global> + Drop> ChunkedRangeSet<T> {
+    /// The set with the boundaries of a `RangeSet`, which are moved. If memory runs out, they are
+    /// dropped: `from_view` leaves them where they are.
+    pub fn from_set<const N: usize>(set: RangeSet<T, N>) -> Result<Self, AllocError>
+        ensures { IfOk result (λ made. made ≡ set) }
+    {
+        Ok(ChunkedRangeSet {
+            chunks: cut_up(set.into_inner().into_vec()?)?,
+        })
+    }
+
+    /// The `RangeSet` with the boundaries of this set, which are moved, or this set as it was if
+    /// memory runs out. It asks once, for room for all of them.
+    pub fn into_set<const N: usize>(self) -> Result<RangeSet<T, N>, (AllocError, Self)>
+        ensures boundaries { IfOk result (λ set. set ≡ self) }
+        ensures handed_back { IfErr result (λ refused. refused.1 ≡ self) }
+    {
+        match room_for(*self.chunks.allocator(), self.chunks.as_slice()) {
+            Ok(room) => {
+                let ChunkedRangeSet { chunks } = self;
+                Ok(RangeSet::new_unchecked(inline(join_up(chunks, room))))
+            }
+            Err(error) => Err((error, self)),
+        }
+    }
+}
+
+// The list, whose items come to lie inline where they fit.
+fn inline<T: MadeWith<Global> + Drop, const N: usize>(list: Vec<T>) -> SmallVec<T, N>
+    ensures { result.items ≡ list.items }
+{
+    SmallVec::from_vec(list)
+}
+
+/// std's `Clone`, so that a struct that holds a set can derive it.
+impl<T: EntryClone + Drop> Clone for ChunkedRangeSet<T> {
+    ghost is_clone = { AreEqual T.cmp };
+
+    ghost is_infallible = { λ _. ⊥ };
+
+    /// A set of clones of the boundaries.
+    fn clone(&self) -> Result<Self, AllocError> {
+        ChunkedRangeSet::clone(self)
+    }
+}
+
+impl<T: Ord> PartialEq for ChunkedRangeSet<T> {
+    ghost eq = { pointwise T.eq };
+
+    ghost laws = { lists_per T.PartialEq.laws };
+
+    /// Whether both have the same members.
+    fn eq(&self, other: &Self) -> bool
+        ensures value { result ≡ pointwise T.eq self.now other.now }
+        ensures members { IsTrue result ↔ IsSameSet T.cmp self.now other.now }
+    {
+        are_equal(self.chunks.as_slice(), other.chunks.as_slice())
+    }
+}
+
+impl<T: Ord> Eq for ChunkedRangeSet<T> {
+    ghost laws = { lists_equiv T.Eq.laws };
+}

@@ -1,0 +1,14 @@
+//! Tests of sets in chunks: rows, made-up changes beside those of a `RangeSet`, and changes in a
+//! process whose memory is taken away.
+#![tactic(auto)]
+
+#[cfg(test)]
+mod asking;
+#[cfg(test)]
+mod made_up;
+#[cfg(test)]
+mod making;
+#[cfg(test)]
+mod refused;
+#[cfg(test)]
+mod rows;

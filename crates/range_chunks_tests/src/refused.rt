@@ -1,0 +1,188 @@
+//! Out of memory where a range is put into a set in chunks or taken out of it, and where a set is
+//! made: each request is refused in turn, and the set has the ranges that it had.
+use range_chunks::ChunkedRangeSet;
+use range_collections::RangeSet2;
+use range_tests_kit::starving::{Answer, Call, Starved};
+use range_tests_kit::ways::refused_if;
+use std::alloc::{AllocError, Global};
+
+#[derive(Clone, Copy, Debug)]
+enum Change {
+    Insert,
+    Remove,
+}
+
+// How many ranges of 10 the set has, one in each 20, what is done with the range from the one
+// number to the other, and whether it takes memory.
+type Row = (u16, Change, u16, u16, bool);
+
+// The first range, one that splits a full chunk, one within a range of it, and ranges for which the
+// set needs no memory.
+const ROWS: [Row; 8] = [
+    (0, Change::Insert, 5, 10, true),
+    (256, Change::Insert, 12, 15, true),
+    (256, Change::Insert, 5_115, 5_117, true),
+    (256, Change::Remove, 2_002, 2_005, true),
+    (256, Change::Insert, 5, 5_000, false),
+    (256, Change::Insert, 10, 12, false),
+    (256, Change::Remove, 0, 5_120, false),
+    (300, Change::Remove, 15, 5_500, false),
+];
+
+#[derive(Drop)]
+struct Attempt {
+    alloc: Global,
+    row: Row,
+}
+
+// The set of so many ranges.
+fn spread(alloc: Global, ranges: u16) -> Option<ChunkedRangeSet<u16>> {
+    let mut set = ChunkedRangeSet::new(alloc);
+    for k in 0..ranges {
+        let start = k.saturating_mul(20);
+        set.insert(start..start.saturating_add(10)).ok()?;
+    }
+    Some(set)
+}
+
+// Whether the number is in the ranges that a set begins with.
+fn was_there(row: Row, number: u16) -> bool {
+    number < row.0.saturating_mul(20) && number % 20 < 10
+}
+
+// Whether the number is in them once the row's range is put in or taken out.
+fn is_there(row: Row, number: u16) -> bool {
+    if row.2 <= number && number < row.3 {
+        matches!(row.1, Change::Insert)
+    } else {
+        was_there(row, number)
+    }
+}
+
+// Whether the set has the numbers that it began with, and no other.
+fn has_before(set: &ChunkedRangeSet<u16>, row: Row) -> bool {
+    for number in 0..13_000u16 {
+        if set.contains(&number) != was_there(row, number) {
+            return false;
+        }
+    }
+    true
+}
+
+// Whether it has those of the change, and no other.
+fn has_after(set: &ChunkedRangeSet<u16>, row: Row) -> bool {
+    for number in 0..13_000u16 {
+        if set.contains(&number) != is_there(row, number) {
+            return false;
+        }
+    }
+    true
+}
+
+impl Call for Attempt {
+    type Given = ChunkedRangeSet<u16>;
+
+    fn given(&self) -> Option<ChunkedRangeSet<u16>> {
+        spread(self.alloc, self.row.0)
+    }
+
+    fn answer(&self, mut set: ChunkedRangeSet<u16>) -> Answer {
+        let range = self.row.2..self.row.3;
+        let made = match self.row.1 {
+            Change::Insert => set.insert(range),
+            Change::Remove => set.remove(range),
+        };
+        match made {
+            Ok(()) => Answer::right_if(has_after(&set, self.row)),
+            Err(_) => refused_if(has_before(&set, self.row)),
+        }
+    }
+}
+
+#[test]
+fn changes_are_refused_where_the_set_grows(rt: HostRuntime) -> Result<(), AllocError> {
+    let alloc = rt.alloc();
+    for row in ROWS {
+        let mut starved = Starved::new(alloc)?;
+        let attempt = Attempt { alloc, row };
+        assert!(rt; starved.agrees(&attempt, row.4), "{row:?}");
+    }
+    Ok(())
+}
+
+#[derive(Clone, Copy, Debug)]
+enum Making {
+    FromView,
+    Clone,
+    IntoSet,
+}
+
+// How many ranges the set has, how another is made of it, and whether that takes memory.
+const MADE: [(u16, Making, bool); 5] = [
+    (0, Making::Clone, false),
+    (20, Making::FromView, true),
+    (1, Making::FromView, true),
+    (20, Making::Clone, true),
+    (20, Making::IntoSet, true),
+];
+
+#[derive(Drop)]
+struct Made {
+    alloc: Global,
+    row: Row,
+    making: Making,
+}
+
+impl Made {
+    // Makes a set of the members, and says whether it has them and no other. `None` is for out of
+    // memory with the set as it was.
+    fn make(&self, set: ChunkedRangeSet<u16>) -> Result<bool, AllocError> {
+        match self.making {
+            Making::Clone => Ok(has_before(&set.clone()?, self.row)),
+            Making::IntoSet => match set.into_set::<2>() {
+                Ok(flat) => Ok(flat.ranges_len() == usize::from(self.row.0)),
+                Err((error, set)) if has_before(&set, self.row) => Err(error),
+                Err(_) => Ok(false),
+            },
+            Making::FromView => self.from_view(),
+        }
+    }
+
+    // The same, from a view of a set of as many.
+    fn from_view(&self) -> Result<bool, AllocError> {
+        let mut flat = RangeSet2::empty(self.alloc);
+        for k in 0..self.row.0 {
+            let start = k.saturating_mul(20);
+            flat.insert(start..start.saturating_add(10))?;
+        }
+        let made = ChunkedRangeSet::from_view(self.alloc, flat.as_ref())?;
+        Ok(has_before(&made, self.row))
+    }
+}
+
+impl Call for Made {
+    type Given = ChunkedRangeSet<u16>;
+
+    fn given(&self) -> Option<ChunkedRangeSet<u16>> {
+        spread(self.alloc, self.row.0)
+    }
+
+    fn answer(&self, set: ChunkedRangeSet<u16>) -> Answer {
+        match self.make(set) {
+            Ok(right) => Answer::right_if(right),
+            Err(_) => Answer::Refused,
+        }
+    }
+}
+
+#[test]
+fn sets_are_refused_where_they_take_memory(rt: HostRuntime) -> Result<(), AllocError> {
+    let alloc = rt.alloc();
+    for (ranges, making, takes) in MADE {
+        let mut starved = Starved::new(alloc)?;
+        let row = (ranges, Change::Insert, 0, 0, takes);
+        let made = Made { alloc, row, making };
+        assert!(rt; starved.agrees(&made, takes), "{ranges} {making:?}");
+    }
+    Ok(())
+}

@@ -1,0 +1,458 @@
+"""What the elements of sets are: whole numbers, floats, times or addresses. Each kind has whole numbers that stand for its elements.
+
+A kind's `code` gives the number of an element, and its `value` the element of a number. Both keep the order, so that a list of such
+numbers is a set of elements, and the library for C needs to know of numbers alone.
+"""
+
+from __future__ import annotations
+
+import struct
+from array import array
+from datetime import date, datetime, timedelta, timezone
+from ipaddress import IPv4Address, IPv6Address
+from math import fsum, inf
+from operator import index
+from typing import Any, Iterable, Iterator, Protocol, SupportsIndex, Union
+
+from . import _core
+from ._numbers import empty_list, least, most, range_list, wanted
+
+
+class Scalar(Protocol):
+    """What checkers of types know of one `numpy.datetime64`."""
+
+    @property
+    def dtype(self) -> Any: ...
+
+
+# One element of a set.
+Element = Union[SupportsIndex, float, date, timedelta, IPv4Address, Scalar]
+# What is given as `kind`.
+Told = Union[str, type, None]
+
+_DAY, _MICROSECOND = timedelta(days=1), timedelta(microseconds=1)
+_FIRST_DAY = date(1970, 1, 1).toordinal()
+# The numbers of 64 bits with a sign.
+_LEAST, _MOST = least(unsigned=False), most(unsigned=False)
+
+
+class Kind:
+    """A kind of elements, from one whose number is `least` to one whose number is `most`.
+
+    `name` is what `kind=` takes, `element` says in errors what one is, and `plural` names them in pictures.
+    """
+
+    unsigned = False
+    # numpy's type of arrays that have these numbers as they lie.
+    dtype: Any = None
+
+    def __init__(self, name: str, element: str, least: int, most: int, plural: str) -> None:
+        self.name, self.element, self.least, self.most, self.plural = name, element, least, most, plural
+        self.nothing = empty_list(self.unsigned)
+        self.is_whole = isinstance(self, Whole)
+
+    def code(self, value: Any) -> int:
+        """The number of an element, which may lie outside of the kind's; a TypeError where it is no element of the kind."""
+        raise NotImplementedError
+
+    def value(self, code: int) -> Any:
+        """The element of a number."""
+        raise NotImplementedError
+
+    def values(self, codes: Iterable[int]) -> Iterator[Any]:
+        return map(self.value, codes)
+
+    def wrong(self, value: Any) -> TypeError:
+        return TypeError(f"{self.element} is wanted, as the set has, not {_named(value)}")
+
+    def within(self, code: int) -> int:
+        if not self.least <= code <= self.most:
+            raise OverflowError(f"{self.element} is wanted")
+        return code
+
+    def number(self, value: Any) -> int:
+        """The number of an element, which is one of the kind's."""
+        return self.within(self.code(value))
+
+    def start(self, value: Any) -> int:
+        """The number of a start, which is the least where the start is None. It may lie outside of the kind's."""
+        return self.least if value is None else self.code(value)
+
+    def end(self, value: Any) -> int | None:
+        """The number of an end, or None for no end, as is one past the greatest element of a kind with fewer than 64 bits."""
+        code = None if value is None else self.code(value)
+        return None if code is not None and self.most < code <= _MOST else code
+
+    def one(self, value: Any) -> tuple[int, int | None]:
+        """The two ends of the range of one element."""
+        code = self.code(value)
+        return code, None if code == self.most else code + 1
+
+    def listed(self, start: int, end: int | None) -> memoryview:
+        """The boundaries of a range that is given by its numbers."""
+        return range_list(self.within(start), None if end is None else self.within(end), self.unsigned)
+
+    def trimmed(self, boundaries: memoryview) -> memoryview:
+        """The list without an end past the greatest element."""
+        return boundaries[:-1] if self.most != most(self.unsigned) and boundaries and boundaries[-1] > self.most else boundaries
+
+    def all(self) -> memoryview:
+        return range_list(self.least, None, self.unsigned)
+
+    def covered(self, boundaries: memoryview) -> Any:
+        """How much a set covers, or None where it has no end."""
+        count = _core.covered(boundaries)
+        return None if count is None else self.length(count)
+
+    def length(self, count: int) -> Any:
+        """So many elements, as people count them."""
+        return count
+
+    def count(self, length: Any) -> int:
+        """How many elements a length is."""
+        return index(length)
+
+    def shown(self, value: Any) -> str:
+        """An element in a form that Python reads back."""
+        return repr(value)
+
+    def place(self, code: int) -> float:
+        """Where an element stands on a number line."""
+        return code
+
+
+class Whole(Kind):
+    """Whole numbers, each by itself."""
+
+    def __init__(self, name: str, unsigned: bool) -> None:
+        self.unsigned = unsigned
+        super().__init__(name, wanted(unsigned), least(unsigned), most(unsigned), "numbers")
+
+    def code(self, value: Any) -> int:
+        return index(value)
+
+    def value(self, code: int) -> int:
+        return code
+
+    def values(self, codes: Iterable[int]) -> Iterator[int]:
+        return iter(codes)
+
+    def listed(self, start: int, end: int | None) -> memoryview:
+        return range_list(start, end, self.unsigned)
+
+
+class Float(Kind):
+    """Floats in the order of their bits, those below zero by the bits of what they are above it with a minus."""
+
+    def __init__(self) -> None:
+        self.infinity = struct.unpack("q", struct.pack("d", inf))[0]
+        super().__init__("float", "a float", -self.infinity, self.infinity, "floats")
+
+    def code(self, value: Any) -> int:
+        if not isinstance(value, float):
+            value = _exact_float(value, self)
+        if value != value:
+            raise ValueError("NaN is in no order, and no element of a set")
+        bits: int = struct.unpack("q", struct.pack("d", value))[0]
+        return bits if bits >= 0 else _LEAST - bits
+
+    def value(self, code: int) -> float:
+        found: float = struct.unpack("d", struct.pack("q", abs(code)))[0]
+        return found if code >= 0 else -found
+
+    def codes(self, floats: Any) -> memoryview:
+        """The numbers of floats in a buffer."""
+        return memoryview(array("q", map(self.code, floats.tolist())))
+
+    def one(self, value: Any) -> tuple[int, int | None]:
+        raise TypeError("floats aren't counted one by one: a start and an end are wanted")
+
+    def covered(self, boundaries: memoryview) -> float | None:
+        if len(boundaries) % 2:
+            return None
+        ends = self.values(boundaries)
+        try:
+            return fsum(end - start for start, end in zip(ends, ends))
+        except OverflowError:
+            return inf
+
+    def count(self, length: Any) -> int:
+        raise TypeError("floats aren't counted one by one, so no number of them fits anywhere")
+
+    def shown(self, value: float) -> str:
+        return f"float('{value}')" if value in (inf, -inf) else repr(value)
+
+    def place(self, code: int) -> float:
+        # A quarter, so that differences of two aren't infinite.
+        return self.value(max(min(code, self.infinity - 1), 1 - self.infinity)) / 4
+
+
+class Timed(Kind):
+    """Times and dates, whose lengths are a timedelta, of so many of its `step`."""
+
+    def __init__(self, name: str, element: str, least: int, most: int, step: timedelta, dtype: str, plural: str) -> None:
+        super().__init__(name, element, least, most, plural)
+        self.step, self.dtype = step, dtype
+
+    def length(self, count: int) -> timedelta:
+        return count * self.step
+
+    def count(self, length: Any) -> int:
+        if not isinstance(length, timedelta):
+            raise TypeError(f"a timedelta is wanted, not {_named(length)}")
+        count, rest = divmod(DELTA.code(length), DELTA.code(self.step))
+        if rest:
+            raise ValueError("a timedelta of whole days is wanted")
+        return count
+
+
+class Dates(Timed):
+    """Dates, by their days from 1970 on."""
+
+    def __init__(self) -> None:
+        least, most = (it.toordinal() - _FIRST_DAY for it in (date.min, date.max))
+        super().__init__("date", "a date", least, most, _DAY, "M8[D]", "dates")
+
+    def code(self, value: Any) -> int:
+        if not isinstance(value, date) or isinstance(value, datetime):
+            raise self.wrong(value)
+        return value.toordinal() - _FIRST_DAY
+
+    def value(self, code: int) -> date:
+        return date.fromordinal(code + _FIRST_DAY)
+
+
+class Times(Timed):
+    """Times with a time zone or without one, by their microseconds from 1970 on. Those with one are kept in UTC."""
+
+    def __init__(self, name: str, element: str, zone: timezone | None) -> None:
+        self.zone, self.first = zone, datetime(1970, 1, 1, tzinfo=zone)
+        least, most = ((it.replace(tzinfo=zone) - self.first) // _MICROSECOND for it in (datetime.min, datetime.max))
+        super().__init__(name, element, least, most, _MICROSECOND, "M8[us]", "times")
+
+    def code(self, value: Any) -> int:
+        if type(value) is not datetime:
+            if not isinstance(value, datetime):
+                raise self.wrong(value)
+            _see_no_loss(value, "nanosecond")
+            value = datetime.combine(value.date(), value.timetz())
+        if (value.utcoffset() is None) != (self.zone is None):
+            raise self.wrong(value)
+        return (value - self.first) // _MICROSECOND
+
+    def value(self, code: int) -> datetime:
+        return self.first + code * _MICROSECOND
+
+
+class Deltas(Timed):
+    """Lengths of time, by their microseconds."""
+
+    def __init__(self) -> None:
+        super().__init__("timedelta", "a timedelta of at most 64 bits of microseconds", _LEAST, _MOST, _MICROSECOND, "m8[us]", "lengths of time")
+
+    def code(self, value: Any) -> int:
+        if not isinstance(value, timedelta):
+            raise self.wrong(value)
+        _see_no_loss(value, "nanoseconds")
+        return (value.days * 86_400 + value.seconds) * 1_000_000 + value.microseconds
+
+    def value(self, code: int) -> timedelta:
+        return timedelta(microseconds=code)
+
+
+class Numpys(Kind):
+    """What numpy has as datetime64 of one unit, by the numbers that it has too. The least of 64 bits is its NaT."""
+
+    def __init__(self, dtype: Any) -> None:
+        super().__init__(dtype.name, f"a numpy.{dtype.name}", _LEAST + 1, _MOST, "times")
+        self.dtype = dtype
+
+    def code(self, value: Any) -> int:
+        if getattr(value, "dtype", None) != self.dtype or getattr(value, "ndim", 0):
+            raise self.wrong(value)
+        code = int(value.view("i8"))
+        if code == _LEAST:
+            raise ValueError("NaT is in no order, and no element of a set")
+        return code
+
+    def value(self, code: int) -> Any:
+        return self.dtype.type(code, self._unit())
+
+    def length(self, count: int) -> Any:
+        import numpy
+
+        return numpy.timedelta64(count, self._unit())
+
+    def count(self, length: Any) -> int:
+        import numpy
+
+        if not isinstance(length, (timedelta, numpy.timedelta64)):
+            raise TypeError(f"a timedelta is wanted, not {_named(length)}")
+        given = numpy.timedelta64(length)
+        found: Any = given.astype(f"m8[{self._unit()}]")
+        # NaT differs from itself.
+        if found != given:
+            raise ValueError(f"a timedelta of whole {self._unit()} is wanted")
+        return int(found.view("i8"))
+
+    def shown(self, value: Any) -> str:
+        # numpy's own texts of times far beyond the age of the universe may not read back.
+        text, unit = str(value), self._unit()
+        return f"numpy.datetime64({(text if self.dtype.type(text, unit) == value else self.code(value))!r}, '{unit}')"
+
+    def _unit(self) -> str:
+        name: str = self.dtype.name
+        return name[len("datetime64[") : -1]
+
+
+class Addresses(Kind):
+    """IPv4 addresses, by their numbers."""
+
+    def __init__(self) -> None:
+        super().__init__("IPv4Address", "an IPv4Address", 0, 2**32 - 1, "addresses")
+
+    def code(self, value: Any) -> int:
+        if not isinstance(value, IPv4Address):
+            raise self.wrong(value)
+        return int(value)
+
+    def value(self, code: int) -> IPv4Address:
+        return IPv4Address(code)
+
+
+SIGNED, UNSIGNED = Whole("int", False), Whole("unsigned", True)
+# That of an empty set which nothing tells the kind of. Until it meets a set or an element of another kind it is one of signed numbers.
+UNTOLD = Whole("int", False)
+FLOAT, DATE, DELTA, ADDRESS = Float(), Dates(), Deltas(), Addresses()
+NAIVE = Times("datetime", "a datetime without a time zone", None)
+AWARE = Times("datetime[UTC]", "a datetime with a time zone", timezone.utc)
+_TOLD: dict[str | type, Kind] = {it.name: it for it in (SIGNED, UNSIGNED, FLOAT, DATE, DELTA, ADDRESS, NAIVE, AWARE)}
+_TOLD |= {int: SIGNED, float: FLOAT, date: DATE, timedelta: DELTA, IPv4Address: ADDRESS}
+
+_OF_UNITS: dict[str, Kind] = {}
+
+# The boundaries of a set and their kind.
+Now = tuple[memoryview, Kind]
+
+
+def of_dtype(dtype: Any) -> Kind:
+    """The kind of numpy's times of a unit: one for each, also where two threads ask for it at once."""
+    if dtype.kind != "M" or "[" not in dtype.name:
+        raise TypeError(f"numpy's datetime64 of a unit is wanted, not {dtype.name}")
+    return _OF_UNITS.get(dtype.name) or _OF_UNITS.setdefault(dtype.name, Numpys(dtype.newbyteorder("=")))
+
+
+def told(kind: Any, unsigned: bool | None = None) -> Kind | None:
+    """The kind that these two name, or None."""
+    found = _named_kind(kind)
+    if unsigned is None or (found is not None and found.unsigned == unsigned):
+        return found
+    if found is not None and (unsigned or found is UNSIGNED):
+        raise TypeError(f"the kind {found.name} is told, and unsigned={unsigned}")
+    return found or whole(unsigned)
+
+
+def _named_kind(kind: Any) -> Kind | None:
+    if kind is None:
+        return None
+    if kind is datetime:
+        raise TypeError("kind='datetime' for times without a time zone or kind='datetime[UTC]' for those with one is wanted")
+    try:
+        if kind in _TOLD:
+            return _TOLD[kind]
+    except TypeError:
+        pass
+    if str(kind).startswith("datetime64["):
+        import numpy
+
+        return of_dtype(numpy.dtype(kind))
+    raise TypeError(f"a kind is one of {', '.join(sorted(it.name for it in set(_TOLD.values())))} and datetime64[..], not {kind!r}")
+
+
+def whole(unsigned: bool) -> Whole:
+    return UNSIGNED if unsigned else SIGNED
+
+
+def of(value: Any) -> Kind | None:
+    """The kind of an element, or None where it is none."""
+    if type(value) is int:
+        return SIGNED
+    if isinstance(value, datetime):
+        return NAIVE if value.tzinfo is None or value.utcoffset() is None else AWARE
+    for type_of, kind in ((float, FLOAT), (date, DATE), (timedelta, DELTA), (IPv4Address, ADDRESS)):
+        if isinstance(value, type_of):
+            return kind
+    if type(value).__name__ == "datetime64" and hasattr(value, "dtype"):
+        return of_dtype(value.dtype)
+    try:
+        index(value)
+    except TypeError:
+        return None
+    return SIGNED
+
+
+def of_some(values: Iterable[Any]) -> Kind | None:
+    """The kind of the first element of these, where None stands for no element."""
+    for value in values:
+        if value is not None:
+            found = of(value)
+            if found is None:
+                raise _no_element(value)
+            return found
+    return None
+
+
+def agreed(left: Now, right: Now) -> tuple[memoryview, memoryview, Kind]:
+    """The boundaries of two sets and the one kind of both. A set of nothing whose kind isn't told takes that of the other."""
+    (a, kind), (b, other) = left, right
+    if kind is other:
+        return a, b, kind
+    if kind is UNTOLD:
+        return other.nothing, b, other
+    if other is UNTOLD:
+        return a, kind.nothing, kind
+    raise TypeError(mixed(kind, other))
+
+
+def mixed(kind: Kind, other: Kind) -> str:
+    if isinstance(kind, Whole) and isinstance(other, Whole):
+        return "signed and unsigned numbers don't mix: both sets have to be of one kind"
+    return f"two kinds of elements don't mix: one set has the kind {kind.name}, and the other {other.name}"
+
+
+def _exact_float(value: Any, kind: Kind) -> float:
+    try:
+        whole_number = index(value)
+    except TypeError:
+        raise kind.wrong(value) from None
+    found = float(whole_number)
+    if found != whole_number:
+        raise ValueError(f"{whole_number} is no float")
+    return found
+
+
+def _see_no_loss(value: Any, part: str) -> None:
+    """Refuses what pandas has beside Python's own times: NaT and nanoseconds."""
+    _see_no_nat(value)
+    if getattr(value, part, 0):
+        raise ValueError(f"microseconds are wanted, and {value!r} has nanoseconds: numpy's datetime64[ns] keep them")
+
+
+def _see_no_nat(value: Any) -> None:
+    if value != value:
+        raise ValueError("NaT is in no order, and no element of a set")
+
+
+def _named(value: Any) -> str:
+    if isinstance(value, datetime):
+        _see_no_nat(value)
+        return f"a datetime {'without' if value.utcoffset() is None else 'with'} a time zone"
+    return f"{type(value).__name__}"
+
+
+def _no_element(value: Any) -> TypeError:
+    if isinstance(value, (str, bytes)):
+        return TypeError("a text is no element of a set: give the place of each in a sorted list of them")
+    if isinstance(value, IPv6Address):
+        return TypeError("an IPv6 address is no element of a set, since it has 128 bits: sets of the Rust crate have u128")
+    return TypeError(f"{type(value).__name__!r} object cannot be interpreted as an integer")

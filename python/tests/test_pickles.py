@@ -1,0 +1,197 @@
+"""Pickles: what is in one, those of version 0.2, damaged ones, and what a subclass has beside a set.
+
+RANGE_SETS_PICKLES says how many are damaged.
+"""
+
+import copy
+import os
+import pickle
+import random
+import sys
+import unittest
+from array import array
+
+from range_sets import MutableRangeSet, NotSorted, RangeSet, _core
+from range_sets._ranges import _restored, _unpacked
+
+DAMAGED = int(os.environ.get("RANGE_SETS_PICKLES", "4000"))
+SETS = [
+    RangeSet(), RangeSet(unsigned=True), RangeSet([(-5, 10), (20, None)]), RangeSet([(0, 2**64 - 1)], unsigned=True),
+    RangeSet((None, None)),
+]
+
+
+def pairs(made):
+    return list(made)
+
+
+# ---- The definition of a packed set ----
+
+def packed(made):
+    """The version and the letter of the numbers, then the distances, seven bits a byte, the lowest first."""
+    data, before = bytearray(b"\1Q" if made.unsigned else b"\1q"), 0 if made.unsigned else -(2**63)
+    for number in made.boundaries.tolist():
+        distance, before = number - before, number
+        groups = [distance >> shift & 127 for shift in range(0, max(distance.bit_length(), 1), 7)]
+        data += bytes(it | 128 for it in groups[:-1]) + bytes(groups[-1:])
+    return bytes(data)
+
+
+def unpacked(data):
+    """The boundaries, or None where the bytes are no set."""
+    if data[:2] not in (b"\1q", b"\1Q") or (len(data) > 2 and data[-1] > 127):
+        return None
+    least, most = (0, 2**64 - 1) if data[1:2] == b"Q" else (-(2**63), 2**63 - 1)
+    numbers, distance, groups = [], 0, 0
+    for byte in data[2:]:
+        distance |= (byte & 127) << 7 * groups
+        groups += 1
+        if byte < 128:
+            if groups > 10 or distance >= 2**64:
+                return None
+            numbers.append((numbers[-1] if numbers else least) + distance)
+            distance = groups = 0
+    return numbers if all(a < b for a, b in zip(numbers, numbers[1:])) and max(numbers, default=least) <= most else None
+
+
+def made_up(some):
+    unsigned = some.random() < 0.5
+    least = 0 if unsigned else -(2**63)
+    near = [some.choice([least, 0, 2**62, least + 2**64 - 1]) + some.randint(-300, 300) for _ in range(some.randint(0, 6))]
+    wide = [least + some.getrandbits(some.randint(1, 64)) for _ in range(some.randint(0, 6))]
+    return RangeSet.from_boundaries(sorted({it for it in near + wide if least <= it < least + 2**64}), unsigned=unsigned)
+
+
+class Named(RangeSet):
+    """A subclass whose attributes stand in a dict."""
+
+    def __init__(self, source=(), *, unsigned=None, label=None):
+        self.label = label
+
+
+class Tagged(MutableRangeSet):
+    """A subclass whose attributes stand in slots."""
+
+    __slots__ = ("label",)
+
+    def __init__(self, source=(), *, unsigned=None, label=None):
+        self.label = label
+
+
+# What version 0.2 wrote of RangeSet([(-5, 10), (20, None)]) and of MutableRangeSet([(0, 2**64 - 1)], unsigned=True).
+PICKLES = [
+    b"\x80\x02crange_sets._ranges\n_restored\nq\x00(crange_sets\nRangeSet\nq\x01c_codecs\nencode\nq\x02X \x00\x00\x00\xc3\xbb\xc3\xbf\xc3\xbf"
+    b"\xc3\xbf\xc3\xbf\xc3\xbf\xc3\xbf\xc3\xbf\n\x00\x00\x00\x00\x00\x00\x00\x14\x00\x00\x00\x00\x00\x00\x00q\x03X\x06\x00\x00\x00latin1q\x04"
+    b"\x86q\x05Rq\x06\x89X\x06\x00\x00\x00littleq\x07tq\x08Rq\t.",
+    b"\x80\x05\x95h\x00\x00\x00\x00\x00\x00\x00\x8c\x12range_sets._ranges\x94\x8c\t_restored\x94\x93\x94(\x8c\nrange_sets\x94\x8c\x08RangeSet\x94"
+    b"\x93\x94C\x18\xfb\xff\xff\xff\xff\xff\xff\xff\n\x00\x00\x00\x00\x00\x00\x00\x14\x00\x00\x00\x00\x00\x00\x00\x94\x89\x8c\x06little\x94t\x94R\x94.",
+    b"\x80\x02crange_sets._ranges\n_restored\nq\x00(crange_sets\nMutableRangeSet\nq\x01c_codecs\nencode\nq\x02X\x18\x00\x00\x00\x00\x00\x00\x00\x00\x00"
+    b"\x00\x00\xc3\xbf\xc3\xbf\xc3\xbf\xc3\xbf\xc3\xbf\xc3\xbf\xc3\xbf\xc3\xbfq\x03X\x06\x00\x00\x00latin1q\x04\x86q\x05Rq\x06\x88X\x06\x00"
+    b"\x00\x00littleq\x07tq\x08Rq\t.",
+    b"\x80\x05\x95g\x00\x00\x00\x00\x00\x00\x00\x8c\x12range_sets._ranges\x94\x8c\t_restored\x94\x93\x94(\x8c\nrange_sets\x94\x8c\x0fMutableRangeSet"
+    b"\x94\x93\x94C\x10\x00\x00\x00\x00\x00\x00\x00\x00\xff\xff\xff\xff\xff\xff\xff\xff\x94\x88\x8c\x06little\x94t\x94R\x94.",
+]
+
+
+class Pickles(unittest.TestCase):
+    def test_each_kind_and_protocol(self):
+        for it in (*SETS, RangeSet([(0, 5), (8, 9)])[1:], MutableRangeSet([(0, 5)])):
+            for protocol in range(pickle.HIGHEST_PROTOCOL + 1):
+                with self.subTest(it=it, protocol=protocol):
+                    again = pickle.loads(pickle.dumps(it, protocol))
+                    self.assertEqual((again, type(again), again.unsigned), (it, type(it), it.unsigned))
+
+    def test_those_of_version_0_2(self):
+        frozen, changing = RangeSet([(-5, 10), (20, None)]), MutableRangeSet([(0, 2**64 - 1)], unsigned=True)
+        for data, expected in zip(PICKLES, (frozen, frozen, changing, changing)):
+            again = pickle.loads(data)
+            self.assertEqual((again, type(again), again.unsigned), (expected, type(expected), expected.unsigned))
+
+    def test_memory_beside_them(self):
+        beside = []
+        data = pickle.dumps(SETS[2], 5, buffer_callback=beside.append)
+        self.assertEqual(len(beside), 1)
+        self.assertEqual(pickle.loads(data, buffers=beside), SETS[2])
+
+    def test_those_of_version_0_2_in_the_other_order_of_bytes(self):
+        other = array("q", [-5, 10, 20])
+        other.byteswap()
+        order = {"little": "big", "big": "little"}[sys.byteorder]
+        self.assertEqual(_restored(RangeSet, other.tobytes(), False, order), SETS[2])
+
+    def test_those_of_version_0_2_that_are_no_set(self):
+        with self.assertRaises(NotSorted):
+            _restored(RangeSet, array("q", [10, 0]).tobytes(), False, sys.byteorder)
+
+    def test_attributes_of_subclasses(self):
+        for kind in (Named, Tagged):
+            for unsigned in (None, True):
+                made = kind([(0, 5), (8, 9)], unsigned=unsigned, label=["x"])
+                made.label.append(made)
+                for again in (copy.copy(made), made.copy(), pickle.loads(pickle.dumps(made)), pickle.loads(pickle.dumps(made, 2)), copy.deepcopy(made)):
+                    self.assertEqual((type(again), again.label[0], pairs(again), again.unsigned), (kind, "x", pairs(made), bool(unsigned)))
+                    self.assertIsNot(again, made)
+                self.assertIs(copy.copy(made).label, made.label)
+                deep = copy.deepcopy(made)
+                self.assertIsNot(deep.label, made.label)
+                self.assertIs(deep.label[1], deep)
+        with self.assertRaisesRegex(TypeError, "'other'"):
+            Named([(0, 5)], other=3)
+
+
+class Packed(unittest.TestCase):
+    def test_the_bytes(self):
+        for made, data in (
+            (RangeSet(), b"\1q"), (RangeSet(unsigned=True), b"\1Q"), (RangeSet([(0, 10), (20, None)], unsigned=True), b"\1Q\x00\x0a\x0a"),
+            (RangeSet([(300, 428)], unsigned=True), b"\1Q\xac\x02\x80\x01"), (RangeSet((None, None)), b"\1q\x00"),
+            (RangeSet((2**64 - 1, None), unsigned=True), b"\1Q" + 9 * b"\xff" + b"\x01"), (RangeSet([(0, 1)]), b"\1q" + 9 * b"\x80" + b"\x01\x01"),
+        ):
+            with self.subTest(made=made):
+                self.assertEqual((_core.pack(made.boundaries), packed(made)), (data, data))
+                self.assertEqual(_unpacked(RangeSet, data), made)
+
+    def test_what_is_no_set(self):
+        text = "the bytes are no set, or are one of another version"
+        for data, error, said in (
+            (b"", ValueError, text), (b"\1", ValueError, text), (b"\2q", ValueError, text), (b"\1d\0", ValueError, text),
+            (b"\1Q\x80", ValueError, "the bytes of a set are damaged"), (b"\1Q\5\x80", ValueError, "the bytes of a set are damaged"),
+            (b"\1Q" + 9 * b"\xff" + b"\x02", ValueError, "the bytes of a set are damaged"),
+            (b"\1Q" + 10 * b"\x80" + b"\0", ValueError, "the bytes of a set are damaged"),
+            (b"\1Q\5\0", NotSorted, "a list isn't strictly sorted"), (b"\1Q\5" + 9 * b"\xff" + b"\1", NotSorted, "a list isn't strictly sorted"),
+        ):
+            with self.subTest(data=data):
+                with self.assertRaises(error) as raised:
+                    _unpacked(RangeSet, data)
+                self.assertEqual((type(raised.exception), str(raised.exception)), (error, said))
+        with self.assertRaises(TypeError):
+            _unpacked(RangeSet, "text")
+
+    def test_damaged_ones(self):
+        seed = 20401
+        print(f"{DAMAGED} damaged pickles from the seed {seed}")
+        some, read = random.Random(seed), 0
+        for _ in range(DAMAGED):
+            made = made_up(some)
+            data = bytearray(_core.pack(made.boundaries))
+            self.assertEqual(data, packed(made))
+            for _ in range(some.randint(0, 3)):
+                at = some.randint(0, len(data))
+                data[at : at + some.randint(0, 2)] = some.randbytes(some.randint(0, 2))
+            expected = unpacked(bytes(data))
+            try:
+                found = _unpacked(RangeSet, data).boundaries.tolist()
+                read += 1
+            except ValueError:
+                found = None
+            self.assertEqual(found, expected, data)
+        self.assertTrue(DAMAGED // 5 < read < DAMAGED * 4 // 5, read)
+
+    def test_a_long_one(self):
+        made = RangeSet.from_boundaries(range(0, 400_000, 2), unsigned=True)
+        data = pickle.dumps(made)
+        self.assertEqual(pickle.loads(data), made)
+        self.assertLess(len(data), 200_200)
+
+
+if __name__ == "__main__":
+    unittest.main()

@@ -1,0 +1,162 @@
+//! The ranges that calls take: those of all kinds that std has.
+
+mod within;
+
+pub use within::{PartsFrom, PartsWithin, Within};
+
+use crate::range::RangeSetRange;
+use core::num::{NonZeroU128, NonZeroU16, NonZeroU32, NonZeroU64, NonZeroU8, NonZeroUsize};
+use core::ops::{Range, RangeFrom, RangeFull, RangeInclusive, RangeTo, RangeToInclusive};
+use core::time::Duration;
+use sealed::Sealed;
+#[cfg(feature = "std")]
+use std::net::{Ipv4Addr, Ipv6Addr};
+
+/// A range of values that a call takes, of any kind that std has.
+///
+/// | Range | Asks of the element | Is |
+/// |---|---|---|
+/// | `a..b`, `a..` | nothing more | the range itself |
+/// | `..b`, `..` | [`RangeSetEntry`](crate::RangeSetEntry), a least value | the range from that on |
+/// | `a..=b` | [`NextValue`] | `a..c` with the value `c` after `b`, or `a..` if there is none |
+/// | `..=b` | both | |
+/// | [`RangeSetRange`] | nothing more | the range itself |
+///
+/// An empty or a reversed range, as `5..=3`, has no values. It is implemented for these, and for nothing else.
+///
+/// # Examples
+///
+/// A function that takes any of them:
+///
+/// ```
+/// use range_sets::{AnyRange, RangeSet2};
+///
+/// fn block(busy: &mut RangeSet2<u8>, hours: impl AnyRange<u8>) -> &mut RangeSet2<u8> {
+///     busy.insert(hours);
+///     busy
+/// }
+///
+/// let mut busy = RangeSet2::empty();
+/// block(block(block(&mut busy, ..8), 12..=12), 18..);
+/// assert_eq!(busy.to_string(), "0..8, 12..13, 18..");
+/// ```
+pub trait AnyRange<T>: Sealed + Into<RangeSetRange<T>> {}
+
+impl<T, R: Sealed + Into<RangeSetRange<T>>> AnyRange<T> for R {}
+
+mod sealed {
+    /// Nothing outside of this crate names it.
+    pub trait Sealed {}
+}
+
+impl<T> Sealed for Range<T> {}
+impl<T> Sealed for RangeFrom<T> {}
+impl<T> Sealed for RangeTo<T> {}
+impl Sealed for RangeFull {}
+impl<T> Sealed for RangeInclusive<T> {}
+impl<T> Sealed for RangeToInclusive<T> {}
+impl<T> Sealed for RangeSetRange<T> {}
+
+/// An element type whose values have a next one, so that `a..=b` is a range of it.
+///
+/// It is implemented for whole numbers, `NonZero` numbers without a sign, `char` and [`Duration`], and with the feature
+/// `std` for `Ipv4Addr` and `Ipv6Addr`. It is tested, and no contract is proved of it.
+///
+/// # Examples
+///
+/// An element type of your own:
+///
+/// ```
+/// use range_sets::{NextValue, RangeSet2};
+///
+/// #[derive(Debug, PartialEq, Eq, PartialOrd, Ord)]
+/// enum Day { Mon, Tue, Wed }
+///
+/// impl NextValue for Day {
+///     fn next_value(self) -> Option<Self> {
+///         match self {
+///             Day::Mon => Some(Day::Tue),
+///             Day::Tue => Some(Day::Wed),
+///             Day::Wed => None,
+///         }
+///     }
+/// }
+///
+/// let days: RangeSet2<Day> = (Day::Tue..=Day::Wed).into();
+/// assert!(days.contains(&Day::Wed) && !days.contains(&Day::Mon));
+/// ```
+pub trait NextValue: Ord + Sized {
+    /// Returns the least value above this one, or `None` if this is the greatest.
+    ///
+    /// # Examples
+    ///
+    /// ```
+    /// use range_sets::NextValue;
+    ///
+    /// assert_eq!('\u{d7ff}'.next_value(), Some('\u{e000}'));
+    /// assert_eq!(255u8.next_value(), None);
+    /// ```
+    fn next_value(self) -> Option<Self>;
+}
+
+macro_rules! numbers {
+    ($($number:ty)*) => {$(
+        impl NextValue for $number {
+            #[inline]
+            fn next_value(self) -> Option<Self> {
+                self.checked_add(1)
+            }
+        }
+    )*};
+}
+
+numbers!(u8 u16 u32 u64 u128 usize i8 i16 i32 i64 i128 isize);
+
+macro_rules! non_zero_numbers {
+    ($($number:ty)*) => {$(
+        impl NextValue for $number {
+            #[inline]
+            fn next_value(self) -> Option<Self> {
+                Self::new(self.get().checked_add(1)?)
+            }
+        }
+    )*};
+}
+
+non_zero_numbers!(NonZeroU8 NonZeroU16 NonZeroU32 NonZeroU64 NonZeroU128 NonZeroUsize);
+
+impl NextValue for char {
+    #[inline]
+    fn next_value(self) -> Option<Self> {
+        // The surrogates after it are no characters.
+        if self == '\u{d7ff}' {
+            return Some('\u{e000}');
+        }
+        char::from_u32(u32::from(self) + 1)
+    }
+}
+
+impl NextValue for Duration {
+    #[inline]
+    fn next_value(self) -> Option<Self> {
+        self.checked_add(Duration::from_nanos(1))
+    }
+}
+
+#[cfg(feature = "std")]
+#[cfg_attr(docsrs, doc(cfg(feature = "std")))]
+impl NextValue for Ipv4Addr {
+    #[inline]
+    fn next_value(self) -> Option<Self> {
+        u32::from(self).checked_add(1).map(Self::from)
+    }
+}
+
+#[cfg(feature = "std")]
+#[cfg_attr(docsrs, doc(cfg(feature = "std")))]
+impl NextValue for Ipv6Addr {
+    #[inline]
+    fn next_value(self) -> Option<Self> {
+        u128::from(self).checked_add(1).map(Self::from)
+    }
+}

@@ -1,0 +1,247 @@
+//! A set in chunks whose calls return an error where memory is refused.
+
+use crate::any_range::AnyRange;
+use crate::array::Array;
+use crate::chunked::{self, IntoIter, Iter};
+use crate::fallible::{AllocError, EntryClone, RangeSet};
+use crate::range::RangeSetRange;
+use core::fmt;
+use core::ops::Deref;
+
+/// A set that is changed one range at a time, and whose calls return an error where memory is refused.
+///
+/// It dereferences to [`crate::ChunkedRangeSet`] for the questions, none of which takes memory, and a set goes either
+/// way by `into` without a copy.
+///
+/// # Examples
+///
+/// ```
+/// use range_sets::fallible::{AllocError, ChunkedRangeSet};
+///
+/// let mut pieces = ChunkedRangeSet::new();
+/// pieces.insert(40..50)?;
+/// pieces.insert(10..20)?;
+/// pieces.remove(12..15)?;
+/// assert_eq!(pieces.next_gap(&15), Some(&20));
+/// assert_eq!(pieces.to_string(), "10..12, 15..20, 40..50");
+/// # Ok::<(), AllocError>(())
+/// ```
+pub struct ChunkedRangeSet<T: Ord>(chunked::ChunkedRangeSet<T>);
+
+impl<T: Ord> ChunkedRangeSet<T> {
+    /// Returns the empty set. It takes no memory.
+    ///
+    /// # Examples
+    ///
+    /// ```
+    /// use range_sets::fallible::ChunkedRangeSet;
+    ///
+    /// assert!(ChunkedRangeSet::<u64>::new().is_empty());
+    /// ```
+    pub fn new() -> Self {
+        ChunkedRangeSet(chunked::ChunkedRangeSet::new())
+    }
+
+    /// Adds the values of a range [of any kind](AnyRange). An empty or a reversed range changes nothing.
+    ///
+    /// # Errors
+    ///
+    /// If memory is refused, which is asked for only where the set grows. The set is then as it was.
+    ///
+    /// # Examples
+    ///
+    /// ```
+    /// use range_sets::fallible::{AllocError, ChunkedRangeSet};
+    ///
+    /// let mut busy = ChunkedRangeSet::new();
+    /// busy.insert(11..12)?;
+    /// busy.insert(12..14)?;
+    /// assert_eq!(busy.to_string(), "11..14");
+    /// # Ok::<(), AllocError>(())
+    /// ```
+    pub fn insert(&mut self, range: impl AnyRange<T>) -> Result<(), AllocError> {
+        self.0.try_insert(range.into())
+    }
+
+    /// Removes the values of a range [of any kind](AnyRange). An empty or a reversed range changes nothing.
+    ///
+    /// # Errors
+    ///
+    /// If memory is refused, which is asked for only where the set grows. The set is then as it was.
+    ///
+    /// # Examples
+    ///
+    /// ```
+    /// use range_sets::fallible::{AllocError, ChunkedRangeSet};
+    ///
+    /// let mut open = ChunkedRangeSet::new();
+    /// open.insert(9..17)?;
+    /// open.remove(12..13)?;
+    /// assert_eq!(open.to_string(), "9..12, 13..17");
+    /// # Ok::<(), AllocError>(())
+    /// ```
+    pub fn remove(&mut self, range: impl AnyRange<T>) -> Result<(), AllocError> {
+        self.0.try_remove(range.into())
+    }
+
+    /// Removes all values.
+    ///
+    /// # Examples
+    ///
+    /// ```
+    /// use range_sets::fallible::{AllocError, ChunkedRangeSet};
+    ///
+    /// let mut open = ChunkedRangeSet::new();
+    /// open.insert(9..17)?;
+    /// open.clear();
+    /// assert!(open.is_empty());
+    /// # Ok::<(), AllocError>(())
+    /// ```
+    pub fn clear(&mut self) {
+        self.0.clear();
+    }
+
+    /// Adds the values of the ranges one after the other, which stand in any order.
+    ///
+    /// # Errors
+    ///
+    /// If memory is refused. The set then has the ranges before the one that was refused.
+    ///
+    /// # Examples
+    ///
+    /// ```
+    /// use range_sets::fallible::{AllocError, ChunkedRangeSet};
+    ///
+    /// let mut busy = ChunkedRangeSet::new();
+    /// busy.extend([15..18, 11..12, 12..13])?;
+    /// assert_eq!(busy.to_string(), "11..13, 15..18");
+    /// # Ok::<(), AllocError>(())
+    /// ```
+    pub fn extend<R>(&mut self, ranges: impl IntoIterator<Item = R>) -> Result<(), AllocError>
+    where
+        R: Into<RangeSetRange<T>>,
+    {
+        ranges
+            .into_iter()
+            .try_for_each(|range| self.0.try_insert(range.into()))
+    }
+
+    /// Returns a copy.
+    ///
+    /// # Errors
+    ///
+    /// If memory or a copy of a boundary is refused.
+    ///
+    /// # Examples
+    ///
+    /// ```
+    /// use range_sets::fallible::{AllocError, ChunkedRangeSet};
+    ///
+    /// let mut busy = ChunkedRangeSet::new();
+    /// busy.insert(9..17)?;
+    /// assert_eq!(busy.try_clone()?, busy);
+    /// # Ok::<(), AllocError>(())
+    /// ```
+    pub fn try_clone(&self) -> Result<Self, AllocError>
+    where
+        T: EntryClone,
+    {
+        self.0.try_copied().map(ChunkedRangeSet)
+    }
+
+    /// Returns the set in one list, with the boundaries of this one, which are moved.
+    ///
+    /// # Errors
+    ///
+    /// If memory is refused. This set then comes back as it was.
+    ///
+    /// # Examples
+    ///
+    /// ```
+    /// use range_sets::fallible::{ChunkedRangeSet, RangeSet2};
+    ///
+    /// let mut busy = ChunkedRangeSet::new();
+    /// busy.insert(9..17).unwrap();
+    /// let list: RangeSet2<u32> = busy.into_set().unwrap();
+    /// assert_eq!(list.boundaries(), [9, 17]);
+    /// ```
+    pub fn into_set<A: Array<Item = T>>(self) -> Result<RangeSet<A>, (AllocError, Self)> {
+        match self.0.try_into_set::<A>() {
+            Ok(set) => Ok(set.into()),
+            Err((refused, set)) => Err((refused, ChunkedRangeSet(set))),
+        }
+    }
+}
+
+/// The set with the boundaries of a `RangeSet`, which are moved. If memory is refused, they are dropped.
+impl<T: Ord, A: Array<Item = T>> TryFrom<RangeSet<A>> for ChunkedRangeSet<T> {
+    type Error = AllocError;
+
+    fn try_from(set: RangeSet<A>) -> Result<Self, AllocError> {
+        chunked::ChunkedRangeSet::try_from_set(set.into()).map(ChunkedRangeSet)
+    }
+}
+
+/// The empty set.
+impl<T: Ord> Default for ChunkedRangeSet<T> {
+    fn default() -> Self {
+        Self::new()
+    }
+}
+
+impl<T: Ord> Deref for ChunkedRangeSet<T> {
+    type Target = chunked::ChunkedRangeSet<T>;
+
+    #[inline(always)]
+    fn deref(&self) -> &chunked::ChunkedRangeSet<T> {
+        &self.0
+    }
+}
+
+/// The same set: its calls end the process where memory is refused.
+impl<T: Ord> From<ChunkedRangeSet<T>> for chunked::ChunkedRangeSet<T> {
+    fn from(set: ChunkedRangeSet<T>) -> Self {
+        set.0
+    }
+}
+
+/// The same set: its calls return an error where memory is refused.
+impl<T: Ord> From<chunked::ChunkedRangeSet<T>> for ChunkedRangeSet<T> {
+    fn from(set: chunked::ChunkedRangeSet<T>) -> Self {
+        ChunkedRangeSet(set)
+    }
+}
+
+impl<'a, T: Ord> IntoIterator for &'a ChunkedRangeSet<T> {
+    type Item = RangeSetRange<&'a T>;
+    type IntoIter = Iter<'a, T>;
+
+    fn into_iter(self) -> Iter<'a, T> {
+        self.iter()
+    }
+}
+
+impl<T: Ord> IntoIterator for ChunkedRangeSet<T> {
+    type Item = RangeSetRange<T>;
+    type IntoIter = IntoIter<T>;
+
+    fn into_iter(self) -> IntoIter<T> {
+        self.0.into_iter()
+    }
+}
+
+/// Two sets are equal if they have the same members.
+impl<T: Ord> PartialEq for ChunkedRangeSet<T> {
+    fn eq(&self, that: &Self) -> bool {
+        self.0 == that.0
+    }
+}
+
+impl<T: Ord> Eq for ChunkedRangeSet<T> {}
+
+/// As `ChunkedRangeSet{0..10, 20..}`.
+impl<T: Ord + fmt::Debug> fmt::Debug for ChunkedRangeSet<T> {
+    fn fmt(&self, f: &mut fmt::Formatter<'_>) -> fmt::Result {
+        self.0.fmt(f)
+    }
+}

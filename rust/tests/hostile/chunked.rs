@@ -1,0 +1,297 @@
+//! Sets in chunks whose elements' orders lie, and whose comparisons and drops panic: each element is dropped once, and a
+//! change that panics leaves the set as it was, changed as asked, or empty.
+
+use crate::common::one_in;
+use crate::element::{Hostile, Plan, LIVE, PLAN};
+use crate::without_messages;
+use range_sets::{fallible, ChunkedRangeSet, RangeSet2, RangeSetRange};
+use std::cell::Cell;
+use std::ops::Range;
+use std::panic::{catch_unwind, AssertUnwindSafe};
+
+/// A call that changes a set, with its name and what the boundaries of numbers are after it.
+type Change = (
+    &'static str,
+    fn(&mut ChunkedRangeSet<Hostile>, Range<Hostile>),
+    fn(&[u16], Range<u16>) -> Vec<u16>,
+);
+
+/// A call on a set, with its name.
+type Call = (
+    &'static str,
+    fn(&mut ChunkedRangeSet<Hostile>, Range<Hostile>),
+);
+
+const CHANGES: [Change; 9] = [
+    ("insert", |set, range| set.insert(range), inserted),
+    ("remove", |set, range| set.remove(range), removed),
+    ("extend", |set, range| set.extend([range]), inserted),
+    (
+        "insert without an end",
+        |set, range| set.insert(range.start..),
+        |boundaries, range| spliced_from(boundaries, range.start, true),
+    ),
+    (
+        "remove without an end",
+        |set, range| set.remove(range.start..),
+        |boundaries, range| spliced_from(boundaries, range.start, false),
+    ),
+    (
+        "into a list and back",
+        |set, _| *set = RangeSet2::from(std::mem::take(set)).into(),
+        |boundaries, _| boundaries.to_vec(),
+    ),
+    ("clear", |set, _| set.clear(), |_, _| Vec::new()),
+    (
+        "fallible insert",
+        |set, range| fallibly(set, |set| set.insert(range)),
+        inserted,
+    ),
+    (
+        "fallible remove",
+        |set, range| fallibly(set, |set| set.remove(range)),
+        removed,
+    ),
+];
+
+/// What only compares or reads.
+const QUESTIONS: [Call; 5] = [
+    ("questions of a value", |set, range| {
+        let _ = (set.contains(&range.start), set.is_empty());
+        let _ = (set.next_member(&range.start), set.next_gap(&range.end));
+    }),
+    ("contains_range", |set, range| {
+        let _ = set.contains_range(range);
+    }),
+    ("intersects_range", |set, range| {
+        let _ = set.intersects_range(range);
+    }),
+    ("copies", |set, _| {
+        let _ = (
+            set.clone(),
+            fallible::ChunkedRangeSet::from(set.clone()).try_clone(),
+        );
+    }),
+    ("a comparison of sets", |set, _| {
+        let same = &*set;
+        let _ = (same == &*set, same.cmp(set));
+    }),
+];
+
+/// Changes the set by a call of `fallible`, and gives it back also if that panics.
+fn fallibly(
+    set: &mut ChunkedRangeSet<Hostile>,
+    change: impl FnOnce(&mut fallible::ChunkedRangeSet<Hostile>) -> Result<(), fallible::AllocError>,
+) {
+    let mut changed = fallible::ChunkedRangeSet::from(std::mem::take(set));
+    let result = catch_unwind(AssertUnwindSafe(|| change(&mut changed)));
+    *set = changed.into();
+    match result {
+        Ok(result) => result.expect("no memory is refused"),
+        Err(panic) => std::panic::resume_unwind(panic),
+    }
+}
+
+/// The boundaries with those of a range, by definition: those outside of it stay, and its own are there if they change
+/// anything.
+fn spliced(boundaries: &[u16], range: Range<u16>, inside: bool) -> Vec<u16> {
+    if range.is_empty() {
+        return boundaries.to_vec();
+    }
+    let is_member = |value: u16| boundaries.iter().filter(|&&it| it <= value).count() % 2 == 1;
+    let starts_inside = range.start > 0 && is_member(range.start - 1);
+    let before = boundaries.iter().copied().filter(|&it| it < range.start);
+    let start = (starts_inside != inside).then_some(range.start);
+    let end = (is_member(range.end) != inside).then_some(range.end);
+    let after = boundaries.iter().copied().filter(|&it| it > range.end);
+    before.chain(start).chain(end).chain(after).collect()
+}
+
+/// The boundaries with that of a range without an end, by definition.
+fn spliced_from(boundaries: &[u16], start: u16, inside: bool) -> Vec<u16> {
+    let before = boundaries.iter().copied().filter(|&it| it < start);
+    let starts_inside = before.clone().count() % 2 == 1;
+    let start = (starts_inside != inside).then_some(start);
+    before.chain(start).collect()
+}
+
+fn inserted(boundaries: &[u16], range: Range<u16>) -> Vec<u16> {
+    spliced(boundaries, range, true)
+}
+
+fn removed(boundaries: &[u16], range: Range<u16>) -> Vec<u16> {
+    spliced(boundaries, range, false)
+}
+
+/// The set of so many ranges, of which each takes half of ten numbers.
+fn set(ranges: u16) -> ChunkedRangeSet<Hostile> {
+    (0..ranges)
+        .map(|i| Hostile::of(10 * i + 10)..Hostile::of(10 * i + 15))
+        .collect()
+}
+
+/// The boundaries of a set.
+fn read(set: &ChunkedRangeSet<Hostile>) -> Vec<u16> {
+    let mut boundaries = Vec::new();
+    for range in set {
+        match range {
+            RangeSetRange::Range(range) => boundaries.extend([*range.start.0, *range.end.0]),
+            RangeSetRange::RangeFrom(range) => boundaries.push(*range.start.0),
+        }
+    }
+    boundaries
+}
+
+/// Makes a call by a plan. Whether it returned, and the set's boundaries then.
+fn call_by(
+    plan: Plan,
+    call: fn(&mut ChunkedRangeSet<Hostile>, Range<Hostile>),
+    ranges: u16,
+    range: &Range<u16>,
+) -> (bool, Vec<u16>) {
+    let found = {
+        let mut set = set(ranges);
+        let range = Hostile::of(range.start)..Hostile::of(range.end);
+        PLAN.with(|it| it.set(plan));
+        let returned = catch_unwind(AssertUnwindSafe(|| call(&mut set, range))).is_ok();
+        PLAN.with(|it| it.set(Plan::Honest));
+        (returned, read(&set))
+    };
+    assert_eq!(LIVE.with(Cell::get), 0, "of {ranges} ranges and {range:?}");
+    found
+}
+
+/// So many ranges, and a range that is put in or taken out: within one chunk, from one into another, across whole ones, of
+/// all chunks, from a boundary, up to one, in no range, reversed. A set that grows in order has chunks of 256 boundaries.
+#[allow(clippy::reversed_empty_ranges)]
+const CASES: [(u16, Range<u16>); 16] = [
+    (0, 5..8),
+    (3, 0..50),
+    (3, 0..27),
+    (3, 12..33),
+    (3, 15..20),
+    (3, 33..12),
+    (280, 40..90),
+    (280, 5..20),
+    (280, 1283..1301),
+    (280, 1290..1300),
+    (280, 1200..1400),
+    (280, 0..2000),
+    (400, 1000..2800),
+    (400, 1003..3003),
+    (400, 10..2570),
+    (400, 1290..2570),
+];
+
+/// How many of its panics a change of many ranges is tried with: one in some.
+fn step(ranges: u16) -> usize {
+    one_in() * if ranges > 100 { 31 } else { 1 }
+}
+
+fn changes_panic_in_turn(plan: fn(usize) -> Plan, at_least: usize) {
+    let mut panicked = 0;
+    for (name, change, asked) in CHANGES {
+        for (ranges, range) in &CASES {
+            let before = read(&set(*ranges));
+            let asked = asked(&before, range.clone());
+            let mut turn = 0;
+            loop {
+                let (returned, found) = call_by(plan(turn), change, *ranges, range);
+                let what = format!("{name} of {ranges} ranges and {range:?}, panic {turn}");
+                if returned {
+                    assert_eq!(found, asked, "{what}");
+                    break;
+                }
+                let is_one_of_three = found == before || found == asked || found.is_empty();
+                assert!(is_one_of_three, "{what}: {} boundaries", found.len());
+                panicked += 1;
+                turn += step(*ranges);
+            }
+        }
+    }
+    assert!(panicked * one_in() >= at_least, "{panicked} panicked");
+}
+
+#[test]
+fn changes_in_which_a_comparison_panics() {
+    without_messages(|| changes_panic_in_turn(Plan::PanicAtComparison, 100));
+}
+
+#[test]
+fn changes_in_which_a_drop_panics() {
+    without_messages(|| changes_panic_in_turn(Plan::PanicAtDrop, 1000));
+}
+
+#[test]
+fn clones_that_panic_change_nothing() {
+    without_messages(|| {
+        for (ranges, range) in &CASES {
+            let (before, mut turn) = (read(&set(*ranges)), 0);
+            loop {
+                let plan = Plan::PanicAtClone(turn);
+                let (returned, found) = call_by(plan, QUESTIONS[3].1, *ranges, range);
+                assert_eq!(found, before, "of {ranges} ranges, panic {turn}");
+                if returned {
+                    break;
+                }
+                turn += step(*ranges);
+            }
+        }
+    });
+}
+
+#[test]
+fn a_comparison_that_panics_changes_nothing() {
+    without_messages(|| {
+        for (name, call) in CHANGES
+            .map(|(name, call, _)| (name, call))
+            .iter()
+            .chain(&QUESTIONS)
+        {
+            for (ranges, range) in &CASES {
+                let (before, mut turn) = (read(&set(*ranges)), 0);
+                loop {
+                    let plan = Plan::PanicAtComparison(turn);
+                    let (returned, found) = call_by(plan, *call, *ranges, range);
+                    if returned {
+                        break;
+                    }
+                    assert_eq!(found, before, "{name} of {ranges} ranges and {range:?}");
+                    turn += step(*ranges);
+                }
+            }
+        }
+    });
+}
+
+#[test]
+fn orders_that_lie() {
+    without_messages(|| {
+        for (_, call) in CHANGES
+            .map(|(name, call, _)| (name, call))
+            .iter()
+            .chain(&QUESTIONS)
+        {
+            for (ranges, range) in &CASES {
+                for seed in (1..40).step_by(step(*ranges)) {
+                    let plan = Plan::Lie(u64::wrapping_mul(seed, 0x9e37_79b9_7f4a_7c15));
+                    call_by(plan, *call, *ranges, range);
+                }
+            }
+        }
+    });
+}
+
+#[test]
+fn a_set_whose_change_panicked_is_of_use() {
+    without_messages(|| {
+        let mut set = set(400);
+        let range = Hostile::of(1003)..Hostile::of(3003);
+        PLAN.with(|plan| plan.set(Plan::PanicAtDrop(9)));
+        assert!(catch_unwind(AssertUnwindSafe(|| set.remove(range))).is_err());
+        PLAN.with(|plan| plan.set(Plan::Honest));
+        set.clear();
+        set.insert(Hostile::of(4)..Hostile::of(6));
+        assert_eq!(read(&set), [4, 6]);
+    });
+}
