@@ -163,7 +163,7 @@ impl T for u8 {
         self.assertIn("fn f(n: u8) -> u8 {\n    n\n}", found)
 
     def test_hints_go_and_calls_that_do_nothing(self):
-        text = "fn f(x: &[u8]) -> usize {\n    // Brings that the length is within usize.\n    let _len = x.len();\n    x.known();\n    R::keeps_own();\n    1\n}"
+        text = "fn f(x: &[u8]) -> usize {\n    // `len` is called for its clause that the length is within usize, which the proof cites.\n    let _len = x.len();\n    x.known();\n    R::keeps_own();\n    1\n}"
         self.assertEqual(rust(text), "fn f(x: &[u8]) -> usize {\n    1\n}")
 
     def test_a_block_before_a_call_that_does_nothing_stays(self):
@@ -279,7 +279,7 @@ class Refusals(unittest.TestCase):
         self.refused("fn f(x: &[u8]) -> u8 {\n    x.select_nth(3)\n}", 2, "the method select_nth isn't known")
         self.refused("fn f(x: u8) -> u8 {\n    let (a, b) = g(x) else { return 1; };\n    a\n}", 2, "an else of another form than let Name(name) = value else { .. };")
         self.refused("fn f(x: u8) -> u8 {\n    let y = x.known() + 1;\n    y\n}", 2, "known as something else than a statement of its own")
-        self.refused("fn f(x: u8) -> u8 {\n    // Brings that it fits.\n    g(x)\n}", 3, "'// Brings that' before something else than let _name")
+        self.refused("fn f(x: u8) -> u8 {\n    // It is called for its clause, which the proof cites.\n    g(x)\n}", 3, "'which the proof cites.' before something else than let _name")
 
     def test_paths(self):
         self.refused("use std::sync::Mutex;\nfn f(x: Mutex) {}", 1, "std::sync::Mutex isn't known")

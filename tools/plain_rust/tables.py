@@ -68,7 +68,7 @@ EXPORT = re.compile(r"proved_range_set_[iu]\d+_(\w+)")
 #   fn known(&self), fn known_in_range(&self), fn keeps_own()
 NOTHING = {"known", "known_in_range", "keeps_own"}
 # The comment before a statement that is there for a proof alone.
-HINT = "// Brings that"
+HINT = "which the proof cites."
 
 # Files that are left out: laws are found by their form; JSON is read and written by serde; std prints sets of
 # characters; a set of Rattle's own needs numbers other than 0 that have a default.

@@ -94,7 +94,7 @@ impl<K, const N: usize, L: Place<K>> InPlaceBuilder<K, N, L> {
         requires { i < length self.now.unread }
         ensures { slice_get self.now.unread i ≡ Some result.now }
     {
-        // Brings that the length is within usize.
+        // `len` is called for its clause that the length is within usize, which the proof cites.
         let _len = self.list.len();
         self.list.at(self.start + i)
     }
@@ -116,7 +116,7 @@ impl<K, const N: usize, L: Place<K>> InPlaceBuilder<K, N, L> {
         ensures puts_left { self.new.puts_left ≡ self.old.puts_left }
     {
         self.list.move_down(self.kept, self.start, n);
-        // Brings that the length is within usize.
+        // `len` is called for its clause that the length is within usize, which the proof cites.
         let _len = self.list.len();
         self.kept += n;
         self.start += n;
@@ -130,7 +130,7 @@ impl<K, const N: usize, L: Place<K>> InPlaceBuilder<K, N, L> {
         ensures unread { self.new.unread ≡ drop n self.old.unread }
         ensures puts_left { self.new.puts_left ≡ self.old.puts_left }
     {
-        // Brings that the length is within usize.
+        // `len` is called for its clause that the length is within usize, which the proof cites.
         let _len = self.list.len();
         self.start += n; // they are in the gap now
     }
@@ -285,7 +285,7 @@ fn with_gap<K, L: Place<K>>(
     }
     let more = wanted - gap;
     list.open_gap(start, more);
-    // Brings that the length is within usize.
+    // `len` is called for its clause that the length is within usize, which the proof cites.
     let _len = list.len();
     start + more
 }

@@ -18,7 +18,7 @@ pub(crate) fn prepared<K: MadeWith<Global> + Drop, const N: usize>(
     ensures room { OnOk result (HasRoomFor list.new extra) }
     ensures succeeds { length list.old.items + extra ≤ N → IsOk result }
 {
-    // Brings that the capacity is at least N.
+    // `capacity` is called for its clause that it is at least N, which the proof cites.
     let _inline = list.capacity();
     list.reserve(extra)
 }

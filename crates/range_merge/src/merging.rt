@@ -121,7 +121,7 @@ fn take_runs<S: MergeStateMut, O: MergeOperation, C: Compare<S::Item>>(
         0 (C.count cmp.old) (C.count cmp.new) result }
     ensures used_up { IfOk result (IfOn (λ next. next ≡ None)) }
 {
-    // Brings that both lengths are within usize.
+    // Both are called for their clause that a length is within usize, which the proof cites.
     let _lengths = (state.a_len(), state.b_len());
     let mut firsts = order_at(state, 0, cmp);
     while firsts.is_some() {

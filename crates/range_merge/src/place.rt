@@ -232,7 +232,7 @@ fn exchange_few<K>(items: &mut [K], at: usize, others: &mut [K])
     ensures after { drop (at + length others.old) items.new ≡ drop (at + length others.old) items.old }
     ensures len { length items.new ≡ length items.old }
 {
-    // Brings that the length is within usize.
+    // `len` is called for its clause that the length is within usize, which the proof cites.
     let _len = items.len();
     for i in 0..others.len() {
         mem::swap(&mut items[at + i], &mut others[i]);
@@ -293,7 +293,7 @@ fn swap_few_down<K>(items: &mut [K], to: usize, from: usize, n: usize)
     ensures after { drop (from + n) items.new ≡ drop (from + n) items.old }
     ensures len { length items.new ≡ length items.old }
 {
-    // Brings that the length is within usize.
+    // `len` is called for its clause that the length is within usize, which the proof cites.
     let _len = items.len();
     for i in 0..n {
         items.swap(to + i, from + i);
@@ -309,7 +309,7 @@ fn swap_many_down<K>(items: &mut [K], to: usize, from: usize, n: usize)
     ensures after { drop (from + n) items.new ≡ drop (from + n) items.old }
     ensures len { length items.new ≡ length items.old }
 {
-    // Brings that the length is within usize.
+    // `len` is called for its clause that the length is within usize, which the proof cites.
     let _len = items.len();
     last_to_front(&mut items[to..from + n], n);
 }

@@ -260,7 +260,7 @@ impl<T: RangeSetEntry + MadeWith<Global> + Drop, const N: usize> Not for RangeSe
             return Ok(RangeSet::new_unchecked(list));
         }
         let least = T::min_value(alloc)?;
-        // Brings that the capacity is at least N.
+        // `capacity` is called for its clause that it is at least N, which the proof cites.
         let _inline = list.capacity();
         list.insert(0, least)?;
         Ok(RangeSet::new_unchecked(list))

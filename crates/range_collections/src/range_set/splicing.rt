@@ -171,7 +171,7 @@ fn insert_both<T: MadeWith<Global> + Drop, const N: usize>(
     ensures unchanged { OnErr result (list.new.items ≡ list.old.items) }
     ensures succeeds { length list.old.items + 2 ≤ N → IsOk result }
 {
-    // Brings that the capacity is at least N.
+    // `capacity` is called for its clause that it is at least N, which the proof cites.
     let _inline = list.capacity();
     list.reserve(2)?;
     list.push_reserved(start);

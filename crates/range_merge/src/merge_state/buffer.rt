@@ -111,6 +111,7 @@ impl<'a, 'o, K: Copy> BufferMergeState<'a, 'o, K> {
         ensures comparisons { AddsAtMost (C.count cmp.old) (C.count cmp.new) (2 * weight C.order a.now b.now) }
     {
         let mut state = Self::new(a, b, out);
+        // Nothing is lost: the buffer counts also what it has no room for.
         let _ = merging::merge(&mut state, op, cmp);
         state.result()
     }

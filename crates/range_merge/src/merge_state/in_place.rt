@@ -133,7 +133,7 @@ impl<K, L: Shelf<K>> Indexed<K> for OwnedRight<K, L> {
 
     #[inline(always)]
     fn at(&self, i: usize) -> &K {
-        // Brings that the length is within usize.
+        // `len` is called for its clause that the length is within usize, which the proof cites.
         let _len = self.list.len();
         self.list.at(self.start + i)
     }
@@ -145,14 +145,14 @@ impl<K, L: Shelf<K>> RightSide<K> for OwnedRight<K, L> {
     #[inline(always)]
     fn put_front(&mut self, slots: &mut [K]) {
         self.list.swap_with(self.start, slots);
-        // Brings that the length is within usize.
+        // `len` is called for its clause that the length is within usize, which the proof cites.
         let _len = self.list.len();
         self.start += slots.len();
     }
 
     #[inline(always)]
     fn drop_front(&mut self, n: usize) {
-        // Brings that the length is within usize.
+        // `len` is called for its clause that the length is within usize, which the proof cites.
         let _len = self.list.len();
         self.start += n;
     }

@@ -77,6 +77,7 @@ impl<K, const N: usize, R: RightSide<K>, L: Place<K>> PlacingMergeState<K, N, R,
         ensures comparisons { AddsAtMost (C.count cmp.old) (C.count cmp.new)
             (2 * weight C.order self.left self.right) }
     {
+        // Nothing is lost: this merge never stops and is never refused.
         let _ = merging::merge(&mut self, op, cmp);
         self.result()
     }

@@ -44,7 +44,7 @@ impl<'a, K: MadeWith<Global> + Drop, P: Copier<K>, const M: usize> SmallVecMerge
         ensures at_least_inline { M ≤ result.taken.capacity }
         ensures infallible { length r.items + length a.now + length b.now ≤ M → All P.is_infallible a.now → All P.is_infallible b.now → HasRoomForAll P.is_infallible result }
     {
-        // Brings that the capacity is at least M.
+        // `capacity` is called for its clause that it is at least M, which the proof cites.
         let _inline = r.capacity();
         let began = r.len();
         Self::over(a, b, r, Copying { copier, began })
@@ -97,7 +97,7 @@ impl<'a, K: MadeWith<Global> + Drop, P: Copier<K>, const M: usize> SmallVecMerge
         ensures comparisons { AddsAtMost (C.count cmp.old) (C.count cmp.new) (2 * weight C.order a.now b.now) }
     {
         let alloc = *r.allocator();
-        // Brings that the capacity is at least M.
+        // `capacity` is called for its clause that it is at least M, which the proof cites.
         let _inline = r.capacity();
         let mut state = SliceMergeState::over(a, b, &mut r, Copying { copier, began: 0 });
         let _went_through = merging::merge(&mut state, op, cmp)?;

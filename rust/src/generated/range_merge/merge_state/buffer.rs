@@ -110,6 +110,7 @@ impl<'a, 'o, K: Copy> BufferMergeState<'a, 'o, K> {
         cmp: &mut C,
     ) -> Buffer<'o, K> {
         let mut state = Self::new(a, b, out);
+        // Nothing is lost: the buffer counts also what it has no room for.
         let _ = merging::merge(&mut state, op, cmp);
         state.result()
     }

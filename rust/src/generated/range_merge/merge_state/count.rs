@@ -54,6 +54,7 @@ impl<'a, K> CountMergeState<'a, K> {
         cmp: &mut C,
     ) -> usize {
         let mut state = Self::new(a, b);
+        // Nothing is lost: a count never stops a merge, and is never refused.
         let _ = merging::merge(&mut state, op, cmp);
         state.result()
     }
