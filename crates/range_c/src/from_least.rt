@@ -13,7 +13,7 @@ ghost use Rattle.range_collections.specs.Connective.{differ, table_of};
 ghost use Rattle.range_c.specs.Answers.{AreAscending, connective_of};
 ghost use Rattle.range_c.specs.FromLeast.{AnswersFrom};
 
-use crate::calls::{merge, told_by};
+use crate::calls::{decoded, merge};
 use range_collections::{Comparisons, Connective, MergeOperation, count_up_to};
 use range_merge::laws::changes_are_at_most_the_lengths;
 
@@ -31,7 +31,7 @@ pub(crate) fn combine_from<T: Ord + Copy>(
     ensures { AnswersFrom T.cmp least (connective_of connective) a.now b.now
         out.old out.new result }
 {
-    let of = told_by(connective);
+    let of = decoded(connective);
     let (a_on, a) = above(a, &least);
     let (b_on, b) = above(b, &least);
     let op = changes_from(&of, a_on, b_on);

@@ -152,14 +152,17 @@ impl Write for Broken {
 /// Whether the status is told to an output that takes everything.
 fn is_told(alloc: Global, status: Status) -> bool {
     let mut out = Vec::new(alloc);
-    status.told(&mut out, b"line\n") == status && out.as_slice() == b"line\n".as_slice()
+    status.write_line(&mut out, b"line\n") == status && out.as_slice() == b"line\n".as_slice()
 }
 
 #[test]
 fn a_status_that_is_not_told_is_a_failure(rt: HostRuntime) {
     for status in [Status::BadLimit, Status::NoMemory] {
         for kind in [ErrorKind::OutOfMemory, ErrorKind::BrokenPipe] {
-            assert_eq!(rt; status.told(&mut Broken(kind), b"line\n"), Status::Failed);
+            assert_eq!(rt;
+                status.write_line(&mut Broken(kind), b"line\n"),
+                Status::Failed
+            );
         }
         assert!(rt; is_told(rt.alloc(), status), "{status:?}");
     }

@@ -46,8 +46,8 @@ impl Operation {
 pub enum Form {
     OfViews,
     OfSet,
-    OfLent,
-    OfLentAndOwned,
+    OfBorrowed,
+    OfBorrowedAndOwned,
     OfOwnedAndLent,
     OfOwned,
     MergeViews,
@@ -61,8 +61,8 @@ pub enum Form {
 pub const FORMS: [Form; 12] = [
     Form::OfViews,
     Form::OfSet,
-    Form::OfLent,
-    Form::OfLentAndOwned,
+    Form::OfBorrowed,
+    Form::OfBorrowedAndOwned,
     Form::OfOwnedAndLent,
     Form::OfOwned,
     Form::MergeViews,
@@ -276,8 +276,8 @@ impl Form {
                 right.as_ref(),
             )),
             Form::OfSet => Outcome::of(Outcome::of_set(op, &left, right.as_ref())),
-            Form::OfLent => Outcome::of(by_operator(op, &left, &right)),
-            Form::OfLentAndOwned => Outcome::of(by_operator(op, &left, right)),
+            Form::OfBorrowed => Outcome::of(by_operator(op, &left, &right)),
+            Form::OfBorrowedAndOwned => Outcome::of(by_operator(op, &left, right)),
             Form::OfOwnedAndLent => Outcome::of(by_operator(op, left, &right)),
             Form::OfOwned => Outcome::of(by_operator(op, left, right)),
             Form::Change => {

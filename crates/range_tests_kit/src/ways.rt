@@ -30,8 +30,8 @@ pub enum Way {
 pub const WAYS: [Way; 20] = [
     Way::Form(Form::OfViews),
     Way::Form(Form::OfSet),
-    Way::Form(Form::OfLent),
-    Way::Form(Form::OfLentAndOwned),
+    Way::Form(Form::OfBorrowed),
+    Way::Form(Form::OfBorrowedAndOwned),
     Way::Form(Form::OfOwnedAndLent),
     Way::Form(Form::OfOwned),
     Way::Form(Form::MergeViews),

@@ -29,7 +29,7 @@ fn run(rt: &(impl Env + Input + Print + AllocGlobal)) -> io::Result<Status> {
         Err(_) => None,
     };
     let Some(limit) = limit else {
-        return Ok(Status::BadLimit.told(&mut out, b"bad limit\n"));
+        return Ok(Status::BadLimit.write_line(&mut out, b"bad limit\n"));
     };
     let reader = BufReader::new(rt.alloc(), rt.reader())?;
     let mut writer = BufWriter::new(rt.alloc(), out)?;
@@ -42,7 +42,7 @@ fn run(rt: &(impl Env + Input + Print + AllocGlobal)) -> io::Result<Status> {
 
 /// Says that there was no memory to begin with, which itself takes none.
 fn out_of_memory(rt: &impl Print) -> Status {
-    Status::NoMemory.told(&mut io::writer(rt), b"out of memory\n")
+    Status::NoMemory.write_line(&mut io::writer(rt), b"out of memory\n")
 }
 
 /// The arguments without the program's name.

@@ -34,7 +34,7 @@ impl Status {
 
     /// This status, once the line that says so is written. Where that fails, whatever the kind of
     /// its error, it is `Failed`.
-    pub fn told<W: Write>(self, out: &mut W, line: &[u8]) -> Status
+    pub fn write_line<W: Write>(self, out: &mut W, line: &[u8]) -> Status
         ensures { result ≢ Status.Failed → (result ≡ self) ×
             Appends (W.contents out.old) (W.contents out.new) line.now }
     {

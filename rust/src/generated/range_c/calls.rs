@@ -43,11 +43,11 @@ pub(crate) fn combine<T: Ord + Copy>(a: &[T], b: &[T], connective: u32, out: &mu
     if connective == LEFT + RIGHT {
         return merge(a, b, &XorOp, out);
     }
-    merge(a, b, &told_by(connective), out)
+    merge(a, b, &decoded(connective), out)
 }
 
 // The connective that a number tells.
-pub(crate) fn told_by(connective: u32) -> Connective {
+pub(crate) fn decoded(connective: u32) -> Connective {
     Connective {
         neither: connective / 8 % 2 == 1,
         left: connective % 2 == 1,

@@ -6,7 +6,7 @@
 //! counts: a connective that is off where nothing has changed yet, over the boundaries above the
 //! least number.
 
-use crate::generated::range_c::calls::{merge, told_by};
+use crate::generated::range_c::calls::{decoded, merge};
 use crate::generated::range_collections::{count_up_to, Comparisons, Connective, MergeOperation};
 
 // Writes what the connective makes of both sets among the numbers from `least` on, where the buffer
@@ -18,7 +18,7 @@ pub(crate) fn combine_from<T: Ord + Copy>(
     connective: u32,
     out: &mut [T],
 ) -> usize {
-    let of = told_by(connective);
+    let of = decoded(connective);
     let (a_on, a) = above(a, &least);
     let (b_on, b) = above(b, &least);
     let op = changes_from(&of, a_on, b_on);
