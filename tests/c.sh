@@ -67,6 +67,17 @@ prints_its_lines() {
         ' 40%, next: 200 to 300' ' 50%, next: 200 to 300' '100%')
 }
 
+# The allocator of addresses, and the calendar in C++, and what they print.
+runs_the_allocator() {
+    compiles c/allocator.c allocator && "$work/allocator" | cmp - <(printf '%s\n' '400 at 1000' '300 at 1400' '200 at 1700' \
+        'no 301 in a row are free' '250 at 1400' '850 are taken')
+}
+
+runs_the_calendar() {
+    g++ -std=c++17 -O2 $strict c/calendar.cpp "$archive" -o "$work/calendar" && "$work/calendar" | cmp - <(printf '%s\n' \
+        'Ada is busy' '11:15 to 13:00' '14:00 to 17:00' '285 minutes in all' 'two hours from 14:00 on')
+}
+
 # Compiles the statements and calls between backquotes in a page, one after the other, in C and in C++.
 compiles_statements() {
     {
@@ -313,6 +324,8 @@ step "the tests compile" compiles c/test.c test
 step "the tests" "$work/test"
 step "the example compiles" compiles c/example.c example
 step "the example" prints_its_lines example
+step "an allocator of addresses" runs_the_allocator
+step_by g++ g++ "a calendar in C++" runs_the_calendar
 step "the lines in C of c/README.md" runs_page c/README.md
 step_by g++ g++ "the statements in c/README.md" compiles_statements c/README.md
 step_by objcopy binutils "the sanitizers" is_sane

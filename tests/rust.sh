@@ -75,6 +75,21 @@ runs_the_torrent() {
     [ "$(cargo_there run --quiet --example torrent)" = $'249665 ranges after half of the pieces\n1 range in the end' ]
 }
 
+# Runs the calendar of several people, which says when all are free.
+runs_the_calendar() {
+    [ "$(cargo_there run --quiet --example calendar)" = "an hour for all: Mon 12:00 to Mon 13:00
+690 minutes in all
+Tue 14:30 to Tue 17:00" ]
+}
+
+# Runs the character classes, which are written as patterns have them.
+runs_the_classes() {
+    [ "$(cargo_there run --quiet --example classes)" = 'words have [0-9A-Z_a-z]
+consonants are [B-DF-HJ-NP-TV-Zb-df-hj-np-tv-z]
+the rest is [\u{0}-/:-@[-^`{-\u{10ffff}]
+63 of 1112064 characters; the last has place 1112063' ]
+}
+
 # Has clippy look at all of it, with all features and without.
 lints() {
     cargo_there clippy --quiet --all-targets --all-features -- -D warnings &&
@@ -123,6 +138,8 @@ step "the program written for range-collections" runs_the_program
 step "a cache of a file's parts" runs_the_cache
 step "a download of a million pieces" runs_the_torrent
 step "an allocator of addresses" runs_the_addresses
+step "a calendar of several people" runs_the_calendar
+step "character classes" runs_the_classes
 step "the documentation, without a warning" documents
 step_by cargo-clippy rust-clippy "what clippy says" lints
 step_by rustfmt rustfmt "the looks" is_formatted
