@@ -93,6 +93,7 @@ MUTANTS = [
     Mutant("a merge keeps its room", "array.rs", "proved::lists::give_back_room(&mut list);", "", "operations"),
     Mutant("a short result keeps its room", "support/small_vec.rs",
            "let _room_is_kept = self.0.try_grow(self.0.len());", "", "operations"),
+    Mutant("numbers are copied before a change", "memory.rs", "!mem::needs_drop::<T>()", "false", "memory"),
     Mutant("no memory for a merge is no refusal", "support/in_place.rs",
            "return Err((error, b));", "let _ = error;", "memory"),
     Mutant("no memory is a panic", "memory.rs",

@@ -4,6 +4,7 @@ use crate::generated::range_merge::Copier;
 pub(crate) use crate::support::AllocError;
 use crate::support::Vec;
 use alloc::alloc::{handle_alloc_error, Layout};
+use core::mem;
 
 /// The value of a call on a list of `T`. It ends the process if the call was refused memory.
 #[inline(always)]
@@ -27,6 +28,12 @@ impl<T: Clone> Copier<T> for ByClone {
     #[inline(always)]
     fn copy(&self, item: &T) -> Result<T, AllocError> {
         Ok(item.clone())
+    }
+
+    /// Of elements without a drop, such as numbers: if a clone panics, nothing is to be dropped.
+    #[inline(always)]
+    fn never_refuses(&self) -> bool {
+        !mem::needs_drop::<T>()
     }
 
     #[inline(always)]

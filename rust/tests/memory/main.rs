@@ -421,6 +421,21 @@ fn a_copy_that_fits_into_the_set_takes_no_memory() {
     assert!(refusing(Refusal::From(0), || set.try_clone()).0.is_ok());
 }
 
+/// The set has room for both, and numbers are cloned as they are taken.
+#[test]
+fn a_number_needs_no_copy_before_a_change() {
+    let mut set: range_sets::RangeSet<[u64; 4]> = (5..9).into();
+    let other: range_sets::RangeSet2<u64> = (7..12).into();
+    let ((), refused) = refusing(Refusal::From(0), || set.union_with(&other));
+    assert_eq!((set.boundaries(), refused), (&[5, 12][..], 0));
+    let mut set: range_sets::RangeSet2<u64> = (5..9).into();
+    let ((), _) = refusing(Refusal::From(1), || set.union_with(&other));
+    assert_eq!(set.boundaries(), [5, 12]);
+    let other: range_sets::RangeSet2<u64> = [1..2, 7..12].into_iter().collect();
+    let ((), _) = refusing(Refusal::From(1), || set.union_with(&other));
+    assert_eq!(set.boundaries(), [1, 2, 5, 12]);
+}
+
 /// A list that grows by one boundary at a time doubles its room.
 #[test]
 fn a_list_that_grows_asks_seldom() {
