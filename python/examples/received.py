@@ -2,9 +2,9 @@
 
     python3 received.py [--ranges N] [--files N] [--workers N]
 
-Each task makes the ranges that came in over one connection as numpy arrays, and of these a set for each file. The sets of a file
-are reduced to one in a tree, for four key ranges of files side by side, and the counts alone come back. The answer is compared
-with that of one process.
+Each task makes the ranges of some files that came in over one connection as numpy arrays, and of these a set for each file. The
+files lie in four key ranges. The parts of a key range are made on the process that reduces them, so no set moves, and the counts
+alone come back. The answer is compared with that of one process.
 """
 
 import argparse
@@ -14,25 +14,40 @@ from itertools import pairwise
 from typing import Any
 
 import numpy
-from dask import delayed
+from dask import annotate, delayed
 from distributed import Client, LocalCluster, progress, wait
 
 from range_sets import RangeSet
 from range_sets.dask import covered_by_key
 
-FILE_BYTES, LONGEST, CONNECTIONS = 100_000_000, 20_000, 40
+FILE_BYTES, LONGEST, CONNECTIONS, KEY_RANGES = 100_000_000, 20_000, 40, 4
 
 
-def received(connection: int, files: int, ranges: int) -> dict[int, RangeSet]:
-    """What one connection received of each file. Its ranges are in any order, and many of them overlap."""
-    made = numpy.random.default_rng(connection)
-    file = made.integers(0, files, ranges)
+def received(connection: int, files: range, ranges: int) -> dict[int, RangeSet]:
+    """What one connection received of each of some files. Its ranges are in any order, and many of them overlap."""
+    made = numpy.random.default_rng((connection, files.start))
+    file = made.integers(files.start, files.stop, ranges)
     start = made.integers(0, FILE_BYTES - LONGEST, ranges)
     end = start + made.integers(1, LONGEST, ranges)
     order = numpy.argsort(file)
     table = numpy.column_stack((start, end))[order]
-    places = numpy.searchsorted(file[order], numpy.arange(files + 1))
-    return {name: RangeSet(table[place:past]) for name, (place, past) in enumerate(pairwise(places)) if place < past}
+    places = numpy.searchsorted(file[order], numpy.arange(files.start, files.stop + 1))
+    return {name: RangeSet(table[place:past]) for name, (place, past) in zip(files, pairwise(places)) if place < past}
+
+
+def joined(counts: list[dict[int, int]]) -> dict[int, int]:
+    return {name: count for it in counts for name, count in it.items()}
+
+
+def counted(files: int, ranges: int, workers: list[str]) -> Any:
+    """The bytes of each file: a delayed dict. A part has so many ranges, and each key range is reduced where its parts are made."""
+    cuts = [files * i // KEY_RANGES for i in range(KEY_RANGES + 1)]
+    trees = []
+    for i, ends in enumerate(pairwise(cuts)):
+        with annotate(workers=[workers[i % len(workers)]]):
+            parts = [delayed(received)(connection, range(*ends), ranges) for connection in range(CONNECTIONS)]
+            trees.append(covered_by_key(parts, split_every=8))
+    return delayed(joined)(trees)
 
 
 def sent(dask_worker: Any) -> int:
@@ -46,12 +61,11 @@ def main() -> None:
     parser.add_argument("--files", type=int, default=1000)
     parser.add_argument("--workers", type=int, default=2, help="how many processes")
     given = parser.parse_args()
-    each = given.ranges // CONNECTIONS
-    cuts = sorted({given.files * i // 4 for i in (1, 2, 3)} - {0})
-    parts = [delayed(received)(connection, given.files, each) for connection in range(CONNECTIONS)]
-    counts = covered_by_key(parts, split_every=8, cuts=cuts)
-
+    if given.files < KEY_RANGES:
+        parser.error(f"{KEY_RANGES} files or more are wanted")
+    each = given.ranges // (CONNECTIONS * KEY_RANGES)
     with LocalCluster(n_workers=given.workers, threads_per_worker=1, dashboard_address=None) as cluster, Client(cluster) as client:
+        counts = counted(given.files, each, list(client.scheduler_info()["workers"]))
         began = time.perf_counter()
         running = client.compute(counts)
         progress(running)
@@ -59,7 +73,7 @@ def main() -> None:
         by_many = running.result()
         taken = time.perf_counter() - began
         moved = sum(client.run(sent).values())
-    print(f"\n{CONNECTIONS * each:,} ranges of {len(by_many):,} files on {given.workers} processes: {taken:.1f} s")
+    print(f"\n{CONNECTIONS * KEY_RANGES * each:,} ranges of {len(by_many):,} files on {given.workers} processes: {taken:.1f} s")
     print(f"{sum(by_many.values()):,} bytes received, {moved / 1e6:.1f} MB moved between the processes")
 
     began = time.perf_counter()
