@@ -10,6 +10,7 @@
 bool PROVED(is_sorted)(const NUMBER *a, size_t a_len);
 bool PROVED(contains)(const NUMBER *a, size_t a_len, NUMBER value);
 bool PROVED(contains_range)(const NUMBER *a, size_t a_len, NUMBER start, NUMBER end);
+bool PROVED(intersects_range)(const NUMBER *a, size_t a_len, NUMBER start, NUMBER end);
 bool PROVED(is_empty)(const NUMBER *a, size_t a_len);
 bool PROVED(is_all)(const NUMBER *a, size_t a_len);
 bool PROVED(is_disjoint)(const NUMBER *a, size_t a_len, const NUMBER *b, size_t b_len);
@@ -17,6 +18,9 @@ bool PROVED(intersects)(const NUMBER *a, size_t a_len, const NUMBER *b, size_t b
 bool PROVED(is_subset)(const NUMBER *a, size_t a_len, const NUMBER *b, size_t b_len);
 bool PROVED(equal)(const NUMBER *a, size_t a_len, const NUMBER *b, size_t b_len);
 bool PROVED(range_at)(const NUMBER *a, size_t a_len, NUMBER value, NUMBER *start, NUMBER *end, bool *has_end);
+bool PROVED(range_from)(const NUMBER *a, size_t a_len, NUMBER value, NUMBER *start, NUMBER *end, bool *has_end);
+bool PROVED(next_member)(const NUMBER *a, size_t a_len, NUMBER from, NUMBER *next);
+bool PROVED(next_gap)(const NUMBER *a, size_t a_len, NUMBER from, NUMBER *next);
 bool PROVED(range)(const NUMBER *a, size_t a_len, size_t index, NUMBER *start, NUMBER *end, bool *has_end);
 bool PROVED(first)(const NUMBER *a, size_t a_len, NUMBER *start, NUMBER *end, bool *has_end);
 bool PROVED(last)(const NUMBER *a, size_t a_len, NUMBER *start, NUMBER *end, bool *has_end);
@@ -95,6 +99,11 @@ bool NAME(contains_range)(SET set, NUMBER start, NUMBER end)
     return PROVED(contains_range)(LIST(set), start, end);
 }
 
+bool NAME(intersects_range)(SET set, NUMBER start, NUMBER end)
+{
+    return PROVED(intersects_range)(LIST(set), start, end);
+}
+
 bool NAME(is_empty)(SET set)
 {
     return PROVED(is_empty)(LIST(set));
@@ -140,11 +149,38 @@ static bool NAME(told)(bool found, RANGE it, RANGE *range)
     return true;
 }
 
+static bool NAME(put)(bool found, NUMBER it, NUMBER *place)
+{
+    if (found && place != NULL) *place = it;
+    return found;
+}
+
 bool NAME(range_at)(SET set, NUMBER value, RANGE *range)
 {
     RANGE it = {0, 0, false};
     bool found = PROVED(range_at)(LIST(set), value, &it.start, &it.end, &it.has_end);
     return NAME(told)(found, it, range);
+}
+
+bool NAME(range_from)(SET set, NUMBER value, RANGE *range)
+{
+    RANGE it = {0, 0, false};
+    bool found = PROVED(range_from)(LIST(set), value, &it.start, &it.end, &it.has_end);
+    return NAME(told)(found, it, range);
+}
+
+bool NAME(next_member)(SET set, NUMBER from, NUMBER *next)
+{
+    NUMBER at = 0;
+    bool found = PROVED(next_member)(LIST(set), from, &at);
+    return NAME(put)(found, at, next);
+}
+
+bool NAME(next_gap)(SET set, NUMBER from, NUMBER *next)
+{
+    NUMBER at = 0;
+    bool found = PROVED(next_gap)(LIST(set), from, &at);
+    return NAME(put)(found, at, next);
 }
 
 bool NAME(get)(SET set, size_t index, RANGE *range)
@@ -180,8 +216,7 @@ bool NAME(first_fit)(SET set, NUMBER start, NUMBER end, COUNT count, NUMBER *fir
 {
     NUMBER at = 0;
     bool fits = PROVED(first_fit)(LIST(set), start, end, count, &at);
-    if (fits && first != NULL) *first = at;
-    return fits;
+    return NAME(put)(fits, at, first);
 }
 
 void NAME(split)(SET set, NUMBER at, SET *below, SET *from)

@@ -99,6 +99,9 @@ template <class T> static void rows()
     check(busy == range_set<T>(std::map<T, T>{{9, 11}, {12, 15}}), "a set of a map");
     check(day.contains(16) && !day.contains(17) && open->contains(1000), "contains");
     check(day.contains_range(9, 17) && !day.contains_range(9, 18), "contains_range");
+    check(day.intersects_range(8, 10) && !day.intersects_range(17, 20) && !day.intersects_range(12, 12), "intersects_range");
+    check(day.next_member(3) == 9 && day.next_gap(9) == 17 && !day.next_member(17) && day.next_gap(20) == 20, "next ones");
+    check(day.range_from(3) == day.first() && day.range_from(16) == day.first() && !day.range_from(17), "range_from");
     check(busy.is_subset(day) && day.is_superset(busy) && !day.is_subset(busy), "subset and superset");
     check(day.intersects(busy) && nothing.is_disjoint(day) && day.is_disjoint(nothing), "disjoint");
     check(nothing.empty() && !day.empty() && nothing.size() == 0 && busy.size() == 2, "empty");

@@ -259,15 +259,39 @@ static void TEST(parts_of)(SET a, const NUMBER *points, const bool *on, size_t n
     else check(CALL(covered)(a, &told) && told == count && CALL(covered)(a, NULL), "covered");
 }
 
-/* Whether all numbers from one point on, up to another, are members. */
+/* From each point on the next member, the next number that is none, and the next range. */
+static void TEST(next_ones)(SET a, const NUMBER *points, const bool *on, size_t n)
+{
+    size_t p, member, gap;
+    for (p = 0; p < n; p++) {
+        NUMBER next = 77;
+        RANGE it = {77, 78, true}, wanted = {77, 78, true};
+        for (member = p; member < n && !on[member]; member++) continue;
+        for (gap = p; gap < n && on[gap]; gap++) continue;
+        check(CALL(next_member)(a, points[p], &next) == (member < n), "next_member: whether there is one");
+        check(next == (member < n ? points[member] : 77), "next_member");
+        next = 77;
+        check(CALL(next_gap)(a, points[p], &next) == (gap < n), "next_gap: whether there is one");
+        check(next == (gap < n ? points[gap] : 77), "next_gap");
+        check(CALL(next_member)(a, points[p], NULL) == (member < n) && CALL(next_gap)(a, points[p], NULL) == (gap < n), "next ones without a place");
+        check(CALL(range_from)(a, points[p], &it) == (member < n), "range_from: whether there is one");
+        check(CALL(range_from)(a, points[p], NULL) == (member < n), "range_from without a place for the range");
+        if (member < n) CALL(range_at)(a, points[member], &wanted);
+        check(it.start == wanted.start && it.end == wanted.end && it.has_end == wanted.has_end, "range_from: the range");
+    }
+}
+
+/* Whether all numbers from one point on, up to another, are members, and whether any is. */
 static void TEST(whole_ranges)(SET a, const NUMBER *points, const bool *on, size_t n)
 {
     size_t i, from, to, p;
     for (i = 0; i < 8; i++) {
-        bool all = true;
+        bool all = true, any;
         from = random_below((unsigned)n), to = random_below((unsigned)n);
         for (p = from; p < to; p++) all = all && on[p];
         check(CALL(contains_range)(a, points[from], points[to]) == all, "contains_range");
+        for (p = from, any = false; p < to; p++) any = any || on[p];
+        check(CALL(intersects_range)(a, points[from], points[to]) == any, "intersects_range");
     }
 }
 
@@ -567,6 +591,7 @@ static void TEST(made_up)(void)
     TEST(split_at)(o.a, points, on_a, n);
     TEST(parts_of)(o.a, points, on_a, n);
     TEST(whole_ranges)(o.a, points, on_a, n);
+    TEST(next_ones)(o.a, points, on_a, n);
     TEST(fits)(o.a, points, on_a, n);
     TEST(unions)(points, n);
     TEST(printed_by_c)(o.a);

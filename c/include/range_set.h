@@ -146,6 +146,10 @@ bool range_set_i32_contains(range_set_i32 set, int32_t value);
  * comparisons as set.len has binary digits, and one. */
 bool range_set_i32_contains_range(range_set_i32 set, int32_t start, int32_t end);
 
+/* Whether some number from `start` on, up to below `end`, is a member; it is false where end <= start. At most twice as many
+ * comparisons as set.len has binary digits, and one. */
+bool range_set_i32_intersects_range(range_set_i32 set, int32_t start, int32_t end);
+
 /* Whether no number is a member: whether there is no boundary. */
 bool range_set_i32_is_empty(range_set_i32 set);
 
@@ -155,6 +159,15 @@ bool range_set_i32_is_all(range_set_i32 set);
 /* Whether `value` is a member, and then the range of the set that holds it. Where it is no member `range` is as it was, and
  * where the range has no end `range->end` is. `range` may be null. At most as many comparisons as set.len has binary digits. */
 bool range_set_i32_range_at(range_set_i32 set, int32_t value, range_set_i32_range *range);
+
+/* Whether there is a range that holds `value` or lies above it, and then the first such: the next one to look at, from any number
+ * on. `range` is written as by `range_at`. At most twice as many comparisons as set.len has binary digits. */
+bool range_set_i32_range_from(range_set_i32 set, int32_t value, range_set_i32_range *range);
+
+/* Whether some number at or above `from` is a member, isn't one, and then the least such. Else `next` is as it was. It may be
+ * null. At most as many comparisons as set.len has binary digits. */
+bool range_set_i32_next_member(range_set_i32 set, int32_t from, int32_t *next);
+bool range_set_i32_next_gap(range_set_i32 set, int32_t from, int32_t *next);
 
 /* Whether the set has a range with `index` others before it, and then that range. A loop over all of them:
  *
@@ -419,6 +432,10 @@ bool range_set_u32_contains(range_set_u32 set, uint32_t value);
  * comparisons as set.len has binary digits, and one. */
 bool range_set_u32_contains_range(range_set_u32 set, uint32_t start, uint32_t end);
 
+/* Whether some number from `start` on, up to below `end`, is a member; it is false where end <= start. At most twice as many
+ * comparisons as set.len has binary digits, and one. */
+bool range_set_u32_intersects_range(range_set_u32 set, uint32_t start, uint32_t end);
+
 /* Whether no number is a member: whether there is no boundary. */
 bool range_set_u32_is_empty(range_set_u32 set);
 
@@ -428,6 +445,15 @@ bool range_set_u32_is_all(range_set_u32 set);
 /* Whether `value` is a member, and then the range of the set that holds it. Where it is no member `range` is as it was, and
  * where the range has no end `range->end` is. `range` may be null. At most as many comparisons as set.len has binary digits. */
 bool range_set_u32_range_at(range_set_u32 set, uint32_t value, range_set_u32_range *range);
+
+/* Whether there is a range that holds `value` or lies above it, and then the first such: the next one to look at, from any number
+ * on. `range` is written as by `range_at`. At most twice as many comparisons as set.len has binary digits. */
+bool range_set_u32_range_from(range_set_u32 set, uint32_t value, range_set_u32_range *range);
+
+/* Whether some number at or above `from` is a member, isn't one, and then the least such. Else `next` is as it was. It may be
+ * null. At most as many comparisons as set.len has binary digits. */
+bool range_set_u32_next_member(range_set_u32 set, uint32_t from, uint32_t *next);
+bool range_set_u32_next_gap(range_set_u32 set, uint32_t from, uint32_t *next);
 
 /* Whether the set has a range with `index` others before it, and then that range. A loop over all of them:
  *
@@ -692,6 +718,10 @@ bool range_set_i64_contains(range_set_i64 set, int64_t value);
  * comparisons as set.len has binary digits, and one. */
 bool range_set_i64_contains_range(range_set_i64 set, int64_t start, int64_t end);
 
+/* Whether some number from `start` on, up to below `end`, is a member; it is false where end <= start. At most twice as many
+ * comparisons as set.len has binary digits, and one. */
+bool range_set_i64_intersects_range(range_set_i64 set, int64_t start, int64_t end);
+
 /* Whether no number is a member: whether there is no boundary. */
 bool range_set_i64_is_empty(range_set_i64 set);
 
@@ -701,6 +731,15 @@ bool range_set_i64_is_all(range_set_i64 set);
 /* Whether `value` is a member, and then the range of the set that holds it. Where it is no member `range` is as it was, and
  * where the range has no end `range->end` is. `range` may be null. At most as many comparisons as set.len has binary digits. */
 bool range_set_i64_range_at(range_set_i64 set, int64_t value, range_set_i64_range *range);
+
+/* Whether there is a range that holds `value` or lies above it, and then the first such: the next one to look at, from any number
+ * on. `range` is written as by `range_at`. At most twice as many comparisons as set.len has binary digits. */
+bool range_set_i64_range_from(range_set_i64 set, int64_t value, range_set_i64_range *range);
+
+/* Whether some number at or above `from` is a member, isn't one, and then the least such. Else `next` is as it was. It may be
+ * null. At most as many comparisons as set.len has binary digits. */
+bool range_set_i64_next_member(range_set_i64 set, int64_t from, int64_t *next);
+bool range_set_i64_next_gap(range_set_i64 set, int64_t from, int64_t *next);
 
 /* Whether the set has a range with `index` others before it, and then that range. A loop over all of them:
  *
@@ -965,6 +1004,10 @@ bool range_set_u64_contains(range_set_u64 set, uint64_t value);
  * comparisons as set.len has binary digits, and one. */
 bool range_set_u64_contains_range(range_set_u64 set, uint64_t start, uint64_t end);
 
+/* Whether some number from `start` on, up to below `end`, is a member; it is false where end <= start. At most twice as many
+ * comparisons as set.len has binary digits, and one. */
+bool range_set_u64_intersects_range(range_set_u64 set, uint64_t start, uint64_t end);
+
 /* Whether no number is a member: whether there is no boundary. */
 bool range_set_u64_is_empty(range_set_u64 set);
 
@@ -974,6 +1017,15 @@ bool range_set_u64_is_all(range_set_u64 set);
 /* Whether `value` is a member, and then the range of the set that holds it. Where it is no member `range` is as it was, and
  * where the range has no end `range->end` is. `range` may be null. At most as many comparisons as set.len has binary digits. */
 bool range_set_u64_range_at(range_set_u64 set, uint64_t value, range_set_u64_range *range);
+
+/* Whether there is a range that holds `value` or lies above it, and then the first such: the next one to look at, from any number
+ * on. `range` is written as by `range_at`. At most twice as many comparisons as set.len has binary digits. */
+bool range_set_u64_range_from(range_set_u64 set, uint64_t value, range_set_u64_range *range);
+
+/* Whether some number at or above `from` is a member, isn't one, and then the least such. Else `next` is as it was. It may be
+ * null. At most as many comparisons as set.len has binary digits. */
+bool range_set_u64_next_member(range_set_u64 set, uint64_t from, uint64_t *next);
+bool range_set_u64_next_gap(range_set_u64 set, uint64_t from, uint64_t *next);
 
 /* Whether the set has a range with `index` others before it, and then that range. A loop over all of them:
  *

@@ -74,9 +74,13 @@ template <class T> struct calls_of;
         static constexpr auto from_ranges = range_set_##number##_from_ranges; \
         static constexpr auto contains = range_set_##number##_contains; \
         static constexpr auto contains_range = range_set_##number##_contains_range; \
+        static constexpr auto intersects_range = range_set_##number##_intersects_range; \
         static constexpr auto is_empty = range_set_##number##_is_empty; \
         static constexpr auto is_all = range_set_##number##_is_all; \
         static constexpr auto range_at = range_set_##number##_range_at; \
+        static constexpr auto range_from = range_set_##number##_range_from; \
+        static constexpr auto next_member = range_set_##number##_next_member; \
+        static constexpr auto next_gap = range_set_##number##_next_gap; \
         static constexpr auto get = range_set_##number##_get; \
         static constexpr auto last = range_set_##number##_last; \
         static constexpr auto ranges_len = range_set_##number##_ranges_len; \
@@ -243,6 +247,7 @@ public:
 
     bool contains(T value) const noexcept { return calls::contains(set_, value); }
     bool contains_range(T start, T end) const noexcept { return calls::contains_range(set_, start, end); }
+    bool intersects_range(T start, T end) const noexcept { return calls::intersects_range(set_, start, end); }
     bool empty() const noexcept { return calls::is_empty(set_); }
     bool is_all() const noexcept { return calls::is_all(set_); }
     bool is_disjoint(detail::operand<T> other) const noexcept { return calls::is_disjoint(set_, other.set); }
@@ -273,6 +278,12 @@ public:
         typename calls::part part = {};
         return told(calls::range_at(set_, value, &part), part);
     }
+    // The range that holds the number, or else the next one above it, or nothing.
+    std::optional<range<T>> range_from(T value) const noexcept
+    {
+        typename calls::part part = {};
+        return told(calls::range_from(set_, value, &part), part);
+    }
     std::optional<range<T>> first() const noexcept
     {
         typename calls::part part = {};
@@ -293,12 +304,23 @@ public:
     range_set<T> gaps(T start, T end) const;
     range_set<T> negation() const;
 
+    // The least number at or above `from` that is a member, that isn't one, or nothing.
+    std::optional<T> next_member(T from) const noexcept
+    {
+        number next = 0;
+        return told(calls::next_member(set_, from, &next), next);
+    }
+    std::optional<T> next_gap(T from) const noexcept
+    {
+        number next = 0;
+        return told(calls::next_gap(set_, from, &next), next);
+    }
+
     // The least number from which on `count` numbers lie in `start` to below `end` and none is a member, or nothing.
     std::optional<T> first_fit(T start, T end, std::make_unsigned_t<T> count) const noexcept
     {
         number first = start;
-        if (!calls::first_fit(set_, start, end, count, &first)) return std::nullopt;
-        return static_cast<T>(first);
+        return told(calls::first_fit(set_, start, end, count, &first), first);
     }
 
     // The ranges as a text, "0..10, 20..".
@@ -319,6 +341,11 @@ private:
     {
         if (!found) return std::nullopt;
         return range<T>{part.start, part.end, part.has_end};
+    }
+    static std::optional<T> told(bool found, const number &it) noexcept
+    {
+        if (!found) return std::nullopt;
+        return static_cast<T>(it);
     }
 
     typename calls::set set_ = {nullptr, 0};
@@ -420,6 +447,7 @@ public:
 
     bool contains(T value) const noexcept { return view().contains(value); }
     bool contains_range(T start, T end) const noexcept { return view().contains_range(start, end); }
+    bool intersects_range(T start, T end) const noexcept { return view().intersects_range(start, end); }
     bool empty() const noexcept { return view().empty(); }
     bool is_all() const noexcept { return view().is_all(); }
     bool is_disjoint(detail::operand<T> other) const noexcept { return view().is_disjoint(other); }
@@ -429,6 +457,9 @@ public:
     int compare(detail::operand<T> other) const noexcept { return view().compare(other); }
     std::optional<std::uint64_t> covered() const noexcept { return view().covered(); }
     std::optional<range<T>> range_at(T value) const noexcept { return view().range_at(value); }
+    std::optional<range<T>> range_from(T value) const noexcept { return view().range_from(value); }
+    std::optional<T> next_member(T from) const noexcept { return view().next_member(from); }
+    std::optional<T> next_gap(T from) const noexcept { return view().next_gap(from); }
     std::optional<range<T>> first() const noexcept { return view().first(); }
     std::optional<range<T>> last() const noexcept { return view().last(); }
     iterator begin() const noexcept { return view().begin(); }

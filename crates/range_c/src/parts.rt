@@ -1,8 +1,10 @@
 //! Single ranges of a set, and how many numbers are members, for numbers of any type.
-ghost use Rattle.std.specs.Prelude.{◌≡◌, ◌≤◌, ◌^◌, false, Some, None, Contains, IsTrue, IfSome, IfNone, slice_get};
+ghost use Rattle.std.specs.Prelude.{◌≡◌, ◌≤◌, ◌^◌, true, false, Some, None, Contains, IsTrue, IfSome, IfNone, slice_get};
+ghost use Rattle.std.specs.Ordering.{is_le, is_lt};
 ghost use Rattle.std.specs.List.{last_or};
 ghost use Rattle.range_collections.specs.Boundaries.{IsAscending, member};
 ghost use Rattle.range_collections.specs.Covered.{covered_of};
+ghost use Rattle.range_collections.specs.Extent.{IsNext};
 ghost use Rattle.range_collections.specs.Fits.{Fits};
 ghost use Rattle.range_collections.specs.Ranges.{ranges_of, range_now, IsInRange};
 ghost use Rattle.range_c.specs.Parts.{range_told, TellsRange};
@@ -65,6 +67,69 @@ pub(crate) fn range_at<T: Ord + Copy>(
         Some(RangeSetRange::RangeFrom(range)) => {
             *start = *range.start;
             *has_end = false;
+            true
+        }
+        None => false,
+    }
+}
+
+// Tells the range that holds `value`, or else the next one above it, where there is one.
+pub(crate) fn range_from<T: Ord + Copy>(
+    a: &[T],
+    value: &T,
+    start: &mut T,
+    end: &mut T,
+    has_end: &mut bool,
+) -> bool
+    requires { IsAscending T.cmp a.now }
+    ensures of_set { IsTrue result →
+        Contains (ranges_of a.now) (range_told start.new end.new has_end.new) }
+    ensures first { IsTrue result → (x : T) → is_le (T.cmp value.now x) ≡ true →
+        is_lt (T.cmp x start.new) ≡ true → member T.cmp a.now x ≡ false }
+    ensures ends_above { IsTrue result → has_end.new ≡ true →
+        is_lt (T.cmp value.now end.new) ≡ true }
+    ensures none { result ≡ false → (x : T) →
+        is_le (T.cmp value.now x) ≡ true → member T.cmp a.now x ≡ false }
+    ensures unchanged { result ≡ false →
+        (start.new ≡ start.old) × (end.new ≡ end.old) × (has_end.new ≡ has_end.old) }
+    ensures no_end { has_end.new ≡ false → end.new ≡ end.old }
+{
+    match RangeSetRef::new_unchecked(a).next_member(value) {
+        Some(next) => range_at(a, next, start, end, has_end),
+        None => false,
+    }
+}
+
+// Tells the least member at or above `from`, where there is one.
+pub(crate) fn next_member<T: Ord + Copy>(a: &[T], from: &T, next: &mut T) -> bool
+    requires { IsAscending T.cmp a.now }
+    ensures next { IsTrue result → IsNext T.cmp true a.now from.now next.new }
+    ensures none { result ≡ false → (x : T) →
+        is_le (T.cmp from.now x) ≡ true → member T.cmp a.now x ≡ false }
+    ensures unchanged { result ≡ false → next.new ≡ next.old }
+{
+    write(RangeSetRef::new_unchecked(a).next_member(from), next)
+}
+
+// Tells the least number at or above `from` that isn't a member, where there is one.
+pub(crate) fn next_gap<T: Ord + Copy>(a: &[T], from: &T, next: &mut T) -> bool
+    requires { IsAscending T.cmp a.now }
+    ensures next { IsTrue result → IsNext T.cmp false a.now from.now next.new }
+    ensures none { result ≡ false → (x : T) →
+        is_le (T.cmp from.now x) ≡ true → member T.cmp a.now x ≡ true }
+    ensures unchanged { result ≡ false → next.new ≡ next.old }
+{
+    write(RangeSetRef::new_unchecked(a).next_gap(from), next)
+}
+
+// Writes what was found, and answers whether anything was.
+fn write<T: Copy>(found: Option<&T>, place: &mut T) -> bool
+    ensures some { IfSome found.entry (λ it. (result ≡ true) × (place.new ≡ it.now)) }
+    ensures none { IfNone found.entry ((result ≡ false) × (place.new ≡ place.old)) }
+{
+    match found {
+        Some(it) => {
+            *place = *it;
             true
         }
         None => false,

@@ -11,8 +11,8 @@ macro_rules! calls {
         mod $module {
             use super::calls::{ALL, NEITHER};
             use super::lists::{
-                changed, is_array, is_result, items_at, put, room_at, told, Buffer, Bytes, Range,
-                Set,
+                changed, is_array, is_result, items_at, number_told, put, room_at, told, Buffer,
+                Bytes, Range, Set,
             };
             use super::owned::{Allocator, Owned};
             use super::{operations, texts, Status};
@@ -84,6 +84,15 @@ macro_rules! calls {
                 proved_contains_range(unsafe { set.list() }, start, end)
             }
 
+            #[export_name = concat!("range_set_", $name, "_intersects_range")]
+            unsafe extern "C" fn intersects_range(
+                set: Numbers,
+                start: $number,
+                end: $number,
+            ) -> bool {
+                proved_intersects_range(unsafe { set.list() }, start, end)
+            }
+
             #[export_name = concat!("range_set_", $name, "_is_empty")]
             unsafe extern "C" fn is_empty(set: Numbers) -> bool {
                 proved_is_empty(unsafe { set.list() })
@@ -133,6 +142,36 @@ macro_rules! calls {
                 }
             }
 
+            #[export_name = concat!("range_set_", $name, "_range_from")]
+            unsafe extern "C" fn range_from(
+                set: Numbers,
+                value: $number,
+                range: *mut Range<$number>,
+            ) -> bool {
+                let list = unsafe { set.list() };
+                unsafe {
+                    told(range, |start, end, has_end| {
+                        proved_range_from(list, value, start, end, has_end)
+                    })
+                }
+            }
+
+            #[export_name = concat!("range_set_", $name, "_next_member")]
+            unsafe extern "C" fn next_member(
+                set: Numbers,
+                from: $number,
+                next: *mut $number,
+            ) -> bool {
+                let list = unsafe { set.list() };
+                unsafe { number_told(next, |at| proved_next_member(list, from, at)) }
+            }
+
+            #[export_name = concat!("range_set_", $name, "_next_gap")]
+            unsafe extern "C" fn next_gap(set: Numbers, from: $number, next: *mut $number) -> bool {
+                let list = unsafe { set.list() };
+                unsafe { number_told(next, |at| proved_next_gap(list, from, at)) }
+            }
+
             #[export_name = concat!("range_set_", $name, "_get")]
             unsafe extern "C" fn get(
                 set: Numbers,
@@ -169,12 +208,8 @@ macro_rules! calls {
 
             #[export_name = concat!("range_set_", $name, "_covered")]
             unsafe extern "C" fn covered(set: Numbers, count: *mut u64) -> bool {
-                let mut many = 0;
-                let has_end = proved_covered(unsafe { set.list() }, &mut many);
-                if has_end {
-                    unsafe { put(count, many) };
-                }
-                has_end
+                let list = unsafe { set.list() };
+                unsafe { number_told(count, |many| proved_covered(list, many)) }
             }
 
             #[export_name = concat!("range_set_", $name, "_split")]
@@ -207,12 +242,8 @@ macro_rules! calls {
                 count: $count,
                 first: *mut $number,
             ) -> bool {
-                let mut at = 0;
-                let fits = proved_first_fit(unsafe { set.list() }, start, end, count, &mut at);
-                if fits {
-                    unsafe { put(first, at) };
-                }
-                fits
+                let list = unsafe { set.list() };
+                unsafe { number_told(first, |at| proved_first_fit(list, start, end, count, at)) }
             }
 
             // ---- Operations ----

@@ -131,6 +131,23 @@ pub(super) unsafe fn told<T: Copy + Default>(
     true
 }
 
+/// Whether `tell` finds a number, which is written then where there is a place for it.
+///
+/// # Safety
+///
+/// The place is null or one of such a number.
+pub(super) unsafe fn number_told<T: Default>(
+    place: *mut T,
+    tell: impl FnOnce(&mut T) -> bool,
+) -> bool {
+    let mut number = T::default();
+    let found = tell(&mut number);
+    if found {
+        unsafe { put(place, number) };
+    }
+    found
+}
+
 /// Writes a value where there is a place for it.
 ///
 /// # Safety

@@ -5,7 +5,7 @@ ghost use Rattle.std.specs.List.{last_or};
 ghost use Rattle.std.specs.Str.{IsUtf8};
 ghost use Rattle.std.specs.Fmt.{signed_decimal};
 ghost use Rattle.std.specs.Int.{w64};
-ghost use Rattle.std.specs.Ordering.{int_cmp, is_le};
+ghost use Rattle.std.specs.Ordering.{int_cmp, is_le, is_lt};
 ghost use Rattle.range_collections.specs.Countable.{signed_place, signed_value};
 ghost use Rattle.range_c.specs.Fitting.{IsFirstFit};
 ghost use Rattle.range_collections.specs.Boundaries.{IsAscending, IsSameSet, member};
@@ -14,7 +14,7 @@ ghost use Rattle.range_collections.specs.Covered.{covered_of};
 ghost use Rattle.range_collections.specs.Sets.{IsSubset, Intersects, IsDisjoint};
 ghost use Rattle.range_collections.specs.Ranges.{range_items, ranges_of, IsInRange};
 ghost use Rattle.range_collections.specs.Reading.{ranges_in, signed_number};
-ghost use Rattle.range_collections.specs.Extent.{HasAllWithin};
+ghost use Rattle.range_collections.specs.Extent.{HasAllWithin, HasMemberWithin, IsNext};
 ghost use Rattle.range_collections.specs.Unsorted.{AreDistinctOf};
 ghost use Rattle.range_collections.specs.Split.{split_left, split_right};
 ghost use Rattle.range_collections.specs.Text.{ranges_text};
@@ -33,7 +33,7 @@ use crate::ends::Ends;
 use crate::fitting::first_place;
 use crate::from_least::combine_from;
 use crate::in_place::{insert, remove};
-use crate::parts::{covered, first, last, range, range_at};
+use crate::parts::{covered, first, last, next_gap, next_member, range, range_at, range_from};
 use crate::ranges::{from_ranges, tell_start, union_told};
 use crate::reading::{check, read};
 use crate::text::print;
@@ -64,6 +64,15 @@ pub extern "C" fn proved_range_set_i64_contains_range(a: &[i64], start: i64, end
     ensures { IsTrue result ↔ HasAllWithin int_cmp a.now start end }
 {
     RangeSetRef::new_unchecked(a).contains_range(start..end)
+}
+
+/// Whether some number from `start` on, up to below `end`, is a member.
+#[unsafe(no_mangle)]
+pub extern "C" fn proved_range_set_i64_intersects_range(a: &[i64], start: i64, end: i64) -> bool
+    requires { IsAscending int_cmp a.now }
+    ensures { IsTrue result ↔ HasMemberWithin int_cmp a.now start end }
+{
+    RangeSetRef::new_unchecked(a).intersects_range(start..end)
 }
 
 /// Whether no number is a member.
@@ -268,6 +277,55 @@ pub extern "C" fn proved_range_set_i64_range_at(
     ensures no_end { has_end.new ≡ false → end.new ≡ end.old }
 {
     range_at(a, &value, start, end, has_end)
+}
+
+/// Tells the range that holds the number, or else the next one above it, if there is one.
+#[unsafe(no_mangle)]
+pub extern "C" fn proved_range_set_i64_range_from(
+    a: &[i64],
+    value: i64,
+    start: &mut i64,
+    end: &mut i64,
+    has_end: &mut bool,
+) -> bool
+    requires { IsAscending int_cmp a.now }
+    ensures of_set { IsTrue result →
+        Contains (ranges_of a.now) (range_told start.new end.new has_end.new) }
+    ensures first { IsTrue result → (x : ℤ) → is_le (int_cmp value x) ≡ true →
+        is_lt (int_cmp x start.new) ≡ true → member int_cmp a.now x ≡ false }
+    ensures ends_above { IsTrue result → has_end.new ≡ true →
+        is_lt (int_cmp value end.new) ≡ true }
+    ensures none { result ≡ false → (x : ℤ) →
+        is_le (int_cmp value x) ≡ true → member int_cmp a.now x ≡ false }
+    ensures unchanged { result ≡ false →
+        (start.new ≡ start.old) × (end.new ≡ end.old) × (has_end.new ≡ has_end.old) }
+    ensures no_end { has_end.new ≡ false → end.new ≡ end.old }
+{
+    range_from(a, &value, start, end, has_end)
+}
+
+/// Tells the least member at or above `from`, if there is one.
+#[unsafe(no_mangle)]
+pub extern "C" fn proved_range_set_i64_next_member(a: &[i64], from: i64, next: &mut i64) -> bool
+    requires { IsAscending int_cmp a.now }
+    ensures next { IsTrue result → IsNext int_cmp true a.now from next.new }
+    ensures none { result ≡ false → (x : ℤ) →
+        is_le (int_cmp from x) ≡ true → member int_cmp a.now x ≡ false }
+    ensures unchanged { result ≡ false → next.new ≡ next.old }
+{
+    next_member(a, &from, next)
+}
+
+/// Tells the least number at or above `from` that isn't a member, if there is one.
+#[unsafe(no_mangle)]
+pub extern "C" fn proved_range_set_i64_next_gap(a: &[i64], from: i64, next: &mut i64) -> bool
+    requires { IsAscending int_cmp a.now }
+    ensures next { IsTrue result → IsNext int_cmp false a.now from next.new }
+    ensures none { result ≡ false → (x : ℤ) →
+        is_le (int_cmp from x) ≡ true → member int_cmp a.now x ≡ true }
+    ensures unchanged { result ≡ false → next.new ≡ next.old }
+{
+    next_gap(a, &from, next)
 }
 
 /// How many ranges the set has.

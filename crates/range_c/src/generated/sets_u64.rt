@@ -3,7 +3,7 @@
 ghost use Rattle.std.specs.Prelude.{◌≡◌, ◌↔◌, ◌+◌, ◌*◌, ◌<◌, ◌≤◌, ◌^◌, [], ◌∷◌, cond, Any, length, take, drop, true, false, Some, None, IsTrue, Contains, slice_get, ℕ, decimal};
 ghost use Rattle.std.specs.List.{last_or};
 ghost use Rattle.std.specs.Str.{IsUtf8};
-ghost use Rattle.std.specs.Ordering.{nat_cmp};
+ghost use Rattle.std.specs.Ordering.{nat_cmp, is_le, is_lt};
 ghost use Rattle.range_collections.specs.Fits.{Fits};
 ghost use Rattle.range_collections.specs.Boundaries.{IsAscending, IsSameSet, member};
 ghost use Rattle.range_collections.specs.Connective.{union_table, difference_table, symmetric_difference_table};
@@ -11,7 +11,7 @@ ghost use Rattle.range_collections.specs.Covered.{covered_of};
 ghost use Rattle.range_collections.specs.Sets.{IsSubset, Intersects, IsDisjoint};
 ghost use Rattle.range_collections.specs.Ranges.{range_items, ranges_of, IsInRange};
 ghost use Rattle.range_collections.specs.Reading.{ranges_in, unsigned_number};
-ghost use Rattle.range_collections.specs.Extent.{HasAllWithin};
+ghost use Rattle.range_collections.specs.Extent.{HasAllWithin, HasMemberWithin, IsNext};
 ghost use Rattle.range_collections.specs.Unsorted.{AreDistinctOf};
 ghost use Rattle.range_collections.specs.Split.{split_left, split_right};
 ghost use Rattle.range_collections.specs.Text.{ranges_text};
@@ -29,7 +29,9 @@ use crate::combining::combine_within;
 use crate::ends::Ends;
 use crate::from_least::combine_from;
 use crate::in_place::{insert, remove};
-use crate::parts::{covered, first, first_fit, last, range, range_at};
+use crate::parts::{
+    covered, first, first_fit, last, next_gap, next_member, range, range_at, range_from,
+};
 use crate::ranges::{from_ranges, tell_start, union_told};
 use crate::reading::{check, read};
 use crate::text::print;
@@ -60,6 +62,15 @@ pub extern "C" fn proved_range_set_u64_contains_range(a: &[u64], start: u64, end
     ensures { IsTrue result ↔ HasAllWithin nat_cmp a.now start end }
 {
     RangeSetRef::new_unchecked(a).contains_range(start..end)
+}
+
+/// Whether some number from `start` on, up to below `end`, is a member.
+#[unsafe(no_mangle)]
+pub extern "C" fn proved_range_set_u64_intersects_range(a: &[u64], start: u64, end: u64) -> bool
+    requires { IsAscending nat_cmp a.now }
+    ensures { IsTrue result ↔ HasMemberWithin nat_cmp a.now start end }
+{
+    RangeSetRef::new_unchecked(a).intersects_range(start..end)
 }
 
 /// Whether no number is a member.
@@ -264,6 +275,55 @@ pub extern "C" fn proved_range_set_u64_range_at(
     ensures no_end { has_end.new ≡ false → end.new ≡ end.old }
 {
     range_at(a, &value, start, end, has_end)
+}
+
+/// Tells the range that holds the number, or else the next one above it, if there is one.
+#[unsafe(no_mangle)]
+pub extern "C" fn proved_range_set_u64_range_from(
+    a: &[u64],
+    value: u64,
+    start: &mut u64,
+    end: &mut u64,
+    has_end: &mut bool,
+) -> bool
+    requires { IsAscending nat_cmp a.now }
+    ensures of_set { IsTrue result →
+        Contains (ranges_of a.now) (range_told start.new end.new has_end.new) }
+    ensures first { IsTrue result → (x : ℕ) → is_le (nat_cmp value x) ≡ true →
+        is_lt (nat_cmp x start.new) ≡ true → member nat_cmp a.now x ≡ false }
+    ensures ends_above { IsTrue result → has_end.new ≡ true →
+        is_lt (nat_cmp value end.new) ≡ true }
+    ensures none { result ≡ false → (x : ℕ) →
+        is_le (nat_cmp value x) ≡ true → member nat_cmp a.now x ≡ false }
+    ensures unchanged { result ≡ false →
+        (start.new ≡ start.old) × (end.new ≡ end.old) × (has_end.new ≡ has_end.old) }
+    ensures no_end { has_end.new ≡ false → end.new ≡ end.old }
+{
+    range_from(a, &value, start, end, has_end)
+}
+
+/// Tells the least member at or above `from`, if there is one.
+#[unsafe(no_mangle)]
+pub extern "C" fn proved_range_set_u64_next_member(a: &[u64], from: u64, next: &mut u64) -> bool
+    requires { IsAscending nat_cmp a.now }
+    ensures next { IsTrue result → IsNext nat_cmp true a.now from next.new }
+    ensures none { result ≡ false → (x : ℕ) →
+        is_le (nat_cmp from x) ≡ true → member nat_cmp a.now x ≡ false }
+    ensures unchanged { result ≡ false → next.new ≡ next.old }
+{
+    next_member(a, &from, next)
+}
+
+/// Tells the least number at or above `from` that isn't a member, if there is one.
+#[unsafe(no_mangle)]
+pub extern "C" fn proved_range_set_u64_next_gap(a: &[u64], from: u64, next: &mut u64) -> bool
+    requires { IsAscending nat_cmp a.now }
+    ensures next { IsTrue result → IsNext nat_cmp false a.now from next.new }
+    ensures none { result ≡ false → (x : ℕ) →
+        is_le (nat_cmp from x) ≡ true → member nat_cmp a.now x ≡ true }
+    ensures unchanged { result ≡ false → next.new ≡ next.old }
+{
+    next_gap(a, &from, next)
 }
 
 /// How many ranges the set has.

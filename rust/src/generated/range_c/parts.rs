@@ -50,6 +50,41 @@ pub(crate) fn range_at<T: Ord + Copy>(
     }
 }
 
+// Tells the range that holds `value`, or else the next one above it, where there is one.
+pub(crate) fn range_from<T: Ord + Copy>(
+    a: &[T],
+    value: &T,
+    start: &mut T,
+    end: &mut T,
+    has_end: &mut bool,
+) -> bool {
+    match RangeSetRef::new_unchecked(a).next_member(value) {
+        Some(next) => range_at(a, next, start, end, has_end),
+        None => false,
+    }
+}
+
+// Tells the least member at or above `from`, where there is one.
+pub(crate) fn next_member<T: Ord + Copy>(a: &[T], from: &T, next: &mut T) -> bool {
+    write(RangeSetRef::new_unchecked(a).next_member(from), next)
+}
+
+// Tells the least number at or above `from` that isn't a member, where there is one.
+pub(crate) fn next_gap<T: Ord + Copy>(a: &[T], from: &T, next: &mut T) -> bool {
+    write(RangeSetRef::new_unchecked(a).next_gap(from), next)
+}
+
+// Writes what was found, and answers whether anything was.
+fn write<T: Copy>(found: Option<&T>, place: &mut T) -> bool {
+    match found {
+        Some(it) => {
+            *place = *it;
+            true
+        }
+        None => false,
+    }
+}
+
 // Tells the range with so many before it, where there is one.
 pub(crate) fn range<T: Ord + Copy>(
     a: &[T],

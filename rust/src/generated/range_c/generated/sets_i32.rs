@@ -7,7 +7,9 @@ use crate::generated::range_c::ends::Ends;
 use crate::generated::range_c::fitting::first_place;
 use crate::generated::range_c::from_least::combine_from;
 use crate::generated::range_c::in_place::{insert, remove};
-use crate::generated::range_c::parts::{covered, first, last, range, range_at};
+use crate::generated::range_c::parts::{
+    covered, first, last, next_gap, next_member, range, range_at, range_from,
+};
 use crate::generated::range_c::ranges::{from_ranges, tell_start, union_told};
 use crate::generated::range_c::reading::{check, read};
 use crate::generated::range_c::text::print;
@@ -47,6 +49,18 @@ pub(crate) fn proved_contains(a: &[i32], value: i32) -> bool {
 /// ```
 pub(crate) fn proved_contains_range(a: &[i32], start: i32, end: i32) -> bool {
     RangeSetRef::new_unchecked(a).contains_range(start..end)
+}
+
+/// Whether some number from `start` on, up to below `end`, is a member.
+///
+/// # Contract
+///
+/// ```text
+/// requires IsAscending int_cmp a.now
+/// ensures IsTrue result ↔ HasMemberWithin int_cmp a.now start end
+/// ```
+pub(crate) fn proved_intersects_range(a: &[i32], start: i32, end: i32) -> bool {
+    RangeSetRef::new_unchecked(a).intersects_range(start..end)
 }
 
 /// Whether no number is a member.
@@ -266,6 +280,64 @@ pub(crate) fn proved_range_at(
     has_end: &mut bool,
 ) -> bool {
     range_at(a, &value, start, end, has_end)
+}
+
+/// Tells the range that holds the number, or else the next one above it, if there is one.
+///
+/// # Contract
+///
+/// ```text
+/// requires IsAscending int_cmp a.now
+/// ensures of_set: IsTrue result → Contains (ranges_of a.now) (range_told start.new end.new
+///     has_end.new)
+/// ensures first: IsTrue result → (x : ℤ) → is_le (int_cmp value x) ≡ true → is_lt (int_cmp x
+///     start.new) ≡ true → member int_cmp a.now x ≡ false
+/// ensures ends_above: IsTrue result → has_end.new ≡ true → is_lt (int_cmp value end.new) ≡
+///     true
+/// ensures none: result ≡ false → (x : ℤ) → is_le (int_cmp value x) ≡ true → member int_cmp
+///     a.now x ≡ false
+/// ensures unchanged: result ≡ false → (start.new ≡ start.old) × (end.new ≡ end.old) ×
+///     (has_end.new ≡ has_end.old)
+/// ensures no_end: has_end.new ≡ false → end.new ≡ end.old
+/// ```
+pub(crate) fn proved_range_from(
+    a: &[i32],
+    value: i32,
+    start: &mut i32,
+    end: &mut i32,
+    has_end: &mut bool,
+) -> bool {
+    range_from(a, &value, start, end, has_end)
+}
+
+/// Tells the least member at or above `from`, if there is one.
+///
+/// # Contract
+///
+/// ```text
+/// requires IsAscending int_cmp a.now
+/// ensures next: IsTrue result → IsNext int_cmp true a.now from next.new
+/// ensures none: result ≡ false → (x : ℤ) → is_le (int_cmp from x) ≡ true → member int_cmp
+///     a.now x ≡ false
+/// ensures unchanged: result ≡ false → next.new ≡ next.old
+/// ```
+pub(crate) fn proved_next_member(a: &[i32], from: i32, next: &mut i32) -> bool {
+    next_member(a, &from, next)
+}
+
+/// Tells the least number at or above `from` that isn't a member, if there is one.
+///
+/// # Contract
+///
+/// ```text
+/// requires IsAscending int_cmp a.now
+/// ensures next: IsTrue result → IsNext int_cmp false a.now from next.new
+/// ensures none: result ≡ false → (x : ℤ) → is_le (int_cmp from x) ≡ true → member int_cmp
+///     a.now x ≡ true
+/// ensures unchanged: result ≡ false → next.new ≡ next.old
+/// ```
+pub(crate) fn proved_next_gap(a: &[i32], from: i32, next: &mut i32) -> bool {
+    next_gap(a, &from, next)
 }
 
 /// How many ranges the set has.

@@ -6,7 +6,9 @@ use crate::generated::range_c::combining::combine_within;
 use crate::generated::range_c::ends::Ends;
 use crate::generated::range_c::from_least::combine_from;
 use crate::generated::range_c::in_place::{insert, remove};
-use crate::generated::range_c::parts::{covered, first, first_fit, last, range, range_at};
+use crate::generated::range_c::parts::{
+    covered, first, first_fit, last, next_gap, next_member, range, range_at, range_from,
+};
 use crate::generated::range_c::ranges::{from_ranges, tell_start, union_told};
 use crate::generated::range_c::reading::{check, read};
 use crate::generated::range_c::text::print;
@@ -46,6 +48,18 @@ pub(crate) fn proved_contains(a: &[u64], value: u64) -> bool {
 /// ```
 pub(crate) fn proved_contains_range(a: &[u64], start: u64, end: u64) -> bool {
     RangeSetRef::new_unchecked(a).contains_range(start..end)
+}
+
+/// Whether some number from `start` on, up to below `end`, is a member.
+///
+/// # Contract
+///
+/// ```text
+/// requires IsAscending nat_cmp a.now
+/// ensures IsTrue result ↔ HasMemberWithin nat_cmp a.now start end
+/// ```
+pub(crate) fn proved_intersects_range(a: &[u64], start: u64, end: u64) -> bool {
+    RangeSetRef::new_unchecked(a).intersects_range(start..end)
 }
 
 /// Whether no number is a member.
@@ -264,6 +278,64 @@ pub(crate) fn proved_range_at(
     has_end: &mut bool,
 ) -> bool {
     range_at(a, &value, start, end, has_end)
+}
+
+/// Tells the range that holds the number, or else the next one above it, if there is one.
+///
+/// # Contract
+///
+/// ```text
+/// requires IsAscending nat_cmp a.now
+/// ensures of_set: IsTrue result → Contains (ranges_of a.now) (range_told start.new end.new
+///     has_end.new)
+/// ensures first: IsTrue result → (x : ℕ) → is_le (nat_cmp value x) ≡ true → is_lt (nat_cmp x
+///     start.new) ≡ true → member nat_cmp a.now x ≡ false
+/// ensures ends_above: IsTrue result → has_end.new ≡ true → is_lt (nat_cmp value end.new) ≡
+///     true
+/// ensures none: result ≡ false → (x : ℕ) → is_le (nat_cmp value x) ≡ true → member nat_cmp
+///     a.now x ≡ false
+/// ensures unchanged: result ≡ false → (start.new ≡ start.old) × (end.new ≡ end.old) ×
+///     (has_end.new ≡ has_end.old)
+/// ensures no_end: has_end.new ≡ false → end.new ≡ end.old
+/// ```
+pub(crate) fn proved_range_from(
+    a: &[u64],
+    value: u64,
+    start: &mut u64,
+    end: &mut u64,
+    has_end: &mut bool,
+) -> bool {
+    range_from(a, &value, start, end, has_end)
+}
+
+/// Tells the least member at or above `from`, if there is one.
+///
+/// # Contract
+///
+/// ```text
+/// requires IsAscending nat_cmp a.now
+/// ensures next: IsTrue result → IsNext nat_cmp true a.now from next.new
+/// ensures none: result ≡ false → (x : ℕ) → is_le (nat_cmp from x) ≡ true → member nat_cmp
+///     a.now x ≡ false
+/// ensures unchanged: result ≡ false → next.new ≡ next.old
+/// ```
+pub(crate) fn proved_next_member(a: &[u64], from: u64, next: &mut u64) -> bool {
+    next_member(a, &from, next)
+}
+
+/// Tells the least number at or above `from` that isn't a member, if there is one.
+///
+/// # Contract
+///
+/// ```text
+/// requires IsAscending nat_cmp a.now
+/// ensures next: IsTrue result → IsNext nat_cmp false a.now from next.new
+/// ensures none: result ≡ false → (x : ℕ) → is_le (nat_cmp from x) ≡ true → member nat_cmp
+///     a.now x ≡ true
+/// ensures unchanged: result ≡ false → next.new ≡ next.old
+/// ```
+pub(crate) fn proved_next_gap(a: &[u64], from: u64, next: &mut u64) -> bool {
+    next_gap(a, &from, next)
 }
 
 /// How many ranges the set has.
