@@ -34,20 +34,12 @@ pub(crate) fn range_at<T: Ord + Copy>(
     end: &mut T,
     has_end: &mut bool,
 ) -> bool {
-    match RangeSetRef::new_unchecked(a).range_at(value) {
-        Some(RangeSetRange::Range(range)) => {
-            *start = *range.start;
-            *end = *range.end;
-            *has_end = true;
-            true
-        }
-        Some(RangeSetRange::RangeFrom(range)) => {
-            *start = *range.start;
-            *has_end = false;
-            true
-        }
-        None => false,
-    }
+    tell(
+        RangeSetRef::new_unchecked(a).range_at(value),
+        start,
+        end,
+        has_end,
+    )
 }
 
 // Tells the range that holds `value`, or else the next one above it, where there is one.
