@@ -73,17 +73,3 @@ pub fn free_slots(alloc: Global, busy: &Minutes, day: Range<u32>) -> Result<Minu
 {
     Minutes::from_range(alloc, day)?.difference(busy.as_ref())
 }
-
-/// Minutes of the day at which nobody is busy: a clause for each of the two functions above.
-pub fn everyone_free(
-    alloc: Global,
-    calendars: &[RangeSetRef<u32>],
-    day: Range<u32>,
-) -> Result<Minutes, AllocError>
-    ensures nobody_busy { IfOk result (λ free. (minute : ℕ) →
-        Any (λ calendar. member nat_cmp calendar.boundaries.now minute ≡ true) calendars.now →
-        member nat_cmp free minute ≡ false) }
-{
-    let busy = someone_busy(alloc, calendars)?;
-    free_slots(alloc, &busy, day)
-}
