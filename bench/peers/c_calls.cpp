@@ -61,7 +61,7 @@ struct CCalls {
     static constexpr const char* name = "C calls";
     static constexpr std::int64_t greatest = INT64_MAX;
     static constexpr unsigned offers = Group::new_sets | Group::in_place | Group::tests | Group::lengths |
-                                       Group::contains | Group::split | Group::iter | Group::changes;
+                                       Group::contains | Group::split | Group::iter | Group::changes | Group::places;
     using Set = Checked;
 
     static Set made(const Boundaries& boundaries) {
@@ -70,8 +70,7 @@ struct CCalls {
         return {boundaries};
     }
 
-    template <Operation operation>
-    static std::size_t combine(const Set& left, const Set& right, Boundaries* out) {
+    template <Operation operation> static std::size_t combine(const Set& left, const Set& right, Boundaries* out) {
         const std::size_t room = left.list.size() + right.list.size();
         std::unique_ptr<std::int64_t[]> items(new std::int64_t[room]);
         range_set_i64 result;
@@ -79,9 +78,15 @@ struct CCalls {
         return given(result, out);
     }
 
-    static std::size_t copy_one(const Set& left, Boundaries* out) {
-        return given(Owned(left).owned.in.set, out);
+    static std::size_t unite_into(const std::int64_t* left, std::size_t left_len, const std::int64_t* right,
+                                  std::size_t right_len, std::int64_t* room) {
+        range_set_i64 result;
+        expect(range_set_i64_combine({left, left_len}, {right, right_len}, RANGE_SET_UNION, room, left_len + right_len,
+                                     &result));
+        return result.len;
     }
+
+    static std::size_t copy_one(const Set& left, Boundaries* out) { return given(Owned(left).owned.in.set, out); }
 
     static std::size_t copy_both(const Set& left, const Set& right, Boundaries* out) {
         Owned copy(left);
@@ -104,11 +109,17 @@ struct CCalls {
         return given(copy.owned.in.set, out);
     }
 
-    static bool is_disjoint(const Set& left, const Set& right) { return range_set_i64_is_disjoint(left.set(), right.set()); }
+    static bool is_disjoint(const Set& left, const Set& right) {
+        return range_set_i64_is_disjoint(left.set(), right.set());
+    }
 
-    static bool is_subset(const Set& left, const Set& right) { return range_set_i64_is_subset(left.set(), right.set()); }
+    static bool is_subset(const Set& left, const Set& right) {
+        return range_set_i64_is_subset(left.set(), right.set());
+    }
 
-    static std::size_t union_len(const Set& left, const Set& right) { return range_set_i64_union_len(left.set(), right.set()); }
+    static std::size_t union_len(const Set& left, const Set& right) {
+        return range_set_i64_union_len(left.set(), right.set());
+    }
 
     static std::size_t contains(const Set& set, const Boundaries& values) {
         std::size_t members = 0;
@@ -146,8 +157,8 @@ struct CCalls {
     }
 
 private:
-    static std::size_t command(range_set_status (*one)(range_set_i64_owned*, std::int64_t, std::int64_t), const Set& left,
-                               const Commands& commands, Boundaries* out) {
+    static std::size_t command(range_set_status (*one)(range_set_i64_owned*, std::int64_t, std::int64_t),
+                               const Set& left, const Commands& commands, Boundaries* out) {
         Owned copy(left);
         for (std::size_t i = 0; i < commands.starts.size(); i++) {
             expect(one(&copy.owned, commands.starts[i], commands.ends[i]));

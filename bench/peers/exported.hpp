@@ -22,8 +22,7 @@ template <class Exports> struct Exported : Exports {
         return Set{std::move(boundaries)};
     }
 
-    template <Operation operation>
-    static std::size_t combine(const Set& left, const Set& right, Boundaries* out) {
+    template <Operation operation> static std::size_t combine(const Set& left, const Set& right, Boundaries* out) {
         return call_two(Exports::new_sets[static_cast<std::size_t>(operation)], left, right, out);
     }
 

@@ -57,8 +57,8 @@ template <Operation operation> void change(Intervals& set, const Intervals& othe
 struct Icl {
     static constexpr const char* name = "Boost.ICL";
     static constexpr std::int64_t greatest = INT64_MAX;
-    static constexpr unsigned offers = Group::new_sets | Group::in_place | Group::tests | Group::contains |
-                                       Group::iter | Group::changes;
+    static constexpr unsigned offers =
+        Group::new_sets | Group::in_place | Group::tests | Group::contains | Group::iter | Group::changes;
     using Set = Intervals;
 
     static Set made(const Boundaries& boundaries) {
@@ -69,8 +69,7 @@ struct Icl {
         return set;
     }
 
-    template <Operation operation>
-    static std::size_t combine(const Set& left, const Set& right, Boundaries* out) {
+    template <Operation operation> static std::size_t combine(const Set& left, const Set& right, Boundaries* out) {
         switch (operation) {
         case Operation::unite:
             return given(left | right, out);

@@ -47,8 +47,8 @@ template <Operation operation> void change(UnicodeSet& set, const UnicodeSet& ot
 struct Icu {
     static constexpr const char* name = "ICU";
     static constexpr std::int64_t greatest = UnicodeSet::MAX_VALUE;
-    static constexpr unsigned offers = Group::new_sets | Group::in_place | Group::tests | Group::contains |
-                                       Group::iter | Group::changes;
+    static constexpr unsigned offers =
+        Group::new_sets | Group::in_place | Group::tests | Group::contains | Group::iter | Group::changes;
     using Set = UnicodeSet;
 
     static Set made(const Boundaries& boundaries) {
@@ -60,8 +60,7 @@ struct Icu {
     }
 
     // The set has no operation that makes a new one.
-    template <Operation operation>
-    static std::size_t combine(const Set& left, const Set& right, Boundaries* out) {
+    template <Operation operation> static std::size_t combine(const Set& left, const Set& right, Boundaries* out) {
         return change_by_lent<operation>(left, right, out);
     }
 

@@ -20,6 +20,8 @@ struct Buffer {
             std::memcpy(items, of.data(), of.size() * sizeof *items);
         }
         length = of.size();
+        // A copy that nothing reads would be left out.
+        asm volatile("" : : "r"(items) : "memory");
     }
     Buffer(const Buffer&) = delete;
     Buffer& operator=(const Buffer&) = delete;
@@ -51,16 +53,17 @@ private:
 };
 
 template <Operation operation>
-std::size_t merge(const std::int64_t* a, std::size_t a_len, const Boundaries& b, std::int64_t* out) {
+std::size_t merge(const std::int64_t* a, std::size_t a_len, const std::int64_t* b, std::size_t b_len,
+                  std::int64_t* out) {
     switch (operation) {
     case Operation::unite:
-        return linear_union(a, a_len, b.data(), b.size(), out);
+        return linear_union(a, a_len, b, b_len, out);
     case Operation::intersect:
-        return linear_intersection(a, a_len, b.data(), b.size(), out);
+        return linear_intersection(a, a_len, b, b_len, out);
     case Operation::subtract:
-        return linear_difference(a, a_len, b.data(), b.size(), out);
+        return linear_difference(a, a_len, b, b_len, out);
     case Operation::differ:
-        return linear_symmetric_difference(a, a_len, b.data(), b.size(), out);
+        return linear_symmetric_difference(a, a_len, b, b_len, out);
     }
 }
 
@@ -68,21 +71,23 @@ struct Linear {
     static constexpr const char* name = "linear C";
     static constexpr std::int64_t greatest = INT64_MAX;
     static constexpr unsigned offers = Group::new_sets | Group::in_place | Group::tests | Group::lengths |
-                                       Group::contains | Group::split | Group::iter | Group::changes;
+                                       Group::contains | Group::split | Group::iter | Group::changes | Group::places;
     using Set = Boundaries;
 
     static const Set& made(const Boundaries& boundaries) { return boundaries; }
 
-    template <Operation operation>
-    static std::size_t combine(const Set& left, const Set& right, Boundaries* out) {
+    template <Operation operation> static std::size_t combine(const Set& left, const Set& right, Boundaries* out) {
         Buffer made(left.size() + right.size());
-        made.length = merge<operation>(left.data(), left.size(), right, made.items);
+        made.length = merge<operation>(left.data(), left.size(), right.data(), right.size(), made.items);
         return made.given(out);
     }
 
-    static std::size_t copy_one(const Set& left, Boundaries* out) {
-        return Buffer(left, left.size()).given(out);
+    static std::size_t unite_into(const std::int64_t* left, std::size_t left_len, const std::int64_t* right,
+                                  std::size_t right_len, std::int64_t* room) {
+        return linear_union(left, left_len, right, right_len, room);
     }
+
+    static std::size_t copy_one(const Set& left, Boundaries* out) { return Buffer(left, left.size()).given(out); }
 
     static std::size_t copy_both(const Set& left, const Set& right, Boundaries* out) {
         Buffer copy(left, left.size());
@@ -93,14 +98,14 @@ struct Linear {
     template <Operation operation>
     static std::size_t change_by_lent(const Set& left, const Set& right, Boundaries* out) {
         Buffer set(left, left.size());
-        return change<operation>(set, right, out);
+        return change<operation>(set, right.data(), right.size(), out);
     }
 
     template <Operation operation>
     static std::size_t change_by_owned(const Set& left, const Set& right, Boundaries* out) {
         Buffer set(left, left.size());
         Buffer other(right, right.size());
-        return change<operation>(set, right, out);
+        return change<operation>(set, other.items, other.length, out);
     }
 
     static bool is_disjoint(const Set& left, const Set& right) {
@@ -150,9 +155,9 @@ struct Linear {
 
 private:
     template <Operation operation>
-    static std::size_t change(Buffer& set, const Set& right, Boundaries* out) {
-        Buffer made(set.length + right.size());
-        made.length = merge<operation>(set.items, set.length, right, made.items);
+    static std::size_t change(Buffer& set, const std::int64_t* right, std::size_t right_len, Boundaries* out) {
+        Buffer made(set.length + right_len);
+        made.length = merge<operation>(set.items, set.length, right, right_len, made.items);
         std::swap(set.items, made.items);
         std::swap(set.length, made.length);
         return set.given(out);

@@ -41,8 +41,8 @@ struct PlainRust {
     static constexpr const char* name = "plain Rust";
 
     // The operations in the order of Operation.
-    static constexpr range_bench_two* new_sets[] = {plain_rust_union, plain_rust_intersection,
-                                                    plain_rust_difference, plain_rust_symmetric_difference};
+    static constexpr range_bench_two* new_sets[] = {plain_rust_union, plain_rust_intersection, plain_rust_difference,
+                                                    plain_rust_symmetric_difference};
     static constexpr range_bench_two* lent[] = {plain_rust_union_lent, plain_rust_intersection_lent,
                                                 plain_rust_difference_lent, plain_rust_symmetric_difference_lent};
     static constexpr range_bench_two* owned[] = {plain_rust_union_owned, plain_rust_intersection_owned,

@@ -85,8 +85,7 @@ struct Roaring {
         return set;
     }
 
-    template <Operation operation>
-    static std::size_t combine(const Set& left, const Set& right, Boundaries* out) {
+    template <Operation operation> static std::size_t combine(const Set& left, const Set& right, Boundaries* out) {
         return given(combined<operation>(left, right), out);
     }
 

@@ -69,8 +69,7 @@ struct Vector {
 
     static const Set& made(const Boundaries& boundaries) { return boundaries; }
 
-    template <Operation operation>
-    static std::size_t combine(const Set& left, const Set& right, Boundaries* out) {
+    template <Operation operation> static std::size_t combine(const Set& left, const Set& right, Boundaries* out) {
         return given(merged<operation>(left, right), out);
     }
 
@@ -97,13 +96,9 @@ struct Vector {
         return given(set, out);
     }
 
-    static bool is_disjoint(const Set& left, const Set& right) {
-        return is_nothing<Operation::intersect>(left, right);
-    }
+    static bool is_disjoint(const Set& left, const Set& right) { return is_nothing<Operation::intersect>(left, right); }
 
-    static bool is_subset(const Set& left, const Set& right) {
-        return is_nothing<Operation::subtract>(left, right);
-    }
+    static bool is_subset(const Set& left, const Set& right) { return is_nothing<Operation::subtract>(left, right); }
 };
 
 } // namespace

@@ -5,6 +5,7 @@
 #pragma once
 
 #include "peer.hpp"
+#include "places.hpp"
 
 #include <stdexcept>
 #include <utility>
@@ -20,6 +21,7 @@ enum class Group : unsigned {
     changes = 128,
     texts = 256,
     at_once = 512,
+    places = 1024,
 };
 
 constexpr unsigned operator|(Group a, Group b) {
@@ -38,6 +40,9 @@ inline Group group_of(Task task) {
         return Group::in_place;
     }
     switch (task) {
+    case Task::union_same_place:
+    case Task::union_other_place:
+        return Group::places;
     case Task::is_disjoint:
     case Task::is_subset:
         return Group::tests;
@@ -49,6 +54,7 @@ inline Group group_of(Task task) {
     case Task::contains_text:
         return Group::texts;
     case Task::split:
+    case Task::split_waiting:
         return Group::split;
     case Task::iter:
         return Group::iter;
@@ -63,9 +69,7 @@ template <class Kind> class Held final : public Peer {
 public:
     std::string name() const override { return Kind::name; }
 
-    bool can(Task task) const override {
-        return (Kind::offers & static_cast<unsigned>(group_of(task))) != 0;
-    }
+    bool can(Task task) const override { return (Kind::offers & static_cast<unsigned>(group_of(task))) != 0; }
 
     bool fits(const Case& that) const override { return that.greatest() <= Kind::greatest; }
 
@@ -81,6 +85,9 @@ public:
         if (offers(Group::texts) && that.shape == texts_shape) {
             text_set = texts_of(that.pairs.front().left);
             text_values = texts_of(values);
+        }
+        if (offers(Group::places)) {
+            places.load(that.pairs.front());
         }
     }
 
@@ -104,9 +111,7 @@ private:
     using Set = typename Kind::Set;
     using Sides = std::pair<Set, Set>;
 
-    static constexpr bool offers(Group group) {
-        return (Kind::offers & static_cast<unsigned>(group)) != 0;
-    }
+    static constexpr bool offers(Group group) { return (Kind::offers & static_cast<unsigned>(group)) != 0; }
 
     // Gives `run` the function that does the task on one pair, so that each loop has its task's code inside.
     template <class Run> std::size_t over(Task task, Run run) {
@@ -143,15 +148,21 @@ private:
             case Task::symmetric_difference_owned:
                 return run(hand_over<Operation::differ>);
             case Task::copy_one:
-                return run([](const Sides& sides, Boundaries* out) {
-                    return Kind::copy_one(sides.first, out);
-                });
+                return run([](const Sides& sides, Boundaries* out) { return Kind::copy_one(sides.first, out); });
             case Task::copy_both:
                 return run([](const Sides& sides, Boundaries* out) {
                     return Kind::copy_both(sides.first, sides.second, out);
                 });
             default:
                 break;
+            }
+        }
+        if constexpr (offers(Group::places)) {
+            if (task == Task::union_same_place) {
+                return run([this](const Sides&, Boundaries* out) { return unite_at(0, out); });
+            }
+            if (task == Task::union_other_place) {
+                return run([this](const Sides&, Boundaries* out) { return unite_at(Places::page / 2, out); });
             }
         }
         if constexpr (offers(Group::tests)) {
@@ -168,54 +179,49 @@ private:
         }
         if constexpr (offers(Group::lengths)) {
             if (task == Task::union_len) {
-                return run([](const Sides& sides, Boundaries*) {
-                    return Kind::union_len(sides.first, sides.second);
-                });
+                return run([](const Sides& sides, Boundaries*) { return Kind::union_len(sides.first, sides.second); });
             }
         }
         if constexpr (offers(Group::contains)) {
             if (task == Task::contains) {
-                return run([this](const Sides& sides, Boundaries*) {
-                    return Kind::contains(sides.first, values);
-                });
+                return run([this](const Sides& sides, Boundaries*) { return Kind::contains(sides.first, values); });
             }
             if (task == Task::contains_waiting) {
                 return run([this](const Sides& sides, Boundaries*) {
-                    return asked_one_by_one(
-                        values, [&](const Boundaries& one) { return Kind::contains(sides.first, one); });
+                    return asked_one_by_one(values,
+                                            [&](const Boundaries& one) { return Kind::contains(sides.first, one); });
                 });
             }
         }
         if constexpr (offers(Group::texts)) {
             if (task == Task::contains_text) {
-                return run([this](const Sides&, Boundaries*) {
-                    return Kind::contains_text(text_set, text_values);
-                });
+                return run([this](const Sides&, Boundaries*) { return Kind::contains_text(text_set, text_values); });
             }
         }
         if constexpr (offers(Group::split)) {
             if (task == Task::split) {
+                return run([this](const Sides& sides, Boundaries*) { return Kind::split(sides.first, values); });
+            }
+            if (task == Task::split_waiting) {
                 return run([this](const Sides& sides, Boundaries*) {
-                    return Kind::split(sides.first, values);
+                    return asked_one_by_one(values,
+                                            [&](const Boundaries& one) { return Kind::split(sides.first, one); });
                 });
             }
         }
         if constexpr (offers(Group::iter)) {
             if (task == Task::iter) {
-                return run(
-                    [](const Sides& sides, Boundaries*) { return Kind::iter(sides.first); });
+                return run([](const Sides& sides, Boundaries*) { return Kind::iter(sides.first); });
             }
         }
         if constexpr (offers(Group::changes)) {
             if (task == Task::insert) {
-                return run([this](const Sides& sides, Boundaries* out) {
-                    return Kind::insert(sides.first, commands, out);
-                });
+                return run(
+                    [this](const Sides& sides, Boundaries* out) { return Kind::insert(sides.first, commands, out); });
             }
             if (task == Task::remove) {
-                return run([this](const Sides& sides, Boundaries* out) {
-                    return Kind::remove(sides.first, commands, out);
-                });
+                return run(
+                    [this](const Sides& sides, Boundaries* out) { return Kind::remove(sides.first, commands, out); });
             }
         }
         if constexpr (offers(Group::at_once)) {
@@ -236,12 +242,22 @@ private:
         return Kind::template change_by_lent<operation>(sides.first, sides.second, out);
     }
 
-    template <Operation operation>
-    static std::size_t hand_over(const Sides& sides, Boundaries* out) {
+    template <Operation operation> static std::size_t hand_over(const Sides& sides, Boundaries* out) {
         return Kind::template change_by_owned<operation>(sides.first, sides.second, out);
     }
 
+    // The union of the first pair's lists, so many bytes into a page.
+    std::size_t unite_at(std::size_t place, Boundaries* out) {
+        std::int64_t* room = places.room(place);
+        std::size_t made = Kind::unite_into(places.left(), places.left_len, places.right(), places.right_len, room);
+        if (out != nullptr) {
+            out->assign(room, room + made);
+        }
+        return made;
+    }
+
     std::vector<Sides> pairs;
+    Places places;
     Boundaries values;
     Commands commands;
     Texts text_set;

@@ -30,26 +30,6 @@ constexpr std::size_t compared_ranges = 2000;
 // So many ranges are the most that sets grow to, one by one.
 constexpr std::size_t most_ranges = 1000000;
 
-bool contains(const std::vector<Task>& tasks, Task task) {
-    for (Task each : tasks) {
-        if (each == task) {
-            return true;
-        }
-    }
-    return false;
-}
-
-// The tasks, and the copying that some of them take off.
-std::vector<Task> with_copying(const std::vector<Task>& tasks) {
-    std::vector<Task> all = tasks;
-    for (Task task : tasks) {
-        if (is_change(task) && !contains(all, copying_of(task))) {
-            all.push_back(copying_of(task));
-        }
-    }
-    return all;
-}
-
 // Loads the case into each peer that can hold it.
 std::vector<Line> loaded_lines(const Peers& peers, const Job& job) {
     std::vector<Line> lines;
@@ -58,7 +38,7 @@ std::vector<Line> loaded_lines(const Peers& peers, const Job& job) {
             continue;
         }
         peer->load(job.that);
-        for (Task task : with_copying(job.tasks)) {
+        for (Task task : job.tasks) {
             if (peer->can(task)) {
                 lines.push_back(Line{peer.get(), task, 0, 0, {}});
             }
@@ -142,8 +122,8 @@ void time_unions(const Peers& peers, const std::string& csv, const char* number,
         std::vector<Line> lines = checked_lines(peers, job);
         time_all(lines, 1, rounds);
         const Pair& pair = job.that.pairs.front();
-        auto comparisons = static_cast<unsigned long long>(range_bench_union_comparisons(
-            pair.left.data(), pair.left.size(), pair.right.data(), pair.right.size()));
+        auto comparisons = static_cast<unsigned long long>(
+            range_bench_union_comparisons(pair.left.data(), pair.left.size(), pair.right.data(), pair.right.size()));
         std::printf("%8zu %12llu", value, comparisons);
         auto line = lines.begin();
         for (const auto& peer : peers) {
@@ -186,7 +166,7 @@ void count(const Peers& peers, const std::string& name, const std::string& shape
             if (peer->name() != name) {
                 continue;
             }
-            for (Task task : with_copying(job.tasks)) {
+            for (Task task : job.tasks) {
                 if (name_of(task) != task_name || !peer->can(task)) {
                     continue;
                 }

@@ -17,6 +17,8 @@ constexpr const char* names[] = {
     "symmetric difference, owned",
     "copy",
     "two copies",
+    "union, same place",
+    "union, half a page on",
     "is_disjoint",
     "is_subset",
     "union length",
@@ -24,6 +26,7 @@ constexpr const char* names[] = {
     "contains, one by one",
     "contains, texts",
     "split",
+    "split, one by one",
     "iter",
     "insert",
     "remove",
@@ -39,14 +42,4 @@ const char* name_of(Task task) {
 // Of a task that makes or changes a set by an operation: the four stand in one order in each group.
 Operation operation_of(Task task) {
     return static_cast<Operation>(static_cast<unsigned>(task) % 4);
-}
-
-bool is_change(Task task) {
-    bool is_in_place = Task::union_lent <= task && task <= Task::symmetric_difference_owned;
-    return is_in_place || Task::insert <= task;
-}
-
-Task copying_of(Task task) {
-    bool is_owned = Task::union_owned <= task && task <= Task::symmetric_difference_owned;
-    return is_owned ? Task::copy_both : Task::copy_one;
 }

@@ -24,6 +24,8 @@ enum class Task {
     symmetric_difference_owned,
     copy_one,
     copy_both,
+    union_same_place,
+    union_other_place,
     is_disjoint,
     is_subset,
     union_len,
@@ -31,6 +33,7 @@ enum class Task {
     contains_waiting,
     contains_text,
     split,
+    split_waiting,
     iter,
     insert,
     remove,
@@ -41,10 +44,6 @@ const char* name_of(Task task);
 
 // Of a task of the first twelve.
 Operation operation_of(Task task);
-
-// A set that is changed is copied first: that copying is timed alone and taken off.
-bool is_change(Task task);
-Task copying_of(Task task);
 
 // A contender. It holds sets of its own kind, made of a case's lists.
 class Peer {

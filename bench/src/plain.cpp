@@ -12,6 +12,11 @@ bool is_member(const Boundaries& set, std::int64_t value) {
     return (std::upper_bound(set.begin(), set.end(), value) - set.begin()) % 2 != 0;
 }
 
+// How many boundaries are below a number: those of the least set with the same members below it.
+std::size_t below(const Boundaries& set, std::int64_t value) {
+    return static_cast<std::size_t>(std::lower_bound(set.begin(), set.end(), value) - set.begin());
+}
+
 // The boundaries of ranges that touch no other, in order.
 Boundaries all_of(const Commands& commands) {
     Boundaries all = commands.starts;
@@ -25,6 +30,9 @@ Boundaries right_set(Task task, const Pair& pair, const Case& that) {
     case Task::copy_one:
     case Task::copy_both:
         return pair.left;
+    case Task::union_same_place:
+    case Task::union_other_place:
+        return plain(Operation::unite, pair.left, pair.right);
     case Task::insert:
     case Task::insert_all:
         return plain(Operation::unite, pair.left, all_of(that.commands));
@@ -51,16 +59,15 @@ std::size_t right_answer(Task task, const Pair& pair, const Case& that) {
         }
         return sum;
     case Task::contains_waiting:
-        return asked_one_by_one(that.values, [&](const Boundaries& one) -> std::size_t {
-            return is_member(pair.left, one.front());
-        });
+        return asked_one_by_one(
+            that.values, [&](const Boundaries& one) -> std::size_t { return is_member(pair.left, one.front()); });
     case Task::split:
-        // The least set with the same members below the value has the boundaries below it.
         for (std::int64_t value : that.values) {
-            auto at = std::lower_bound(pair.left.begin(), pair.left.end(), value);
-            sum += static_cast<std::size_t>(at - pair.left.begin());
+            sum += below(pair.left, value);
         }
         return sum;
+    case Task::split_waiting:
+        return asked_one_by_one(that.values, [&](const Boundaries& one) { return below(pair.left, one.front()); });
     default:
         for (std::size_t i = 0; i + 1 < pair.left.size(); i += 2) {
             sum += static_cast<std::size_t>(pair.left[i + 1] - pair.left[i]);
@@ -70,7 +77,7 @@ std::size_t right_answer(Task task, const Pair& pair, const Case& that) {
 }
 
 bool makes_a_set(Task task) {
-    return task <= Task::copy_both || Task::insert <= task;
+    return task <= Task::union_other_place || Task::insert <= task;
 }
 
 [[noreturn]] void fail(const Peer& peer, Task task, const Case& that, const std::string& what) {

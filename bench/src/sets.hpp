@@ -44,17 +44,17 @@ struct Commands {
     Boundaries ends;
 };
 
-// The members among numbers that are asked one by one. Each number depends on the answer before, so no search begins
-// before the one before has ended.
-template <class Contains> std::size_t asked_one_by_one(const Boundaries& values, Contains contains) {
-    std::size_t members = 0, before = 0;
+// The sum of the answers for numbers that are asked one by one. The last bit of each number depends on the answer before,
+// so no search begins before the one before has ended.
+template <class Ask> std::size_t asked_one_by_one(const Boundaries& values, Ask ask) {
+    std::size_t sum = 0, before = 0;
     Boundaries one(1);
     for (std::int64_t value : values) {
-        one[0] = value ^ static_cast<std::int64_t>(before);
-        before = contains(one);
-        members += before;
+        one[0] = value ^ static_cast<std::int64_t>(before & 1);
+        before = ask(one);
+        sum += before;
     }
-    return members;
+    return sum;
 }
 
 // The shape whose one set is asked as a set of texts.

@@ -14,8 +14,9 @@ constexpr std::size_t many = 1024;
 
 const std::vector<Task> new_sets = {Task::union_new, Task::intersection_new, Task::difference_new,
                                     Task::symmetric_difference_new};
-const std::vector<Task> changes = {Task::union_lent, Task::intersection_lent, Task::union_owned,
-                                   Task::intersection_owned};
+const std::vector<Task> changes = {Task::copy_one,  Task::union_lent,  Task::intersection_lent,
+                                   Task::copy_both, Task::union_owned, Task::intersection_owned};
+const std::vector<Task> places = {Task::union_same_place, Task::union_other_place};
 const std::vector<Task> tests = {Task::is_disjoint, Task::is_subset};
 const std::vector<Task> rest = {Task::union_len, Task::iter};
 
@@ -133,11 +134,11 @@ Case changed(std::size_t size, bool inserted) {
 
 void add_shapes(std::vector<Job>& jobs, std::size_t size) {
     std::vector<Task> all = joined({new_sets, changes, tests, rest});
-    jobs.push_back({one("interleaved", size, run_pair(size, 1)), all});
+    jobs.push_back({one("interleaved", size, run_pair(size, 1)), joined({all, places})});
     jobs.push_back({one("blocks of 64", size, run_pair(size, 64)), all});
     jobs.push_back({one("one range", size, one_range(size)), all});
     jobs.push_back({random_case(size), all});
-    jobs.push_back({one("equal", size, Pair{evenly(size, 4, 4), evenly(size, 4, 4)}), all});
+    jobs.push_back({one("equal", size, Pair{evenly(size, 4, 4), evenly(size, 4, 4)}), joined({all, places})});
     jobs.push_back({one("disjoint by twos", size, run_pair(size, 2)), all});
 }
 
@@ -194,13 +195,14 @@ std::vector<Job> all_jobs() {
     jobs.push_back({one("one range", 65536, one_range(65536)), joined({new_sets, changes})});
     jobs.push_back({random_case(65536), joined({new_sets, changes})});
     for (std::size_t size : {2, 10, 1000, 100000, 1000000}) {
-        jobs.push_back({asked("one set", size), {Task::contains, Task::contains_waiting, Task::split}});
+        jobs.push_back(
+            {asked("one set", size), {Task::contains, Task::contains_waiting, Task::split, Task::split_waiting}});
     }
     for (std::size_t size : {1000, 10000}) {
         jobs.push_back({asked(texts_shape, size), {Task::contains_text}});
     }
-    jobs.push_back({changed(4096, true), {Task::insert}});
-    jobs.push_back({changed(4096, false), {Task::remove}});
+    jobs.push_back({changed(4096, true), {Task::copy_one, Task::insert}});
+    jobs.push_back({changed(4096, false), {Task::copy_one, Task::remove}});
     return jobs;
 }
 

@@ -14,38 +14,21 @@ const Line* find(const std::vector<Line>& lines, const std::string& peer, Task t
     return nullptr;
 }
 
-// The line, with what its copies took off.
-Line net(const std::vector<Line>& lines, const Line& line) {
-    Line left = line;
-    if (is_change(line.task)) {
-        const Line* copies = find(lines, line.peer->name(), copying_of(line.task));
-        left.least -= copies->least;
-        left.median -= copies->median;
-        left.allocations.mallocs -= copies->allocations.mallocs;
-        left.allocations.reallocs -= copies->allocations.reallocs;
-        left.allocations.bytes -= copies->allocations.bytes;
-    }
-    return left;
-}
-
-// A time, which is about nothing where the copying that was taken off was as much.
-std::string cell(double ns) {
-    if (ns <= 0) {
-        return "~0";
-    }
-    char text[32];
-    std::snprintf(text, sizeof text, ns < 100 ? "%.1f" : "%.0f", ns);
-    return text;
-}
-
-std::string ratio(double ours, const std::vector<Line>& lines, const char* peer, Task task) {
-    const Line* line = find(lines, peer, task);
-    double theirs = line == nullptr ? 0 : net(lines, *line).least;
-    if (theirs <= 0) {
+std::string cell(const Line* line) {
+    if (line == nullptr) {
         return "-";
     }
     char text[32];
-    std::snprintf(text, sizeof text, "%.2f", ours / theirs);
+    std::snprintf(text, sizeof text, line->least < 100 ? "%.1f" : "%.0f", line->least);
+    return text;
+}
+
+std::string ratio(const Line* ours, const Line* theirs) {
+    if (ours == nullptr || theirs == nullptr) {
+        return "-";
+    }
+    char text[32];
+    std::snprintf(text, sizeof text, "%.2f", ours->least / theirs->least);
     return text;
 }
 
@@ -64,7 +47,8 @@ void Table::write_header() {
     for (const auto& peer : peers) {
         std::printf(" %12.12s", peer->name().c_str());
     }
-    std::printf(" %9s %9s %9s  %s\n", "/vector", "/linear C", "/ICU", "library's mallocs, reallocs, bytes");
+    std::printf(" %9s %9s %9s %9s  %s\n", "/vector", "/linear C", "/ICU", "/CRoaring",
+                "library's mallocs, reallocs, bytes");
 }
 
 void Table::add(const Case& that, const std::vector<Task>& tasks, const std::vector<Line>& lines) {
@@ -79,19 +63,22 @@ void Table::write_row(const Case& that, Task task, const std::vector<Line>& line
     std::printf("%-26s %8zu %-28s", that.shape.c_str(), that.size, name_of(task));
     for (const auto& peer : peers) {
         const Line* line = find(lines, peer->name(), task);
-        std::printf(" %12s", line == nullptr ? "-" : cell(net(lines, *line).least).c_str());
+        std::printf(" %12s", cell(line).c_str());
         if (line != nullptr) {
-            write_csv(that, net(lines, *line));
+            write_csv(that, *line);
         }
     }
-    Line ours = net(lines, *find(lines, peers.front()->name(), task));
-    for (const char* peer : {"vector", "linear C", "ICU"}) {
-        std::printf(" %9s", ratio(ours.least, lines, peer, task).c_str());
+    const Line* ours = find(lines, peers.front()->name(), task);
+    for (const char* peer : {"vector", "linear C", "ICU", "CRoaring"}) {
+        std::printf(" %9s", ratio(ours, find(lines, peer, task)).c_str());
     }
-    auto answers = static_cast<double>(that.answers());
-    std::printf("  %.3g, %.3g, %.3g\n", static_cast<double>(ours.allocations.mallocs) / answers,
-                static_cast<double>(ours.allocations.reallocs) / answers,
-                static_cast<double>(ours.allocations.bytes) / answers);
+    if (ours != nullptr) {
+        auto answers = static_cast<double>(that.answers());
+        std::printf("  %.3g, %.3g, %.3g", static_cast<double>(ours->allocations.mallocs) / answers,
+                    static_cast<double>(ours->allocations.reallocs) / answers,
+                    static_cast<double>(ours->allocations.bytes) / answers);
+    }
+    std::printf("\n");
 }
 
 void Table::write_csv(const Case& that, const Line& line) {

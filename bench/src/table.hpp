@@ -11,8 +11,8 @@ public:
     // Writes the CSV to that file.
     Table(const Peers& peers, const std::string& csv);
 
-    // The rows of a case: of each task the time of every contender that has a line, and the library's ratios. A change
-    // has the time and allocations of its copies taken off.
+    // The rows of a case: of each task the time of every contender that has a line, and the library's ratios. Where there are
+    // rows of copies, those of changes have the time and allocations of such copies in them.
     void add(const Case& that, const std::vector<Task>& tasks, const std::vector<Line>& lines);
 
 private:
