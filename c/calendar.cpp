@@ -8,7 +8,10 @@
 
 using minutes = range_sets::range_set<std::uint32_t>;
 
-constexpr std::uint32_t at(std::uint32_t hour, std::uint32_t minute = 0) { return hour * 60 + minute; }
+constexpr std::uint32_t at(std::uint32_t hour, std::uint32_t minute = 0)
+{
+    return hour * 60 + minute;
+}
 
 // A minute of the day as 9:05.
 struct shown {

@@ -233,8 +233,8 @@ void NAME(split)(SET set, NUMBER at, SET *below, SET *from)
 static inline bool NAME(is_apart)(SET set, const NUMBER *out, size_t room, const SET *result)
 {
     size_t size = set.boundaries ? set.len * sizeof *set.boundaries : 0;
-    return is_array(out, room, sizeof *out) && NAME(is_result)(result, out, room)
-           && !overlap(out, room * sizeof *out, set.boundaries, size) && !overlap(result, sizeof *result, set.boundaries, size);
+    return is_array(out, room, sizeof *out) && NAME(is_result)(result, out, room) && !overlap(out, room * sizeof *out, set.boundaries, size)
+           && !overlap(result, sizeof *result, set.boundaries, size);
 }
 
 /* The set that stands in the buffer where that has room for its `len` boundaries, and the length that it needs where not. */
@@ -296,8 +296,7 @@ range_set_status NAME(union_all)(const SET *sets, size_t count, NUMBER *out, siz
     bool is_open = false;
     NUMBER open = 0;
     if (!is_array(sets, count, sizeof *sets) || !is_array(out, room, sizeof *out) || !NAME(is_result)(result, out, room)
-        || overlap(sets, count * sizeof *sets, out, room * sizeof *out)
-        || overlap(sets, count * sizeof *sets, result, sizeof *result))
+        || overlap(sets, count * sizeof *sets, out, room * sizeof *out) || overlap(sets, count * sizeof *sets, result, sizeof *result))
         return RANGE_SET_BAD_ARGUMENT;
     for (i = 0; i < count; i++) {
         if (!NAME(is_apart)(sets[i], out, room, result)) return RANGE_SET_BAD_ARGUMENT;
@@ -338,7 +337,8 @@ range_set_status NAME(print)(SET set, char *text, size_t room, size_t *len)
 }
 
 /* Whether the text, the buffer, and the places for the result and for the fault have no byte in common. */
-static inline bool NAME(are_apart)(const char *text, size_t text_len, const NUMBER *out, size_t room, const SET *result, const size_t *fault)
+static inline bool NAME(are_apart)(
+    const char *text, size_t text_len, const NUMBER *out, size_t room, const SET *result, const size_t *fault)
 {
     size_t size = room * sizeof *out, fault_size = fault != NULL ? sizeof *fault : 0;
     return is_array(text, text_len, 1) && is_array(out, room, sizeof *out) && NAME(is_result)(result, out, room)

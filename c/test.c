@@ -126,7 +126,7 @@ static void status_texts(void)
     for (s = RANGE_SET_DONE; s <= RANGE_SET_OUT_OF_RANGE + 1; s++)
         for (t = RANGE_SET_DONE; t <= RANGE_SET_OUT_OF_RANGE + 1; t++)
             check((strcmp(range_set_status_text((range_set_status)s), range_set_status_text((range_set_status)t)) == 0) == (s == t),
-                  "two statuses have one text");
+                "two statuses have one text");
 }
 
 static void version(void)

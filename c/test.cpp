@@ -150,7 +150,8 @@ template <class T> static void views_of_temporaries()
     static_assert(!std::is_constructible_v<view, set> && !std::is_constructible_v<view, const set>, "a view of a temporary");
     static_assert(std::is_convertible_v<set &, view> && !std::is_convertible_v<set, view>, "a set as an argument");
     static_assert(std::is_assignable_v<view &, set &> && !std::is_assignable_v<view &, set>, "a view that is assigned");
-    static_assert(std::is_constructible_v<std::optional<view>, set &> && !std::is_constructible_v<std::optional<view>, set>, "in an optional");
+    static_assert(
+        std::is_constructible_v<std::optional<view>, set &> && !std::is_constructible_v<std::optional<view>, set>, "in an optional");
     static_assert(std::is_constructible_v<set, view> && !std::is_convertible_v<view, set>, "a copy is asked for");
     // Each call takes a temporary, on either side.
     const set day = {{9, 17}}, busy = {{9, 11}, {12, 15}};
@@ -160,8 +161,9 @@ template <class T> static void views_of_temporaries()
     check(busy.is_disjoint(day - busy) && day.intersects(day - busy) && borrowed.intersects(day - busy), "disjoint from a temporary");
     check(set::combine(day - busy, ~day, RANGE_SET_UNION) == ~busy, "combine of temporaries");
     set changed(day - busy);
-    check((changed |= day & busy) == day && (changed -= ~day) == day && (changed &= busy | busy) == busy && (changed ^= ~~day) == day - busy,
-          "assigned of temporaries");
+    check(
+        (changed |= day & busy) == day && (changed -= ~day) == day && (changed &= busy | busy) == busy && (changed ^= ~~day) == day - busy,
+        "assigned of temporaries");
 }
 
 // A list of sets in their order: by their boundaries, a list before one that goes on. Each is compared with each.
@@ -171,7 +173,7 @@ template <class T> static void order()
     const T least = limits::min(), greatest = limits::max();
     const range_set<T> nothing;
     const std::vector<range_set<T>> ordered = {nothing, ~nothing, {{least, 5}}, {{2, 7}}, {{3, 4}}, {{3, 4}, {5, 6}},
-                                               {{3, 4}, {5, greatest}}, {{3, 4}, {6, 7}}, {{3, 9}}, {{greatest - 1, greatest}}};
+        {{3, 4}, {5, greatest}}, {{3, 4}, {6, 7}}, {{3, 9}}, {{greatest - 1, greatest}}};
     for (std::size_t i = 0; i < ordered.size(); i++)
         for (std::size_t j = 0; j < ordered.size(); j++) {
             const range_set<T> &a = ordered[i], &b = ordered[j];
@@ -207,7 +209,8 @@ template <class T> static void hashes()
     const std::vector<range_set<T>> others = {nothing, ~nothing, {{9, 11}}, {{9, 11}, {12, 16}}, {{10, 11}, {12, 15}}, ~busy};
     for (const auto &other : others) check(std::hash<range_set<T>>()(other) != hash, "the hash of another set");
     std::unordered_set<range_set<T>> set(others.begin(), others.end());
-    check(set.size() == others.size() && !set.insert(range_set<T>{{9, 11}}).second && set.insert(busy).second, "a std::unordered_set of sets");
+    check(set.size() == others.size() && !set.insert(range_set<T>{{9, 11}}).second && set.insert(busy).second,
+        "a std::unordered_set of sets");
     std::unordered_set<range_set_view<T>> views(others.begin(), others.end());
     check(views.size() == others.size() && views.count(busy) == 0 && views.count(others[2]) == 1, "a std::unordered_set of views");
 }
@@ -303,7 +306,9 @@ template <class T> static void made_up()
         check((a | b).contains(x) == (p || q) && (a & b).contains(x) == (p && q), "made up: | and &");
         check((a - b).contains(x) == (p && !q) && (a ^ b).contains(x) == (p != q) && (~a).contains(x) == !p, "made up: -, ^ and ~");
     }
-    const auto boundaries = [](range_set_view<T> set) { return std::vector<T>(set.set().boundaries, set.set().boundaries + set.set().len); };
+    const auto boundaries = [](range_set_view<T> set) {
+        return std::vector<T>(set.set().boundaries, set.set().boundaries + set.set().len);
+    };
     check((a < b) == (boundaries(a) < boundaries(b)) && (a.compare(b) > 0) == (boundaries(a) > boundaries(b)), "made up: the order");
     check(a.covered() == in_a.size() && a.intersects(b) == !(a & b).empty() && a.is_subset(b) == (a - b).empty(), "made up: questions");
 }
@@ -343,7 +348,8 @@ template <class T> static void widest()
     const range_set<T> set = {{limits::min(), limits::max()}};
     check(range_set_view<T>::of(ends, 2) == set && set.first() == range<T>{limits::min(), limits::max(), true}, "the numbers at the ends");
     check((~set).first() == range<T>{limits::max(), 0, false} && (~set).contains(limits::max()) && !set.is_all(), "the greatest number");
-    check(set.text() == std::to_string(limits::min()) + ".." + std::to_string(limits::max()) && range_set<T>::parse(set.text()) == set, "their text");
+    check(set.text() == std::to_string(limits::min()) + ".." + std::to_string(limits::max()) && range_set<T>::parse(set.text()) == set,
+        "their text");
     check(set.covered() == std::uint64_t(limits::max()) - std::uint64_t(limits::min()), "how many numbers there are");
 }
 

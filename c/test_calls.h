@@ -63,8 +63,7 @@ static void TEST(with_room)(const struct TEST(operation) *o, const NUMBER *wante
     check(status == (room < wanted_len ? RANGE_SET_NO_ROOM : RANGE_SET_DONE), "status");
     check(result.len == wanted_len, "length");
     check(result.boundaries == (status == RANGE_SET_DONE ? buffer + GUARD : NULL), "where the set lies");
-    for (i = 0; i < GUARD; i++)
-        check(buffer[i] == guard && buffer[GUARD + room + i] == guard, "a word beside the buffer");
+    for (i = 0; i < GUARD; i++) check(buffer[i] == guard && buffer[GUARD + room + i] == guard, "a word beside the buffer");
     if (status != RANGE_SET_DONE) {
         check(CALL(is_empty)(result), "what is told where there is no room isn't the empty set");
         return;
@@ -96,8 +95,7 @@ static void TEST(changed_with_room)(const struct TEST(operation) *o, const NUMBE
     check(buffer.set.boundaries == memory + GUARD && buffer.items == memory + GUARD && buffer.room == room, "in place: the buffer");
     if (status == RANGE_SET_DONE) check(TEST(is)(buffer.set, wanted, wanted_len), "in place: the list");
     else check(buffer.set.len == o->a.len && memcmp(memory, before, sizeof memory) == 0, "in place: what is refused changes");
-    for (i = 0; i < GUARD; i++)
-        check(memory[i] == guard && memory[GUARD + room + i] == guard, "in place: a word beside the buffer");
+    for (i = 0; i < GUARD; i++) check(memory[i] == guard && memory[GUARD + room + i] == guard, "in place: a word beside the buffer");
 }
 
 static void TEST(in_place)(const struct TEST(operation) *o, const NUMBER *wanted, size_t wanted_len)
@@ -128,7 +126,8 @@ static void TEST(combined_by_owned)(const struct TEST(operation) *o, const NUMBE
     const range_set_allocator allocator = {take, take_more, give_back, &memory};
     OWNED owned;
     CALL(owned_init)(&owned, &allocator);
-    check(CALL(owned_reserve)(&owned, room) == RANGE_SET_DONE && CALL(owned_assign)(&owned, o->a) == RANGE_SET_DONE, "owned_combine: the set before");
+    check(CALL(owned_reserve)(&owned, room) == RANGE_SET_DONE && CALL(owned_assign)(&owned, o->a) == RANGE_SET_DONE,
+        "owned_combine: the set before");
     if (room >= 8 * POINTS) memory.left = 0;
     check(CALL(owned_combine)(&owned, o->b, (unsigned)o->which) == RANGE_SET_DONE, "owned_combine: status");
     check(TEST(has_members)(owned.in.set, points, on, n), "owned_combine: the members");
@@ -165,8 +164,7 @@ static void TEST(combined_with_room)(const struct TEST(operation) *o, const NUMB
     check(buffer.needed == (room < needed ? needed : 77), "combine_with: the room that is needed");
     if (status == RANGE_SET_DONE) check(TEST(is)(buffer.set, wanted, wanted_len), "combine_with: the list");
     else check(memcmp(memory, before, sizeof memory) == 0, "combine_with: what is refused changes");
-    for (i = 0; i < GUARD; i++)
-        check(memory[i] == guard && memory[GUARD + room + i] == guard, "combine_with: a word beside the buffer");
+    for (i = 0; i < GUARD; i++) check(memory[i] == guard && memory[GUARD + room + i] == guard, "combine_with: a word beside the buffer");
 }
 
 static void TEST(combined)(const struct TEST(operation) *o, const NUMBER *wanted, size_t wanted_len)
@@ -273,7 +271,8 @@ static void TEST(next_ones)(SET a, const NUMBER *points, const bool *on, size_t 
         next = 77;
         check(CALL(next_gap)(a, points[p], &next) == (gap < n), "next_gap: whether there is one");
         check(next == (gap < n ? points[gap] : 77), "next_gap");
-        check(CALL(next_member)(a, points[p], NULL) == (member < n) && CALL(next_gap)(a, points[p], NULL) == (gap < n), "next ones without a place");
+        check(CALL(next_member)(a, points[p], NULL) == (member < n) && CALL(next_gap)(a, points[p], NULL) == (gap < n),
+            "next ones without a place");
         check(CALL(range_from)(a, points[p], &it) == (member < n), "range_from: whether there is one");
         check(CALL(range_from)(a, points[p], NULL) == (member < n), "range_from without a place for the range");
         if (member < n) CALL(range_at)(a, points[member], &wanted);
@@ -315,8 +314,7 @@ static void TEST(shuffled)(const NUMBER *points, size_t n)
     for (i = 0; i < n; i++)
         if (is_there[i]) check(wanted < set.len && items[wanted++] == points[i], "from_unsorted: the list");
     check(set.len == wanted, "from_unsorted: length");
-    for (i = 0; i < GUARD; i++)
-        check(buffer[i] == guard && buffer[GUARD + len + i] == guard, "from_unsorted: a word beside the buffer");
+    for (i = 0; i < GUARD; i++) check(buffer[i] == guard && buffer[GUARD + len + i] == guard, "from_unsorted: a word beside the buffer");
 }
 
 /* Ranges in any order, empty and reversed ones too, between guard words. */
@@ -373,12 +371,14 @@ static void TEST(fits_far)(void)
     SET set = TEST(set)(both, 4);
     NUMBER at = 77;
     check(CALL(first_fit)(nothing, LEAST, MOST, all, &at) && at == LEAST, "first_fit of all numbers but one");
-    check(!CALL(first_fit)(nothing, LEAST, MOST - 1, all, &at) && !CALL(first_fit)(nothing, LEAST + 1, MOST, all, &at), "first_fit of one too many");
+    check(!CALL(first_fit)(nothing, LEAST, MOST - 1, all, &at) && !CALL(first_fit)(nothing, LEAST + 1, MOST, all, &at),
+        "first_fit of one too many");
     check(CALL(first_fit)(set, LEAST, MOST, between, &at) && at == LEAST + 2, "first_fit of as many as the gap has");
     check(!CALL(first_fit)(set, LEAST, MOST, (COUNT)(between + 1), NULL), "first_fit of one more than the gap has");
     check(CALL(first_fit)(set, MOST - 5, MOST, 3, &at) && at == MOST - 3, "first_fit at the end");
     check(CALL(first_fit)(set, LEAST, LEAST, 0, &at) && at == LEAST, "first_fit of no number");
-    check(!CALL(first_fit)(set, MOST, LEAST, 0, &at) && !CALL(first_fit)(set, MOST, LEAST, 1, &at) && at == LEAST, "first_fit in a reversed range");
+    check(!CALL(first_fit)(set, MOST, LEAST, 0, &at) && !CALL(first_fit)(set, MOST, LEAST, 1, &at) && at == LEAST,
+        "first_fit in a reversed range");
 }
 
 /* Whether the operation holds of a point that is in the sets and in the range, or not. */
@@ -457,7 +457,7 @@ static void TEST(parsed)(const char *text, size_t numbers, const NUMBER *wanted,
     TEST(parsed_with_room)(text, numbers, wanted, wanted_len, numbers + 3);
     if (numbers > 0) TEST(parsed_with_room)(text, numbers, wanted, wanted_len, numbers - 1);
     check(CALL(parse)(text, strlen(text), NULL, 0, &set, NULL) == (numbers > 0 ? RANGE_SET_NO_ROOM : RANGE_SET_DONE) && set.len == numbers,
-          "parse into null");
+        "parse into null");
 }
 
 /* A text that isn't read, and the byte at which it stops being one of ranges. */
@@ -538,7 +538,8 @@ static void TEST(unions)(const NUMBER *points, size_t n)
     for (i = 0; i < sizeof buffer / sizeof *buffer; i++) buffer[i] = guard;
     check(CALL(union_all)(sets, count, out, all - 1, &result) == RANGE_SET_NO_ROOM, "union_all with too little room: status");
     check(result.boundaries == NULL && result.len == all && out[0] == guard, "union_all with too little room: the length");
-    check(CALL(union_all)(sets, count, lists[0], all, &result) == RANGE_SET_BAD_ARGUMENT || CALL(is_empty)(sets[0]), "union_all over a list");
+    check(
+        CALL(union_all)(sets, count, lists[0], all, &result) == RANGE_SET_BAD_ARGUMENT || CALL(is_empty)(sets[0]), "union_all over a list");
     check(CALL(union_all)(NULL, count, out, all, &result) == RANGE_SET_BAD_ARGUMENT, "union_all of null");
     check(CALL(union_all)(sets, SIZE_MAX, out, all, &result) == RANGE_SET_BAD_ARGUMENT, "union_all of too many");
     check(CALL(union_all)(sets, count, out, all, sets) == RANGE_SET_BAD_ARGUMENT, "union_all into the sets");
@@ -626,9 +627,14 @@ static void TEST(owned)(void)
         other = TEST(set)(list, TEST(boundaries)(points, next, POINTS, list));
         for (p = 0; p < POINTS; p++) {
             bool in_range = from <= p && p < to;
-            next[p] = which == 0 ? on[p] || in_range : which == 1 ? on[p] && !in_range : which == 2 ? next[p] : which == 3 ? on[p]
-                      : TEST(holds)(which == 4 ? RANGE_SET_UNION : which == 5 ? RANGE_SET_DIFFERENCE : RANGE_SET_SYMMETRIC_DIFFERENCE,
-                                    on[p], next[p], false);
+            next[p] = which == 0   ? on[p] || in_range
+                      : which == 1 ? on[p] && !in_range
+                      : which == 2 ? next[p]
+                      : which == 3 ? on[p]
+                                   : TEST(holds)(which == 4   ? RANGE_SET_UNION
+                                                 : which == 5 ? RANGE_SET_DIFFERENCE
+                                                              : RANGE_SET_SYMMETRIC_DIFFERENCE,
+                                       on[p], next[p], false);
         }
         switch (which) {
         case 0: status = CALL(owned_insert)(&owned, points[from], points[to]); break;
@@ -691,14 +697,17 @@ static void TEST(owned_with_its_part)(void)
         CALL(owned_init)(&owned, NULL);
         check(CALL(owned_reserve)(&owned, room) == RANGE_SET_DONE && CALL(owned_assign)(&owned, set) == RANGE_SET_DONE, "owned: a copy");
         CALL(split)(owned.in.set, 35, NULL, &part);
-        check(CALL(owned_combine)(&owned, part, RANGE_SET_DIFFERENCE) == RANGE_SET_DONE && TEST(is)(owned.in.set, items, 2), "owned: without a part");
-        check(CALL(owned_combine)(&owned, owned.in.set, RANGE_SET_UNION) == RANGE_SET_DONE && TEST(is)(owned.in.set, items, 2), "owned: with itself");
+        check(CALL(owned_combine)(&owned, part, RANGE_SET_DIFFERENCE) == RANGE_SET_DONE && TEST(is)(owned.in.set, items, 2),
+            "owned: without a part");
+        check(CALL(owned_combine)(&owned, owned.in.set, RANGE_SET_UNION) == RANGE_SET_DONE && TEST(is)(owned.in.set, items, 2),
+            "owned: with itself");
         within.boundaries = owned.in.items + 2, within.len = 1;
         check(CALL(owned_combine)(&owned, within, RANGE_SET_UNION) == RANGE_SET_BAD_ARGUMENT, "owned: with what stands after it");
         within.boundaries = (const NUMBER *)(const void *)&owned;
         check(CALL(owned_combine)(&owned, within, RANGE_SET_UNION) == RANGE_SET_BAD_ARGUMENT, "owned: with what lies in its struct");
         check(TEST(is)(owned.in.set, items, 2), "owned: what is refused changes the set");
-        check(CALL(owned_combine)(&owned, owned.in.set, RANGE_SET_NEITHER) == RANGE_SET_DONE && TEST(is)(owned.in.set, neither, 3), "owned: neither in itself");
+        check(CALL(owned_combine)(&owned, owned.in.set, RANGE_SET_NEITHER) == RANGE_SET_DONE && TEST(is)(owned.in.set, neither, 3),
+            "owned: neither in itself");
         CALL(owned_free)(&owned);
     }
     CALL(owned_free)(NULL);
@@ -710,7 +719,8 @@ static void TEST(rows)(void)
     static const NUMBER a[] = {0, 10}, b[] = {5, 20}, open[] = {20}, least[] = {LEAST};
     static const NUMBER unions[] = {0, 20}, both[] = {5, 10}, left[] = {0, 5}, one_of[] = {0, 5, 10, 20}, with_open[] = {0, 10, 20};
     static const NUMBER not_open[] = {LEAST, 20}, put_in[] = {0, 10, 12, 14}, cut[] = {0, 3, 7, 10};
-    static const NUMBER both_ways[] = {LEAST, MOST}, gap[] = {10, 20}, around[] = {3, 5, 20, 25}, below[] = {LEAST, 0, 20}, *neither = LEAST == 0 ? below + 2 : below;
+    static const NUMBER both_ways[] = {LEAST, MOST}, gap[] = {10, 20}, around[] = {3, 5, 20, 25}, below[] = {LEAST, 0, 20},
+                        *neither = LEAST == 0 ? below + 2 : below;
     NUMBER mixed[] = {7, 5, 7, MOST, LEAST, 5}, ranges[] = {20, 30, 9, 9, 0, 10, 8, 4, 10, 12, 25, MOST};
     const NUMBER mixed_set[] = {LEAST, 5, 7, MOST}, ranges_set[] = {0, 12, 20, MOST};
     const SET nothing = {NULL, 0}, null_and_long = {NULL, 5};
@@ -756,7 +766,8 @@ static void TEST(rows)(void)
     check(!CALL(range_at)(in_a, 10, &it) && it.start == 20, "range_at of no member");
     check(CALL(ranges_len)(in_a) == 1 && CALL(ranges_len)(in_open) == 1 && CALL(ranges_len)(nothing) == 0, "ranges_len");
     check(CALL(covered)(in_a, &count) && count == 10, "covered");
-    check(CALL(covered)(TEST(set)(both_ways, 2), &count) && count == (uint64_t)MOST - (uint64_t)LEAST, "covered of all but the greatest number");
+    check(CALL(covered)(TEST(set)(both_ways, 2), &count) && count == (uint64_t)MOST - (uint64_t)LEAST,
+        "covered of all but the greatest number");
     check(CALL(covered)(null_and_long, &count) && count == 0, "covered of the empty set");
     check(!CALL(covered)(in_open, &count) && count == 0, "covered without an end");
     CALL(split)(null_and_long, 5, &set, &part);
@@ -818,8 +829,9 @@ static void TEST(bad_places)(void)
     }
     check(CALL(union)(o.a, o.b, left + 6, 3, &result) == RANGE_SET_BAD_ARGUMENT, "the buffer begins before the right list");
     check(result.boundaries == NULL && result.len == 77, "what is refused writes the result");
-    check(memcmp(out, as_was, sizeof out) == 0 && memcmp(left, as_was, 2 * sizeof *left) == 0 && memcmp(right, as_was, 2 * sizeof *right) == 0,
-          "what is refused is written");
+    check(memcmp(out, as_was, sizeof out) == 0 && memcmp(left, as_was, 2 * sizeof *left) == 0
+              && memcmp(right, as_was, 2 * sizeof *right) == 0,
+        "what is refused is written");
     check(CALL(union)(o.a, o.b, left + 2, 2, &result) == RANGE_SET_DONE && TEST(is)(result, as_was, 2), "the buffer beside a list");
     check(CALL(union)(o.a, o.b, left + 2, 2, &o.a) == RANGE_SET_DONE && TEST(is)(o.a, as_was, 2), "the result in the place of a set");
 }
@@ -830,8 +842,14 @@ static void TEST(bad_buffers)(void)
     NUMBER items[16] = {1, 2, 9, 9}, *last = items + 14;
     const BUFFER good = CALL(buffer_of)(items, 4);
     BUFFER it = good, *inside = (BUFFER *)(void *)items;
-    union { BUFFER buffer; NUMBER items[16]; } itself;
-    struct { BUFFER buffer; NUMBER items[4]; } beside;
+    union {
+        BUFFER buffer;
+        NUMBER items[16];
+    } itself;
+    struct {
+        BUFFER buffer;
+        NUMBER items[4];
+    } beside;
     SET within = {(const NUMBER *)(const void *)&it, 1};
     int which;
 
@@ -841,7 +859,7 @@ static void TEST(bad_buffers)(void)
     check(CALL(buffer_view)(items, 2, SIZE_MAX, &it) == RANGE_SET_BAD_ARGUMENT, "buffer_view of too much room");
     check(CALL(buffer_view)(items, 2, 4, NULL) == RANGE_SET_BAD_ARGUMENT, "buffer_view into null");
     check(CALL(buffer_view)(beside.items, 0, PTRDIFF_MAX / sizeof *items + 1, &beside.buffer) == RANGE_SET_BAD_ARGUMENT,
-          "buffer_view of a room that no array has");
+        "buffer_view of a room that no array has");
     check(CALL(buffer_view)(items, 2, 16, inside) == RANGE_SET_BAD_ARGUMENT, "buffer_view into the items");
     check(memcmp(&it, &good, sizeof it) == 0, "what is refused writes a buffer");
     check(CALL(buffer_view)(items, 2, 3, &it) == RANGE_SET_DONE && TEST(is)(it.set, items, 2) && it.room == 3, "buffer_view");
@@ -895,7 +913,8 @@ static void TEST(texts)(void)
 {
     static const NUMBER items[] = {0, 10, 20}, ends[] = {LEAST, 7, MOST - 1, MOST}, all[] = {LEAST};
     NUMBER list[] = {1, 2, 3, 4, 5, 6, 7, 8};
-    const SET nothing = {NULL, 0}, null_and_long = {NULL, SIZE_MAX}, set = {items, 3}, too_long = {items, SIZE_MAX / 16}, of_list = {list, 8};
+    const SET nothing = {NULL, 0}, null_and_long = {NULL, SIZE_MAX}, set = {items, 3}, too_long = {items, SIZE_MAX / 16},
+              of_list = {list, 8};
     SET none = {NULL, 77};
     size_t len = 77;
     char text[32] = "as it was";
@@ -990,9 +1009,11 @@ static void TEST(parsed_in_any_order)(void)
             end += sprintf(end, "%s%zu..%zu", i > 0 ? "," : "", 3 * k, 3 * k + 2);
         }
         taken[order] = clock();
-        check(CALL(parse)(text, (size_t)(end - text), items, 2 * MANY, &set, NULL) == RANGE_SET_DONE && set.len == 2 * MANY, "parse of many ranges");
+        check(CALL(parse)(text, (size_t)(end - text), items, 2 * MANY, &set, NULL) == RANGE_SET_DONE && set.len == 2 * MANY,
+            "parse of many ranges");
         taken[order] = clock() - taken[order];
-        for (i = 0; i < MANY; i++) check(items[2 * i] == (NUMBER)(3 * i) && items[2 * i + 1] == (NUMBER)(3 * i + 2), "parse of many ranges: the list");
+        for (i = 0; i < MANY; i++)
+            check(items[2 * i] == (NUMBER)(3 * i) && items[2 * i + 1] == (NUMBER)(3 * i + 2), "parse of many ranges: the list");
         check(taken[order] <= 6 * taken[ASCENDING] + CLOCKS_PER_SEC / 50, "parse of many ranges in another order takes longer");
     }
     free(text);

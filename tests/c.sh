@@ -1,8 +1,9 @@
 #!/usr/bin/env bash
-# Compiles the layer in C, links it with the proved object of dist/, and runs the tests, the example and the lines of the pages in C
-# over it, under valgrind too; the tests of the header for C++17; and the header as C99 and as C++11 without a warning. Over the
-# archive in dist/ as it is it runs the tests, and the example against what 'make install' leaves, found by pkg-config and by CMake.
-# Then the same tests, example and installation over the library that cargo builds of the Rust crate, without a network.
+# Looks how the sources look. Compiles the layer in C, links it with the proved object of dist/, and runs the tests, the example
+# and the lines of the pages in C over it, under valgrind too; the tests of the header for C++17; and the header as C99 and as C++11
+# without a warning. Over the archive in dist/ as it is it runs the tests, and the example against what 'make install' leaves, found
+# by pkg-config and by CMake. Then the same tests, example and installation over the library that cargo builds of the Rust crate,
+# without a network.
 #
 #   tests/c.sh           these
 #   tests/c.sh --rust    those over the library that cargo builds alone
@@ -26,6 +27,11 @@ version=$(awk '$2 == "RANGE_SET_VERSION" { gsub("\"", ""); print $3 }' c/include
 is_whole() {
     (cd dist && sha256sum --quiet -c SHA256SUMS) && cmp c/include/range_set.h dist/range_set.h &&
         cmp c/include/range_set.hpp dist/range_set.hpp
+}
+
+# What clang-format 14 says of the C and C++ of c/ and bench/, each by the .clang-format of its folder.
+looks_right() {
+    clang-format --dry-run --Werror c/*.c c/*.h c/*.cpp bench/src/* bench/peers/*.c bench/peers/*.h bench/peers/*.cpp bench/peers/*.hpp
 }
 
 # No name stands in the library for others but those of the header.
@@ -315,6 +321,12 @@ if [ "${1:-}" = --rust ]; then
     ended
 fi
 step_by python3 python3 "what stands once for each type is what tools/c-types writes" tools/c-types --check
+if ! command -v clang-format >/dev/null || clang-format --version | grep -q 'version 14\.'; then
+    step_by clang-format clang-format "the looks" looks_right
+else
+    skipped=$((skipped + 1))
+    echo "$name: SKIPPED: the looks: clang-format 14 is wanted, and not $(clang-format --version)"
+fi
 step "dist/ is what its checksums say" is_whole
 step_by nm binutils "the names in the library" has_only_its_names
 step "the tests over it" tests_dist
