@@ -1,7 +1,7 @@
 //! Element types with a least value.
 
 #[cfg(feature = "std")]
-use crate::generated::range_collections::Countable;
+use crate::generated::range_collections::{Countable, FromPlace};
 use crate::generated::range_entry;
 use crate::memory::AllocError;
 use crate::support::Global;
@@ -196,6 +196,22 @@ impl Countable for Ipv6Addr {
     #[inline]
     fn place(&self) -> u128 {
         u128::from(*self)
+    }
+}
+
+#[cfg(feature = "std")]
+impl FromPlace for Ipv4Addr {
+    #[inline]
+    fn from_place(place: u128) -> Option<Self> {
+        u32::from_place(place).map(Self::from)
+    }
+}
+
+#[cfg(feature = "std")]
+impl FromPlace for Ipv6Addr {
+    #[inline]
+    fn from_place(place: u128) -> Option<Self> {
+        Some(Self::from(place))
     }
 }
 

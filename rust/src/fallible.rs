@@ -48,7 +48,7 @@ use crate::array::{Array, List};
 use crate::entry::RangeSetEntry;
 use crate::generated::range_collections::EntryCopier;
 use crate::range::RangeSetRange;
-use crate::range_set::{self, Joining};
+use crate::range_set::{self, intersection_of_sets, Joining};
 use crate::view::RangeSetRef;
 use smallvec::SmallVec;
 
@@ -244,6 +244,30 @@ impl<T, A: Array<Item = T>> RangeSet<A> {
         S: AsRef<RangeSetRef<T>>,
     {
         Joining::of_sets(sets, &EntryCopier).map(RangeSet)
+    }
+
+    /// Returns the set of the members of each of the sets, or of every value if there is no set.
+    ///
+    /// # Errors
+    ///
+    /// If memory or a copy is refused.
+    ///
+    /// # Examples
+    ///
+    /// ```
+    /// use range_sets::fallible::{AllocError, RangeSet2};
+    ///
+    /// let mine = RangeSet2::try_from(9..11)?;
+    /// let yours = RangeSet2::try_from(10..12)?;
+    /// assert_eq!(RangeSet2::intersection_all([&mine, &yours])?.boundaries(), [10, 11]);
+    /// # Ok::<(), AllocError>(())
+    /// ```
+    pub fn intersection_all<S>(sets: impl IntoIterator<Item = S>) -> Result<Self, AllocError>
+    where
+        T: RangeSetEntry + EntryClone,
+        S: AsRef<RangeSetRef<T>>,
+    {
+        intersection_of_sets(sets, &EntryCopier).map(RangeSet)
     }
 
     /// Returns a copy of any set or view.

@@ -73,6 +73,15 @@ pub use generated::range_collections::Countable;
 /// # Examples
 ///
 /// ```
+/// use range_sets::FromPlace;
+///
+/// assert_eq!(char::from_place(97), Some('a'));
+/// assert_eq!(i8::from_place(256), None);
+/// ```
+pub use generated::range_collections::FromPlace;
+/// # Examples
+///
+/// ```
 /// use range_sets::{RangeSetRef, Unsigned};
 ///
 /// fn has_room<T: Unsigned>(used: &RangeSetRef<T>, start: T, end: T, len: T) -> bool {

@@ -13,7 +13,7 @@ pub use crate::entry::RangeSetEntry;
 pub use crate::iter::{Gaps, IntoIter, Iter, RangesWithin};
 pub use crate::range::RangeSetRange;
 pub use crate::view::RangeSetRef;
-pub(crate) use joining::Joining;
+pub(crate) use joining::{intersection_of_sets, Joining};
 
 use crate::array::List;
 use crate::generated::range_merge::{Copier, MergeOperation};
@@ -212,6 +212,29 @@ impl<T, A: Array<Item = T>> RangeSet<A> {
         S: AsRef<RangeSetRef<T>>,
     {
         expect_memory::<T, _, _>(Joining::of_sets(sets, &ByClone))
+    }
+
+    /// Returns the set of the members of each of the sets, or of every value if there is no set.
+    ///
+    /// It clones the first set, and cuts it to one after the other.
+    ///
+    /// # Examples
+    ///
+    /// ```
+    /// use range_sets::{RangeSet2, RangeSetRef};
+    ///
+    /// let mine: RangeSet2<u32> = (9..17).into();
+    /// let yours = RangeSetRef::new(&[10, 12, 15, 18]).unwrap();
+    /// let free: RangeSet2<u32> = RangeSet2::intersection_all([&mine, yours]);
+    /// assert_eq!(free.to_string(), "10..12, 15..17");
+    /// ```
+    #[must_use]
+    pub fn intersection_all<S>(sets: impl IntoIterator<Item = S>) -> Self
+    where
+        T: RangeSetEntry + Clone,
+        S: AsRef<RangeSetRef<T>>,
+    {
+        expect_memory::<T, _, _>(intersection_of_sets(sets, &ByClone))
     }
 
     /// Returns an iterator over the ranges, from the lowest on.

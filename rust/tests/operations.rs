@@ -265,3 +265,21 @@ fn made_up_list(random: &mut common::Random, len: usize) -> Vec<i64> {
         })
         .collect()
 }
+
+#[test]
+fn the_intersection_of_many_sets() {
+    assert!(RangeSet2::<u8>::intersection_all::<RangeSet2<u8>>([]).is_all());
+    let none: [fallible::RangeSet2<u8>; 0] = [];
+    assert!(fallible::RangeSet2::intersection_all(none)
+        .unwrap()
+        .is_all());
+    for (a, b) in pairs().step_by(7) {
+        let sets: [RangeSet2<u8>; 3] = [set(a), set(b), set(a.rotate_left(3))];
+        let common: RangeSet2<u8> = RangeSet2::intersection_all(&sets);
+        assert_eq!(bitmap(&common), a & b & a.rotate_left(3));
+        let tried = fallible::RangeSet2::intersection_all(&sets).unwrap();
+        assert_eq!(tried.boundaries(), common.boundaries());
+        let one: RangeSet2<u8> = RangeSet2::intersection_all(&sets[..1]);
+        assert_eq!(one, sets[0]);
+    }
+}

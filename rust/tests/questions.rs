@@ -4,6 +4,7 @@ mod common;
 
 use common::{bitmap, boundaries, pairs, set, Bitmap, Random};
 use range_sets::{RangeSet2, RangeSetRange, RangeSetRef};
+use std::net::{Ipv4Addr, Ipv6Addr};
 
 fn bits_of_range(start: u8, end: u8) -> Bitmap {
     (start..end).fold(0, |bits, i| bits | 1 << i)
@@ -111,6 +112,51 @@ fn the_next_member_and_the_next_gap() {
             let next = |bits: u64| (from..64).find(|&at| bits >> at & 1 == 1);
             assert_eq!(set.next_member(&from).copied(), next(a), "{set:?} {from}");
             assert_eq!(set.next_gap(&from).copied(), next(!a), "{set:?} {from}");
+        }
+    }
+}
+
+#[test]
+fn the_previous_member_and_the_previous_gap() {
+    for (a, _) in pairs().step_by(5) {
+        let set: RangeSet2<u8> = set(a);
+        for from in 0..64 {
+            let previous = |bits: u64| (0..=from).rev().find(|&at| bits >> at & 1 == 1);
+            assert_eq!(set.prev_member(&from), previous(a), "{set:?} {from}");
+            assert_eq!(set.prev_gap(&from), previous(!a), "{set:?} {from}");
+        }
+    }
+}
+
+#[test]
+fn the_previous_address() {
+    let block: RangeSet2<Ipv4Addr> = (Ipv4Addr::LOCALHOST..Ipv4Addr::BROADCAST).into();
+    let last = Ipv4Addr::new(255, 255, 255, 254);
+    assert_eq!(block.prev_member(&Ipv4Addr::BROADCAST), Some(last));
+    let set: RangeSet2<Ipv6Addr> = (Ipv6Addr::LOCALHOST..).into();
+    assert_eq!(
+        set.prev_gap(&Ipv6Addr::LOCALHOST),
+        Some(Ipv6Addr::UNSPECIFIED)
+    );
+    assert_eq!(set.prev_member(&Ipv6Addr::UNSPECIFIED), None);
+}
+
+#[test]
+fn ranks_and_members_by_rank() {
+    for (a, _) in pairs().step_by(5) {
+        let set: RangeSet2<u8> = set(a);
+        // What is a member at 63 is one at all values above it.
+        let members: Vec<u8> = (0..=255).filter(|&i| a >> i.min(63) & 1 == 1).collect();
+        for at in 0..=255 {
+            let below = members.iter().filter(|&&member| member < at).count();
+            assert_eq!(set.rank(&at), below as u128, "{set:?} {at}");
+        }
+        for k in 0..=members.len() {
+            assert_eq!(
+                set.select(k as u128),
+                members.get(k).copied(),
+                "{set:?} {k}"
+            );
         }
     }
 }

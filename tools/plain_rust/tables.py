@@ -43,13 +43,14 @@ RENAMED = {
 SAME = set(
     """
     abs_diff all allocator as_array as_bytes as_mut_slice as_ref as_slice bitand bitor bitxor capacity char_indices
-    checked_add chunks chunks_exact clear cmp contains copied copy_from_slice copy_within dedup drain enumerate eq expect
-    extend_from_slice filter_map first fmt format from get insert into_iter into_vec is_ascii_digit is_empty is_eq is_err
-    is_ge is_gt is_le is_lt is_ne is_none is_ok is_some is_whitespace iter iter_mut last leading_zeros len map max min
-    next next_back not ok parse pop position push_reserved remove reserve rev reverse rotate_left rotate_right
-    saturating_add saturating_mul saturating_sub shrink_to_fit size_hint sort_unstable sort_unstable_by_key split
-    split_at split_at_mut split_first split_last split_off split_once strip_prefix sub swap swap_with_slice take then_some
-    trailing_zeros trim truncate unwrap_or valid_up_to windows with_capacity wrapping_sub write_str zip
+    checked_add checked_sub chunks chunks_exact clear cmp contains copied copy_from_slice copy_within dedup drain
+    enumerate eq expect extend_from_slice filter_map first fmt format from get insert into_iter into_vec is_ascii_digit
+    is_empty is_eq is_err is_ge is_gt is_le is_lt is_ne is_none is_ok is_some is_whitespace iter iter_mut last
+    leading_zeros len map max min next next_back not ok parse pop position push_reserved remove reserve rev reverse
+    rotate_left rotate_right saturating_add saturating_mul saturating_sub shrink_to_fit size_hint sort_unstable
+    sort_unstable_by_key split split_at split_at_mut split_first split_last split_off split_once strip_prefix sub swap
+    swap_with_slice take then_some trailing_zeros trim truncate unwrap_or valid_up_to windows with_capacity wrapping_sub
+    write_str zip
     """.split()
 )
 # Macros, attributes and derives that are the same in Rust.

@@ -28,6 +28,7 @@ pub mod Parts
 pub mod PartsLaws
 pub mod FirstParts
 pub mod Unions
+pub mod Intersections
 pub mod Reading
 pub mod ReadRange
 pub mod ReadRanges
@@ -37,5 +38,7 @@ pub mod ReadBack
 pub mod Decimals
 pub mod ManyRanges
 pub mod Next
+pub mod Previous
+pub mod Ranked
 pub mod RangeMembers
 pub mod Texts

@@ -16,7 +16,7 @@ use Rattle.range_collections.proofs.CountUpTo.{count_up_to-split}
 use Rattle.range_collections.proofs.Insertion.{other_truth}
 use Rattle.range_collections.proofs.Shortest.{Less-from_le, le-trans, le-from_greater, count_up_to-item}
 
-not-from_other : (p q : Bool) → (p ≡ q → ⊥) → p ≡ not q
+pub not-from_other : (p q : Bool) → (p ≡ q → ⊥) → p ≡ not q
 not-from_other true true h = absurd (h refl)
 not-from_other true false h = refl
 not-from_other false true h = refl

@@ -21,6 +21,7 @@ pub mod Values
 pub mod Countable
 pub mod Covered
 pub mod Fits
+pub mod Members
 pub mod Headline
 pub mod Operators
 pub mod InPlace
@@ -28,6 +29,7 @@ pub mod Insertion
 pub mod Splicing
 pub mod Buffers
 pub mod Unions
+pub mod Intersections
 pub mod Reading
 pub mod ParseErrors
 pub mod Scanning

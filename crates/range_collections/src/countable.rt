@@ -6,8 +6,10 @@ ghost use Rattle.std.specs.Prelude.{◌≡◌, ◌<◌, ◌≤◌, ◌^◌, ℕ}
 ghost use Rattle.std.specs.Ordering.{nat_cmp};
 
 mod chars;
+mod from_place;
 mod numbers;
 
+pub use from_place::FromPlace;
 use range_entry::RangeSetEntry;
 
 /// An ordered type whose values stand in a row, at most 2 to the power 128 of them.

@@ -16,7 +16,7 @@ mod view;
 mod whole_number;
 
 pub use comparisons::{Comparisons, EntryCopier};
-pub use countable::{Countable, Unsigned};
+pub use countable::{Countable, FromPlace, Unsigned};
 pub use iter::{Gaps, Iter, RangesWithin};
 pub use json::JsonError;
 pub use parse::{Expected, ParseError, check_ranges};

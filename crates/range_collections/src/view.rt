@@ -7,6 +7,7 @@ ghost use Rattle.range_merge.specs.Boundaries.{IsAscending, member};
 
 mod counting;
 mod equality;
+mod members;
 mod operations;
 mod parts;
 mod predicates;

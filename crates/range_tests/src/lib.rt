@@ -22,11 +22,15 @@ mod gaps;
 #[cfg(test)]
 mod insertion;
 #[cfg(test)]
+mod intersections;
+#[cfg(test)]
 mod json;
 #[cfg(test)]
 mod made_up_pairs;
 #[cfg(test)]
 mod made_up_sets;
+#[cfg(test)]
+mod members;
 #[cfg(test)]
 mod merging;
 #[cfg(test)]

@@ -1,7 +1,8 @@
 //! Many sets joined into one.
 
 use crate::array::{Array, List};
-use crate::generated::range_merge::{Copier, UnionOp};
+use crate::entry::RangeSetEntry;
+use crate::generated::range_merge::{Copier, IntersectionOp, UnionOp};
 use crate::memory::AllocError;
 use crate::range::RangeSetRange;
 use crate::range_set::RangeSet;
@@ -90,6 +91,30 @@ impl<T: Ord, A: Array<Item = T>> Joining<A> {
         }
         Ok(self.waiting.pop().unwrap_or_default())
     }
+}
+
+/// The intersection of copies of sets, the set of every value if there is none.
+pub(crate) fn intersection_of_sets<T, A, S, P>(
+    sets: impl IntoIterator<Item = S>,
+    copier: &P,
+) -> Result<RangeSet<A>, AllocError>
+where
+    T: RangeSetEntry,
+    A: Array<Item = T>,
+    S: AsRef<RangeSetRef<T>>,
+    P: Copier<T>,
+{
+    let mut sets = sets.into_iter();
+    let mut common: RangeSet<A> = match sets.next() {
+        Some(first) => RangeSet::copied(first.as_ref(), copier)?,
+        None => RangeSet::of_list(A::List::of_range((T::min_value()..).into())?),
+    };
+    for that in sets {
+        common
+            .list_mut()
+            .merge_ref(that.as_ref().boundaries(), copier, &IntersectionOp)?;
+    }
+    Ok(common)
 }
 
 /// Whether the first set has an end, and nothing of the second lies before it.

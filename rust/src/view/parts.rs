@@ -1,7 +1,7 @@
 //! The ranges of a set, and what of it lies before, within or after something.
 
 use crate::any_range::Within;
-use crate::generated::range_collections::Comparisons;
+use crate::generated::range_collections::{Comparisons, FromPlace};
 use crate::generated::range_merge::{count_up_to, search};
 use crate::iter::Iter;
 use crate::range::RangeSetRange;
@@ -116,6 +116,50 @@ impl<T: Ord> RangeSetRef<T> {
     /// ```
     pub fn next_gap<'a>(&'a self, from: &'a T) -> Option<&'a T> {
         self.proved().next_gap(from)
+    }
+
+    /// Returns the greatest member at or below `from`, or `None` if there is none.
+    ///
+    /// It is `from` itself if that is a member, else the value just below the end of the range before. It makes
+    /// *O*(log *n*) comparisons.
+    ///
+    /// # Examples
+    ///
+    /// ```
+    /// use range_sets::RangeSetRef;
+    ///
+    /// let set = RangeSetRef::new(&[0, 10, 20, 30]).unwrap();
+    /// assert_eq!(set.prev_member(&7), Some(7));
+    /// assert_eq!(set.prev_member(&15), Some(9));
+    /// assert_eq!(set.prev_member(&-1), None);
+    /// ```
+    pub fn prev_member(&self, from: &T) -> Option<T>
+    where
+        T: FromPlace,
+    {
+        self.proved().prev_member(from)
+    }
+
+    /// Returns the greatest value at or below `from` that is no member, or `None` if there is none.
+    ///
+    /// It is `from` itself if that is no member, else the value just below the start of the range that has it. It makes
+    /// *O*(log *n*) comparisons.
+    ///
+    /// # Examples
+    ///
+    /// ```
+    /// use range_sets::RangeSetRef;
+    ///
+    /// let set = RangeSetRef::new(&[0u8, 10, 20, 30]).unwrap();
+    /// assert_eq!(set.prev_gap(&25), Some(19));
+    /// assert_eq!(set.prev_gap(&30), Some(30));
+    /// assert_eq!(set.prev_gap(&9), None);
+    /// ```
+    pub fn prev_gap(&self, from: &T) -> Option<T>
+    where
+        T: FromPlace,
+    {
+        self.proved().prev_gap(from)
     }
 
     /// Returns the lowest range, or `None` if the set is empty.

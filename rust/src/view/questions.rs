@@ -2,7 +2,7 @@
 
 use crate::any_range::AnyRange;
 use crate::entry::RangeSetEntry;
-use crate::generated::range_collections::{Comparisons, Countable, Unsigned};
+use crate::generated::range_collections::{Comparisons, Countable, FromPlace, Unsigned};
 use crate::generated::range_merge::NoRoom;
 use crate::operation::Connective;
 use crate::range::RangeSetRange;
@@ -200,6 +200,48 @@ impl<T: Ord> RangeSetRef<T> {
         T: Countable,
     {
         self.proved().covered()
+    }
+
+    /// Returns how many members are below `value`. The set may have no end.
+    ///
+    /// It takes time for each boundary below `value`.
+    ///
+    /// # Examples
+    ///
+    /// ```
+    /// use range_sets::RangeSetRef;
+    ///
+    /// let set = RangeSetRef::new(&[3, 5, 9]).unwrap();
+    /// assert_eq!(set.rank(&4), 1);
+    /// assert_eq!(set.rank(&7), 2);
+    /// assert_eq!(set.rank(&12), 5);
+    /// ```
+    pub fn rank(&self, value: &T) -> u128
+    where
+        T: Countable,
+    {
+        self.proved().rank(value)
+    }
+
+    /// Returns the member with `k` members below it, or `None` if there are no more than `k`.
+    ///
+    /// It takes time for each boundary up to the answer.
+    ///
+    /// # Examples
+    ///
+    /// ```
+    /// use range_sets::RangeSetRef;
+    ///
+    /// let set = RangeSetRef::new(&[3u8, 5, 254]).unwrap();
+    /// assert_eq!(set.select(1), Some(4));
+    /// assert_eq!(set.select(3), Some(255));
+    /// assert_eq!(set.select(4), None);
+    /// ```
+    pub fn select(&self, k: u128) -> Option<T>
+    where
+        T: FromPlace,
+    {
+        self.proved().select(k)
     }
 
     /// Returns the least number of the range from which on `len` numbers of it are free, that is, not members.

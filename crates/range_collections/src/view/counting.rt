@@ -63,7 +63,7 @@ impl<'a, T: Unsigned> RangeSetRef<'a, T> {
 }
 
 // How many values are members, of a list of boundaries in pairs.
-fn count_members<T: Countable>(items: &[T]) -> u128
+pub(super) fn count_members<T: Countable>(items: &[T]) -> u128
     requires sorted { IsAscending T.cmp items.now }
     requires pairs { odd (length items.now) ≡ false }
     ensures fits { result < T.count }
@@ -79,7 +79,7 @@ fn count_members<T: Countable>(items: &[T]) -> u128
 }
 
 // How many values lie from one on, up to another, which is out.
-fn between<T: Countable>(start: &T, end: &T) -> u128
+pub(super) fn between<T: Countable>(start: &T, end: &T) -> u128
     requires { T.cmp start.now end.now ≡ Less }
     ensures value { result ≡ T.place end.now - T.place start.now }
     ensures ordered { T.place start.now < T.place end.now }

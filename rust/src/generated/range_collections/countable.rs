@@ -5,7 +5,10 @@
 //! order of the values.
 
 pub(crate) mod chars;
+pub(crate) mod from_place;
 pub(crate) mod numbers;
+
+pub use from_place::FromPlace;
 
 use crate::generated::range_entry::RangeSetEntry;
 

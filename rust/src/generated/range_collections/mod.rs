@@ -22,7 +22,7 @@ pub use crate::generated::range_merge::{
 };
 pub use crate::support::{InPlaceMergeState, InPlaceMergeStateRef};
 pub use comparisons::{Comparisons, EntryCopier};
-pub use countable::{Countable, Unsigned};
+pub use countable::{Countable, FromPlace, Unsigned};
 pub use iter::{Gaps, Iter, RangesWithin};
 pub use parse::{check_ranges, Expected, ParseError};
 pub use range_set::{RangeSet, RangeSet2};

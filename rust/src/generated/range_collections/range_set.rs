@@ -10,6 +10,8 @@ pub(crate) mod in_place;
 pub(crate) mod insertion;
 pub(crate) mod joining;
 pub(crate) mod many_ranges;
+pub(crate) mod meeting;
+pub(crate) mod members;
 pub(crate) mod operations;
 pub(crate) mod operators;
 pub(crate) mod splicing;
@@ -49,11 +51,11 @@ use crate::support::{AllocError, Global, SmallVec, Vec};
 ///
 /// | Calls | Comparisons, at most | Memory |
 /// |---|---|---|
-/// | `contains`, `range_at`, `split`, `next_member`, `next_gap` | `d(n)` | |
+/// | `contains`, `range_at`, `split`, `next_member`, `next_gap`, `prev_member`, `prev_gap`, `rank` | `d(n)` | |
 /// | `contains_range`, `gaps`, `ranges_within` | `2 d(n) + 1` | |
 /// | `intersects_range` | `d(n) + 2` | |
 /// | `first_fit` | `2 d(n) + 1`, then two numbers a boundary | |
-/// | `iter`, `first`, `last`, `span`, `ranges_len`, `covered`, `is_empty`, `as_ref`, `boundaries` | none | |
+/// | `iter`, `first`, `last`, `span`, `ranges_len`, `covered`, `select`, `is_empty`, `as_ref`, `boundaries` | none | |
 /// | `is_all` | one `is_min_value` | |
 /// | `==`, `eq_ref`, `new` | one a boundary | |
 /// | `intersects`, `is_disjoint`, `is_subset`, `is_superset`, `merge_test`, `merge_len` | `2 w` | |
@@ -64,7 +66,7 @@ use crate::support::{AllocError, Global, SmallVec, Vec};
 /// | `merge_into` a slice | `2 w` | |
 /// | `!` | one `is_min_value` | one boundary; of a reference the result |
 /// | `from_range` | 1 | beyond `N` |
-/// | `from_ranges`, `union_all` of k parts with l boundaries | `2 l d(k - 1)`, and two a range | the result |
+/// | `from_ranges`, `union_all`, `intersection_all` of k parts with l boundaries | `2 l d(k - 1)`, and two a range | the result |
 /// | `from_unsorted`, `from_json` | a sort's | a sort's buffer |
 /// | `clone`, `to_json` | none | the result |
 ///

@@ -3,6 +3,7 @@
 
 pub(crate) mod counting;
 pub(crate) mod equality;
+pub(crate) mod members;
 pub(crate) mod operations;
 pub(crate) mod parts;
 pub(crate) mod predicates;

@@ -66,7 +66,7 @@ impl<'a, T: Unsigned> RangeSetRef<'a, T> {
 }
 
 // How many values are members, of a list of boundaries in pairs.
-fn count_members<T: Countable>(items: &[T]) -> u128 {
+pub(super) fn count_members<T: Countable>(items: &[T]) -> u128 {
     let mut count: u128 = 0;
     let mut i = 0;
     while i < items.len() {
@@ -77,6 +77,6 @@ fn count_members<T: Countable>(items: &[T]) -> u128 {
 }
 
 // How many values lie from one on, up to another, which is out.
-fn between<T: Countable>(start: &T, end: &T) -> u128 {
+pub(super) fn between<T: Countable>(start: &T, end: &T) -> u128 {
     end.place() - start.place()
 }

@@ -1,0 +1,97 @@
+//! Values made from their places: whole numbers and characters.
+ghost use Rattle.std.specs.Prelude.{◌<◌, SomeIff};
+
+use crate::countable::Countable;
+
+/// A value that can be made from its place. This is a trait of its own, so that `Countable` asks no
+/// more of a caller's type than before.
+pub trait FromPlace: Countable + Copy {
+    /// The value with `place` values below it, or `None` if there aren't so many.
+    fn from_place(place: u128) -> Option<Self>
+        ensures { SomeIff result (place < Self.count) (Self.value place) };
+}
+
+impl FromPlace for u8 {
+    fn from_place(place: u128) -> Option<u8> {
+        u8::try_from(place).ok()
+    }
+}
+
+impl FromPlace for u16 {
+    fn from_place(place: u128) -> Option<u16> {
+        u16::try_from(place).ok()
+    }
+}
+
+impl FromPlace for u32 {
+    fn from_place(place: u128) -> Option<u32> {
+        u32::try_from(place).ok()
+    }
+}
+
+impl FromPlace for u64 {
+    fn from_place(place: u128) -> Option<u64> {
+        u64::try_from(place).ok()
+    }
+}
+
+impl FromPlace for u128 {
+    fn from_place(place: u128) -> Option<u128> {
+        Some(place)
+    }
+}
+
+impl FromPlace for usize {
+    fn from_place(place: u128) -> Option<usize> {
+        usize::try_from(place).ok()
+    }
+}
+
+impl FromPlace for i8 {
+    fn from_place(place: u128) -> Option<i8> {
+        i8::try_from(i128::try_from(place).ok()? + i8::MIN as i128).ok()
+    }
+}
+
+impl FromPlace for i16 {
+    fn from_place(place: u128) -> Option<i16> {
+        i16::try_from(i128::try_from(place).ok()? + i16::MIN as i128).ok()
+    }
+}
+
+impl FromPlace for i32 {
+    fn from_place(place: u128) -> Option<i32> {
+        i32::try_from(i128::try_from(place).ok()? + i32::MIN as i128).ok()
+    }
+}
+
+impl FromPlace for i64 {
+    fn from_place(place: u128) -> Option<i64> {
+        i64::try_from(i128::try_from(place).ok()? + i64::MIN as i128).ok()
+    }
+}
+
+impl FromPlace for i128 {
+    fn from_place(place: u128) -> Option<i128> {
+        match i128::try_from(place) {
+            Ok(above) => Some(i128::MIN + above),
+            Err(_) => i128::try_from(place - (1 << 127)).ok(),
+        }
+    }
+}
+
+impl FromPlace for isize {
+    fn from_place(place: u128) -> Option<isize> {
+        isize::try_from(i128::try_from(place).ok()? + isize::MIN as i128).ok()
+    }
+}
+
+impl FromPlace for char {
+    fn from_place(place: u128) -> Option<char> {
+        let code = u32::try_from(place).ok()?;
+        if code < 0xD800 {
+            return char::from_u32(code);
+        }
+        char::from_u32(code.checked_add(0x800)?)
+    }
+}
