@@ -227,6 +227,21 @@ impl T for u8 {
             self.assertEqual(rust_of({FILE: text})[FILE].strip(), "struct S {\n    pub(crate) inner: u8,\n}")
 
 
+    def test_what_nothing_calls_goes(self):
+        text = "impl A {\n    fn f(&self) -> u8 { 1 }\n\n    fn g(&self) -> u8 { 2 }\n}\n\nimpl B {\n    fn f(&self) -> u8 { 3 }\n}\n\nfn h() -> u8 { 4 }\n"
+        found = rust(text, UNCALLED={FILE: {"B::f", "A::g", "fn h"}})
+        self.assertEqual([digit for digit in "1234" if f"{{ {digit} }}" in found], ["1"])
+        with mock.patch.multiple(tables, ITEMS_LEFT_OUT={}, SHOWN={}, LEFT_OUT=set(), UNCALLED={FILE: {"fn h"}}):
+            other = "pub use crate::sample::{A, h};\nfn f(a: A) -> u8 { a.g }\n"
+            found = rust_of({FILE: text, "range_merge/other": other})["range_merge/other"]
+        self.assertIn("pub use crate::generated::range_merge::sample::A;", found)
+
+    def test_fields_of_clauses_go(self):
+        text = "pub struct A {\n    pub a: u8,\n    pub b: [u8; 2],\n}\nfn f(a: u8, b: u8) -> A {\n    A { a, b: [b, (1, 2).0] }\n}\n"
+        found = rust(text, FIELDS_LEFT_OUT={FILE: {"b"}})
+        self.assertIn("pub struct A {\n    pub a: u8,\n}", found)
+        self.assertIn("A { a }", found)
+
     def test_of_some_files_the_tables_name_what_is_written(self):
         text = "use crate::a::B;\ntrait A {\n    fn f(b: B);\n}\nimpl A for u8 {\n    fn f(b: B) { g(b); }\n}\n"
         with mock.patch.dict(tables.ITEMS_KEPT, {FILE: {"trait A"}}):
@@ -301,6 +316,10 @@ class Refusals(unittest.TestCase):
             with self.assertRaises(Failed) as caught:
                 rust_of({FILE: "fn f(n: u8) -> u8 { n }"})
         self.assertTrue(str(caught.exception).endswith("the tables name what isn't there: fn g"))
+        for names in ({"FIELDS_LEFT_OUT": {FILE: {"S"}}}, {"UNCALLED": {FILE: {"S"}}}):
+            with self.assertRaises(Failed) as caught:
+                rust("fn f(n: u8) -> u8 { n }", **names)
+            self.assertTrue(str(caught.exception).endswith("the tables name what isn't there: S"))
         with mock.patch.multiple(tables, CLONED={FILE: {"S"}}):
             with self.assertRaises(Failed) as caught:
                 rust_of({FILE: "fn f(n: u8) -> u8 { n }"})
@@ -341,7 +360,7 @@ class Writing(unittest.TestCase):
     def test_a_crate_with_a_feature(self):
         with mock.patch.multiple(tables, FEATURES={"range_merge": "merging"}):
             self.assertIn('#[cfg(feature = "merging")]\npub mod range_merge;\n', writing.files_of(self.root / "crates")["mod.rs"])
-        self.assertNotIn("cfg", writing.files_of(self.root / "crates")["mod.rs"])
+        self.assertNotIn("#[cfg(", writing.files_of(self.root / "crates")["mod.rs"])
 
     def test_a_layout_makes_no_difference_without_rustfmt(self):
         folder = self.written()

@@ -16,6 +16,31 @@ def drop_hints(found):
             at += 1
 
 
+def drop_fields(found, names):
+    """Fields that clauses alone read, after another one: where a struct is told, and where one is made."""
+    at, left, within = 0, set(names), []
+    while at < len(found):
+        text = found[at].text
+        if text in OPENING:
+            within.append(text)
+        elif text in (")", "]", "}"):
+            within.pop()
+        if text not in names or within[-1:] != ["{"] or not stands(found, at + 1, ":") or stands(found, at + 1, ":", ":"):
+            at += 1
+            continue
+        left.discard(text)
+        start = at - 1 if stands(found, at - 1, "pub") else at
+        if found[start - 1].text != ",":
+            raise Refused(found[at].line, f"the field {text} isn't after another one")
+        end = at
+        while found[end].text not in (",", "}"):
+            end = closing(found, end) + 1 if found[end].text in OPENING else end + 1
+        del found[start - 1 : end]
+        at = start - 1
+    if left:
+        raise Refused(1, f"the tables name what isn't there: {', '.join(sorted(left))}")
+
+
 def drop_calls(found, laws):
     """Calls of functions that do nothing, each of which is a statement."""
     at = 0

@@ -12,7 +12,7 @@ class Shaping:
     def __init__(self, file, laws, modules, clauses):
         self.file, self.laws, self.modules, self.clauses = file, laws, modules, clauses
         self.kept = tables.ITEMS_KEPT.get(file)
-        self.wanted = set(tables.ITEMS_LEFT_OUT.get(file, ())) | (self.kept or set())
+        self.wanted = set(tables.ITEMS_LEFT_OUT.get(file, ())) | set(tables.UNCALLED.get(file, ())) | (self.kept or set())
         self.hidden = set(tables.SHOWN.get(file, ()))
         self.cloned = set(tables.CLONED.get(file, ()))
         self.shown = set()
@@ -27,7 +27,7 @@ class Shaping:
         return [one for token in kept for one in (made(token.text, token.lead, token.line) if "pub(" in token.text else [token])]
 
     def item(self, item, within):
-        if self.is_left_out(item) or (within is None and self.is_not_kept(item)):
+        if self.is_left_out(item, within) or (within is None and self.is_not_kept(item)):
             return []
         if item.kind == "fn":
             self.document(item, within)
@@ -58,8 +58,10 @@ class Shaping:
         self.wanted.discard(f"{item.kind} {item.name}")
         return f"{item.kind} {item.name}" not in self.kept
 
-    def is_left_out(self, item):
+    def is_left_out(self, item, within):
         names = {f"{item.kind} {item.name}"}
+        if within is not None:
+            names.add(f"{within.name}::{item.name}")
         if item.kind == "impl":
             trait, of = item.trait_and_type()
             if trait.split("<")[0] in tables.IMPLS_LEFT_OUT:
@@ -68,7 +70,7 @@ class Shaping:
                 names.add(f"impl {of}")
         if item.kind == "mod":
             return self.file_of(item.name) in self.modules
-        if self.kept is None and names & self.wanted:
+        if names & self.wanted and (self.kept is None or within is not None):
             self.wanted -= names
             return True
         return item.kind == "fn" and (item.name in tables.NOTHING or item.name in self.laws)

@@ -62,17 +62,23 @@ class Known:
         }
 
 
+def uncalled():
+    """The names of items at the top of files that nothing calls: others may import them."""
+    return {name.split()[1] for names in tables.UNCALLED.values() for name in names if "::" not in name}
+
+
 def erased(source, known, left_out):
     """The Rust of a file, or nothing where no item stays."""
     shaping = Shaping(source.file, known.laws, left_out, source.clauses)
     found = shaping.shaped(source.found, 0, len(source.found) - 1) + source.found[-1:]
     shaping.refuse_what_is_left()
+    code.drop_fields(found, tables.FIELDS_LEFT_OUT.get(source.file, ()))
     code.drop_hints(found)
     code.drop_calls(found, known.laws)
     code.write_else_out(found)
     code.change_formatters(found)
     traits = code.change_calls(found, known.functions)
-    gone = Gone(known.laws | tables.LEFT_OUT_NAMES, source.words - words_outside(found), known.asking)
+    gone = Gone(known.laws | tables.LEFT_OUT_NAMES | uncalled(), source.words - words_outside(found), known.asking)
     change_uses(found, source.file.split("/")[0], gone, traits)
     if all(item.kind == "use" and not item.is_exported() for item in items(found, 0, len(found) - 1)):
         return ""

@@ -30,13 +30,11 @@ PRELUDE = ("Vec",)
 #   Iterator::collect(self, alloc: Global) -> Result<Vec<Self::Item>, AllocError>
 #   usize::div_ceil(self, by: usize) -> usize, since 1.73
 #   usize::ilog2(self) -> u32, since 1.67
-#   [T]::is_sorted_by(&self, is_below: impl FnMut(&T, &T) -> bool) -> bool, since 1.82
 RENAMED = {
     "sort": ("sort_in", "SortIn"),
     "collect": ("collect_in", "CollectIn"),
     "div_ceil": ("div_up", "DivUp"),
     "ilog2": ("log2_down", "Log2Down"),
-    "is_sorted_by": ("is_sorted_with", "IsSortedWith"),
 }
 
 # Methods of std and of smallvec that are the same in Rust, or that support's lists have.
@@ -101,6 +99,26 @@ ITEMS_LEFT_OUT = {
     "range_collections/range_set": {"impl Drop for RangeSet"},
     "range_chunks/set": {"impl Drop for ChunkedRangeSet"},
 }
+# What nothing in Rust calls, by its file: an item by its kind and name, a member by the name of its impl or trait.
+UNCALLED = {
+    "range_merge/compare": {"Compare::made"},
+    "range_merge/in_place_builder": {"InPlaceBuilder::puts_left", "InPlaceBuilder::put", "InPlaceBuilder::finish", "fn put_item"},
+    "range_merge/merge_state/small_vec": {"SmallVecMergeState::new"},
+    "range_merge/place": {"Place::set"},
+    "range_merge/runs": {"enum Run", "fn run_length"},
+    "range_entry/lists": {"fn is_empty_list"},
+    "range_collections/comparisons": {"Compare for Comparisons::made"},
+    "range_collections/range_set/by_view": {
+        "RangeSet::contains_counted", "RangeSet::merge_test", "RangeSet::range_at_counted", "RangeSet::contains_range_counted",
+        "RangeSet::split_counted", "RangeSet::gaps_counted", "RangeSet::ranges_within_counted", "RangeSet::merge_into",
+    },
+    "range_collections/range_set/operations": {"RangeSet::merge_new", "RangeSet::combine"},
+    "range_collections/view": {"RangeSetRef::single"},
+    "range_collections/view/operations": {"RangeSetRef::merge_new"},
+    "range_tracker/tracker": {"Tracker::gaps"},
+}
+# Fields that clauses alone read, by their file.
+FIELDS_LEFT_OUT = {"range_merge/merge_state/small_vec": {"began"}}
 # Names that support has in place of what is left out.
 BY_SUPPORT = {"InPlaceMergeState", "InPlaceMergeStateRef"}
 # Traits whose impls are left out: the crate has a trait of its own for its users, and one impl for all of them.

@@ -3,8 +3,9 @@
 //!
 //! The contracts are proved of the sources in Rattle, for lawful orders and 64-bit sizes. Here they are text.
 #![forbid(unsafe_code)]
-// Not all that is proved has a use in this crate, and some names are read by clauses alone.
-#![allow(dead_code, unused_imports, unused_variables)]
+// The library for C calls some of it alone. Some names are read by clauses alone.
+#![cfg_attr(not(feature = "c"), allow(dead_code))]
+#![allow(unused_imports, unused_variables)]
 // The style is that of the sources, which have no shorter form for all that Rust has one for.
 #![allow(clippy::complexity, clippy::style)]
 

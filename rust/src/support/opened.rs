@@ -163,13 +163,6 @@ impl<K, const N: usize> Place<Slot<K>> for Opened<'_, K, N> {
     }
 
     #[inline(always)]
-    fn set(&mut self, i: usize, item: Slot<K>) {
-        self.clear(i, i + 1);
-        self.slots(i, 1)[0] = item;
-        self.front = i + 1;
-    }
-
-    #[inline(always)]
     fn put_from<R: RightSide<Slot<K>>>(&mut self, at: usize, n: usize, right: &mut R) {
         self.clear(at, at + n);
         if !mem::needs_drop::<K>() {

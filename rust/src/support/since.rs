@@ -38,19 +38,6 @@ impl Log2Down for usize {
     }
 }
 
-/// `is_sorted_by`, since 1.82.
-pub trait IsSortedWith<T> {
-    /// Whether each item stands to the next as `is_below` says.
-    fn is_sorted_with(&self, is_below: impl FnMut(&T, &T) -> bool) -> bool;
-}
-
-impl<T> IsSortedWith<T> for [T] {
-    #[inline(always)]
-    fn is_sorted_with(&self, mut is_below: impl FnMut(&T, &T) -> bool) -> bool {
-        self.windows(2).all(|pair| is_below(&pair[0], &pair[1]))
-    }
-}
-
 /// `std::hint::select_unpredictable`, since 1.88: the one or the other, by no branch if the compiler sees it so.
 #[inline(always)]
 pub fn select_unpredictable<T>(first: bool, one: T, other: T) -> T {

@@ -46,11 +46,6 @@ impl<K, C: Compare<K>> Compare<Slot<K>> for BySlots<'_, C> {
         // SAFETY: a merge reads its sides by `Indexed::at`, which gives slots with an item alone.
         unsafe { self.0.compare(a.item(), b.item()) }
     }
-
-    #[inline(always)]
-    fn made(&self) -> u128 {
-        self.0.made()
-    }
 }
 
 /// Copies the items of slots.

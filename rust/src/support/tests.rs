@@ -56,10 +56,6 @@ impl Compare<Item> for ByKey {
         assert!(self.made != self.panics_at, "a comparison panics");
         a.key.cmp(&b.key)
     }
-
-    fn made(&self) -> u128 {
-        self.made
-    }
 }
 
 /// Copies an item of the right side, before the merge or as it is taken, and panics at the copy with this number.
@@ -256,16 +252,17 @@ fn a_copy_that_panics_drops_every_item_once() {
 #[test]
 fn a_list_that_is_not_closed_is_left_empty() {
     let there = Rc::new(Cell::new(0));
-    let slot = || Slot::of(Item::new(9, 1, &there));
     let mut items = list::<4>(0b1111_1111, 0, &there);
+    let mut more = list::<4>(0b111, 1, &there);
     items.reserve(8).unwrap();
     let mut opened = Opened::over(&mut items);
+    let mut given = Given::over(&mut more);
+    let mut right = OwnedRight::over(&mut given);
     opened.move_down(0, 2, 3);
-    assert_eq!(there.get(), 6);
-    opened.set(3, slot());
-    opened.set(4, slot());
+    assert_eq!(there.get(), 9);
+    opened.put_from(3, 2, &mut right);
     opened.open_gap(5, 3);
-    opened.set(5, slot());
+    opened.put_from(5, 1, &mut right);
     // SAFETY: it was moved up by the gap.
     let moved = unsafe { opened.at(8).item().key };
     assert_eq!((moved, there.get()), (5, 9));
@@ -323,7 +320,12 @@ fn a_gap_is_neither_read_nor_closed() {
     assert!(panics(|opened| opened.close()));
     assert!(panics(|mut opened| opened.open_gap(3, 1)));
     assert!(panics(|mut opened| opened.open_gap(4, 3)));
-    assert!(panics(|mut opened| opened.set(3, Slot::of(1))));
+    assert!(panics(|mut opened| {
+        let mut more = SmallVec::<u8, 4>::new(Global);
+        more.push_reserved(1);
+        let mut given = Given::over(&mut more);
+        opened.put_from(3, 1, &mut OwnedRight::over(&mut given));
+    }));
     assert!(panics(|mut opened| opened.move_down(3, 4, 1)));
     assert!(panics(|mut opened| opened.move_down(2, 4, 3)));
     assert!(panics(|mut opened| opened.truncate(3)));

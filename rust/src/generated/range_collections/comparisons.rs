@@ -49,11 +49,6 @@ impl<T: Ord> Compare<T> for Comparisons {
         self.made += 1;
         a.cmp(b)
     }
-
-    #[inline(always)]
-    fn made(&self) -> u128 {
-        self.made
-    }
 }
 
 /// Copies elements by their own clones.

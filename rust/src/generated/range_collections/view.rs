@@ -10,7 +10,6 @@ pub(crate) mod predicates;
 pub(crate) mod ranges;
 
 use crate::generated::range_collections::lists::is_ascending;
-use core::slice;
 
 /// A borrowed set: a strictly sorted slice of boundaries.
 ///
@@ -60,22 +59,6 @@ impl<'a, T: Ord> RangeSetRef<'a, T> {
     #[inline]
     pub fn empty() -> Self {
         RangeSetRef { boundaries: &[] }
-    }
-
-    /// The elements at or above `value`.
-    ///
-    /// # Contract
-    ///
-    /// ```text
-    /// requires FitsInMemory T.row
-    /// ensures boundaries: result.boundaries.now ≡ value.now ∷ []
-    /// ensures members: (x : T) → member T.cmp result.boundaries.now x ≡ is_le (T.cmp value.now x)
-    /// ```
-    #[inline]
-    pub(crate) fn single(value: &'a T) -> Self {
-        RangeSetRef {
-            boundaries: slice::from_ref(value),
-        }
     }
 
     /// The set with these boundaries, or `None` if they aren't strictly sorted.

@@ -4,11 +4,6 @@
 use crate::generated::range_entry::entry_clone::EntryClone;
 use crate::support::AllocError;
 
-/// Whether the list equals the empty one.
-pub(crate) fn is_empty_list<T: Ord>(list: &[T]) -> bool {
-    list.is_empty()
-}
-
 impl<T: Ord> EntryClone for &[T] {
     /// The same reference.
     #[inline(always)]

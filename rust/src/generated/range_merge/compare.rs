@@ -17,15 +17,6 @@ pub trait Compare<K> {
     /// ensures counted: count self.new ≡ count self.old + 1
     /// ```
     fn compare(&mut self, a: &K, b: &K) -> Ordering;
-
-    /// How many comparisons were made.
-    ///
-    /// # Contract
-    ///
-    /// ```text
-    /// ensures result ≡ count self.now
-    /// ```
-    fn made(&self) -> u128;
 }
 
 /// Copies items into a result.

@@ -58,18 +58,6 @@ impl<K, const N: usize, L: Place<K>> InPlaceBuilder<K, N, L> {
         self.list.at(self.start + i)
     }
 
-    /// How many items may still be put.
-    ///
-    /// # Contract
-    ///
-    /// ```text
-    /// ensures result ≡ self.now.puts_left
-    /// ```
-    #[inline(always)]
-    pub fn puts_left(&self) -> usize {
-        self.puts
-    }
-
     /// Moves the first `n` unread items after the kept ones.
     ///
     /// # Contract
@@ -112,24 +100,6 @@ impl<K, const N: usize, L: Place<K>> InPlaceBuilder<K, N, L> {
         self.skip(n);
     }
 
-    /// Puts an item after the kept ones. If no dropped item gives way to it, all unread items move
-    /// up first, at most once in the life of a builder.
-    ///
-    /// # Contract
-    ///
-    /// ```text
-    /// requires 0 < self.old.puts_left
-    /// ensures kept: self.new.kept ≡ self.old.kept ++ value ∷ []
-    /// ensures unread: self.new.unread ≡ self.old.unread
-    /// ensures puts_left: self.new.puts_left + 1 ≡ self.old.puts_left
-    /// ```
-    #[inline(always)]
-    pub(crate) fn put(&mut self, value: K) {
-        self.start = put_item(&mut self.list, self.kept, self.start, self.puts, value);
-        self.kept += 1;
-        self.puts -= 1;
-    }
-
     /// Puts what the right side gives for its first `n` unread items. Where too few dropped items
     /// give way to them, the unread items move up first, far enough for all that the right side
     /// has.
@@ -138,19 +108,6 @@ impl<K, const N: usize, L: Place<K>> InPlaceBuilder<K, N, L> {
         self.start = put_items(&mut self.list, self.kept, self.start, self.puts, n, right);
         self.kept += n;
         self.puts -= n;
-    }
-
-    /// The list, with the kept items followed by those that are still unread.
-    ///
-    /// # Contract
-    ///
-    /// ```text
-    /// ensures L.items result ≡ self.kept ++ self.unread
-    /// ```
-    pub fn finish(mut self) -> L {
-        let rest = self.unread_len();
-        self.keep(rest);
-        self.only_kept()
     }
 
     /// The list, with the kept items alone. What is still unread is dropped.
@@ -165,20 +122,6 @@ impl<K, const N: usize, L: Place<K>> InPlaceBuilder<K, N, L> {
         list.truncate(kept);
         list
     }
-}
-
-// Puts an item after the kept ones, into the gap. It returns where the unread items begin now.
-#[inline(always)]
-fn put_item<K, L: Place<K>>(
-    list: &mut L,
-    kept: usize,
-    start: usize,
-    puts: usize,
-    value: K,
-) -> usize {
-    let first = with_gap(list, kept, start, puts, 1, puts);
-    list.set(kept, value);
-    first
 }
 
 // Puts what the right side gives for its first `n` unread items after the kept ones, into the gap.

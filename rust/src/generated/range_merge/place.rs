@@ -38,17 +38,6 @@ pub trait Place<K>: Indexed<K> {
     /// ```
     fn open_gap(&mut self, at: usize, n: usize);
 
-    /// Replaces the item at index `i`, and drops the old one.
-    ///
-    /// # Contract
-    ///
-    /// ```text
-    /// requires i < length (Self.items self.old)
-    /// ensures items: Self.items self.new ≡ slice_set (Self.items self.old) i item
-    /// ensures room: room self.new ≡ room self.old
-    /// ```
-    fn set(&mut self, i: usize, item: K);
-
     /// Replaces the `n` items at `at` by what the right side gives for its first `n` unread items.
     ///
     /// # Contract

@@ -6,7 +6,7 @@
 //! Then it changes the list in place.
 
 use crate::generated::range_collections::{
-    Comparisons, DiffOp, Gaps, Iter, MergeOperation, RangeSet2, RangeSetRef, UnionOp,
+    Comparisons, DiffOp, Iter, MergeOperation, RangeSet2, RangeSetRef, UnionOp,
 };
 use crate::generated::range_tracker::command::Command;
 use crate::generated::range_tracker::track_error::TrackError;
@@ -154,19 +154,6 @@ impl Tracker {
     /// ```
     pub fn covered(&self) -> Option<u128> {
         self.set.covered()
-    }
-
-    /// The parts of a range that aren't there, from the lowest on: none is empty, and each ends
-    /// below the start of the next. It takes no memory.
-    ///
-    /// # Contract
-    ///
-    /// ```text
-    /// ensures Means nat_cmp difference_table result (range_items nat_cmp within.entry.start.now
-    ///     within.entry.end.now) self.now.boundaries
-    /// ```
-    pub fn gaps<'a>(&'a self, within: Range<&'a u64>) -> Gaps<'a, u64> {
-        self.set.gaps(within)
     }
 
     // Takes one command.

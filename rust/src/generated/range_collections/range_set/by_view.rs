@@ -8,7 +8,7 @@ use crate::generated::range_collections::range_set::RangeSet;
 use crate::generated::range_collections::range_set_range::RangeSetRange;
 use crate::generated::range_collections::view::RangeSetRef;
 use crate::generated::range_entry::RangeSetEntry;
-use crate::generated::range_merge::{MergeOperation, NoRoom};
+use crate::generated::range_merge::MergeOperation;
 use core::ops::Range;
 
 impl<T: Ord, const N: usize> RangeSet<T, N> {
@@ -24,21 +24,6 @@ impl<T: Ord, const N: usize> RangeSet<T, N> {
         self.as_ref().contains(value)
     }
 
-    /// The same, counted: at most as many comparisons as the number of boundaries has binary
-    /// digits.
-    ///
-    /// # Contract
-    ///
-    /// ```text
-    /// requires count.old < 2 ^ 64
-    /// ensures member: result ≡ member T.cmp self.now value.now
-    /// ensures comparisons: AddsAtMost count.old count.new (digits (length self.now))
-    /// ```
-    #[inline]
-    pub(crate) fn contains_counted(&self, value: &T, count: &mut Comparisons) -> bool {
-        self.as_ref().contains_counted(value, count)
-    }
-
     /// Whether the set is empty.
     ///
     /// # Contract
@@ -49,28 +34,6 @@ impl<T: Ord, const N: usize> RangeSet<T, N> {
     #[inline]
     pub fn is_empty(&self) -> bool {
         self.as_ref().is_empty()
-    }
-
-    /// Whether the operation's result has a member. It counts its comparisons, at most twice the
-    /// weight of the two lists.
-    ///
-    /// # Contract
-    ///
-    /// ```text
-    /// requires off: O.connective op.now false false ≡ false
-    /// requires made: count.old < 2 ^ 64
-    /// ensures members: IsTrue result ↔ HasMember T.cmp (O.connective op.now) self.now
-    ///     that.entry.boundaries.now
-    /// ensures comparisons: AddsAtMost count.old count.new (2 * weight T.cmp self.now
-    ///     that.entry.boundaries.now)
-    /// ```
-    pub(crate) fn merge_test<O: MergeOperation>(
-        &self,
-        that: RangeSetRef<T>,
-        op: &O,
-        count: &mut Comparisons,
-    ) -> bool {
-        self.as_ref().merge_test(that, op, count)
     }
 
     /// How many boundaries the operation's result has, without making it. Both lengths together
@@ -223,29 +186,6 @@ impl<T: Ord, const N: usize> RangeSet<T, N> {
         self.as_ref().range_at(value)
     }
 
-    /// The same, counted: at most as many comparisons as the number of boundaries has binary
-    /// digits.
-    ///
-    /// # Contract
-    ///
-    /// ```text
-    /// requires count.old < 2 ^ 64
-    /// ensures member: IsSome result ↔ (member T.cmp self.now value.now ≡ true)
-    /// ensures of_set: IfSome result (λ range. Contains (ranges_of self.now) (range_now range))
-    /// ensures holds: IfSome result (λ range. IsInRange T.cmp (range_now range) value.now)
-    /// ensures members: IfSome result (λ range. (x : T) → IsInRange T.cmp (range_now range) x →
-    ///     member T.cmp self.now x ≡ true)
-    /// ensures comparisons: AddsAtMost count.old count.new (digits (length self.now))
-    /// ```
-    #[inline]
-    pub(crate) fn range_at_counted(
-        &self,
-        value: &T,
-        count: &mut Comparisons,
-    ) -> Option<RangeSetRange<&T>> {
-        self.as_ref().range_at_counted(value, count)
-    }
-
     /// The least member at or above `from`, or `None` if there is none. It is `from` itself if that
     /// is a member, or else the start of the next range. It takes no memory, and makes at most as
     /// many comparisons as the number of boundaries has binary digits (seen by reading).
@@ -291,21 +231,6 @@ impl<T: Ord, const N: usize> RangeSet<T, N> {
         self.as_ref().contains_range(range)
     }
 
-    /// The same, counted: at most `2 * d + 1` comparisons, where `d` is the number of binary digits
-    /// of the number of boundaries.
-    ///
-    /// # Contract
-    ///
-    /// ```text
-    /// requires count.old < 2 ^ 64
-    /// ensures members: IsTrue result ↔ HasAllWithin T.cmp self.now range.start range.end
-    /// ensures comparisons: AddsAtMost count.old count.new (2 * digits (length self.now) + 1)
-    /// ```
-    #[inline]
-    pub(crate) fn contains_range_counted(&self, range: Range<T>, count: &mut Comparisons) -> bool {
-        self.as_ref().contains_range_counted(range, count)
-    }
-
     /// Whether some member lies in the range. It is `false` for an empty or reversed range.
     ///
     /// # Contract
@@ -334,28 +259,6 @@ impl<T: Ord, const N: usize> RangeSet<T, N> {
         self.as_ref().split(at)
     }
 
-    /// The same, counted: at most as many comparisons as the number of boundaries has binary
-    /// digits.
-    ///
-    /// # Contract
-    ///
-    /// ```text
-    /// requires count.old < 2 ^ 64
-    /// ensures left: result.0.boundaries.now ≡ split_left T.cmp self.now at
-    /// ensures right: result.1.boundaries.now ≡ split_right T.cmp self.now at
-    /// ensures least_below: IsLeastBelow T.cmp at result.0.boundaries.now self.now
-    /// ensures least_from: IsLeastFrom T.cmp at result.1.boundaries.now self.now
-    /// ensures comparisons: AddsAtMost count.old count.new (digits (length self.now))
-    /// ```
-    #[inline]
-    pub(crate) fn split_counted(
-        &self,
-        at: T,
-        count: &mut Comparisons,
-    ) -> (RangeSetRef<'_, T>, RangeSetRef<'_, T>) {
-        self.as_ref().split_counted(at, count)
-    }
-
     /// The parts of `within` that aren't in the set, from the lowest on. None is empty, and each
     /// ends below the start of the next. An empty or reversed range has none. Where a boundary
     /// equals an end of `within`, the end of `within` is given.
@@ -372,27 +275,6 @@ impl<T: Ord, const N: usize> RangeSet<T, N> {
         self.as_ref().gaps(within)
     }
 
-    /// The same, counted: at most `2 * d + 1` comparisons, where `d` is the number of binary digits
-    /// of the number of boundaries. The iterator's steps make none.
-    ///
-    /// # Contract
-    ///
-    /// ```text
-    /// requires count.old < 2 ^ 64
-    /// ensures gives: GivesParts T.cmp difference_table within.entry self.now result
-    /// ensures members: (x : T) → member T.cmp result x ≡ ((is_le (T.cmp within.entry.start.now x)
-    ///     && is_lt (T.cmp x within.entry.end.now)) && not (member T.cmp self.now x))
-    /// ensures comparisons: AddsAtMost count.old count.new (2 * digits (length self.now) + 1)
-    /// ```
-    #[inline]
-    pub(crate) fn gaps_counted<'a>(
-        &'a self,
-        within: Range<&'a T>,
-        count: &mut Comparisons,
-    ) -> Gaps<'a, T> {
-        self.as_ref().gaps_counted(within, count)
-    }
-
     /// The parts of `within` that are in the set, from the lowest on. None is empty, and each ends
     /// below the start of the next. An empty or reversed range has none. Where a boundary equals an
     /// end of `within`, the end of `within` is given.
@@ -407,59 +289,6 @@ impl<T: Ord, const N: usize> RangeSet<T, N> {
     #[inline]
     pub fn ranges_within<'a>(&'a self, within: Range<&'a T>) -> RangesWithin<'a, T> {
         self.as_ref().ranges_within(within)
-    }
-
-    /// The same, counted: at most `2 * d + 1` comparisons, where `d` is the number of binary digits
-    /// of the number of boundaries. The iterator's steps make none.
-    ///
-    /// # Contract
-    ///
-    /// ```text
-    /// requires count.old < 2 ^ 64
-    /// ensures gives: GivesParts T.cmp intersection_table within.entry self.now result
-    /// ensures members: (x : T) → member T.cmp result x ≡ ((is_le (T.cmp within.entry.start.now x)
-    ///     && is_lt (T.cmp x within.entry.end.now)) && member T.cmp self.now x)
-    /// ensures comparisons: AddsAtMost count.old count.new (2 * digits (length self.now) + 1)
-    /// ```
-    #[inline]
-    pub(crate) fn ranges_within_counted<'a>(
-        &'a self,
-        within: Range<&'a T>,
-        count: &mut Comparisons,
-    ) -> RangesWithin<'a, T> {
-        self.as_ref().ranges_within_counted(within, count)
-    }
-
-    /// Writes the boundaries of the operation's result to the start of `out`, and returns how many
-    /// there are. Both lengths together must fit a `usize`.
-    ///
-    /// Of two equal boundaries this set's is written, and the rest of `out` stays as it was. It is
-    /// an error exactly if `out` is too short: the error says how long it must be, and nothing is
-    /// said of what `out` then holds. It takes no memory, and counts its comparisons, at most twice
-    /// the weight of the two lists.
-    ///
-    /// # Contract
-    ///
-    /// ```text
-    /// requires off: O.connective op.now false false ≡ false
-    /// requires fits: length self.now + length that.boundaries.now < 2 ^ 64
-    /// requires made: count.old < 2 ^ 64
-    /// ensures writes: WritesOperation T.cmp (O.connective op.now) self.now
-    ///     that.entry.boundaries.now out.old out.new result
-    /// ensures comparisons: AddsAtMost count.old count.new (2 * weight T.cmp self.now
-    ///     that.entry.boundaries.now)
-    /// ```
-    pub(crate) fn merge_into<O: MergeOperation>(
-        &self,
-        that: RangeSetRef<T>,
-        op: &O,
-        out: &mut [T],
-        count: &mut Comparisons,
-    ) -> Result<usize, NoRoom>
-    where
-        T: Copy,
-    {
-        self.as_ref().merge_into(that, op, out, count)
     }
 }
 

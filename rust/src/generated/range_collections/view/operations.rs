@@ -14,34 +14,6 @@ use crate::generated::range_merge::{
 use crate::support::{AllocError, Global, SmallVec};
 
 impl<'a, T: EntryClone> RangeSetRef<'a, T> {
-    /// The operation's result, counting the comparisons.
-    ///
-    /// Of two equal boundaries this set's is copied. It fails only if an allocation or a copy does.
-    /// It makes at most twice the weight of the two lists in comparisons, even if it fails.
-    ///
-    /// # Contract
-    ///
-    /// ```text
-    /// requires off: O.connective op.now false false ≡ false
-    /// requires made: count.old < 2 ^ 64
-    /// ensures headline: IsCounted T.cmp self.now.boundaries.now that.entry.boundaries.now
-    ///     count.old count.new (GivesTheResult T.cmp T.is_copy (O.connective op.now)
-    ///     self.now.boundaries.now that.entry.boundaries.now result)
-    /// ensures gives: GivesOperation T.cmp T.is_copy T.is_infallible (O.connective op.now) M
-    ///     self.now.boundaries.now that.entry.boundaries.now result
-    /// ensures comparisons: AddsAtMost count.old count.new (2 * weight T.cmp
-    ///     self.now.boundaries.now that.entry.boundaries.now)
-    /// ```
-    pub(crate) fn merge_new<O: MergeOperation, const M: usize>(
-        &self,
-        alloc: Global,
-        that: RangeSetRef<T>,
-        op: &O,
-        count: &mut Comparisons,
-    ) -> Result<RangeSet<T, M>, AllocError> {
-        self.merged(alloc, that, op, count)
-    }
-
     // The set of copies of the boundaries at which the connective changes. Its members are what the
     // operation says, or where the connective is on while both sides are off, the others.
     pub(super) fn merged<O: MergeOperation, const M: usize>(

@@ -15,32 +15,6 @@ pub type SmallVecMergeState<'a, K, P, const M: usize> =
     SliceMergeState<'a, K, SmallVec<K, M>, Copying<'a, P>>;
 
 impl<'a, K, P: Copier<K>, const M: usize> SmallVecMergeState<'a, K, P, M> {
-    /// All items of both slices unread, both sides off, and the items of `r` as what was taken so
-    /// far, from the left.
-    ///
-    /// Copies of what is taken are appended to them. No advance fails if the items of `r` and those
-    /// of both slices together are at most `M`, and no copy fails. It takes no memory.
-    ///
-    /// # Contract
-    ///
-    /// ```text
-    /// ensures left: result.left ≡ a.now
-    /// ensures right: result.right ≡ b.now
-    /// ensures left_on: result.left_on ≡ false
-    /// ensures right_on: result.right_on ≡ false
-    /// ensures items: result.taken.items ≡ r.items
-    /// ensures began: result.began ≡ length r.items
-    /// ensures output: AreKeptThenCopies P.alike result.began (map from_left r.items)
-    ///     result.taken.items
-    /// ensures at_least_inline: M ≤ result.taken.capacity
-    /// ensures infallible: length r.items + length a.now + length b.now ≤ M → All P.is_infallible
-    ///     a.now → All P.is_infallible b.now → HasRoomForAll P.is_infallible result
-    /// ```
-    pub fn new(a: &'a [K], b: &'a [K], r: SmallVec<K, M>, copier: &'a P) -> Self {
-        let began = r.len();
-        Self::over(a, b, r, Copying { copier, began })
-    }
-
     /// Fills the empty list `r` with copies of the items at which the connective of `op` changes
     /// between two strictly sorted lists.
     ///
@@ -87,7 +61,7 @@ impl<'a, K, P: Copier<K>, const M: usize> SmallVecMergeState<'a, K, P, M> {
         cmp: &mut C,
     ) -> Result<SmallVec<K, M>, AllocError> {
         let alloc = *r.allocator();
-        let mut state = SliceMergeState::over(a, b, &mut r, Copying { copier, began: 0 });
+        let mut state = SliceMergeState::over(a, b, &mut r, Copying { copier });
         let _went_through = merging::merge(&mut state, op, cmp)?;
         Ok(mem::replace(state.result(), SmallVec::new(alloc)))
     }
@@ -106,7 +80,7 @@ impl<'a, K, P: Copier<K>, const M: usize> SmallVecMergeState<'a, K, P, M> {
         let mut list = r.into_vec()?;
         // Where there is no room for both at once, the list grows run by run.
         let _asked = list.reserve(a.len().saturating_add(b.len()));
-        let mut state = SliceMergeState::over(a, b, &mut list, Copying { copier, began: 0 });
+        let mut state = SliceMergeState::over(a, b, &mut list, Copying { copier });
         let _went_through = merging::merge(&mut state, op, cmp)?;
         Ok(inline_if_few(mem::replace(state.result(), Vec::new(alloc))))
     }
@@ -133,7 +107,6 @@ fn fit_together(a: usize, b: usize, room: usize) -> bool {
 /// first.
 pub struct Copying<'a, P> {
     pub copier: &'a P,
-    pub began: usize,
 }
 
 impl<'a, K, P: Copier<K>, const M: usize> Output<K, Copying<'a, P>> for SmallVec<K, M> {
