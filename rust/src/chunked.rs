@@ -1,5 +1,6 @@
 //! Sets that are changed one range at a time, and grow to millions of ranges.
 
+mod combining;
 mod iter;
 mod traits;
 
@@ -357,6 +358,11 @@ impl<T: Ord> ChunkedRangeSet<T> {
             Ok(list) => Ok(RangeSet::of_list(list)),
             Err((refused, set)) => Err((refused, ChunkedRangeSet(set))),
         }
+    }
+
+    /// The proved set, for an operation with a view.
+    pub(crate) fn proved_mut(&mut self) -> &mut proved::ChunkedRangeSet<T> {
+        &mut self.0
     }
 
     /// A copy.

@@ -113,6 +113,43 @@ fn sets_of_many_chunks_as_a_range_set() {
 }
 
 #[test]
+fn operations_with_a_view_as_of_a_range_set() {
+    for seed in 1..40u64 {
+        let mut random = Random(seed.wrapping_mul(0x9e37_79b9_7f4a_7c15) | 1);
+        let some = |random: &mut Random, ranges: u64| -> RangeSet2<u32> {
+            (0..ranges).map(|_| any_range(random, 20_000)).collect()
+        };
+        let (mut set, that) = (some(&mut random, 1_500), some(&mut random, 60 * seed));
+        let mut chunked = ChunkedRangeSet::from(set.clone());
+        let mut refusing = fallible::ChunkedRangeSet::from(chunked.clone());
+        match seed % 4 {
+            0 => {
+                chunked.union_with(&that);
+                refusing.union_with(&that).unwrap();
+                set.union_with(&that);
+            }
+            1 => {
+                chunked.intersection_with(&that);
+                refusing.intersection_with(&that).unwrap();
+                set.intersection_with(&that);
+            }
+            2 => {
+                chunked.difference_with(&that);
+                refusing.difference_with(&that).unwrap();
+                set.difference_with(&that);
+            }
+            _ => {
+                chunked.symmetric_difference_with(&that);
+                refusing.symmetric_difference_with(&that).unwrap();
+                set.symmetric_difference_with(&that);
+            }
+        }
+        assert!(chunked.iter().eq(set.iter()), "seed {seed}");
+        assert!(refusing.iter().eq(set.iter()), "seed {seed}");
+    }
+}
+
+#[test]
 fn a_set_grows_and_shrinks_at_either_end() {
     let all: Vec<Range<u32>> = (0..3_000).map(|i| 10 * i..10 * i + 4).collect();
     let (up, down) = (all.clone(), all.iter().rev().cloned());

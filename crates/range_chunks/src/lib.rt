@@ -8,6 +8,7 @@ mod counting;
 mod cutting;
 mod inserting;
 mod iter;
+mod merging;
 mod moving;
 mod overwriting;
 mod place;

@@ -9,6 +9,7 @@ ghost use Rattle.range_collections.specs.Intersects.{HasMemberWithin};
 ghost use Rattle.range_collections.specs.Ranges.{range_items};
 
 mod asking;
+mod combining;
 mod making;
 
 use crate::chunk::Chunk;
@@ -38,7 +39,7 @@ use std::ops::{Range, RangeFrom};
 ///
 /// A range has its start and not its end; an empty or reversed range has no members. Of two equal
 /// boundaries the set's own stays. If memory runs out, the set has the boundaries that it had.
-/// Nothing is copied but by `from_view` and `clone`.
+/// Nothing is copied but by `from_view`, `clone` and operations with a view.
 ///
 /// Among `c` chunks a search makes at most `d(c) + 10` comparisons, where `d` counts binary digits
 /// (seen by reading). `contains`, `range_at`, `next_member`, `next_gap` and calls with a range

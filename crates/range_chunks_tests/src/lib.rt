@@ -5,6 +5,8 @@
 #[cfg(test)]
 mod asking;
 #[cfg(test)]
+mod combining;
+#[cfg(test)]
 mod made_up;
 #[cfg(test)]
 mod making;

@@ -10,6 +10,8 @@ use std::alloc::{AllocError, Global};
 enum Change {
     Insert,
     Remove,
+    UnionWith,
+    DifferenceWith,
 }
 
 // How many ranges of 10 the set has, one in each 20, what is done with the range from the one
@@ -18,7 +20,7 @@ type Row = (u16, Change, u16, u16, bool);
 
 // The first range, one that splits a full chunk, one within a range of it, and ranges for which the
 // set needs no memory.
-const ROWS: [Row; 8] = [
+const ROWS: [Row; 11] = [
     (0, Change::Insert, 5, 10, true),
     (256, Change::Insert, 12, 15, true),
     (256, Change::Insert, 5_115, 5_117, true),
@@ -27,6 +29,9 @@ const ROWS: [Row; 8] = [
     (256, Change::Insert, 10, 12, false),
     (256, Change::Remove, 0, 5_120, false),
     (300, Change::Remove, 15, 5_500, false),
+    (0, Change::UnionWith, 5, 10, true),
+    (300, Change::UnionWith, 12, 15, true),
+    (300, Change::DifferenceWith, 0, 5_120, true),
 ];
 
 #[derive(Drop)]
@@ -53,7 +58,7 @@ fn was_there(row: Row, number: u16) -> bool {
 // Whether the number is in them once the row's range is put in or taken out.
 fn is_there(row: Row, number: u16) -> bool {
     if row.2 <= number && number < row.3 {
-        matches!(row.1, Change::Insert)
+        matches!(row.1, Change::Insert | Change::UnionWith)
     } else {
         was_there(row, number)
     }
@@ -79,6 +84,19 @@ fn has_after(set: &ChunkedRangeSet<u16>, row: Row) -> bool {
     true
 }
 
+// Puts the row's range in or takes it out. A set of one range takes no memory.
+fn changed(set: &mut ChunkedRangeSet<u16>, alloc: Global, row: Row) -> Result<(), AllocError> {
+    let range = row.2..row.3;
+    match row.1 {
+        Change::Insert => set.insert(range),
+        Change::Remove => set.remove(range),
+        Change::UnionWith => set.union_with(RangeSet2::from_range(alloc, range)?.as_ref()),
+        Change::DifferenceWith => {
+            set.difference_with(RangeSet2::from_range(alloc, range)?.as_ref())
+        }
+    }
+}
+
 impl Call for Attempt {
     type Given = ChunkedRangeSet<u16>;
 
@@ -87,11 +105,7 @@ impl Call for Attempt {
     }
 
     fn answer(&self, mut set: ChunkedRangeSet<u16>) -> Answer {
-        let range = self.row.2..self.row.3;
-        let made = match self.row.1 {
-            Change::Insert => set.insert(range),
-            Change::Remove => set.remove(range),
-        };
+        let made = changed(&mut set, self.alloc, self.row);
         match made {
             Ok(()) => Answer::right_if(has_after(&set, self.row)),
             Err(_) => refused_if(has_before(&set, self.row)),

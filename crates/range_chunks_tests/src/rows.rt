@@ -36,7 +36,7 @@ const ROWS: [Row; 20] = [
 ];
 
 // The set of these boundaries.
-fn set_of(alloc: Global, items: &[i64]) -> Result<ChunkedRangeSet<i64>, AllocError> {
+pub(crate) fn set_of(alloc: Global, items: &[i64]) -> Result<ChunkedRangeSet<i64>, AllocError> {
     let mut set = ChunkedRangeSet::new(alloc);
     for ends in items.chunks(2) {
         match ends {
@@ -49,7 +49,7 @@ fn set_of(alloc: Global, items: &[i64]) -> Result<ChunkedRangeSet<i64>, AllocErr
 }
 
 // Whether the set has these boundaries, each start as a member and no end.
-fn has(set: &ChunkedRangeSet<i64>, want: &[i64]) -> bool {
+pub(crate) fn has(set: &ChunkedRangeSet<i64>, want: &[i64]) -> bool {
     let mut at = 0usize;
     for range in set.iter() {
         let next = at.saturating_add(2).min(want.len());

@@ -5,6 +5,7 @@ use crate::array::Array;
 use crate::chunked::{self, IntoIter, Iter};
 use crate::fallible::{AllocError, EntryClone, RangeSet};
 use crate::range::RangeSetRange;
+use crate::range_set::RangeSetRef;
 use core::fmt;
 use core::ops::Deref;
 
@@ -170,6 +171,98 @@ impl<T: Ord> ChunkedRangeSet<T> {
             Ok(set) => Ok(set.into()),
             Err((refused, set)) => Err((refused, ChunkedRangeSet(set))),
         }
+    }
+}
+
+/// These clone all boundaries that stay, so for a few ranges [`insert`](Self::insert) and [`remove`](Self::remove) are
+/// faster.
+impl<T: EntryClone> ChunkedRangeSet<T> {
+    /// Adds the members of `that`.
+    ///
+    /// # Errors
+    ///
+    /// If memory is refused. The set is then as it was.
+    ///
+    /// # Examples
+    ///
+    /// ```
+    /// use range_sets::fallible::{AllocError, ChunkedRangeSet};
+    /// use range_sets::RangeSetRef;
+    ///
+    /// let mut set = ChunkedRangeSet::new();
+    /// set.insert(0..10)?;
+    /// set.union_with(RangeSetRef::single(&20))?;
+    /// assert_eq!(set.to_string(), "0..10, 20..");
+    /// # Ok::<(), AllocError>(())
+    /// ```
+    pub fn union_with(&mut self, that: &RangeSetRef<T>) -> Result<(), AllocError> {
+        self.0.proved_mut().union_with(that.proved())
+    }
+
+    /// Keeps the members that are members of `that` too.
+    ///
+    /// # Errors
+    ///
+    /// If memory is refused. The set is then as it was.
+    ///
+    /// # Examples
+    ///
+    /// ```
+    /// use range_sets::fallible::{AllocError, ChunkedRangeSet};
+    /// use range_sets::RangeSetRef;
+    ///
+    /// let mut set = ChunkedRangeSet::new();
+    /// set.insert(0..10)?;
+    /// set.intersection_with(RangeSetRef::single(&5))?;
+    /// assert_eq!(set.to_string(), "5..10");
+    /// # Ok::<(), AllocError>(())
+    /// ```
+    pub fn intersection_with(&mut self, that: &RangeSetRef<T>) -> Result<(), AllocError> {
+        self.0.proved_mut().intersection_with(that.proved())
+    }
+
+    /// Removes the members of `that`.
+    ///
+    /// # Errors
+    ///
+    /// If memory is refused. The set is then as it was.
+    ///
+    /// # Examples
+    ///
+    /// ```
+    /// use range_sets::fallible::{AllocError, ChunkedRangeSet};
+    /// use range_sets::RangeSetRef;
+    ///
+    /// let mut set = ChunkedRangeSet::new();
+    /// set.insert(0..10)?;
+    /// set.difference_with(RangeSetRef::single(&5))?;
+    /// assert_eq!(set.to_string(), "0..5");
+    /// # Ok::<(), AllocError>(())
+    /// ```
+    pub fn difference_with(&mut self, that: &RangeSetRef<T>) -> Result<(), AllocError> {
+        self.0.proved_mut().difference_with(that.proved())
+    }
+
+    /// Removes the members of `that` and adds those that weren't in.
+    ///
+    /// # Errors
+    ///
+    /// If memory is refused. The set is then as it was.
+    ///
+    /// # Examples
+    ///
+    /// ```
+    /// use range_sets::fallible::{AllocError, ChunkedRangeSet};
+    /// use range_sets::RangeSetRef;
+    ///
+    /// let mut set = ChunkedRangeSet::new();
+    /// set.insert(0..10)?;
+    /// set.symmetric_difference_with(RangeSetRef::single(&5))?;
+    /// assert_eq!(set.to_string(), "0..5, 10..");
+    /// # Ok::<(), AllocError>(())
+    /// ```
+    pub fn symmetric_difference_with(&mut self, that: &RangeSetRef<T>) -> Result<(), AllocError> {
+        self.0.proved_mut().symmetric_difference_with(that.proved())
     }
 }
 

@@ -8,6 +8,7 @@ pub(crate) mod counting;
 pub(crate) mod cutting;
 pub(crate) mod inserting;
 pub(crate) mod iter;
+pub(crate) mod merging;
 pub(crate) mod moving;
 pub(crate) mod overwriting;
 pub(crate) mod place;

@@ -2,6 +2,7 @@
 //! The set: a list of chunks whose boundaries are strictly sorted, all together.
 
 pub(crate) mod asking;
+pub(crate) mod combining;
 pub(crate) mod making;
 
 use crate::generated::range_chunks::chunk::Chunk;
@@ -30,7 +31,7 @@ use core::ops::{Range, RangeFrom};
 ///
 /// A range has its start and not its end; an empty or reversed range has no members. Of two equal
 /// boundaries the set's own stays. If memory runs out, the set has the boundaries that it had.
-/// Nothing is copied but by `from_view` and `clone`.
+/// Nothing is copied but by `from_view`, `clone` and operations with a view.
 ///
 /// Among `c` chunks a search makes at most `d(c) + 10` comparisons, where `d` counts binary digits
 /// (seen by reading). `contains`, `range_at`, `next_member`, `next_gap` and calls with a range
