@@ -21,7 +21,7 @@ use Rattle.range_collections.proofs.Shortest.{is_le-cases, count_up_to-append, c
 abbrev pub bit : Bool → ℕ
 bit b = cond b 1 0
 
-bit-small : (b : Bool) → bit b ≤ 1
+pub bit-small : (b : Bool) → bit b ≤ 1
 bit-small true = omega arith
 bit-small false = omega arith
 

@@ -7,31 +7,17 @@ use Rattle.std.specs.declared.cmp.Ordering.{Ordering}
 use Rattle.std.proofs.lemmas.Grind.{flat_map-append}
 use Rattle.std.proofs.lemmas.List.Folds.{list_all-append}
 use Rattle.range_merge.specs.Boundaries.{IsAscending, member}
-use Rattle.range_merge.specs.Changes.{changes}
 use Rattle.range_merge.specs.Connective.{Means, intersection_table}
-use Rattle.range_merge.specs.Owners.{IsOwners, owners}
-use Rattle.range_merge.proofs.ChangesLemmas.{Means-changes}
-use Rattle.range_merge.proofs.Counts.{length-changes}
-use Rattle.range_merge.proofs.OwnersLemmas.{IsOwners-owners}
 use Rattle.range_collections.specs.Intersections.{GivesIntersection}
 use Rattle.range_collections.specs.Unions.{GivesUnion}
-use Rattle.range_collections.proofs.Combined.{length-means}
 use Rattle.range_collections.proofs.FirstParts.{All-front, All-back}
-use Rattle.range_collections.proofs.Unions.{length-halves}
+use Rattle.range_collections.proofs.Unions.{length-halves, length-result}
 
 or-and : (b : Bool) → (b || false) ≡ (b && true)
 or-and true = refl
 or-and false = refl
 
 module _ {K : Type 0} {order : K → K → Ordering} (o : IsTotalOrder order) where
-  length-intersection : (items a b : List K) → IsAscending order a → IsAscending order b → Means order intersection_table items a b → length items ≤ length a + length b
-  length-intersection items a b p q m =
-      let io : IsOwners order a b (owners order a b) = IsOwners-owners o a b p q in
-      let e : length items ≡ length (changes order intersection_table a b) =
-      length-means o intersection_table (changes order intersection_table a b) items a b (length (changes order intersection_table a b)) refl
-      (Means-changes o intersection_table a b refl p q io) m in
-      rw e (length-changes order intersection_table a b)
-
   module _ (is_copy : K → K → Type 0) (is_infallible : K → Type 0) {P : Type 0} (boundaries : P → List K) (room : ℕ) where
     abbrev Gives : List P → Result (List K) AllocError → Type 0
     Gives parts r = GivesIntersection order is_infallible boundaries room parts r
@@ -71,7 +57,7 @@ module _ {K : Type 0} {order : K → K → Ordering} (o : IsTotalOrder order) wh
       members = λ x.
           means.members x ∙ ap₂ (λ p q. p && q) (f.members x) (s.members x)
           ∙ sym (list_all-append (λ part. member order (boundaries part) x) front back);
-      at_most = omega (arith, length-intersection items a b f.sorted s.sorted means, f.at_most, s.at_most, length-halves boundaries (front ++ back) front back refl);
+      at_most = omega (arith, length-result o intersection_table refl items a b f.sorted s.sorted means, f.at_most, s.at_most, length-halves boundaries (front ++ back) front back refl);
       succeeds = λ _ _. refl;
     })
     GivesIntersection-cut parts front back a b (Err error) e f s means succeeds = record {

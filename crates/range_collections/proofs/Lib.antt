@@ -38,6 +38,7 @@ pub mod ReadBack
 pub mod Decimals
 pub mod ManyRanges
 pub mod Next
+pub mod Endless
 pub mod Previous
 pub mod Ranked
 pub mod RangeMembers

@@ -9,7 +9,7 @@ use Rattle.std.proofs.lemmas.List.{get_or-append_right, get_or_append_left}
 use Rattle.std.specs.declared.cmp.Ordering.{Ordering}
 use Rattle.std.specs.declared.cmp.Ordering.TheVariants.{Less, Equal, Greater}
 use Rattle.range_merge.specs.Boundaries.{IsAscending, count_up_to, member, is_odd}
-use Rattle.range_merge.proofs.Members.{count_up_to-nil}
+use Rattle.range_merge.proofs.Members.{by_Ordering, count_up_to-nil}
 use Rattle.range_merge.proofs.Orders.{Greater-from_less, Less-from_greater, Equal-self}
 use Rattle.range_merge.proofs.Parity.{is_odd-suc}
 use Rattle.range_collections.specs.Members.{IsPrevious}
@@ -197,6 +197,19 @@ module _ {K : Type 0} {order : K → K → Ordering} (o : IsTotalOrder order) (i
         IfNone r ((x : K) → is_value x → is_le (order x here) ≡ true → member order items x ≡ not inside)
     not_there-none None all = λ x w low. not_there x low (all x w)
     not_there-none (Some at) all = tt
+
+-- ---- two answers are equal
+not_both : (p q : Bool) → p ≡ q → p ≡ not q → ⊥
+not_both p true e f = absurd (true≢false (sym e ∙ f))
+not_both p false e f = absurd (true≢false (sym f ∙ e))
+
+pub IsPrevious-pinned : {K : Type 0} {order : K → K → Ordering} (o : IsTotalOrder order) (is_value : K → Type 0) (inside : Bool) (items : List K) (from a b : K) →
+    IsPrevious order is_value inside items from a → IsPrevious order is_value inside items from b → order a b ≡ Equal
+IsPrevious-pinned {K} {order} o is_value inside items from a b p q =
+    by_Ordering (order a b)
+    (λ less. absurd (not_both (member order items b) inside q.is_there (p.greatest b q.value less q.at_or_below)))
+    (λ same. same)
+    (λ past. absurd (not_both (member order items a) inside p.is_there (q.greatest a p.value (Less-from_greater o a b past) p.at_or_below)))
 
 -- ---- what an option that is made from a place holds
 module _ {K : Type 0} (value : ℕ → K) (count p : ℕ) where

@@ -11,15 +11,11 @@ use Rattle.std.proofs.lemmas.Cmp.{by_ranked}
 use Rattle.range_merge.specs.Boundaries.{IsAscending, count_up_to, member, is_odd}
 use Rattle.range_merge.proofs.Orders.{Greater-from_less, Less-from_greater, Equal-self}
 use Rattle.range_collections.specs.Covered.{members_below}
-use Rattle.range_collections.proofs.Counted.{bit, members_below-zero, members_below-suc, le-value, Greater-value}
+use Rattle.range_collections.proofs.Counted.{bit, bit-small, members_below-zero, members_below-suc, le-value, Greater-value}
 use Rattle.range_collections.proofs.CountUpTo.{count_up_to-split}
 use Rattle.range_collections.proofs.Cut.{count_up_to-front, All-take_within, All-drop_within}
 use Rattle.range_collections.proofs.Points.{is_odd-at_one, is_odd-at_zero}
 use Rattle.range_collections.proofs.Shortest.{count_up_to-all, count_up_to-none, Less-then_le, le-trans}
-
-bit-most : (b : Bool) → bit b ≤ 1
-bit-most true = omega arith
-bit-most false = omega arith
 
 module _ {K : Type 0} (order : K → K → Ordering) (value : ℕ → K) where
   members_below-same : (a b : List K) (n : ℕ) → ((k : ℕ) → k < n → member order a (value k) ≡ member order b (value k)) →
@@ -64,7 +60,7 @@ module _ {K : Type 0} (order : K → K → Ordering) (value : ℕ → K) where
         | inl low ↦
             let e : suc n ≡ p = omega (arith, up, low) in
             omega (arith, ap (members_below order value items) e, up, low)
-        | inr past ↦ omega (arith, past, members_below-suc order value items n, bit-most (member order items (value n)), members_below-most items p n past)
+        | inr past ↦ omega (arith, past, members_below-suc order value items n, bit-small (member order items (value n)), members_below-most items p n past)
       ]
 
   pub members_below-le : (items : List K) (n : ℕ) → members_below order value items n ≤ n

@@ -13,7 +13,7 @@ use Rattle.std.proofs.lemmas.List.Elements.{length_all_zip}
 use Rattle.std.proofs.lemmas.List.Folds.{list_any-append, Any-from_list_any, list_any-from_Any}
 use Rattle.range_merge.specs.Boundaries.{IsAscending, member}
 use Rattle.range_merge.specs.Changes.{changes}
-use Rattle.range_merge.specs.Connective.{Means, union_table}
+use Rattle.range_merge.specs.Connective.{Table, Means, union_table}
 use Rattle.range_merge.specs.Counting.{AddsAtMost}
 use Rattle.range_merge.specs.Owners.{IsOwners, owners}
 use Rattle.range_merge.specs.Runs.{digits}
@@ -66,12 +66,16 @@ AddsAtMost-front old first n nf lf lb l some front whole u =
     record { at_least = u.at_least; at_most = omega (arith, u.at_most, f, e) }
 
 module _ {K : Type 0} {order : K → K → Ordering} (o : IsTotalOrder order) where
-  pub length-union : (items a b : List K) → IsAscending order a → IsAscending order b → Means order union_table items a b → length items ≤ length a + length b
-  length-union items a b p q m =
+  -- the result of an operation that is off where both sides are has no more items than both lists
+  pub length-result : (f : Table) → f false false ≡ false → (items a b : List K) → IsAscending order a → IsAscending order b → Means order f items a b → length items ≤ length a + length b
+  length-result f off items a b p q m =
       let io : IsOwners order a b (owners order a b) = IsOwners-owners o a b p q in
-      let e : length items ≡ length (changes order union_table a b) =
-      length-means o union_table (changes order union_table a b) items a b (length (changes order union_table a b)) refl (Means-changes o union_table a b refl p q io) m in
-      rw e (length-changes order union_table a b)
+      let e : length items ≡ length (changes order f a b) =
+      length-means o f (changes order f a b) items a b (length (changes order f a b)) refl (Means-changes o f a b off p q io) m in
+      rw e (length-changes order f a b)
+
+  pub length-union : (items a b : List K) → IsAscending order a → IsAscending order b → Means order union_table items a b → length items ≤ length a + length b
+  length-union = length-result union_table refl
 
   module _ {is_copy : K → K → Type 0} (equal : (x y : K) → is_copy x y → order x y ≡ Equal) where
     pub copies_are_equal : (xs ys : List K) → AllZip is_copy xs ys → AllZip (λ x y. order x y ≡ Equal) xs ys

@@ -22,6 +22,7 @@ pub mod Countable
 pub mod Covered
 pub mod Fits
 pub mod Members
+pub mod Endless
 pub mod Headline
 pub mod Operators
 pub mod InPlace

@@ -10,6 +10,7 @@ ghost use Rattle.range_collections.specs.Sets.{AreEqual};
 
 mod by_view;
 mod constructors;
+mod endless;
 mod in_place;
 mod insertion;
 mod joining;

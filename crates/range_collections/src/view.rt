@@ -6,6 +6,7 @@ ghost use Rattle.std.proofs.Props.{props};
 ghost use Rattle.range_merge.specs.Boundaries.{IsAscending, member};
 
 mod counting;
+mod endless;
 mod equality;
 mod members;
 mod operations;

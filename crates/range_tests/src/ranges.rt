@@ -250,3 +250,39 @@ fn ranges_are_copied_with_their_bounds(rt: HostRuntime) {
     assert!(rt; is_copied(rt.alloc(), ranges.next(), 4, None, &[4]));
     assert!(rt; ranges.next().is_none() && ranges.next().is_none());
 }
+
+// Boundaries, a start, whether all from it on are members, and whether some are.
+const ENDLESS: [(&[i8], i8, bool, bool); 11] = [
+    (&[], 0, false, false),
+    (&[-128], -128, true, true),
+    (&[-128], 0, true, true),
+    (&[127], 126, false, true),
+    (&[127], 127, true, true),
+    (&[3, 5], 0, false, true),
+    (&[3, 5], 4, false, true),
+    (&[3, 5], 5, false, false),
+    (&[3, 5, 9], 8, false, true),
+    (&[3, 5, 9], 9, true, true),
+    (&[3, 5, 9], 127, true, true),
+];
+
+// Whether the set and its view answer so of what lies from the start on.
+fn answer_from(set: Option<RangeSet2<i8>>, start: i8, all: bool, some: bool) -> Option<bool> {
+    let set = set?;
+    let view = set.as_ref();
+    let inside = set.contains_range_from(start..) == all
+        && view.contains_range_from(start..) == all;
+    Some(
+        inside
+            && set.intersects_range_from(start..) == some
+            && view.intersects_range_from(start..) == some,
+    )
+}
+
+#[test]
+fn ranges_without_an_end_are_asked_about(rt: HostRuntime) {
+    for row in &ENDLESS {
+        let found = answer_from(own(rt.alloc(), row.0), row.1, row.2, row.3);
+        assert!(rt; found == Some(true), "{row:?}");
+    }
+}

@@ -6,6 +6,7 @@
 
 pub(crate) mod by_view;
 pub(crate) mod constructors;
+pub(crate) mod endless;
 pub(crate) mod in_place;
 pub(crate) mod insertion;
 pub(crate) mod joining;

@@ -2,6 +2,7 @@
 //! A view of a set: a strictly sorted slice of boundaries.
 
 pub(crate) mod counting;
+pub(crate) mod endless;
 pub(crate) mod equality;
 pub(crate) mod members;
 pub(crate) mod operations;
