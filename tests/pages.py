@@ -25,7 +25,7 @@ READING = re.compile(r"^(`.*`) \| (\S+) \| (\d+)$", re.M)
 READ = re.compile(r"(\d+) lines with their comments")
 MOST_TO_READ = 250
 # The crates whose public calls a page has to have.
-PROVED = ("range_merge", "range_entry", "range_collections", "range_chunks", "range_tracker", "range_calc_answers", "range_track_answers")
+PROVED = ("range_merge", "range_entry", "range_collections", "range_chunks", "range_map", "range_tracker", "range_calc_answers", "range_track_answers")
 # What a crate exports; what declares a call in Rattle: the type or trait that it belongs to, if any, and its name.
 EXPORTED = re.compile(r"^pub use [^;]*;", re.M)
 BLOCK = re.compile(r"^(?:impl\b(?P<impl>[^{;]*)\{|pub trait (?P<trait>\w+))|^(?P<indent> *)(?P<pub>pub )?(?:const )?fn (?P<name>\w+)", re.M)

@@ -1,0 +1,32 @@
+-- What a change makes of a map, by the option at each element.
+--     is_in_range order start end x      x is at or above the start, and below the end if there is one
+--     IsSetTo order E start end p a r    r has p in the range, and elsewhere what a has
+--     FitsAfter order E start end p a    some such map has no more steps than a
+use Rattle.std.specs.Prelude.{◌≤◌, Bool, true, cond, ◌&&◌, length, Option, Some, None}
+use Rattle.std.specs.Ordering.{is_le, is_lt}
+use Rattle.std.specs.declared.cmp.Ordering.{Ordering}
+use Rattle.range_map.specs.Steps.{Steps, value_at, AreAlike, IsCanonical}
+
+module _ {K : Type 0} (order : K → K → Ordering) where
+  -- below the end, if there is one
+  abbrev pub is_before_end : Option K → K → Bool
+  is_before_end None x = true
+  is_before_end (Some end) x = is_lt (order x end)
+
+  -- at or above the start, and below the end if there is one
+  abbrev pub is_in_range : K → Option K → K → Bool
+  is_in_range start end x = is_le (order start x) && is_before_end end x
+
+  module _ {V : Type 0} (E : V → V → Bool) where
+    -- p in the range, and elsewhere the option as it was
+    abbrev pub IsSetTo : K → Option K → Option V → Steps K V → Steps K V → Type 0
+    IsSetTo start end p a r =
+        (x : K) → AreAlike E (value_at order r x)
+        (cond (is_in_range start end x) p (value_at order a x))
+
+    -- there is a map that has p in the range, and elsewhere the option as it was, with no more steps
+    pub record FitsAfter (start : K) (end : Option K) (p : Option V) (a : Steps K V) : Type 0 where
+      pub after : Steps K V
+      pub canonical : IsCanonical order E after
+      pub values : IsSetTo start end p a after
+      pub no_longer : length after.keys ≤ length a.keys

@@ -1,0 +1,52 @@
+-- Where a range lies among the steps of a map; contracts of private functions use these words.
+--     after_range options places copied    the option that holds from the end on
+--     put_len places             how many steps are put
+--     needs_end E end p after    whether one has to stand at the end
+--     ArePlaces ..               which steps lie in the range, and whether some stand at its ends
+use Rattle.std.specs.Prelude.{◌≡◌, ℕ, ◌+◌, ◌≤◌, Bool, true, false, not, cond, List, ◌∷◌, length, get_or, nat_lt, Option, Some, None}
+use Rattle.std.specs.List.{AllWithin}
+use Rattle.std.specs.Option.{option_eq}
+use Rattle.std.specs.Ordering.{is_le}
+use Rattle.std.specs.declared.cmp.Ordering.{Ordering}
+use Rattle.std.specs.declared.cmp.Ordering.TheVariants.{Less, Greater}
+use Rattle.range_map.specs.Steps.{Steps}
+use Rattle.range_map.specs.declared.places.Places.{Places}
+
+-- the last option in the range, or if no step lies in it the copy
+abbrev pub after_range : {V : Type 0} → List (Option V) → Places → Option V → Option V
+after_range options places copied =
+    cond (nat_lt places.from places.to) (get_or (None ∷ options) places.to None) copied
+
+-- how many steps are put
+abbrev pub put_len : Places → ℕ
+put_len places = cond places.starts 1 0 + cond places.ends 1 0
+
+-- whether a step has to stand at the end: the option that held there isn't p
+abbrev pub needs_end : {K W : Type 0} → (W → W → Bool) → Option K → W → W → Bool
+needs_end E None p after = false
+needs_end E (Some end) p after = not (E after p)
+
+module _ {K : Type 0} (order : K → K → Ordering) where
+  -- at or below the end, if there is one
+  abbrev pub IsUpToEnd : Option K → K → Type 0
+  IsUpToEnd None y = Unit {0}
+  IsUpToEnd (Some end) y = is_le (order y end) ≡ true
+
+  -- above the end: nothing is, if there is none
+  abbrev pub IsAboveEnd : Option K → K → Type 0
+  IsAboveEnd None y = ⊥
+  IsAboveEnd (Some end) y = order y end ≡ Greater
+
+  -- the keys before place `from` are below the start, those from there on aren't; the keys before
+  -- place `to` are at or below the end, those from there on are above it; and steps have to stand
+  -- where the option changes to p and where it changes back
+  pub record ArePlaces {V : Type 0} (E : V → V → Bool) (m : Steps K V) (start : K) (end : Option K)
+      (p : Option V) (places : Places) : Type 0 where
+    pub from_in : places.from ≤ length m.keys
+    pub to_in : places.to ≤ length m.keys
+    pub below : AllWithin (λ y. order y start ≡ Less) m.keys 0 places.from
+    pub at_least : AllWithin (λ y. is_le (order start y) ≡ true) m.keys places.from (length m.keys)
+    pub up_to : AllWithin (IsUpToEnd end) m.keys 0 places.to
+    pub above : AllWithin (IsAboveEnd end) m.keys places.to (length m.keys)
+    pub starts : places.starts ≡ not (option_eq E (get_or (None ∷ m.options) places.from None) p)
+    pub ends : places.ends ≡ needs_end (option_eq E) end p (get_or (None ∷ m.options) places.to None)

@@ -1,0 +1,150 @@
+//! The map: strictly sorted keys, and the option that holds from each of them on.
+ghost use Rattle.std.specs.Prelude.{◌≡◌, ◌↔◌, [], false, filter, length, IsTrue, Some, None, OnOk, OnErr, IsOk, option_copied};
+ghost use Rattle.std.specs.Option.{is_some};
+ghost use Rattle.std.specs.Ordering.{is_lt};
+ghost use Rattle.range_map.specs.Steps.{value_at, ranges_len};
+ghost use Rattle.range_map.specs.Changed.{IsSetTo, FitsAfter};
+
+use crate::replacing::set_range;
+use crate::value::MapValue;
+use range_collections::Comparisons;
+use range_merge::count_up_to;
+use std::alloc::{AllocError, Global};
+use std::marker::Model;
+use std::ops::Range;
+
+/// A map from ranges to values, which is changed range by range.
+///
+/// Each key has the value of the last range that was put around it, or none. Ranges that touch and
+/// have equal values are one: two maps are equal exactly if each key has equal values in both. A
+/// map to one value is a `RangeSet` of the keys that have it.
+///
+/// ```text
+/// let mut bookings = RangeMap::new(alloc);
+/// bookings.insert(9..12, Guest::Ada)?;
+/// bookings.insert(11..14, Guest::Bob)?;
+/// bookings.get(&10)                    // Some(&Guest::Ada)
+/// bookings.get(&11)                    // Some(&Guest::Bob)
+/// ```
+///
+/// A range has its start and not its end; an empty or reversed range has no keys. Of two equal keys
+/// where ranges begin, either may stay. If memory runs out, the map is as it was. A value is copied
+/// only where a range becomes two.
+///
+/// It is one list, so a change moves all later keys. A search makes at most as many comparisons as
+/// twice the number of ranges has binary digits.
+#[derive(Drop)]
+pub struct RangeMap<K: Ord, V: Eq> {
+    keys: Vec<K>,
+    options: Vec<Option<V>>,
+}
+
+impl<K: Ord, V: Eq> Model for RangeMap<K, V> {
+    ghost use Rattle.range_map.specs.Steps.{Steps, IsCanonical, coded_steps};
+
+    ghost Value = { Steps K V };
+
+    ghost coded = { coded_steps K.code V.code };
+
+    ghost view = { λ map. record { keys = map.keys.items; options = map.options.items } };
+
+    ghost invariant = { λ map. IsCanonical K.cmp V.eq (record { keys = map.keys.items; options = map.options.items }) };
+}
+
+impl<K: Ord, V: Eq> RangeMap<K, V> {
+    /// The empty map. It takes no memory.
+    #[inline]
+    pub fn new(alloc: Global) -> Self
+        ensures steps { (result.keys ≡ []) × (result.options ≡ []) }
+        ensures values { (x : K) → value_at K.cmp result x ≡ None }
+    {
+        RangeMap {
+            keys: Vec::new(alloc),
+            options: Vec::new(alloc),
+        }
+    }
+
+    /// The value of `key`, or `None` if it has none.
+    pub fn get(&self, key: &K) -> Option<&V>
+        ensures { option_copied result ≡ value_at K.cmp self.now key.now }
+    {
+        let n = count_up_to(self.keys.as_slice(), key, &mut Comparisons::new());
+        if n == 0 {
+            return None;
+        }
+        self.options[n - 1].as_ref()
+    }
+
+    /// Whether `key` has a value.
+    pub fn contains_key(&self, key: &K) -> bool
+        ensures { result ≡ is_some (value_at K.cmp self.now key.now) }
+    {
+        self.get(key).is_some()
+    }
+
+    /// Whether no key has a value.
+    #[inline]
+    pub fn is_empty(&self) -> bool
+        ensures { IsTrue result ↔ ((x : K) → value_at K.cmp self.now x ≡ None) }
+    {
+        self.keys.is_empty()
+    }
+
+    /// How many ranges there are, where those that touch and have equal values are one.
+    pub fn len(&self) -> usize
+        ensures { result ≡ ranges_len self.now }
+    {
+        some_len(self.options.as_slice())
+    }
+}
+
+impl<K: Ord + Drop, V: MapValue> RangeMap<K, V> {
+    /// Gives each key of the range the value, in the place of the one that it had. An empty or
+    /// reversed range changes nothing.
+    ///
+    /// It asks for memory only if there are more steps after it, and before it changes anything. It
+    /// copies a value only if the range lies within another one. If that fails, the map is as it
+    /// was, and the range and the value are dropped.
+    pub fn insert(&mut self, range: Range<K>, value: V) -> Result<(), AllocError>
+        ensures values { OnOk result (IsSetTo K.cmp V.eq range.start (Some range.end) (Some value) self.old self.new) }
+        ensures unchanged { OnErr result (self.new ≡ self.old) }
+        ensures empty { is_lt (K.cmp range.start range.end) ≡ false → (self.new ≡ self.old) × IsOk result }
+        ensures succeeds { FitsAfter K.cmp V.eq range.start (Some range.end) (Some value) self.old → IsOk result }
+    {
+        self.set(range, Some(value))
+    }
+
+    /// Takes the value of each key of the range away. An empty or reversed range changes nothing.
+    ///
+    /// It asks for memory, and copies a value, only if the range lies within another one, and
+    /// before it changes anything. If that fails, the map is as it was, and the range is dropped.
+    pub fn remove(&mut self, range: Range<K>) -> Result<(), AllocError>
+        ensures values { OnOk result (IsSetTo K.cmp V.eq range.start (Some range.end) None self.old self.new) }
+        ensures unchanged { OnErr result (self.new ≡ self.old) }
+        ensures empty { is_lt (K.cmp range.start range.end) ≡ false → (self.new ≡ self.old) × IsOk result }
+        ensures succeeds { FitsAfter K.cmp V.eq range.start (Some range.end) None self.old → IsOk result }
+    {
+        self.set(range, None)
+    }
+
+    // Gives each key of the range an option.
+    fn set(&mut self, range: Range<K>, option: Option<V>) -> Result<(), AllocError>
+        ensures values { OnOk result (IsSetTo K.cmp V.eq range.start (Some range.end) option self.old self.new) }
+        ensures unchanged { OnErr result (self.new ≡ self.old) }
+        ensures empty { is_lt (K.cmp range.start range.end) ≡ false → (self.new ≡ self.old) × IsOk result }
+        ensures succeeds { FitsAfter K.cmp V.eq range.start (Some range.end) option self.old → IsOk result }
+    {
+        let Range { start, end } = range;
+        if !start.cmp(&end).is_lt() {
+            return Ok(());
+        }
+        set_range(&mut self.keys, &mut self.options, start, Some(end), option)
+    }
+}
+
+// How many of the options have a value.
+fn some_len<V>(options: &[Option<V>]) -> usize
+    ensures { result ≡ length (filter is_some options.now) }
+{
+    options.iter().filter(|option| option.is_some()).count()
+}

@@ -1,0 +1,25 @@
+//! The values of a map.
+ghost use Rattle.std.specs.Prelude.{◌≡◌, true, IsOk, IfOk};
+
+use std::alloc::AllocError;
+
+/// A type whose values can be copied, which may fail. A map copies a value only where one of its
+/// ranges becomes two.
+pub trait MapValue: Eq + Drop {
+    // A copy of this value never fails.
+    ghost is_infallible: { Self → Type 0 };
+
+    /// A copy of this value, which is equal to it, or an error if memory runs out.
+    fn copy_value(&self) -> Result<Self, AllocError>
+        ensures same { IfOk result (λ copied. Self.eq copied self.now ≡ true) }
+        ensures succeeds { is_infallible self.now → IsOk result };
+}
+
+impl<T: Eq + Copy + Drop> MapValue for T {
+    ghost is_infallible = { λ _. Unit {0} };
+
+    #[inline(always)]
+    fn copy_value(&self) -> Result<Self, AllocError> {
+        Ok(*self)
+    }
+}
