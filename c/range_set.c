@@ -64,6 +64,7 @@ static void release(void *context, void *memory, size_t size)
 #define RANGE range_set_i32_range
 #define BUFFER range_set_i32_buffer
 #define OWNED range_set_i32_owned
+#define CHUNKED range_set_i32_chunked
 #define NAME(call) range_set_i32_##call
 #define PROVED(call) proved_range_set_i32_##call
 #include "range_set_calls.h"
@@ -74,6 +75,7 @@ static void release(void *context, void *memory, size_t size)
 #define RANGE range_set_u32_range
 #define BUFFER range_set_u32_buffer
 #define OWNED range_set_u32_owned
+#define CHUNKED range_set_u32_chunked
 #define NAME(call) range_set_u32_##call
 #define PROVED(call) proved_range_set_u32_##call
 #include "range_set_calls.h"
@@ -84,6 +86,7 @@ static void release(void *context, void *memory, size_t size)
 #define RANGE range_set_i64_range
 #define BUFFER range_set_i64_buffer
 #define OWNED range_set_i64_owned
+#define CHUNKED range_set_i64_chunked
 #define NAME(call) range_set_i64_##call
 #define PROVED(call) proved_range_set_i64_##call
 #include "range_set_calls.h"
@@ -94,6 +97,7 @@ static void release(void *context, void *memory, size_t size)
 #define RANGE range_set_u64_range
 #define BUFFER range_set_u64_buffer
 #define OWNED range_set_u64_owned
+#define CHUNKED range_set_u64_chunked
 #define NAME(call) range_set_u64_##call
 #define PROVED(call) proved_range_set_u64_##call
 #include "range_set_calls.h"

@@ -1,5 +1,5 @@
 /* The layer for one type of numbers. Before each include NUMBER is the type, and COUNT the unsigned one of its width;
- * SET, RANGE, BUFFER and OWNED are the header's structs for it, NAME(call) is the name of a call of the header, and PROVED(call) the
+ * SET, RANGE, BUFFER, OWNED and CHUNKED are the header's structs for it, NAME(call) is the name of a call of the header, and PROVED(call) the
  * name of the proved call that it stands before. */
 
 /* The proved calls: a list is a pointer and a length. Those that write a list answer its length, and have written it where
@@ -41,6 +41,23 @@ size_t PROVED(parse)(const char *text, size_t text_len, NUMBER *ranges, size_t c
 size_t PROVED(from_unsorted)(NUMBER *items, size_t len);
 size_t PROVED(from_ranges)(NUMBER *ranges, size_t count);
 size_t PROVED(union_from)(NUMBER *ranges, size_t count, bool is_open, NUMBER *open);
+
+/* Those of sets in chunks: one of `new` and `of` is given no set, {NULL}, and the others a set. What answers whether it is done had no memory
+ * where it isn't, and then nothing has changed. */
+bool PROVED(chunked_new)(CHUNKED *set);
+bool PROVED(chunked_of)(CHUNKED *set, const NUMBER *a, size_t a_len);
+void PROVED(chunked_free)(CHUNKED *set);
+bool PROVED(chunked_insert)(CHUNKED *set, NUMBER start, NUMBER end);
+bool PROVED(chunked_insert_from)(CHUNKED *set, NUMBER start);
+bool PROVED(chunked_remove)(CHUNKED *set, NUMBER start, NUMBER end);
+bool PROVED(chunked_remove_from)(CHUNKED *set, NUMBER start);
+bool PROVED(chunked_contains)(CHUNKED *set, NUMBER value);
+bool PROVED(chunked_contains_range)(CHUNKED *set, NUMBER start, NUMBER end);
+bool PROVED(chunked_next_member)(CHUNKED *set, NUMBER from, NUMBER *next);
+bool PROVED(chunked_next_gap)(CHUNKED *set, NUMBER from, NUMBER *next);
+size_t PROVED(chunked_ranges_len)(CHUNKED *set);
+size_t PROVED(chunked_boundaries_len)(CHUNKED *set);
+size_t PROVED(chunked_copy)(CHUNKED *set, NUMBER *out, size_t room);
 
 /* A null pointer is this address, of which nothing is read or written. */
 static NUMBER NAME(nothing);
@@ -524,6 +541,102 @@ range_set_status NAME(owned_combine)(OWNED *owned, SET other, unsigned keep)
     return NAME(combine)(set, other, keep, owned->in.items, longest, &owned->in.set);
 }
 
+/* ---- Sets in chunks ---- */
+
+range_set_status NAME(chunked_new)(CHUNKED *set)
+{
+    if (set == NULL) return RANGE_SET_BAD_ARGUMENT;
+    set->at = NULL;
+    return PROVED(chunked_new)(set) ? RANGE_SET_DONE : RANGE_SET_NO_MEMORY;
+}
+
+range_set_status NAME(chunked_of)(SET list, CHUNKED *set)
+{
+    if (set == NULL || (list.boundaries != NULL && overlap(set, sizeof *set, list.boundaries, list.len * sizeof *list.boundaries)))
+        return RANGE_SET_BAD_ARGUMENT;
+    set->at = NULL;
+    return PROVED(chunked_of)(set, LIST(list)) ? RANGE_SET_DONE : RANGE_SET_NO_MEMORY;
+}
+
+void NAME(chunked_free)(CHUNKED *set)
+{
+    if (set != NULL && set->at != NULL) PROVED(chunked_free)(set);
+}
+
+range_set_status NAME(chunked_insert)(CHUNKED *set, NUMBER start, NUMBER end)
+{
+    if (set == NULL || set->at == NULL) return RANGE_SET_BAD_ARGUMENT;
+    return PROVED(chunked_insert)(set, start, end) ? RANGE_SET_DONE : RANGE_SET_NO_MEMORY;
+}
+
+range_set_status NAME(chunked_remove)(CHUNKED *set, NUMBER start, NUMBER end)
+{
+    if (set == NULL || set->at == NULL) return RANGE_SET_BAD_ARGUMENT;
+    return PROVED(chunked_remove)(set, start, end) ? RANGE_SET_DONE : RANGE_SET_NO_MEMORY;
+}
+
+range_set_status NAME(chunked_insert_from)(CHUNKED *set, NUMBER start)
+{
+    if (set == NULL || set->at == NULL) return RANGE_SET_BAD_ARGUMENT;
+    return PROVED(chunked_insert_from)(set, start) ? RANGE_SET_DONE : RANGE_SET_NO_MEMORY;
+}
+
+range_set_status NAME(chunked_remove_from)(CHUNKED *set, NUMBER start)
+{
+    if (set == NULL || set->at == NULL) return RANGE_SET_BAD_ARGUMENT;
+    return PROVED(chunked_remove_from)(set, start) ? RANGE_SET_DONE : RANGE_SET_NO_MEMORY;
+}
+
+bool NAME(chunked_contains)(CHUNKED set, NUMBER value)
+{
+    return set.at != NULL && PROVED(chunked_contains)(&set, value);
+}
+
+bool NAME(chunked_contains_range)(CHUNKED set, NUMBER start, NUMBER end)
+{
+    return set.at != NULL ? PROVED(chunked_contains_range)(&set, start, end) : end <= start;
+}
+
+bool NAME(chunked_next_member)(CHUNKED set, NUMBER from, NUMBER *next)
+{
+    NUMBER at = 0;
+    bool found = set.at != NULL && PROVED(chunked_next_member)(&set, from, &at);
+    if (found && next != NULL) *next = at;
+    return found;
+}
+
+bool NAME(chunked_next_gap)(CHUNKED set, NUMBER from, NUMBER *next)
+{
+    NUMBER at = from;
+    bool found = set.at == NULL || PROVED(chunked_next_gap)(&set, from, &at);
+    if (found && next != NULL) *next = at;
+    return found;
+}
+
+bool NAME(chunked_next)(CHUNKED set, NUMBER from, RANGE *range)
+{
+    RANGE it = {0, 0, false};
+    bool found = NAME(chunked_next_member)(set, from, &it.start);
+    if (found) it.has_end = NAME(chunked_next_gap)(set, it.start, &it.end);
+    return NAME(told)(found, it, range);
+}
+
+size_t NAME(chunked_ranges_len)(CHUNKED set)
+{
+    return set.at != NULL ? PROVED(chunked_ranges_len)(&set) : 0;
+}
+
+size_t NAME(chunked_boundaries_len)(CHUNKED set)
+{
+    return set.at != NULL ? PROVED(chunked_boundaries_len)(&set) : 0;
+}
+
+range_set_status NAME(chunked_copy)(CHUNKED set, NUMBER *out, size_t room, SET *result)
+{
+    if (!is_array(out, room, sizeof *out) || !NAME(is_result)(result, out, room)) return RANGE_SET_BAD_ARGUMENT;
+    return NAME(written)(set.at != NULL ? PROVED(chunked_copy)(&set, ROOM(out, room)) : 0, out, room, result);
+}
+
 #undef LIST
 #undef ROOM
 #undef NUMBER
@@ -532,5 +645,6 @@ range_set_status NAME(owned_combine)(OWNED *owned, SET other, unsigned keep)
 #undef RANGE
 #undef BUFFER
 #undef OWNED
+#undef CHUNKED
 #undef NAME
 #undef PROVED

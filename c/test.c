@@ -74,6 +74,7 @@ static void give_back(void *context, void *items, size_t size)
 #define RANGE range_set_i32_range
 #define BUFFER range_set_i32_buffer
 #define OWNED range_set_i32_owned
+#define CHUNKED range_set_i32_chunked
 #define CALL(call) range_set_i32_##call
 #define TEST(name) i32_##name
 #include "test_calls.h"
@@ -87,6 +88,7 @@ static void give_back(void *context, void *items, size_t size)
 #define RANGE range_set_u32_range
 #define BUFFER range_set_u32_buffer
 #define OWNED range_set_u32_owned
+#define CHUNKED range_set_u32_chunked
 #define CALL(call) range_set_u32_##call
 #define TEST(name) u32_##name
 #define IS_UNSIGNED
@@ -101,6 +103,7 @@ static void give_back(void *context, void *items, size_t size)
 #define RANGE range_set_i64_range
 #define BUFFER range_set_i64_buffer
 #define OWNED range_set_i64_owned
+#define CHUNKED range_set_i64_chunked
 #define CALL(call) range_set_i64_##call
 #define TEST(name) i64_##name
 #include "test_calls.h"
@@ -114,6 +117,7 @@ static void give_back(void *context, void *items, size_t size)
 #define RANGE range_set_u64_range
 #define BUFFER range_set_u64_buffer
 #define OWNED range_set_u64_owned
+#define CHUNKED range_set_u64_chunked
 #define CALL(call) range_set_u64_##call
 #define TEST(name) u64_##name
 #define IS_UNSIGNED

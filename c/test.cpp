@@ -13,6 +13,7 @@
 #include <unordered_set>
 #include <vector>
 
+using range_sets::chunked_range_set;
 using range_sets::range;
 using range_sets::range_set;
 using range_sets::range_set_view;
@@ -135,6 +136,36 @@ template <class T> static void rows()
     check((changed |= day) == day && (changed &= busy) == busy && (changed -= busy).empty() && (changed ^= day) == day, "assigned");
     changed.clear();
     check(changed.empty() && changed.insert(1, 2).contains(1), "clear");
+}
+
+// A set in chunks: rows, copies and moves, and many ranges beside a range_set.
+template <class T> static void chunked()
+{
+    chunked_range_set<T> set;
+    check(set.empty() && set.size() == 0 && set.begin() == set.end() && !set.contains(5) && !set.next_member(0) && set.next_gap(5) == T(5),
+        "chunked: empty");
+    set.insert(9, 17).remove(11, 12).insert_from(20).insert(5, 5);
+    check(text<T>(set) == "9..11 12..17 20.." && set.size() == 3 && !set.empty(), "chunked: changes");
+    check(set.contains(9) && !set.contains(11) && set.contains_range(12, 17) && !set.contains_range(9, 12), "chunked: contains");
+    check(set.next_member(11) == T(12) && set.next_gap(12) == T(17) && !set.next_gap(20), "chunked: next");
+    check(text<T>(set.set()) == "9..11 12..17 20..", "chunked: set");
+    chunked_range_set<T> copy(set), moved(std::move(set)), assigned;
+    check(set.empty() && text<T>(copy) == text<T>(moved), "chunked: copy and move");
+    copy.remove_from(12);
+    check(text<T>(copy) == "9..11" && moved.size() == 3, "chunked: a copy of its own");
+    assigned = moved;
+    moved.clear();
+    check(moved.empty() && assigned.size() == 3 && moved.insert(1, 2).contains(1), "chunked: assigned, and cleared");
+    assigned = std::move(copy);
+    check(text<T>(assigned) == "9..11" && text<T>(chunked_range_set<T>(assigned.set())) == "9..11", "chunked: of a set");
+    chunked_range_set<T> many;
+    range_set<T> wanted;
+    for (unsigned i = 0; i < 3000; i++) {
+        const T start = static_cast<T>(random_below(20000)), end = static_cast<T>(start + static_cast<T>(random_below(4)));
+        if (i % 3 == 2) many.remove(start, end), wanted.remove(start, end);
+        else many.insert(start, end), wanted.insert(start, end);
+    }
+    check(many.set() == wanted && text<T>(many) == text<T>(wanted) && many.size() == wanted.size(), "chunked: many");
 }
 
 // Whether there is a view of what has this type: of a set with a name, and not of a temporary, which would be gone.
@@ -357,6 +388,7 @@ template <class T> static void all()
 {
     widest<T>();
     rows<T>();
+    chunked<T>();
     views_of_temporaries<T>();
     order<T>();
     hashes<T>();

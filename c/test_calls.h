@@ -1,5 +1,5 @@
 /* The tests for one type of numbers. Before each include NUMBER is the type, which is unsigned where IS_UNSIGNED is defined;
- * COUNT is the unsigned type of its width, LEAST its least number, MOST its greatest, SET, RANGE, BUFFER and OWNED the header's
+ * COUNT is the unsigned type of its width, LEAST its least number, MOST its greatest, SET, RANGE, BUFFER, OWNED and CHUNKED the header's
  * structs for it, CALL(call) the name of a call of the header, and TEST(name) the name of a function here. */
 
 /* A list that lies in memory of its own, so that valgrind sees each read beside it. */
@@ -713,6 +713,139 @@ static void TEST(owned_with_its_part)(void)
     CALL(owned_free)(NULL);
 }
 
+/* A set in chunks has these boundaries: read range by range, and copied with the exact room, with more and with too little. */
+static void TEST(has_boundaries)(CHUNKED set, const NUMBER *wanted, size_t len)
+{
+    NUMBER *list = malloc((len + 2) * sizeof *list);
+    SET result = {NULL, 77};
+    RANGE it = {77, 78, true};
+    size_t at = 0, room;
+    bool more;
+    if (list == NULL) fail("no memory");
+    for (more = CALL(chunked_next)(set, LEAST, &it); more; more = it.has_end && CALL(chunked_next)(set, it.end, &it)) {
+        check(at < len && it.start == wanted[at], "chunked: where a range starts");
+        check(it.has_end == (at + 1 < len) && (!it.has_end || it.end == wanted[at + 1]), "chunked: where a range ends");
+        at += it.has_end ? 2 : 1;
+    }
+    check(at == len, "chunked: how many ranges are read");
+    check(CALL(chunked_boundaries_len)(set) == len && CALL(chunked_ranges_len)(set) == len / 2 + len % 2, "chunked: the lengths");
+    for (room = len; room <= len + 2; room += 2) {
+        list[len] = 5, list[len + 1] = 6;
+        check(CALL(chunked_copy)(set, list, room, &result) == RANGE_SET_DONE, "chunked_copy: status");
+        check(TEST(is)(result, wanted, len) && (len == 0 || result.boundaries == list), "chunked_copy: the set");
+        check(list[len] == 5 && list[len + 1] == 6, "chunked_copy: what stands after the set");
+    }
+    if (len > 0) {
+        list[0] = 5, list[len - 1] = 6;
+        check(CALL(chunked_copy)(set, list, len - 1, &result) == RANGE_SET_NO_ROOM, "chunked_copy: too little room");
+        check(result.boundaries == NULL && result.len == len && list[len - 1] == 6 && (len == 1 || list[0] == 5),
+            "chunked_copy: the room that it needs");
+    }
+    check(CALL(chunked_copy)(set, NULL, 1, &result) == RANGE_SET_BAD_ARGUMENT, "chunked_copy: a null buffer");
+    check(CALL(chunked_copy)(set, list, len, NULL) == RANGE_SET_BAD_ARGUMENT, "chunked_copy: a null result");
+    free(list);
+}
+
+/* A set in chunks through some changes, against a bitmap. */
+static void TEST(chunked)(void)
+{
+    NUMBER points[POINTS], wanted[POINTS], next = 77;
+    bool on[POINTS] = {false};
+    size_t p, from, to, steps, len;
+    CHUNKED set = {NULL}, copy = {NULL};
+
+    for (p = 0; p < POINTS; p++) points[p] = LEAST + (NUMBER)(2 * p);
+    check(CALL(chunked_new)(&set) == RANGE_SET_DONE && set.at != NULL, "chunked_new");
+    for (steps = 0; steps < 20; steps++) {
+        unsigned which = random_below(4);
+        range_set_status status;
+        from = random_below(POINTS), to = random_below(POINTS);
+        switch (which) {
+        case 0: status = CALL(chunked_insert)(&set, points[from], points[to]); break;
+        case 1: status = CALL(chunked_remove)(&set, points[from], points[to]); break;
+        case 2: status = CALL(chunked_insert_from)(&set, points[from]), to = POINTS; break;
+        default: status = CALL(chunked_remove_from)(&set, points[from]), to = POINTS; break;
+        }
+        check(status == RANGE_SET_DONE, "chunked: status");
+        for (p = from; p < to; p++) on[p] = which % 2 == 0;
+        len = TEST(boundaries)(points, on, POINTS, wanted);
+        TEST(has_boundaries)(set, wanted, len);
+        for (p = 0; p < POINTS; p++) {
+            size_t after;
+            bool all = true;
+            check(
+                CALL(chunked_contains)(set, points[p]) == on[p] && CALL(chunked_contains)(set, points[p] + 1) == on[p], "chunked_contains");
+            for (after = p; after < POINTS; after++) {
+                check(CALL(chunked_contains_range)(set, points[p], points[after]) == all, "chunked_contains_range");
+                all = all && on[after];
+            }
+            check(CALL(chunked_contains_range)(set, points[p], LEAST), "chunked_contains_range: no number");
+            for (after = p; after < POINTS && !on[after]; after++) {
+            }
+            check(CALL(chunked_next_member)(set, points[p], &next) == (after < POINTS) && (after == POINTS || next == points[after]),
+                "chunked_next_member");
+            for (after = p; after < POINTS && on[after]; after++) {
+            }
+            check(CALL(chunked_next_gap)(set, points[p], &next) == (after < POINTS) && (after == POINTS || next == points[after]),
+                "chunked_next_gap");
+        }
+        check(CALL(chunked_of)(TEST(set)(wanted, len), &copy) == RANGE_SET_DONE, "chunked_of: status");
+        TEST(has_boundaries)(copy, wanted, len);
+        CALL(chunked_free)(&copy);
+    }
+    CALL(chunked_free)(&set);
+    check(set.at == NULL, "chunked_free leaves an address");
+}
+
+/* Many ranges, put in far from each other, so that there are many chunks; and all taken out again. */
+static void TEST(chunked_many)(void)
+{
+    enum { MANY = 5000 };
+    static NUMBER wanted[2 * MANY];
+    CHUNKED set = {NULL};
+    size_t p;
+    for (p = 0; p < MANY; p++) wanted[2 * p] = (NUMBER)(3 * p), wanted[2 * p + 1] = (NUMBER)(3 * p + 1);
+    check(CALL(chunked_new)(&set) == RANGE_SET_DONE, "chunked: many: new");
+    for (p = 0; p < MANY; p++) {
+        NUMBER start = wanted[2 * (p * 1237 % MANY)];
+        check(CALL(chunked_insert)(&set, start, start + 1) == RANGE_SET_DONE, "chunked: many: insert");
+    }
+    TEST(has_boundaries)(set, wanted, 2 * MANY);
+    for (p = 0; p < MANY / 2; p++)
+        check(CALL(chunked_remove)(&set, wanted[2 * p], wanted[2 * p + 1]) == RANGE_SET_DONE, "chunked: many: remove");
+    TEST(has_boundaries)(set, wanted + MANY, MANY);
+    CALL(chunked_free)(&set);
+    check(CALL(chunked_of)(TEST(set)(wanted, 2 * MANY), &set) == RANGE_SET_DONE, "chunked: many: of a list");
+    TEST(has_boundaries)(set, wanted, 2 * MANY);
+    CALL(chunked_free)(&set);
+}
+
+/* What is no set has no member, and no call changes it. */
+static void TEST(chunked_none)(void)
+{
+    CHUNKED none = {NULL};
+    NUMBER next = 77;
+    SET overlapping = {(const NUMBER *)(const void *)&none, 1};
+    TEST(has_boundaries)(none, NULL, 0);
+    check(!CALL(chunked_contains)(none, 5) && CALL(chunked_contains_range)(none, 5, 5) && !CALL(chunked_contains_range)(none, 5, 6),
+        "no set: contains");
+    check(!CALL(chunked_next_member)(none, 5, &next) && next == 77, "no set: next_member");
+    check(CALL(chunked_next_gap)(none, 5, &next) && next == 5 && CALL(chunked_next_gap)(none, 5, NULL), "no set: next_gap");
+    check(CALL(chunked_insert)(&none, 5, 6) == RANGE_SET_BAD_ARGUMENT && CALL(chunked_insert)(NULL, 5, 6) == RANGE_SET_BAD_ARGUMENT,
+        "no set: insert");
+    check(CALL(chunked_remove)(&none, 5, 6) == RANGE_SET_BAD_ARGUMENT && CALL(chunked_remove)(NULL, 5, 6) == RANGE_SET_BAD_ARGUMENT,
+        "no set: remove");
+    check(CALL(chunked_insert_from)(&none, 5) == RANGE_SET_BAD_ARGUMENT && CALL(chunked_insert_from)(NULL, 5) == RANGE_SET_BAD_ARGUMENT,
+        "no set: insert_from");
+    check(CALL(chunked_remove_from)(&none, 5) == RANGE_SET_BAD_ARGUMENT && CALL(chunked_remove_from)(NULL, 5) == RANGE_SET_BAD_ARGUMENT,
+        "no set: remove_from");
+    check(CALL(chunked_new)(NULL) == RANGE_SET_BAD_ARGUMENT && CALL(chunked_of)(overlapping, NULL) == RANGE_SET_BAD_ARGUMENT,
+        "no set: a null result");
+    check(CALL(chunked_of)(overlapping, &none) == RANGE_SET_BAD_ARGUMENT && none.at == NULL, "chunked_of: a list that overlaps the result");
+    CALL(chunked_free)(&none);
+    CALL(chunked_free)(NULL);
+}
+
 /* Rows with their answers written out. */
 static void TEST(rows)(void)
 {
@@ -1029,12 +1162,15 @@ static void TEST(all)(long cases)
     TEST(many)();
     TEST(owned_many)();
     TEST(owned_with_its_part)();
+    TEST(chunked_many)();
+    TEST(chunked_none)();
     TEST(parsed_in_any_order)();
     TEST(bad_lists)();
     TEST(bad_places)();
     TEST(bad_buffers)();
     for (i = 0; i < cases; i++) TEST(made_up)();
     for (i = 0; i < cases / 10; i++) TEST(owned)();
+    for (i = 0; i < cases / 100; i++) TEST(chunked)();
     for (i = 0; i < cases / 10; i++) TEST(unsorted_searches)();
 }
 
@@ -1047,6 +1183,7 @@ static void TEST(all)(long cases)
 #undef RANGE
 #undef BUFFER
 #undef OWNED
+#undef CHUNKED
 #undef CALL
 #undef TEST
 #undef IS_UNSIGNED

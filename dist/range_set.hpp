@@ -22,6 +22,7 @@
 #include <functional>
 #include <initializer_list>
 #include <iterator>
+#include <limits>
 #include <memory>
 #include <new>
 #include <optional>
@@ -44,6 +45,7 @@ namespace range_sets {
 
 template <class T> class range_set;
 template <class T> class range_set_view;
+template <class T> class chunked_range_set;
 
 // One range of a set: the numbers from `start` on, up to below `end` where it has an end.
 template <class T> struct range {
@@ -74,9 +76,13 @@ template <class T> struct calls_of;
         static constexpr auto from_ranges = range_set_##number##_from_ranges; \
         static constexpr auto contains = range_set_##number##_contains; \
         static constexpr auto contains_range = range_set_##number##_contains_range; \
+        static constexpr auto intersects_range = range_set_##number##_intersects_range; \
         static constexpr auto is_empty = range_set_##number##_is_empty; \
         static constexpr auto is_all = range_set_##number##_is_all; \
         static constexpr auto range_at = range_set_##number##_range_at; \
+        static constexpr auto range_from = range_set_##number##_range_from; \
+        static constexpr auto next_member = range_set_##number##_next_member; \
+        static constexpr auto next_gap = range_set_##number##_next_gap; \
         static constexpr auto get = range_set_##number##_get; \
         static constexpr auto last = range_set_##number##_last; \
         static constexpr auto ranges_len = range_set_##number##_ranges_len; \
@@ -94,6 +100,22 @@ template <class T> struct calls_of;
         static constexpr auto insert = range_set_##number##_insert; \
         static constexpr auto remove = range_set_##number##_remove; \
         static constexpr auto buffer_of = range_set_##number##_buffer_of; \
+        using chunked = range_set_##number##_chunked; \
+        static constexpr auto chunked_new = range_set_##number##_chunked_new; \
+        static constexpr auto chunked_of = range_set_##number##_chunked_of; \
+        static constexpr auto chunked_free = range_set_##number##_chunked_free; \
+        static constexpr auto chunked_insert = range_set_##number##_chunked_insert; \
+        static constexpr auto chunked_insert_from = range_set_##number##_chunked_insert_from; \
+        static constexpr auto chunked_remove = range_set_##number##_chunked_remove; \
+        static constexpr auto chunked_remove_from = range_set_##number##_chunked_remove_from; \
+        static constexpr auto chunked_contains = range_set_##number##_chunked_contains; \
+        static constexpr auto chunked_contains_range = range_set_##number##_chunked_contains_range; \
+        static constexpr auto chunked_next_member = range_set_##number##_chunked_next_member; \
+        static constexpr auto chunked_next_gap = range_set_##number##_chunked_next_gap; \
+        static constexpr auto chunked_next = range_set_##number##_chunked_next; \
+        static constexpr auto chunked_ranges_len = range_set_##number##_chunked_ranges_len; \
+        static constexpr auto chunked_boundaries_len = range_set_##number##_chunked_boundaries_len; \
+        static constexpr auto chunked_copy = range_set_##number##_chunked_copy; \
     };
 RANGE_SET_CALLS(i32, std::int32_t)
 RANGE_SET_CALLS(u32, std::uint32_t)
@@ -243,6 +265,7 @@ public:
 
     bool contains(T value) const noexcept { return calls::contains(set_, value); }
     bool contains_range(T start, T end) const noexcept { return calls::contains_range(set_, start, end); }
+    bool intersects_range(T start, T end) const noexcept { return calls::intersects_range(set_, start, end); }
     bool empty() const noexcept { return calls::is_empty(set_); }
     bool is_all() const noexcept { return calls::is_all(set_); }
     bool is_disjoint(detail::operand<T> other) const noexcept { return calls::is_disjoint(set_, other.set); }
@@ -273,6 +296,12 @@ public:
         typename calls::part part = {};
         return told(calls::range_at(set_, value, &part), part);
     }
+    // The range that holds the number, or else the next one above it, or nothing.
+    std::optional<range<T>> range_from(T value) const noexcept
+    {
+        typename calls::part part = {};
+        return told(calls::range_from(set_, value, &part), part);
+    }
     std::optional<range<T>> first() const noexcept
     {
         typename calls::part part = {};
@@ -293,12 +322,23 @@ public:
     range_set<T> gaps(T start, T end) const;
     range_set<T> negation() const;
 
+    // The least number at or above `from` that is a member, that isn't one, or nothing.
+    std::optional<T> next_member(T from) const noexcept
+    {
+        number next = 0;
+        return told(calls::next_member(set_, from, &next), next);
+    }
+    std::optional<T> next_gap(T from) const noexcept
+    {
+        number next = 0;
+        return told(calls::next_gap(set_, from, &next), next);
+    }
+
     // The least number from which on `count` numbers lie in `start` to below `end` and none is a member, or nothing.
     std::optional<T> first_fit(T start, T end, std::make_unsigned_t<T> count) const noexcept
     {
         number first = start;
-        if (!calls::first_fit(set_, start, end, count, &first)) return std::nullopt;
-        return static_cast<T>(first);
+        return told(calls::first_fit(set_, start, end, count, &first), first);
     }
 
     // The ranges as a text, "0..10, 20..".
@@ -319,6 +359,11 @@ private:
     {
         if (!found) return std::nullopt;
         return range<T>{part.start, part.end, part.has_end};
+    }
+    static std::optional<T> told(bool found, const number &it) noexcept
+    {
+        if (!found) return std::nullopt;
+        return static_cast<T>(it);
     }
 
     typename calls::set set_ = {nullptr, 0};
@@ -420,6 +465,7 @@ public:
 
     bool contains(T value) const noexcept { return view().contains(value); }
     bool contains_range(T start, T end) const noexcept { return view().contains_range(start, end); }
+    bool intersects_range(T start, T end) const noexcept { return view().intersects_range(start, end); }
     bool empty() const noexcept { return view().empty(); }
     bool is_all() const noexcept { return view().is_all(); }
     bool is_disjoint(detail::operand<T> other) const noexcept { return view().is_disjoint(other); }
@@ -429,6 +475,9 @@ public:
     int compare(detail::operand<T> other) const noexcept { return view().compare(other); }
     std::optional<std::uint64_t> covered() const noexcept { return view().covered(); }
     std::optional<range<T>> range_at(T value) const noexcept { return view().range_at(value); }
+    std::optional<range<T>> range_from(T value) const noexcept { return view().range_from(value); }
+    std::optional<T> next_member(T from) const noexcept { return view().next_member(from); }
+    std::optional<T> next_gap(T from) const noexcept { return view().next_gap(from); }
     std::optional<range<T>> first() const noexcept { return view().first(); }
     std::optional<range<T>> last() const noexcept { return view().last(); }
     iterator begin() const noexcept { return view().begin(); }
@@ -451,6 +500,7 @@ public:
 
 private:
     friend class range_set_view<T>;
+    friend class chunked_range_set<T>;
 
     using items = std::unique_ptr<number[]>;
 
@@ -497,6 +547,128 @@ template <class T> range_set<T> range_set_view<T>::negation() const
 {
     return range_set<T>::written(set_.len + 1, [&](number *out, std::size_t room, auto *set) { return calls::negation(set_, out, room, set); });
 }
+
+// A set that is changed range by range, and may grow to millions of ranges: a change takes about as long in a large set as in a
+// small one. Only one call at a time may use a set.
+template <class T> class chunked_range_set {
+    using calls = detail::calls<T>;
+    using number = typename calls::value;
+
+public:
+    using value_type = range<T>;
+
+    // Goes over the ranges, each by two searches. It is good until the set changes.
+    class iterator {
+    public:
+        using iterator_category = std::input_iterator_tag;
+        using value_type = range<T>;
+        using difference_type = std::ptrdiff_t;
+        using pointer = const range<T> *;
+        using reference = const range<T> &;
+
+        iterator() noexcept = default;
+        iterator(typename calls::chunked set, T from) noexcept : set_(set) { read(from); }
+
+        reference operator*() const noexcept { return it_; }
+        pointer operator->() const noexcept { return &it_; }
+        iterator &operator++() noexcept
+        {
+            if (it_.has_end) read(it_.end);
+            else there_ = false;
+            return *this;
+        }
+        iterator operator++(int) noexcept
+        {
+            const iterator before = *this;
+            ++*this;
+            return before;
+        }
+
+        // Of two iterators of one set.
+        friend bool operator==(const iterator &a, const iterator &b) noexcept
+        {
+            return a.there_ == b.there_ && (!a.there_ || a.it_.start == b.it_.start);
+        }
+        friend bool operator!=(const iterator &a, const iterator &b) noexcept { return !(a == b); }
+
+    private:
+        void read(T from) noexcept
+        {
+            typename calls::part part = {};
+            there_ = calls::chunked_next(set_, from, &part);
+            it_ = {static_cast<T>(part.start), static_cast<T>(part.end), part.has_end};
+        }
+
+        typename calls::chunked set_ = {};
+        range<T> it_ = {};
+        bool there_ = false;
+    };
+    using const_iterator = iterator;
+
+    // The set without a member. It takes no memory.
+    chunked_range_set() noexcept = default;
+    // A copy of a set.
+    explicit chunked_range_set(detail::operand<T> from) { made(calls::chunked_of(from.set, &set_)); }
+    chunked_range_set(const chunked_range_set &other) : chunked_range_set(other.set()) {}
+    chunked_range_set(chunked_range_set &&other) noexcept { swap(other); }
+    chunked_range_set &operator=(chunked_range_set other) noexcept
+    {
+        swap(other);
+        return *this;
+    }
+    ~chunked_range_set() { calls::chunked_free(&set_); }
+    void swap(chunked_range_set &other) noexcept { std::swap(set_, other.set_); }
+    friend void swap(chunked_range_set &a, chunked_range_set &b) noexcept { a.swap(b); }
+
+    // Puts the numbers from `start` to below `end` in, takes them out; or all from `start` on.
+    chunked_range_set &insert(T start, T end) { return change(calls::chunked_insert, start, end); }
+    chunked_range_set &remove(T start, T end) { return change(calls::chunked_remove, start, end); }
+    chunked_range_set &insert_from(T start) { return change(calls::chunked_insert_from, start); }
+    chunked_range_set &remove_from(T start) { return change(calls::chunked_remove_from, start); }
+    void clear() noexcept { calls::chunked_free(&set_); }
+
+    bool contains(T value) const noexcept { return calls::chunked_contains(set_, value); }
+    bool contains_range(T start, T end) const noexcept { return calls::chunked_contains_range(set_, start, end); }
+    bool empty() const noexcept { return calls::chunked_boundaries_len(set_) == 0; }
+    // The least member at or above a number, the least number that is none, or nothing.
+    std::optional<T> next_member(T from) const noexcept { return next(calls::chunked_next_member, from); }
+    std::optional<T> next_gap(T from) const noexcept { return next(calls::chunked_next_gap, from); }
+
+    // The ranges, and how many there are.
+    iterator begin() const noexcept { return iterator(set_, std::numeric_limits<T>::min()); }
+    iterator end() const noexcept { return iterator(); }
+    std::size_t size() const noexcept { return calls::chunked_ranges_len(set_); }
+
+    // The same set as one list.
+    range_set<T> set() const
+    {
+        return range_set<T>::written(calls::chunked_boundaries_len(set_), [&](number *out, std::size_t room, auto *set) {
+            return calls::chunked_copy(set_, out, room, set);
+        });
+    }
+
+private:
+    static void made(range_set_status status)
+    {
+        if (status == RANGE_SET_NO_MEMORY) throw std::bad_alloc();
+    }
+
+    template <class Call, class... Numbers> chunked_range_set &change(Call call, Numbers... numbers)
+    {
+        if (set_.at == nullptr) made(calls::chunked_new(&set_));
+        made(call(&set_, numbers...));
+        return *this;
+    }
+
+    template <class Call> std::optional<T> next(Call call, T from) const noexcept
+    {
+        number at = 0;
+        if (!call(set_, from, &at)) return std::nullopt;
+        return static_cast<T>(at);
+    }
+
+    typename calls::chunked set_ = {};
+};
 
 } // namespace range_sets
 

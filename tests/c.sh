@@ -57,14 +57,19 @@ builds_the_layer() {
         rm -f "$work/built.a" && ar rcs "$work/built.a" "$work/layer.o" "$work/proved.o"
 }
 
-# Compiles a source in C with the archive.
+# Compiles a source in C with the archive, and with what else is given.
 compiles() {
-    gcc -std=c99 -O2 -g $strict "$1" "$archive" -o "$work/$2"
+    gcc -std=c99 -O2 -g $strict "$1" "$archive" "${@:3}" -o "$work/$2"
 }
 
 # The tests over dist/librange_set.a.
 tests_dist() {
     compiles c/test.c of_dist && "$work/of_dist" 1000
+}
+
+# The tests of sets in chunks, with each request for memory refused in turn.
+refuses_memory() {
+    compiles c/test_refused.c refused -Wl,--wrap=malloc,--wrap=realloc && "$work/refused"
 }
 
 # What the example prints.
@@ -191,6 +196,7 @@ over_rust() {
     step_by nm binutils "$by: the names in the library" has_only_its_names
     step "$by: they are those of dist/" has_the_names_of dist/librange_set.a
     step "$by: the tests compile" compiles c/test.c test
+    step "$by: memory refused" refuses_memory
     step "$by: the tests" "$work/test"
     step "$by: the example compiles" compiles c/example.c example
     step "$by: the example" prints_its_lines example
@@ -334,6 +340,7 @@ step_by objcopy binutils "the layer, and the proved object under it" builds_the_
 archive=$work/built.a
 step "the tests compile" compiles c/test.c test
 step "the tests" "$work/test"
+step "memory refused" refuses_memory
 step "the example compiles" compiles c/example.c example
 step "the example" prints_its_lines example
 step "an allocator of addresses" runs_the_allocator

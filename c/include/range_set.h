@@ -22,7 +22,7 @@
  *                            means nothing. A call that changes a set in its buffer has changed nothing.
  *   RANGE_SET_BAD_ARGUMENT   a null pointer with a length above 0, a null result, a length that no array has, or a buffer
  *                            or result that overlaps another argument. Nothing was written.
- *   RANGE_SET_NO_MEMORY      of an owned set alone: an allocation failed. The set is as it was.
+ *   RANGE_SET_NO_MEMORY      of a set that grows alone: an allocation failed. The set is as it was.
  *   RANGE_SET_MALFORMED      of `parse` alone: the text isn't one of ranges. Nothing was written but where it stops being one.
  *   RANGE_SET_OUT_OF_RANGE   of `parse` alone: a number of the text doesn't fit the type, or has a minus where the type has no
  *                            sign. Nothing was written.
@@ -32,7 +32,7 @@
  * at most as many boundaries as both sets together. A set that grows range by range, as those of a download, stands in a
  * buffer and changes there: `buffer_of`, `insert`, `remove`. An owned set has a buffer that grows.
  *
- * But for those of owned sets no call takes memory. None keeps state, and all are safe to call from several threads, each of
+ * But for those of owned sets and sets in chunks no call takes memory. None keeps state, and all are safe to call from several threads, each of
  * which changes sets of its own.
  *
  * There are sets of int32_t, uint32_t, int64_t and uint64_t: the calls of one type have i32, u32, i64 or u64 in their
@@ -390,6 +390,52 @@ RANGE_SET_STATUS range_set_i32_owned_remove(range_set_i32_owned *owned, int32_t 
  * part of the set, as `split` makes one. RANGE_SET_BAD_ARGUMENT says that it lies elsewhere in the buffer or in the struct. */
 RANGE_SET_STATUS range_set_i32_owned_combine(range_set_i32_owned *owned, range_set_i32 other, unsigned keep);
 
+/* ---- Sets of int32_t that grow to millions of ranges ---- */
+
+/* A set in chunks of at most 512 boundaries: a change searches for its range and moves the boundaries of one chunk, so it takes
+ * about as long in a set of a million ranges as in a small one. Its memory comes from malloc. The field is for the library alone.
+ * {NULL} is no set: it has no member, and no call changes it. Only one call at a time may be given a set, also of those that ask;
+ * nothing is proved of a set that goes from one thread to another. */
+typedef struct range_set_i32_chunked {
+    void *at;
+} range_set_i32_chunked;
+
+/* Makes a set without a member, or one with the members of a list. It has to be freed. Where an allocation fails there is none. */
+RANGE_SET_STATUS range_set_i32_chunked_new(range_set_i32_chunked *set);
+RANGE_SET_STATUS range_set_i32_chunked_of(range_set_i32 list, range_set_i32_chunked *set);
+
+/* Gives the memory back, and leaves {NULL}. Does nothing where `set` is null or no set. */
+void range_set_i32_chunked_free(range_set_i32_chunked *set);
+
+/* Puts the numbers from `start` to below `end` in, takes them out; or all from `start` on. */
+RANGE_SET_STATUS range_set_i32_chunked_insert(range_set_i32_chunked *set, int32_t start, int32_t end);
+RANGE_SET_STATUS range_set_i32_chunked_remove(range_set_i32_chunked *set, int32_t start, int32_t end);
+RANGE_SET_STATUS range_set_i32_chunked_insert_from(range_set_i32_chunked *set, int32_t start);
+RANGE_SET_STATUS range_set_i32_chunked_remove_from(range_set_i32_chunked *set, int32_t start);
+
+/* As `contains` and `contains_range`. */
+bool range_set_i32_chunked_contains(range_set_i32_chunked set, int32_t value);
+bool range_set_i32_chunked_contains_range(range_set_i32_chunked set, int32_t start, int32_t end);
+
+/* Whether there is a member at or above `from`, a number that is none, and then the least one. `next` may be null. */
+bool range_set_i32_chunked_next_member(range_set_i32_chunked set, int32_t from, int32_t *next);
+bool range_set_i32_chunked_next_gap(range_set_i32_chunked set, int32_t from, int32_t *next);
+
+/* Whether there is a member at or above `from`, and then the first range of those. A loop over all ranges:
+ *
+ *     bool more = range_set_i32_chunked_next(set, INT32_MIN, &range);
+ *     for (; more; more = range.has_end && range_set_i32_chunked_next(set, range.end, &range)) ..
+ */
+bool range_set_i32_chunked_next(range_set_i32_chunked set, int32_t from, range_set_i32_range *range);
+
+/* How many ranges the set has, how many boundaries. Adds up the chunks. */
+size_t range_set_i32_chunked_ranges_len(range_set_i32_chunked set);
+size_t range_set_i32_chunked_boundaries_len(range_set_i32_chunked set);
+
+/* Writes the set as a list, as other calls write sets. */
+RANGE_SET_STATUS range_set_i32_chunked_copy(range_set_i32_chunked set, int32_t *out, size_t room,
+                                                 range_set_i32 *result);
+
 /* ---- Sets of uint32_t ---- */
 
 /* A set. Its fields may be read, and are for the library alone to write: a set that was made otherwise, and isn't strictly
@@ -675,6 +721,52 @@ RANGE_SET_STATUS range_set_u32_owned_remove(range_set_u32_owned *owned, uint32_t
  * 2 * in.set.len + other.len, and with RANGE_SET_NEITHER one more, it takes no memory; else the buffer grows. `other` may be a
  * part of the set, as `split` makes one. RANGE_SET_BAD_ARGUMENT says that it lies elsewhere in the buffer or in the struct. */
 RANGE_SET_STATUS range_set_u32_owned_combine(range_set_u32_owned *owned, range_set_u32 other, unsigned keep);
+
+/* ---- Sets of uint32_t that grow to millions of ranges ---- */
+
+/* A set in chunks of at most 512 boundaries: a change searches for its range and moves the boundaries of one chunk, so it takes
+ * about as long in a set of a million ranges as in a small one. Its memory comes from malloc. The field is for the library alone.
+ * {NULL} is no set: it has no member, and no call changes it. Only one call at a time may be given a set, also of those that ask;
+ * nothing is proved of a set that goes from one thread to another. */
+typedef struct range_set_u32_chunked {
+    void *at;
+} range_set_u32_chunked;
+
+/* Makes a set without a member, or one with the members of a list. It has to be freed. Where an allocation fails there is none. */
+RANGE_SET_STATUS range_set_u32_chunked_new(range_set_u32_chunked *set);
+RANGE_SET_STATUS range_set_u32_chunked_of(range_set_u32 list, range_set_u32_chunked *set);
+
+/* Gives the memory back, and leaves {NULL}. Does nothing where `set` is null or no set. */
+void range_set_u32_chunked_free(range_set_u32_chunked *set);
+
+/* Puts the numbers from `start` to below `end` in, takes them out; or all from `start` on. */
+RANGE_SET_STATUS range_set_u32_chunked_insert(range_set_u32_chunked *set, uint32_t start, uint32_t end);
+RANGE_SET_STATUS range_set_u32_chunked_remove(range_set_u32_chunked *set, uint32_t start, uint32_t end);
+RANGE_SET_STATUS range_set_u32_chunked_insert_from(range_set_u32_chunked *set, uint32_t start);
+RANGE_SET_STATUS range_set_u32_chunked_remove_from(range_set_u32_chunked *set, uint32_t start);
+
+/* As `contains` and `contains_range`. */
+bool range_set_u32_chunked_contains(range_set_u32_chunked set, uint32_t value);
+bool range_set_u32_chunked_contains_range(range_set_u32_chunked set, uint32_t start, uint32_t end);
+
+/* Whether there is a member at or above `from`, a number that is none, and then the least one. `next` may be null. */
+bool range_set_u32_chunked_next_member(range_set_u32_chunked set, uint32_t from, uint32_t *next);
+bool range_set_u32_chunked_next_gap(range_set_u32_chunked set, uint32_t from, uint32_t *next);
+
+/* Whether there is a member at or above `from`, and then the first range of those. A loop over all ranges:
+ *
+ *     bool more = range_set_u32_chunked_next(set, 0, &range);
+ *     for (; more; more = range.has_end && range_set_u32_chunked_next(set, range.end, &range)) ..
+ */
+bool range_set_u32_chunked_next(range_set_u32_chunked set, uint32_t from, range_set_u32_range *range);
+
+/* How many ranges the set has, how many boundaries. Adds up the chunks. */
+size_t range_set_u32_chunked_ranges_len(range_set_u32_chunked set);
+size_t range_set_u32_chunked_boundaries_len(range_set_u32_chunked set);
+
+/* Writes the set as a list, as other calls write sets. */
+RANGE_SET_STATUS range_set_u32_chunked_copy(range_set_u32_chunked set, uint32_t *out, size_t room,
+                                                 range_set_u32 *result);
 
 /* ---- Sets of int64_t ---- */
 
@@ -962,6 +1054,52 @@ RANGE_SET_STATUS range_set_i64_owned_remove(range_set_i64_owned *owned, int64_t 
  * part of the set, as `split` makes one. RANGE_SET_BAD_ARGUMENT says that it lies elsewhere in the buffer or in the struct. */
 RANGE_SET_STATUS range_set_i64_owned_combine(range_set_i64_owned *owned, range_set_i64 other, unsigned keep);
 
+/* ---- Sets of int64_t that grow to millions of ranges ---- */
+
+/* A set in chunks of at most 512 boundaries: a change searches for its range and moves the boundaries of one chunk, so it takes
+ * about as long in a set of a million ranges as in a small one. Its memory comes from malloc. The field is for the library alone.
+ * {NULL} is no set: it has no member, and no call changes it. Only one call at a time may be given a set, also of those that ask;
+ * nothing is proved of a set that goes from one thread to another. */
+typedef struct range_set_i64_chunked {
+    void *at;
+} range_set_i64_chunked;
+
+/* Makes a set without a member, or one with the members of a list. It has to be freed. Where an allocation fails there is none. */
+RANGE_SET_STATUS range_set_i64_chunked_new(range_set_i64_chunked *set);
+RANGE_SET_STATUS range_set_i64_chunked_of(range_set_i64 list, range_set_i64_chunked *set);
+
+/* Gives the memory back, and leaves {NULL}. Does nothing where `set` is null or no set. */
+void range_set_i64_chunked_free(range_set_i64_chunked *set);
+
+/* Puts the numbers from `start` to below `end` in, takes them out; or all from `start` on. */
+RANGE_SET_STATUS range_set_i64_chunked_insert(range_set_i64_chunked *set, int64_t start, int64_t end);
+RANGE_SET_STATUS range_set_i64_chunked_remove(range_set_i64_chunked *set, int64_t start, int64_t end);
+RANGE_SET_STATUS range_set_i64_chunked_insert_from(range_set_i64_chunked *set, int64_t start);
+RANGE_SET_STATUS range_set_i64_chunked_remove_from(range_set_i64_chunked *set, int64_t start);
+
+/* As `contains` and `contains_range`. */
+bool range_set_i64_chunked_contains(range_set_i64_chunked set, int64_t value);
+bool range_set_i64_chunked_contains_range(range_set_i64_chunked set, int64_t start, int64_t end);
+
+/* Whether there is a member at or above `from`, a number that is none, and then the least one. `next` may be null. */
+bool range_set_i64_chunked_next_member(range_set_i64_chunked set, int64_t from, int64_t *next);
+bool range_set_i64_chunked_next_gap(range_set_i64_chunked set, int64_t from, int64_t *next);
+
+/* Whether there is a member at or above `from`, and then the first range of those. A loop over all ranges:
+ *
+ *     bool more = range_set_i64_chunked_next(set, INT64_MIN, &range);
+ *     for (; more; more = range.has_end && range_set_i64_chunked_next(set, range.end, &range)) ..
+ */
+bool range_set_i64_chunked_next(range_set_i64_chunked set, int64_t from, range_set_i64_range *range);
+
+/* How many ranges the set has, how many boundaries. Adds up the chunks. */
+size_t range_set_i64_chunked_ranges_len(range_set_i64_chunked set);
+size_t range_set_i64_chunked_boundaries_len(range_set_i64_chunked set);
+
+/* Writes the set as a list, as other calls write sets. */
+RANGE_SET_STATUS range_set_i64_chunked_copy(range_set_i64_chunked set, int64_t *out, size_t room,
+                                                 range_set_i64 *result);
+
 /* ---- Sets of uint64_t ---- */
 
 /* A set. Its fields may be read, and are for the library alone to write: a set that was made otherwise, and isn't strictly
@@ -1247,6 +1385,52 @@ RANGE_SET_STATUS range_set_u64_owned_remove(range_set_u64_owned *owned, uint64_t
  * 2 * in.set.len + other.len, and with RANGE_SET_NEITHER one more, it takes no memory; else the buffer grows. `other` may be a
  * part of the set, as `split` makes one. RANGE_SET_BAD_ARGUMENT says that it lies elsewhere in the buffer or in the struct. */
 RANGE_SET_STATUS range_set_u64_owned_combine(range_set_u64_owned *owned, range_set_u64 other, unsigned keep);
+
+/* ---- Sets of uint64_t that grow to millions of ranges ---- */
+
+/* A set in chunks of at most 512 boundaries: a change searches for its range and moves the boundaries of one chunk, so it takes
+ * about as long in a set of a million ranges as in a small one. Its memory comes from malloc. The field is for the library alone.
+ * {NULL} is no set: it has no member, and no call changes it. Only one call at a time may be given a set, also of those that ask;
+ * nothing is proved of a set that goes from one thread to another. */
+typedef struct range_set_u64_chunked {
+    void *at;
+} range_set_u64_chunked;
+
+/* Makes a set without a member, or one with the members of a list. It has to be freed. Where an allocation fails there is none. */
+RANGE_SET_STATUS range_set_u64_chunked_new(range_set_u64_chunked *set);
+RANGE_SET_STATUS range_set_u64_chunked_of(range_set_u64 list, range_set_u64_chunked *set);
+
+/* Gives the memory back, and leaves {NULL}. Does nothing where `set` is null or no set. */
+void range_set_u64_chunked_free(range_set_u64_chunked *set);
+
+/* Puts the numbers from `start` to below `end` in, takes them out; or all from `start` on. */
+RANGE_SET_STATUS range_set_u64_chunked_insert(range_set_u64_chunked *set, uint64_t start, uint64_t end);
+RANGE_SET_STATUS range_set_u64_chunked_remove(range_set_u64_chunked *set, uint64_t start, uint64_t end);
+RANGE_SET_STATUS range_set_u64_chunked_insert_from(range_set_u64_chunked *set, uint64_t start);
+RANGE_SET_STATUS range_set_u64_chunked_remove_from(range_set_u64_chunked *set, uint64_t start);
+
+/* As `contains` and `contains_range`. */
+bool range_set_u64_chunked_contains(range_set_u64_chunked set, uint64_t value);
+bool range_set_u64_chunked_contains_range(range_set_u64_chunked set, uint64_t start, uint64_t end);
+
+/* Whether there is a member at or above `from`, a number that is none, and then the least one. `next` may be null. */
+bool range_set_u64_chunked_next_member(range_set_u64_chunked set, uint64_t from, uint64_t *next);
+bool range_set_u64_chunked_next_gap(range_set_u64_chunked set, uint64_t from, uint64_t *next);
+
+/* Whether there is a member at or above `from`, and then the first range of those. A loop over all ranges:
+ *
+ *     bool more = range_set_u64_chunked_next(set, 0, &range);
+ *     for (; more; more = range.has_end && range_set_u64_chunked_next(set, range.end, &range)) ..
+ */
+bool range_set_u64_chunked_next(range_set_u64_chunked set, uint64_t from, range_set_u64_range *range);
+
+/* How many ranges the set has, how many boundaries. Adds up the chunks. */
+size_t range_set_u64_chunked_ranges_len(range_set_u64_chunked set);
+size_t range_set_u64_chunked_boundaries_len(range_set_u64_chunked set);
+
+/* Writes the set as a list, as other calls write sets. */
+RANGE_SET_STATUS range_set_u64_chunked_copy(range_set_u64_chunked set, uint64_t *out, size_t room,
+                                                 range_set_u64 *result);
 
 #ifdef __cplusplus
 }

@@ -8,6 +8,7 @@
 //! A new call of the header for all four types is one function in the macro of the module `calls`.
 
 mod calls;
+mod chunked;
 mod lists;
 mod operations;
 mod owned;

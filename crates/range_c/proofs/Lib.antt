@@ -8,3 +8,7 @@ pub mod FromLeast
 pub mod Put
 pub mod Read
 pub mod Fitted
+pub mod BoxedI32
+pub mod BoxedU32
+pub mod BoxedI64
+pub mod BoxedU64

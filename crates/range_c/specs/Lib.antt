@@ -7,3 +7,5 @@ pub mod Joining
 pub mod Text
 pub mod Reading
 pub mod Fitting
+pub mod Boxed
+pub mod Chunked

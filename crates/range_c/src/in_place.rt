@@ -121,7 +121,7 @@ fn count<T>(item: &Option<T>) -> usize
 
 // Replaces the item at index `at` by this one, if there is one. Returns the index after it.
 #[inline(always)]
-fn overwrite<T: Copy>(items: &mut [T], at: usize, item: Option<T>) -> usize
+pub(crate) fn overwrite<T: Copy>(items: &mut [T], at: usize, item: Option<T>) -> usize
     requires { at + length (option_to_list item) ≤ length items.old }
     ensures items { items.new ≡
         take at items.old ++ (option_to_list item ++ drop result items.old) }

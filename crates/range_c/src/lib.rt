@@ -9,7 +9,9 @@
 //! an export can't be generic.
 #![tactic(auto)]
 
+mod boxed;
 mod calls;
+mod chunked;
 mod combining;
 mod ends;
 mod fitting;

@@ -10,16 +10,20 @@ macro_rules! calls {
         /// Each call asks of its caller what the header says: pointers and lengths of arrays, and sets that the library made.
         mod $module {
             use super::calls::{ALL, NEITHER};
+            use super::chunked::Chunked;
             use super::lists::{
                 changed, is_array, is_result, items_at, number_told, put, room_at, told, Buffer,
                 Bytes, Range, Set,
             };
             use super::owned::{Allocator, Owned};
             use super::{operations, texts, Status};
+            use crate::generated::range_c::chunked;
             use crate::generated::range_c::generated::$proved::*;
+            use crate::support::Global;
             use std::os::raw::c_uint;
 
             type Numbers = Set<$number>;
+            type Chunks = Chunked<$number>;
 
             // ---- Sets of lists ----
 
@@ -478,6 +482,175 @@ macro_rules! calls {
                         combine(set, other, keep, out, room, result)
                     })
                 }
+            }
+
+            // ---- Sets in chunks ----
+
+            #[export_name = concat!("range_set_", $name, "_chunked_new")]
+            unsafe extern "C" fn chunked_new(set: Option<&mut Chunks>) -> Status {
+                match set {
+                    Some(set) => {
+                        *set = Chunks::new();
+                        set.status()
+                    }
+                    None => Status::BadArgument,
+                }
+            }
+
+            #[export_name = concat!("range_set_", $name, "_chunked_of")]
+            unsafe extern "C" fn chunked_of(list: Numbers, set: *mut Chunks) -> Status {
+                if !is_result(set, list.bytes()) {
+                    return Status::BadArgument;
+                }
+                let made = match chunked::copied(Global, unsafe { list.list() }) {
+                    Some(copy) => Chunks::of(copy),
+                    None => Chunks::NONE,
+                };
+                unsafe { set.write(made) };
+                made.status()
+            }
+
+            #[export_name = concat!("range_set_", $name, "_chunked_free")]
+            unsafe extern "C" fn chunked_free(set: Option<&mut Chunks>) {
+                if let Some(set) = set {
+                    unsafe { set.free() };
+                }
+            }
+
+            #[export_name = concat!("range_set_", $name, "_chunked_insert")]
+            unsafe extern "C" fn chunked_insert(
+                set: Option<&mut Chunks>,
+                start: $number,
+                end: $number,
+            ) -> Status {
+                unsafe { Chunks::change(set, |set| chunked::insert(set, start, end)) }
+            }
+
+            #[export_name = concat!("range_set_", $name, "_chunked_insert_from")]
+            unsafe extern "C" fn chunked_insert_from(
+                set: Option<&mut Chunks>,
+                start: $number,
+            ) -> Status {
+                unsafe { Chunks::change(set, |set| chunked::insert_from(set, start)) }
+            }
+
+            #[export_name = concat!("range_set_", $name, "_chunked_remove")]
+            unsafe extern "C" fn chunked_remove(
+                set: Option<&mut Chunks>,
+                start: $number,
+                end: $number,
+            ) -> Status {
+                unsafe { Chunks::change(set, |set| chunked::remove(set, start, end)) }
+            }
+
+            #[export_name = concat!("range_set_", $name, "_chunked_remove_from")]
+            unsafe extern "C" fn chunked_remove_from(
+                set: Option<&mut Chunks>,
+                start: $number,
+            ) -> Status {
+                unsafe { Chunks::change(set, |set| chunked::remove_from(set, start)) }
+            }
+
+            #[export_name = concat!("range_set_", $name, "_chunked_contains")]
+            unsafe extern "C" fn chunked_contains(set: Chunks, value: $number) -> bool {
+                match unsafe { set.set() } {
+                    Some(set) => set.contains(&value),
+                    None => false,
+                }
+            }
+
+            #[export_name = concat!("range_set_", $name, "_chunked_contains_range")]
+            unsafe extern "C" fn chunked_contains_range(
+                set: Chunks,
+                start: $number,
+                end: $number,
+            ) -> bool {
+                match unsafe { set.set() } {
+                    Some(set) => set.contains_range(start..end),
+                    None => end <= start,
+                }
+            }
+
+            #[export_name = concat!("range_set_", $name, "_chunked_next_member")]
+            unsafe extern "C" fn chunked_next_member(
+                set: Chunks,
+                from: $number,
+                next: *mut $number,
+            ) -> bool {
+                let mut at = from;
+                let found = match unsafe { set.set() } {
+                    Some(set) => chunked::next_member(set, from, &mut at),
+                    None => false,
+                };
+                if found {
+                    unsafe { put(next, at) };
+                }
+                found
+            }
+
+            #[export_name = concat!("range_set_", $name, "_chunked_next_gap")]
+            unsafe extern "C" fn chunked_next_gap(
+                set: Chunks,
+                from: $number,
+                next: *mut $number,
+            ) -> bool {
+                let mut at = from;
+                let found = match unsafe { set.set() } {
+                    Some(set) => chunked::next_gap(set, from, &mut at),
+                    None => true,
+                };
+                if found {
+                    unsafe { put(next, at) };
+                }
+                found
+            }
+
+            #[export_name = concat!("range_set_", $name, "_chunked_next")]
+            unsafe extern "C" fn chunked_next(
+                set: Chunks,
+                from: $number,
+                range: *mut Range<$number>,
+            ) -> bool {
+                unsafe {
+                    told(range, |start, end, has_end| {
+                        let found = chunked_next_member(set, from, start);
+                        *has_end = found && chunked_next_gap(set, *start, end);
+                        found
+                    })
+                }
+            }
+
+            #[export_name = concat!("range_set_", $name, "_chunked_ranges_len")]
+            unsafe extern "C" fn chunked_ranges_len(set: Chunks) -> usize {
+                match unsafe { set.set() } {
+                    Some(set) => set.ranges_len(),
+                    None => 0,
+                }
+            }
+
+            #[export_name = concat!("range_set_", $name, "_chunked_boundaries_len")]
+            unsafe extern "C" fn chunked_boundaries_len(set: Chunks) -> usize {
+                match unsafe { set.set() } {
+                    Some(set) => set.boundaries_len(),
+                    None => 0,
+                }
+            }
+
+            #[export_name = concat!("range_set_", $name, "_chunked_copy")]
+            unsafe extern "C" fn chunked_copy(
+                set: Chunks,
+                out: *mut $number,
+                room: usize,
+                result: *mut Numbers,
+            ) -> Status {
+                if !is_array(out, room) || !is_result(result, Bytes::of(out, room)) {
+                    return Status::BadArgument;
+                }
+                let len = match unsafe { set.set() } {
+                    Some(set) => chunked::copy(set, unsafe { room_at(out, room) }),
+                    None => 0,
+                };
+                unsafe { operations::answered(len, out, room, result) }
             }
         }
     };

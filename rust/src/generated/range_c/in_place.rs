@@ -80,7 +80,7 @@ fn count<T>(item: &Option<T>) -> usize {
 
 // Replaces the item at index `at` by this one, if there is one. Returns the index after it.
 #[inline(always)]
-fn overwrite<T: Copy>(items: &mut [T], at: usize, item: Option<T>) -> usize {
+pub(crate) fn overwrite<T: Copy>(items: &mut [T], at: usize, item: Option<T>) -> usize {
     match item {
         Some(item) => {
             items[at] = item;

@@ -10,6 +10,7 @@
 //! an export can't be generic.
 
 pub(crate) mod calls;
+pub(crate) mod chunked;
 pub(crate) mod combining;
 pub(crate) mod ends;
 pub(crate) mod fitting;

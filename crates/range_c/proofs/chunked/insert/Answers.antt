@@ -1,0 +1,4 @@
+use Rattle.range_c.proofs.chunked.insert.Goals as goal
+
+pub returns : goal.returns
+returns g c = rw (← c.is_done.ensures) c.insert.ensures.changed

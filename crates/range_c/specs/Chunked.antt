@@ -1,0 +1,36 @@
+-- Sets in chunks, as C has them.
+--     held set                          the boundaries of a set, and none where there is no set
+--     outcome done                      what a call returned that answers whether it had memory
+--     CopiesTo items old new n          the list has n items, and stands in the buffer where that has room
+--     TellsNext order inside items ..   the least number at or above another that is a member, or is none
+use Rattle.std.specs.Option.{unwrap_or}
+use Rattle.std.specs.Prelude.{◌≡◌, ℕ, ◌-◌, ◌^◌, ◌≤◌, ◌<◌, Bool, true, false, not, cond, List, [], ◌++◌, length, drop, min, Option, IsTrue, Result, Ok, Err}
+use Rattle.std.specs.Ordering.{is_le}
+use Rattle.std.specs.declared.alloc.AllocError.{AllocError}
+use Rattle.std.specs.declared.cmp.Ordering.{Ordering}
+use Rattle.range_collections.specs.Boundaries.{member}
+use Rattle.range_collections.specs.Extent.{IsNext}
+
+-- the boundaries of a set, and none where there is no set
+abbrev pub held : {X : Type 0} → Option (List X) → List X
+held set = unwrap_or set []
+
+-- what a call returned that answers whether it had memory
+abbrev pub outcome : Bool → Result (Unit {0}) AllocError
+outcome done = cond done (Ok tt) (Err (record {}))
+
+-- an answer that is true where a number at or above `from` is a member, or is none where inside is
+-- false. The least one is told then; else what is told is as it was
+pub record TellsNext {K : Type 0} (order : K → K → Ordering) (inside : Bool) (items : List K)
+    (from old new : K) (answer : Bool) : Type 0 where
+  pub next : IsTrue answer → IsNext order inside items from new
+  pub none : answer ≡ false → (x : K) → is_le (order from x) ≡ true → member order items x ≡ not inside
+  pub unchanged : answer ≡ false → new ≡ old
+
+-- n is the length of the list, or as much as a number of 64 bits tells of it. Where it is less than
+-- that and the buffer is long enough, that begins with the list, and after it is as it was; where the
+-- buffer isn't, all of it is as it was
+pub record CopiesTo {K : Type 0} (items old new : List K) (n : ℕ) : Type 0 where
+  pub counted : n ≡ min (length items) (2 ^ 64 - 1)
+  pub written : n < 2 ^ 64 - 1 → n ≤ length old → new ≡ items ++ drop n old
+  pub unchanged : length old < n → new ≡ old
