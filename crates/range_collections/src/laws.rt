@@ -3,6 +3,7 @@
 mod answers;
 mod headline;
 mod kept;
+mod members;
 mod operations;
 mod parts;
 mod ranges;
@@ -17,6 +18,7 @@ pub use headline::{every_form_gives_one_list, the_headline_is_what_the_clauses_s
 pub use kept::{
     an_empty_range_changes_nothing, items_past_the_result_stay, the_left_boundary_stays,
 };
+pub use members::the_previous_value_is_pinned;
 pub use operations::{
     disjoint_is_an_empty_intersection, operations_associate, operations_commute,
     operations_give_their_members, results_are_pinned, same_members_are_equal_items,
