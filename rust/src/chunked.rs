@@ -4,17 +4,20 @@ mod combining;
 mod iter;
 mod traits;
 
-pub use iter::{IntoIter, Iter};
+pub use iter::{Gaps, IntoIter, Iter, RangesWithin};
 
 use self::iter::IntoBoundaries;
 use crate::any_range::AnyRange;
 use crate::array::{Array, List};
+use crate::entry::RangeSetEntry;
 use crate::generated::range_chunks as proved;
+use crate::generated::range_collections::Countable;
 use crate::generated::range_entry::EntryClone;
 use crate::memory::{expect_memory, AllocError};
 use crate::range::RangeSetRange;
 use crate::range_set::RangeSet;
 use crate::support::Global;
+use core::ops::Range;
 
 /// A set that is changed one range at a time, and may grow to millions of ranges.
 ///
@@ -217,6 +220,40 @@ impl<T: Ord> ChunkedRangeSet<T> {
         self.0.is_empty()
     }
 
+    /// Returns `true` if all values are members.
+    ///
+    /// # Examples
+    ///
+    /// ```
+    /// use range_sets::ChunkedRangeSet;
+    ///
+    /// let mut open = ChunkedRangeSet::new();
+    /// open.insert(0u8..);
+    /// assert!(open.is_all());
+    /// ```
+    pub fn is_all(&self) -> bool
+    where
+        T: RangeSetEntry,
+    {
+        self.0.is_all()
+    }
+
+    /// Returns how many values are members, or `None` if the set has no end. It looks at each boundary.
+    ///
+    /// # Examples
+    ///
+    /// ```
+    /// use range_sets::ChunkedRangeSet;
+    ///
+    /// assert_eq!(ChunkedRangeSet::from_iter([9..11, 15..18]).covered(), Some(5));
+    /// ```
+    pub fn covered(&self) -> Option<u128>
+    where
+        T: Countable,
+    {
+        self.0.covered()
+    }
+
     /// Returns the range that holds this value, or `None` if it is no member.
     ///
     /// # Examples
@@ -313,6 +350,36 @@ impl<T: Ord> ChunkedRangeSet<T> {
     /// ```
     pub fn iter(&self) -> Iter<'_, T> {
         Iter::new(self.0.iter())
+    }
+
+    /// Returns an iterator over the parts of a range that aren't in the set, from the lowest on. None of them is empty.
+    ///
+    /// # Examples
+    ///
+    /// ```
+    /// use range_sets::ChunkedRangeSet;
+    ///
+    /// let busy = ChunkedRangeSet::from_iter([9..11, 12..15]);
+    /// let free: Vec<_> = busy.gaps(&8..&18).collect();
+    /// assert_eq!(free, [&8..&9, &11..&12, &15..&18]);
+    /// ```
+    pub fn gaps<'a>(&'a self, within: Range<&'a T>) -> Gaps<'a, T> {
+        self.0.gaps(within)
+    }
+
+    /// Returns an iterator over the parts of a range that are in the set, from the lowest on. None of them is empty.
+    ///
+    /// # Examples
+    ///
+    /// ```
+    /// use range_sets::ChunkedRangeSet;
+    ///
+    /// let busy = ChunkedRangeSet::from_iter([9..11, 12..15]);
+    /// let parts: Vec<_> = busy.ranges_within(&10..&13).collect();
+    /// assert_eq!(parts, [&10..&11, &12..&13]);
+    /// ```
+    pub fn ranges_within<'a>(&'a self, within: Range<&'a T>) -> RangesWithin<'a, T> {
+        self.0.ranges_within(within)
     }
 
     /// The boundaries, from the lowest on.

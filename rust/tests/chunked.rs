@@ -51,6 +51,13 @@ fn compare(chunked: &ChunkedRangeSet<u32>, set: &RangeSet2<u32>, random: &mut Ra
         chunked.intersects_range(value..),
         set.intersects_range(value..)
     );
+    let ends = &value..&(value + random.below(places) as u32);
+    assert!(chunked.gaps(ends.clone()).eq(set.gaps(ends.clone())));
+    assert!(chunked
+        .ranges_within(ends.clone())
+        .eq(set.ranges_within(ends)));
+    assert_eq!(chunked.is_all(), set.is_all());
+    assert_eq!(chunked.covered(), set.covered());
     assert_eq!(chunked.first(), set.first());
     assert_eq!(chunked.last(), set.last());
     assert_eq!(chunked.span(), set.span());

@@ -12,3 +12,6 @@ pub mod Moved
 pub mod ToTheEnd
 pub mod Lengths
 pub mod Around
+pub mod Between
+pub mod Pairs
+pub mod Parts

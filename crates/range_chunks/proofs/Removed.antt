@@ -197,6 +197,12 @@ module _ {T : Type 0} where
     low-near low near start =
         ⊎_elim (λ less. omega arith) (λ high. omega (arith, start (whole (omega arith)))) (cases_lt p.chunk q.chunk)
 
+  pub take-take-le : (m n : ℕ) (ws : List (Chunk T)) → m ≤ n → take m (take n ws) ≡ take m ws
+  take-take-le zero n ws le = refl
+  take-take-le (suc m) zero ws le = absurd (omega arith)
+  take-take-le (suc m) (suc n) [] le = refl
+  take-take-le (suc m) (suc n) (w ∷ ws) le = ap (λ vs. w ∷ vs) (take-take-le m n ws (omega arith))
+
   -- ---- across chunks: the list as it was, cut behind a place, and then before another
   module _ (xs ys zs : List (Chunk T)) (p q : Place) (low high : ℕ) (hp : IsPlace xs p)
       (near : low ≤ q.chunk) (kept : take q.chunk zs ≡ take q.chunk ys) (same : drop q.chunk ys ≡ drop q.chunk xs)
@@ -206,12 +212,6 @@ module _ {T : Type 0} where
     take-low =
         let e : take low (take q.chunk zs) ≡ take low zs = take-take-le low q.chunk zs near in
         sym e ∙ ap (λ ws. take low ws) kept ∙ take-take-le low q.chunk ys near
-      where
-        take-take-le : (m n : ℕ) (ws : List (Chunk T)) → m ≤ n → take m (take n ws) ≡ take m ws
-        take-take-le zero n ws le = refl
-        take-take-le (suc m) zero ws le = absurd (omega arith)
-        take-take-le (suc m) (suc n) [] le = refl
-        take-take-le (suc m) (suc n) (w ∷ ws) le = ap (λ vs. w ∷ vs) (take-take-le m n ws (omega arith))
 
     pub removed-across : flat (remove_range zs low high) ≡ remove_range (flat xs) (place_in xs p) (place_in xs q)
     removed-across =

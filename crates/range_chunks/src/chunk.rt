@@ -1,7 +1,8 @@
 //! One chunk of a list of boundaries, and each way to change it.
 //!
 //! The first boundary lies in the chunk itself, so that a search among chunks reads no list.
-ghost use Rattle.std.specs.Prelude.{◌≡◌, ◌≤◌, ◌<◌, ◌+◌, ◌-◌, ◌++◌, ◌∷◌, [], List, take, drop, length, slice_set, slice_index_or, vec_len, vec_capacity, HoldsAt, OnOk, OnErr, IfOk};
+ghost use Rattle.std.specs.Prelude.{◌≡◌, ◌≤◌, ◌<◌, ◌+◌, ◌-◌, ◌++◌, ◌∷◌, [], List, take, drop, length, slice_set, slice_index_or, vec_len, vec_capacity, option_copied, HoldsAt, OnOk, OnErr, IfOk};
+ghost use Rattle.std.specs.Option.{option_to_list};
 ghost use Rattle.std.specs.List.{remove_range};
 ghost use Rattle.range_merge.specs.Boundaries.{is_odd as odd};
 ghost use Rattle.range_merge.specs.Connective.{differ};
@@ -42,6 +43,25 @@ impl<T> Chunk<T> {
             &self.first
         } else {
             &self.rest[index - 1]
+        }
+    }
+
+    /// The boundaries between two indices: the first of the chunk where it is one of them, and those
+    /// of a slice.
+    #[inline(always)]
+    pub fn between(&self, from: usize, to: usize) -> (Option<&T>, &[T])
+        requires ordered { from ≤ to }
+        requires within { to ≤ length (items_of self.now) }
+        ensures { option_to_list (option_copied result.0) ++ result.1.now ≡
+            take (to - from) (drop from (items_of self.now)) }
+    {
+        let rest = self.rest.as_slice();
+        if from > 0 {
+            (None, &rest[from - 1..to - 1])
+        } else if to > 0 {
+            (Some(&self.first), &rest[..to - 1])
+        } else {
+            (None, &[])
         }
     }
 

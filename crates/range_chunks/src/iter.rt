@@ -1,12 +1,14 @@
 //! The ranges of a set in chunks, from the lowest on and from the highest down.
-ghost use Rattle.std.specs.Prelude.{◌≡◌, length};
+ghost use Rattle.std.specs.Prelude.{◌≡◌, ◌≤◌, ◌-◌, ◌++◌, take, drop, length};
 ghost use Rattle.std.specs.Cmp.Lexicographic.{pointwise};
 ghost use Rattle.std.specs.Iterator.{YieldsFirstBy, YieldsLastBy, item_count};
 ghost use Rattle.range_merge.specs.Boundaries.{is_odd};
 ghost use Rattle.range_collections.specs.Ranges.{ranges_of, range_now};
 ghost use Rattle.range_chunks.specs.Chunks.{flat, AreChunks};
+ghost use Rattle.range_chunks.specs.Places.{place_in, IsPlace};
 
 use crate::chunk::Chunk;
+use crate::place::Place;
 use range_collections::RangeSetRange;
 use std::iter::FusedIterator;
 use std::marker::Model;
@@ -110,10 +112,23 @@ pub(crate) fn are_equal<T: PartialEq>(these: &[Chunk<T>], those: &[Chunk<T>]) ->
     those.take_first().is_none()
 }
 
-// Boundaries by reference: those of a slice, those of chunks, one where it is given, and those of
-// another slice. A clause reads it as the list of them.
+// The boundaries from a place on: those of a slice, and those of chunks.
+#[inline(always)]
+fn behind<T>(chunks: &[Chunk<T>], at: Place) -> (&[T], &[Chunk<T>])
+    requires { IsPlace chunks.now at }
+    ensures { result.0.now ++ flat result.1.now ≡ drop (place_in chunks.now at) (flat chunks.now) }
+{
+    if at.index == 0 {
+        return (&[], &chunks[at.chunk..]);
+    }
+    let rest = chunks[at.chunk].rest.as_slice();
+    (&rest[at.index - 1..], &chunks[at.chunk + 1..])
+}
+
+/// Boundaries by reference: those of a slice, those of chunks, one where it is given, and those of
+/// another slice. A clause reads it as the list of them.
 #[derive(Drop)]
-struct Unread<'a, T> {
+pub(crate) struct Unread<'a, T> {
     front: &'a [T],
     chunks: &'a [Chunk<T>],
     first: Option<&'a T>,
@@ -133,7 +148,7 @@ impl<'a, T> Model for Unread<'a, T> {
 impl<'a, T> Unread<'a, T> {
     // The boundaries in these chunks.
     #[inline(always)]
-    fn new(chunks: &'a [Chunk<T>]) -> Self
+    pub(crate) fn new(chunks: &'a [Chunk<T>]) -> Self
         ensures { result ≡ flat chunks.now }
     {
         Unread {
@@ -144,9 +159,39 @@ impl<'a, T> Unread<'a, T> {
         }
     }
 
+    // The boundaries between two places of these chunks.
+    pub(crate) fn between(chunks: &'a [Chunk<T>], from: Place, to: Place) -> Self
+        requires from { IsPlace chunks.now from }
+        requires to { IsPlace chunks.now to }
+        requires ordered { place_in chunks.now from ≤ place_in chunks.now to }
+        ensures { result ≡ take (place_in chunks.now to - place_in chunks.now from)
+            (drop (place_in chunks.now from) (flat chunks.now)) }
+    {
+        if from.chunk < to.chunk {
+            let (front, chunks_between) = behind(&chunks[..to.chunk], from);
+            let (first, back) = chunks[to.chunk].between(0, to.index);
+            return Unread {
+                front,
+                chunks: chunks_between,
+                first,
+                back,
+            };
+        }
+        if from.chunk > to.chunk {
+            return Unread::new(&[]);
+        }
+        let (first, back) = chunks[to.chunk].between(from.index, to.index);
+        Unread {
+            front: &[],
+            chunks: &[],
+            first,
+            back,
+        }
+    }
+
     // Takes the first boundary out.
     #[inline(always)]
-    fn take_first(&mut self) -> Option<&'a T>
+    pub(crate) fn take_first(&mut self) -> Option<&'a T>
         ensures { YieldsFirstBy (λ x. x.now) (λ items. items) self.old result self.new }
     {
         if let Some((first, rest)) = self.front.split_first() {

@@ -19,6 +19,9 @@ mod searching;
 mod set;
 mod splicing;
 mod to_the_end;
+mod values;
+mod within;
 
 pub use iter::Iter;
 pub use set::ChunkedRangeSet;
+pub use within::{Gaps, RangesWithin};

@@ -123,9 +123,9 @@ pub fn place_up_to<T: Ord>(chunks: &[Chunk<T>], value: &T, count: &mut Compariso
     }
 }
 
-// The place behind the boundaries below an element.
+/// The place behind the boundaries below an element.
 #[inline(always)]
-fn place_below<T: Ord>(chunks: &[Chunk<T>], value: &T, count: &mut Comparisons) -> Place
+pub fn place_below<T: Ord>(chunks: &[Chunk<T>], value: &T, count: &mut Comparisons) -> Place
     requires some { 0 < length chunks.now }
     requires sorted { IsAscending T.cmp (flat chunks.now) }
     requires chunks { AreChunks chunks.now }

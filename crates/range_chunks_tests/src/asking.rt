@@ -4,13 +4,15 @@ use range_chunks::ChunkedRangeSet;
 use range_collections::RangeSet2;
 use std::alloc::AllocError;
 
-// Whether both have as many ranges, the same first and last one, and the same hull.
+// Whether both have as many ranges and members, the same first and last range, and the same hull.
 fn have_the_same_ends(set: &ChunkedRangeSet<u64>, flat: &RangeSet2<u64>) -> bool {
     set.boundaries_len() == flat.boundaries().len()
         && set.ranges_len() == flat.ranges_len()
         && set.first() == flat.first()
         && set.last() == flat.last()
         && set.span() == flat.span()
+        && set.is_all() == flat.is_all()
+        && set.covered() == flat.covered()
 }
 
 // Whether both have the same range at each number below a limit.
@@ -31,6 +33,69 @@ fn sets_answer_as_one_list_does(rt: HostRuntime) -> Result<(), AllocError> {
         assert!(rt; have_the_same_ends(&set, &flat), "{row:?}");
         let limit = row.0.saturating_mul(20).saturating_add(50);
         assert!(rt; have_the_same_ranges(&set, &flat, limit), "{row:?}");
+    }
+    Ok(())
+}
+
+// Ends of ranges: at the ends of ranges of a set and beside them, also where a chunk ends.
+const ENDS: [u64; 14] = [
+    0, 5, 10, 15, 20, 5_109, 5_110, 5_119, 5_120, 5_125, 5_130, 10_240, 59_990, 70_000,
+];
+
+// Whether both give the same parts, of which there are at most so many.
+fn are_the_same(
+    mut these: range_chunks::RangesWithin<'_, u64>,
+    mut those: range_collections::RangesWithin<'_, u64>,
+    most: usize,
+) -> bool {
+    for _ in 0..=most {
+        match (these.next(), those.next()) {
+            (None, None) => return true,
+            (one, other) if one == other => {}
+            _ => return false,
+        }
+    }
+    false
+}
+
+// Whether both have the same parts of each range that starts here, and the same gaps in it.
+fn have_the_same_parts(set: &ChunkedRangeSet<u64>, flat: &RangeSet2<u64>, start: u64) -> bool {
+    let most = flat.boundaries().len().saturating_add(1);
+    for end in ENDS {
+        let (these, those) = (set.gaps(&start..&end), flat.gaps(&start..&end));
+        if !are_the_same(these, those, most) {
+            return false;
+        }
+        let (these, those) = (
+            set.ranges_within(&start..&end),
+            flat.ranges_within(&start..&end),
+        );
+        if !are_the_same(these, those, most) {
+            return false;
+        }
+    }
+    true
+}
+
+// Whether both have the same parts of each range with two of the ends.
+fn have_all_the_same_parts(set: &ChunkedRangeSet<u64>, flat: &RangeSet2<u64>) -> bool {
+    for start in ENDS {
+        if !have_the_same_parts(set, flat, start) {
+            return false;
+        }
+    }
+    true
+}
+
+#[test]
+fn sets_have_the_parts_that_one_list_has(rt: HostRuntime) -> Result<(), AllocError> {
+    for row in ROWS {
+        let mut flat = flat_set(rt.alloc(), row)?;
+        let mut set = ChunkedRangeSet::from_view(rt.alloc(), flat.as_ref())?;
+        assert!(rt; have_all_the_same_parts(&set, &flat), "{row:?}");
+        flat.remove(0..3)?;
+        set.remove(0..3)?;
+        assert!(rt; have_all_the_same_parts(&set, &flat), "{row:?}");
     }
     Ok(())
 }

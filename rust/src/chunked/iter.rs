@@ -49,6 +49,38 @@ impl<T> DoubleEndedIterator for Iter<'_, T> {
 
 impl<T> FusedIterator for Iter<'_, T> {}
 
+/// [`ChunkedRangeSet::gaps`] makes it.
+///
+/// [`ChunkedRangeSet::gaps`]: crate::ChunkedRangeSet::gaps
+///
+/// # Examples
+///
+/// ```
+/// use range_sets::{chunked::Gaps, ChunkedRangeSet};
+///
+/// let busy = ChunkedRangeSet::from_iter([9..11]);
+/// let mut free: Gaps<i32> = busy.gaps(&10..&13);
+/// assert_eq!(free.next(), Some(&11..&13));
+/// assert_eq!(free.next(), None);
+/// ```
+pub use crate::generated::range_chunks::Gaps;
+/// [`ChunkedRangeSet::ranges_within`] makes it, and [`ChunkedRangeSet::gaps`].
+///
+/// [`ChunkedRangeSet::gaps`]: crate::ChunkedRangeSet::gaps
+/// [`ChunkedRangeSet::ranges_within`]: crate::ChunkedRangeSet::ranges_within
+///
+/// # Examples
+///
+/// ```
+/// use range_sets::{chunked::RangesWithin, ChunkedRangeSet};
+///
+/// let busy = ChunkedRangeSet::from_iter([9..11]);
+/// let mut parts: RangesWithin<i32> = busy.ranges_within(&10..&13);
+/// assert_eq!(parts.next(), Some(&10..&11));
+/// assert_eq!(parts.next(), None);
+/// ```
+pub use crate::generated::range_chunks::RangesWithin;
+
 /// An iterator over the ranges of a set in chunks that was taken by value. `into_iter` makes it.
 ///
 /// # Examples

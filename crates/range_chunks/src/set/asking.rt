@@ -1,14 +1,22 @@
-//! How many ranges a set has, the first and the last of them, and the one at an element.
-ghost use Rattle.std.specs.Prelude.{◌≡◌, ◌↔◌, ◌^◌, ◌-◌, [], Some, None, true, length, min, Contains, IsSome, IfSome, MatchOption, slice_get};
+//! How many ranges a set has, the first and the last of them, the one at an element, and the parts
+//! of a range that are in the set or not.
+ghost use Rattle.std.specs.Prelude.{◌≡◌, ◌↔◌, ◌^◌, ◌-◌, ◌<◌, ◌&&◌, not, [], Some, None, true, length, min, Contains, IsTrue, IsSome, IfSome, MatchOption, slice_get};
 ghost use Rattle.std.specs.List.{last_or};
+ghost use Rattle.std.specs.Ordering.{is_le, is_lt};
 ghost use Rattle.range_merge.specs.Boundaries.{member};
+ghost use Rattle.range_merge.specs.Connective.{intersection_table, difference_table};
+ghost use Rattle.range_collections.specs.Covered.{covered_of};
 ghost use Rattle.range_collections.specs.Extent.{IsSpan};
 ghost use Rattle.range_collections.specs.Ranges.{ranges_of, range_now, range_start, IsInRange};
+ghost use Rattle.range_collections.specs.Values.{IsEverything};
+ghost use Rattle.range_collections.specs.Within.{GivesParts};
 
 use crate::counting::{len_of, ranges_len_of};
 use crate::ranges::range_at;
 use crate::set::ChunkedRangeSet;
-use range_collections::RangeSetRange;
+use crate::values::{count_members, is_everything};
+use crate::within::{Gaps, RangesWithin, parts_within};
+use range_collections::{Comparisons, Countable, RangeSetEntry, RangeSetRange};
 use std::ops::{Range, RangeFrom};
 
 impl<T: Ord> ChunkedRangeSet<T> {
@@ -58,6 +66,34 @@ impl<T: Ord> ChunkedRangeSet<T> {
         range_at(self.chunks.as_slice(), value)
     }
 
+    /// The parts of `within` that aren't in the set, from the lowest on. None is empty, and each
+    /// ends below the start of the next. An empty or reversed range has none. Where a boundary
+    /// equals an end of `within`, the end of `within` is given. It takes no memory.
+    #[inline]
+    pub fn gaps<'a>(&'a self, within: Range<&'a T>) -> Gaps<'a, T>
+        ensures gives { GivesParts T.cmp difference_table within.entry self.now result }
+        ensures members { (x : T) → member T.cmp result x ≡
+            ((is_le (T.cmp within.entry.start.now x) && is_lt (T.cmp x within.entry.end.now))
+            && not (member T.cmp self.now x)) }
+    {
+        let chunks = self.chunks.as_slice();
+        parts_within(chunks, within, false, &mut Comparisons::new())
+    }
+
+    /// The parts of `within` that are in the set, from the lowest on. None is empty, and each ends
+    /// below the start of the next. An empty or reversed range has none. Where a boundary equals an
+    /// end of `within`, the end of `within` is given. It takes no memory.
+    #[inline]
+    pub fn ranges_within<'a>(&'a self, within: Range<&'a T>) -> RangesWithin<'a, T>
+        ensures gives { GivesParts T.cmp intersection_table within.entry self.now result }
+        ensures members { (x : T) → member T.cmp result x ≡
+            ((is_le (T.cmp within.entry.start.now x) && is_lt (T.cmp x within.entry.end.now))
+            && member T.cmp self.now x) }
+    {
+        let chunks = self.chunks.as_slice();
+        parts_within(chunks, within, true, &mut Comparisons::new())
+    }
+
     /// How many boundaries there are, or `usize::MAX` if there are more. It adds up the chunks.
     pub fn boundaries_len(&self) -> usize
         ensures { result ≡ min (length self.now) (2 ^ 64 - 1) }
@@ -70,6 +106,28 @@ impl<T: Ord> ChunkedRangeSet<T> {
         ensures { result ≡ min (length (ranges_of self.now)) (2 ^ 64 - 1) }
     {
         usize::try_from(ranges_len_of(self.chunks.as_slice())).unwrap_or(usize::MAX)
+    }
+}
+
+impl<T: RangeSetEntry> ChunkedRangeSet<T> {
+    /// Whether every value is a member.
+    pub fn is_all(&self) -> bool
+        ensures { IsTrue result ↔ IsEverything T.cmp T.is_value self.now }
+    {
+        is_everything(self.chunks.as_slice())
+    }
+}
+
+impl<T: Countable> ChunkedRangeSet<T> {
+    /// The cardinality: how many values are members, or `None` if the set has no end. A set with an
+    /// end has fewer members than there are values.
+    ///
+    /// It looks at each boundary once and takes no memory.
+    pub fn covered(&self) -> Option<u128>
+        ensures fits { IfSome result (λ n. n < T.count) }
+        ensures value { result ≡ covered_of T.cmp T.value T.count self.now }
+    {
+        count_members(self.chunks.as_slice())
     }
 }
 

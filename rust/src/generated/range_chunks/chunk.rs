@@ -48,6 +48,29 @@ impl<T> Chunk<T> {
         }
     }
 
+    /// The boundaries between two indices: the first of the chunk where it is one of them, and those
+    /// of a slice.
+    ///
+    /// # Contract
+    ///
+    /// ```text
+    /// requires ordered: from ≤ to
+    /// requires within: to ≤ length (items_of self.now)
+    /// ensures option_to_list (option_copied result.0) ++ result.1.now ≡ take (to - from) (drop
+    ///     from (items_of self.now))
+    /// ```
+    #[inline(always)]
+    pub(crate) fn between(&self, from: usize, to: usize) -> (Option<&T>, &[T]) {
+        let rest = self.rest.as_slice();
+        if from > 0 {
+            (None, &rest[from - 1..to - 1])
+        } else if to > 0 {
+            (Some(&self.first), &rest[..to - 1])
+        } else {
+            (None, &[])
+        }
+    }
+
     /// Whether an odd number of boundaries stands before an index.
     ///
     /// # Contract

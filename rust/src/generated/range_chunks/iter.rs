@@ -2,6 +2,7 @@
 //! The ranges of a set in chunks, from the lowest on and from the highest down.
 
 use crate::generated::range_chunks::chunk::Chunk;
+use crate::generated::range_chunks::place::Place;
 use crate::generated::range_collections::RangeSetRange;
 use core::iter::FusedIterator;
 use core::ops::{Range, RangeFrom};
@@ -78,9 +79,19 @@ pub(crate) fn are_equal<T: PartialEq>(these: &[Chunk<T>], those: &[Chunk<T>]) ->
     those.take_first().is_none()
 }
 
-// Boundaries by reference: those of a slice, those of chunks, one where it is given, and those of
-// another slice. A clause reads it as the list of them.
-struct Unread<'a, T> {
+// The boundaries from a place on: those of a slice, and those of chunks.
+#[inline(always)]
+fn behind<T>(chunks: &[Chunk<T>], at: Place) -> (&[T], &[Chunk<T>]) {
+    if at.index == 0 {
+        return (&[], &chunks[at.chunk..]);
+    }
+    let rest = chunks[at.chunk].rest.as_slice();
+    (&rest[at.index - 1..], &chunks[at.chunk + 1..])
+}
+
+/// Boundaries by reference: those of a slice, those of chunks, one where it is given, and those of
+/// another slice. A clause reads it as the list of them.
+pub(crate) struct Unread<'a, T> {
     front: &'a [T],
     chunks: &'a [Chunk<T>],
     first: Option<&'a T>,
@@ -90,7 +101,7 @@ struct Unread<'a, T> {
 impl<'a, T> Unread<'a, T> {
     // The boundaries in these chunks.
     #[inline(always)]
-    fn new(chunks: &'a [Chunk<T>]) -> Self {
+    pub(crate) fn new(chunks: &'a [Chunk<T>]) -> Self {
         Unread {
             front: &[],
             chunks,
@@ -99,9 +110,33 @@ impl<'a, T> Unread<'a, T> {
         }
     }
 
+    // The boundaries between two places of these chunks.
+    pub(crate) fn between(chunks: &'a [Chunk<T>], from: Place, to: Place) -> Self {
+        if from.chunk < to.chunk {
+            let (front, chunks_between) = behind(&chunks[..to.chunk], from);
+            let (first, back) = chunks[to.chunk].between(0, to.index);
+            return Unread {
+                front,
+                chunks: chunks_between,
+                first,
+                back,
+            };
+        }
+        if from.chunk > to.chunk {
+            return Unread::new(&[]);
+        }
+        let (first, back) = chunks[to.chunk].between(from.index, to.index);
+        Unread {
+            front: &[],
+            chunks: &[],
+            first,
+            back,
+        }
+    }
+
     // Takes the first boundary out.
     #[inline(always)]
-    fn take_first(&mut self) -> Option<&'a T> {
+    pub(crate) fn take_first(&mut self) -> Option<&'a T> {
         if let Some((first, rest)) = self.front.split_first() {
             self.front = rest;
             return Some(first);

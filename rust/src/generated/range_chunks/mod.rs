@@ -19,6 +19,9 @@ pub(crate) mod searching;
 pub(crate) mod set;
 pub(crate) mod splicing;
 pub(crate) mod to_the_end;
+pub(crate) mod values;
+pub(crate) mod within;
 
 pub use iter::Iter;
 pub use set::ChunkedRangeSet;
+pub use within::{Gaps, RangesWithin};

@@ -145,9 +145,30 @@ pub(crate) fn place_up_to<T: Ord>(
     }
 }
 
-// The place behind the boundaries below an element.
+/// The place behind the boundaries below an element.
+///
+/// # Contract
+///
+/// ```text
+/// requires some: 0 < length chunks.now
+/// requires sorted: IsAscending T.cmp (flat chunks.now)
+/// requires chunks: AreChunks chunks.now
+/// requires made: count.old < 2 ^ 126
+/// ensures place: IsPlace chunks.now result
+/// ensures within: place_in chunks.now result ≤ length (flat chunks.now)
+/// ensures before: AllWithin (λ y. T.cmp y value.now ≡ Less) (flat chunks.now) 0 (place_in
+///     chunks.now result)
+/// ensures from: AllWithin (λ y. is_le (T.cmp value.now y) ≡ true) (flat chunks.now) (place_in
+///     chunks.now result) (length (flat chunks.now))
+/// ensures comparisons: AddsAtMost count.old count.new (digits (length chunks.now) + digits
+///     512)
+/// ```
 #[inline(always)]
-fn place_below<T: Ord>(chunks: &[Chunk<T>], value: &T, count: &mut Comparisons) -> Place {
+pub(crate) fn place_below<T: Ord>(
+    chunks: &[Chunk<T>],
+    value: &T,
+    count: &mut Comparisons,
+) -> Place {
     match find(chunks, value, count) {
         Ok(place) => place,
         Err(place) => place,

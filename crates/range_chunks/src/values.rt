@@ -1,0 +1,59 @@
+//! What is asked of all values of a type: whether each is a member, and how many are.
+ghost use Rattle.std.specs.Prelude.{◌≡◌, ◌↔◌, ◌-◌, ◌<◌, IsTrue, IfSome};
+ghost use Rattle.std.specs.declared.cmp.Ordering.TheVariants.{Less};
+ghost use Rattle.range_merge.specs.Boundaries.{IsAscending};
+ghost use Rattle.range_collections.specs.Covered.{covered_of};
+ghost use Rattle.range_collections.specs.Values.{IsEverything};
+ghost use Rattle.range_chunks.specs.Chunks.{flat};
+
+use crate::chunk::Chunk;
+use crate::iter::Unread;
+use range_collections::{Countable, RangeSetEntry};
+
+/// Whether every value is a member.
+pub fn is_everything<T: RangeSetEntry>(chunks: &[Chunk<T>]) -> bool
+    requires { IsAscending T.cmp (flat chunks.now) }
+    ensures { IsTrue result ↔ IsEverything T.cmp T.is_value (flat chunks.now) }
+{
+    let mut unread = Unread::new(chunks);
+    let Some(first) = unread.take_first() else {
+        return false;
+    };
+    match unread.take_first() {
+        Some(second) => {
+            second.known();
+            false
+        }
+        None => {
+            first.known();
+            first.is_min_value()
+        }
+    }
+}
+
+/// How many values are members, or `None` if the last range has no end.
+pub fn count_members<T: Countable>(chunks: &[Chunk<T>]) -> Option<u128>
+    requires { IsAscending T.cmp (flat chunks.now) }
+    ensures fits { IfSome result (λ n. n < T.count) }
+    ensures value { result ≡ covered_of T.cmp T.value T.count (flat chunks.now) }
+{
+    let mut unread = Unread::new(chunks);
+    let mut count: u128 = 0;
+    while let Some(start) = unread.take_first() {
+        let end = unread.take_first()?;
+        count += between(start, end);
+    }
+    Some(count)
+}
+
+// How many values lie from one on, up to another, which is out.
+fn between<T: Countable>(start: &T, end: &T) -> u128
+    requires { T.cmp start.now end.now ≡ Less }
+    ensures value { result ≡ T.place end.now - T.place start.now }
+    ensures start_is_value { T.is_value start.now }
+    ensures end_is_value { T.is_value end.now }
+{
+    start.known();
+    end.known();
+    end.place() - start.place()
+}

@@ -1,0 +1,156 @@
+//! The parts of a range that are in a set in chunks, and those that the set leaves out.
+ghost use Rattle.std.specs.Prelude.{◌≡◌, ◌<◌, ◌+◌, ◌*◌, ◌^◌, ◌∷◌, [], cond, false, length};
+ghost use Rattle.std.specs.Iterator.{YieldsFirstBy, item_count};
+ghost use Rattle.range_merge.specs.Boundaries.{IsAscending, is_odd};
+ghost use Rattle.range_merge.specs.Counting.{AddsAtMost};
+ghost use Rattle.range_merge.specs.Runs.{digits};
+ghost use Rattle.range_collections.specs.Ranges.{ranges_of};
+ghost use Rattle.range_collections.specs.Within.{GivesParts, borrowed_items, with_end, within_table};
+ghost use Rattle.range_chunks.specs.Chunks.{flat, AreChunks};
+
+use crate::chunk::Chunk;
+use crate::cutting::is_inside;
+use crate::iter::Unread;
+use crate::questions::{place_below, place_up_to};
+use range_collections::Comparisons;
+use range_merge::Compare;
+use std::iter::FusedIterator;
+use std::marker::Model;
+use std::ops::Range;
+
+/// The parts of a range that a set leaves out, from the lowest on. A clause reads it as the list of
+/// the boundaries that are still unread.
+pub type Gaps<'a, T> = RangesWithin<'a, T>;
+
+/// The parts of a range that are in a set, from the lowest on. A clause reads it as the list of the
+/// boundaries that are still unread, of which there is an even number.
+#[derive(Drop)]
+pub struct RangesWithin<'a, T> {
+    unread: Within<'a, T>,
+}
+
+impl<'a, T> Model for RangesWithin<'a, T> {
+    ghost use Rattle.std.specs.Prelude.{◌≡◌, List, false, length};
+    ghost use Rattle.range_merge.specs.Boundaries.{is_odd};
+
+    ghost Value = { List T };
+
+    ghost view = { λ it. it.unread };
+
+    ghost invariant = { λ it. is_odd (length it.unread) ≡ false };
+}
+
+impl<'a, T> RangesWithin<'a, T> {
+    // No range.
+    #[inline(always)]
+    fn nothing() -> Self
+        ensures { result ≡ [] }
+    {
+        Self::new(None, Unread::new(&[]), None)
+    }
+
+    // The ranges of these boundaries, of which there has to be an even number: a first one and a
+    // last one where they are given, and those between.
+    #[inline(always)]
+    fn new(first: Option<&'a T>, between: Unread<'a, T>, last: Option<&'a T>) -> Self
+        requires { is_odd (length (borrowed_items first between last)) ≡ false }
+        ensures { result ≡ borrowed_items first.entry between.entry last.entry }
+    {
+        RangesWithin {
+            unread: Within {
+                first,
+                between,
+                last,
+            },
+        }
+    }
+}
+
+impl<'a, T> Iterator for RangesWithin<'a, T> {
+    type Item = Range<&'a T>;
+
+    ghost next_gives = { YieldsFirstBy with_end ranges_of };
+
+    ghost remaining = { item_count ranges_of };
+
+    #[inline]
+    fn next(&mut self) -> Option<Range<&'a T>> {
+        let start = self.unread.take_first()?;
+        let end = self.unread.take_first()?;
+        Some(Range { start, end })
+    }
+}
+
+impl<'a, T> FusedIterator for RangesWithin<'a, T> {}
+
+/// The parts of `within` whose elements are members where `inside` is true, or else no members.
+pub fn parts_within<'a, T: Ord>(
+    chunks: &'a [Chunk<T>],
+    within: Range<&'a T>,
+    inside: bool,
+    count: &mut Comparisons,
+) -> RangesWithin<'a, T>
+    requires sorted { IsAscending T.cmp (flat chunks.now) }
+    requires chunks { AreChunks chunks.now }
+    requires made { count.old < 2 ^ 64 }
+    ensures gives { GivesParts T.cmp (within_table inside) within.entry (flat chunks.now) result }
+    ensures comparisons { AddsAtMost count.old count.new
+        (2 * (digits (length chunks.now) + digits 512) + 1) }
+{
+    if !count.compare(within.start, within.end).is_lt() {
+        return RangesWithin::nothing();
+    }
+    if chunks.is_empty() {
+        return all_or_none(within, !inside);
+    }
+    let from = place_up_to(chunks, within.start, count);
+    let to = place_below(chunks, within.end, count);
+    let first = (is_inside(chunks, from) == inside).then_some(within.start);
+    let last = (is_inside(chunks, to) == inside).then_some(within.end);
+    RangesWithin::new(first, Unread::between(chunks, from, to), last)
+}
+
+// The whole range, or none of it.
+fn all_or_none<'a, T>(within: Range<&'a T>, all: bool) -> RangesWithin<'a, T>
+    ensures { result ≡ cond all (within.entry.start.now ∷ within.entry.end.now ∷ []) [] }
+{
+    RangesWithin::new(
+        all.then_some(within.start),
+        Unread::new(&[]),
+        all.then_some(within.end),
+    )
+}
+
+// Boundaries by reference: a first one, those between, and a last one. A clause reads it as the
+// list of them.
+#[derive(Drop)]
+struct Within<'a, T> {
+    first: Option<&'a T>,
+    between: Unread<'a, T>,
+    last: Option<&'a T>,
+}
+
+impl<'a, T> Model for Within<'a, T> {
+    ghost use Rattle.std.specs.Prelude.{List};
+    ghost use Rattle.range_collections.specs.Within.{borrowed_items};
+
+    ghost Value = { List T };
+
+    ghost view = { λ it. borrowed_items it.first it.between it.last };
+}
+
+impl<'a, T> Within<'a, T> {
+    // Takes the first boundary out.
+    #[inline(always)]
+    fn take_first(&mut self) -> Option<&'a T>
+        ensures { YieldsFirstBy (λ x. x.now) (λ items. items) self.old result self.new }
+    {
+        if let Some(first) = self.first.take() {
+            return Some(first);
+        }
+        match self.between.take_first() {
+            Some(first) => Some(first),
+            None => self.last.take(),
+        }
+    }
+}
