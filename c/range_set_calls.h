@@ -21,6 +21,10 @@ bool PROVED(range_at)(const NUMBER *a, size_t a_len, NUMBER value, NUMBER *start
 bool PROVED(range_from)(const NUMBER *a, size_t a_len, NUMBER value, NUMBER *start, NUMBER *end, bool *has_end);
 bool PROVED(next_member)(const NUMBER *a, size_t a_len, NUMBER from, NUMBER *next);
 bool PROVED(next_gap)(const NUMBER *a, size_t a_len, NUMBER from, NUMBER *next);
+bool PROVED(prev_member)(const NUMBER *a, size_t a_len, NUMBER from, NUMBER *previous);
+bool PROVED(prev_gap)(const NUMBER *a, size_t a_len, NUMBER from, NUMBER *previous);
+uint64_t PROVED(rank)(const NUMBER *a, size_t a_len, NUMBER at);
+bool PROVED(select)(const NUMBER *a, size_t a_len, uint64_t k, NUMBER *at);
 bool PROVED(range)(const NUMBER *a, size_t a_len, size_t index, NUMBER *start, NUMBER *end, bool *has_end);
 bool PROVED(first)(const NUMBER *a, size_t a_len, NUMBER *start, NUMBER *end, bool *has_end);
 bool PROVED(last)(const NUMBER *a, size_t a_len, NUMBER *start, NUMBER *end, bool *has_end);
@@ -198,6 +202,32 @@ bool NAME(next_gap)(SET set, NUMBER from, NUMBER *next)
     NUMBER at = 0;
     bool found = PROVED(next_gap)(LIST(set), from, &at);
     return NAME(put)(found, at, next);
+}
+
+bool NAME(prev_member)(SET set, NUMBER from, NUMBER *previous)
+{
+    NUMBER at = 0;
+    bool found = PROVED(prev_member)(LIST(set), from, &at);
+    return NAME(put)(found, at, previous);
+}
+
+bool NAME(prev_gap)(SET set, NUMBER from, NUMBER *previous)
+{
+    NUMBER at = 0;
+    bool found = PROVED(prev_gap)(LIST(set), from, &at);
+    return NAME(put)(found, at, previous);
+}
+
+uint64_t NAME(rank)(SET set, NUMBER at)
+{
+    return PROVED(rank)(LIST(set), at);
+}
+
+bool NAME(select)(SET set, uint64_t k, NUMBER *at)
+{
+    NUMBER it = 0;
+    bool found = PROVED(select)(LIST(set), k, &it);
+    return NAME(put)(found, it, at);
 }
 
 bool NAME(get)(SET set, size_t index, RANGE *range)

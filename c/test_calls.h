@@ -280,6 +280,35 @@ static void TEST(next_ones)(SET a, const NUMBER *points, const bool *on, size_t 
     }
 }
 
+/* From each point back the member before, and the number before that is none; how many members are below it, and back again. */
+static void TEST(previous_ones)(SET a, const NUMBER *points, const bool *on, size_t n)
+{
+    uint64_t below = 0;
+    NUMBER at = 77;
+    size_t p, q;
+    for (p = 0; p < n; p++) {
+        NUMBER previous = 77, wanted;
+        bool is_there;
+        /* A number is what the last point at or below it is, and none is a member below all points. */
+        for (q = p + 1; q > 0 && !on[q - 1]; q--) continue;
+        is_there = q > 0;
+        wanted = q == p + 1 ? points[p] : (NUMBER)(points[q] - 1);
+        check(CALL(prev_member)(a, points[p], &previous) == is_there && previous == (is_there ? wanted : 77), "prev_member");
+        check(CALL(prev_member)(a, points[p], NULL) == is_there, "prev_member without a place");
+        for (q = p + 1; q > 0 && on[q - 1]; q--) continue;
+        is_there = q > 0 || points[0] > LEAST;
+        wanted = q == p + 1 ? points[p] : (NUMBER)(points[q] - 1);
+        previous = 77;
+        check(CALL(prev_gap)(a, points[p], &previous) == is_there && previous == (is_there ? wanted : 77), "prev_gap");
+        check(CALL(prev_gap)(a, points[p], NULL) == is_there, "prev_gap without a place");
+        check(CALL(rank)(a, points[p]) == below, "rank");
+        if (on[p]) check(CALL(select)(a, below, &at) && at == points[p] && CALL(select)(a, below, NULL), "select");
+        if (on[p] && p + 1 < n) below += (uint64_t)points[p + 1] - (uint64_t)points[p];
+    }
+    at = 77;
+    if (!on[n - 1]) check(!CALL(select)(a, below, &at) && at == 77, "select past the last member");
+}
+
 /* Whether all numbers from one point on, up to another, are members, and whether any is. */
 static void TEST(whole_ranges)(SET a, const NUMBER *points, const bool *on, size_t n)
 {
@@ -593,6 +622,7 @@ static void TEST(made_up)(void)
     TEST(parts_of)(o.a, points, on_a, n);
     TEST(whole_ranges)(o.a, points, on_a, n);
     TEST(next_ones)(o.a, points, on_a, n);
+    TEST(previous_ones)(o.a, points, on_a, n);
     TEST(fits)(o.a, points, on_a, n);
     TEST(unions)(points, n);
     TEST(printed_by_c)(o.a);

@@ -100,7 +100,10 @@ pub(crate) fn next_member<T: Ord + Copy>(a: &[T], from: &T, next: &mut T) -> boo
         is_le (T.cmp from.now x) ≡ true → member T.cmp a.now x ≡ false }
     ensures unchanged { result ≡ false → next.new ≡ next.old }
 {
-    write(RangeSetRef::new_unchecked(a).next_member(from), next)
+    put(
+        RangeSetRef::new_unchecked(a).next_member(from).copied(),
+        next,
+    )
 }
 
 // Tells the least number at or above `from` that isn't a member, where there is one.
@@ -111,17 +114,17 @@ pub(crate) fn next_gap<T: Ord + Copy>(a: &[T], from: &T, next: &mut T) -> bool
         is_le (T.cmp from.now x) ≡ true → member T.cmp a.now x ≡ true }
     ensures unchanged { result ≡ false → next.new ≡ next.old }
 {
-    write(RangeSetRef::new_unchecked(a).next_gap(from), next)
+    put(RangeSetRef::new_unchecked(a).next_gap(from).copied(), next)
 }
 
 // Writes what was found, and answers whether anything was.
-fn write<T: Copy>(found: Option<&T>, place: &mut T) -> bool
-    ensures some { IfSome found.entry (λ it. (result ≡ true) × (place.new ≡ it.now)) }
-    ensures none { IfNone found.entry ((result ≡ false) × (place.new ≡ place.old)) }
+pub(crate) fn put<T: Copy>(found: Option<T>, place: &mut T) -> bool
+    ensures some { IfSome found (λ it. (result ≡ true) × (place.new ≡ it)) }
+    ensures none { IfNone found ((result ≡ false) × (place.new ≡ place.old)) }
 {
     match found {
         Some(it) => {
-            *place = *it;
+            *place = it;
             true
         }
         None => false,
@@ -192,11 +195,5 @@ pub(crate) fn first_fit<T: Unsigned>(a: &[T], start: T, end: T, len: T, at: &mut
     ensures none { result ≡ false → (x : T) → ¬ (Fits T.cmp T.place a.now start end len x) }
     ensures unchanged { result ≡ false → at.new ≡ at.old }
 {
-    match RangeSetRef::new_unchecked(a).first_fit(start..end, len) {
-        Some(place) => {
-            *at = place;
-            true
-        }
-        None => false,
-    }
+    put(RangeSetRef::new_unchecked(a).first_fit(start..end, len), at)
 }

@@ -176,6 +176,37 @@ macro_rules! calls {
                 unsafe { number_told(next, |at| proved_next_gap(list, from, at)) }
             }
 
+            #[export_name = concat!("range_set_", $name, "_prev_member")]
+            unsafe extern "C" fn prev_member(
+                set: Numbers,
+                from: $number,
+                previous: *mut $number,
+            ) -> bool {
+                let list = unsafe { set.list() };
+                unsafe { number_told(previous, |at| proved_prev_member(list, from, at)) }
+            }
+
+            #[export_name = concat!("range_set_", $name, "_prev_gap")]
+            unsafe extern "C" fn prev_gap(
+                set: Numbers,
+                from: $number,
+                previous: *mut $number,
+            ) -> bool {
+                let list = unsafe { set.list() };
+                unsafe { number_told(previous, |at| proved_prev_gap(list, from, at)) }
+            }
+
+            #[export_name = concat!("range_set_", $name, "_rank")]
+            unsafe extern "C" fn rank(set: Numbers, at: $number) -> u64 {
+                proved_rank(unsafe { set.list() }, at)
+            }
+
+            #[export_name = concat!("range_set_", $name, "_select")]
+            unsafe extern "C" fn select(set: Numbers, k: u64, at: *mut $number) -> bool {
+                let list = unsafe { set.list() };
+                unsafe { number_told(at, |it| proved_select(list, k, it)) }
+            }
+
             #[export_name = concat!("range_set_", $name, "_get")]
             unsafe extern "C" fn get(
                 set: Numbers,

@@ -10,7 +10,8 @@ ghost use Rattle.range_collections.specs.Countable.{signed_place, signed_value};
 ghost use Rattle.range_c.specs.Fitting.{IsFirstFit};
 ghost use Rattle.range_collections.specs.Boundaries.{IsAscending, IsSameSet, member};
 ghost use Rattle.range_collections.specs.Connective.{union_table, difference_table, symmetric_difference_table};
-ghost use Rattle.range_collections.specs.Covered.{covered_of};
+ghost use Rattle.range_collections.specs.Covered.{covered_of, members_below};
+ghost use Rattle.range_collections.specs.Members.{IsPrevious};
 ghost use Rattle.range_collections.specs.Sets.{IsSubset, Intersects, IsDisjoint};
 ghost use Rattle.range_collections.specs.Ranges.{range_items, ranges_of, IsInRange};
 ghost use Rattle.range_collections.specs.Reading.{ranges_in, signed_number};
@@ -34,7 +35,8 @@ use crate::ends::Ends;
 use crate::fitting::first_place;
 use crate::from_least::combine_from;
 use crate::in_place::{insert, remove};
-use crate::parts::{covered, first, last, next_gap, next_member, range, range_at, range_from};
+use crate::members::{prev_gap, prev_member, rank, select};
+use crate::parts::{covered, first, last, next_gap, next_member, put, range, range_at, range_from};
 use crate::ranges::{from_ranges, tell_start, union_told};
 use crate::reading::{check, read};
 use crate::text::print;
@@ -329,6 +331,53 @@ pub extern "C" fn proved_range_set_i32_next_gap(a: &[i32], from: i32, next: &mut
     next_gap(a, &from, next)
 }
 
+/// Tells the greatest member at or below `from`, if there is one.
+#[unsafe(no_mangle)]
+pub extern "C" fn proved_range_set_i32_prev_member(a: &[i32], from: i32, previous: &mut i32) -> bool
+    requires { IsAscending int_cmp a.now }
+    ensures previous { IsTrue result →
+        IsPrevious int_cmp (λ x. FitsSigned w32 x) true a.now from previous.new }
+    ensures none { result ≡ false → (x : ℤ) → (λ x. FitsSigned w32 x) x →
+        is_le (int_cmp x from) ≡ true → member int_cmp a.now x ≡ false }
+    ensures unchanged { result ≡ false → previous.new ≡ previous.old }
+{
+    prev_member(a, &from, previous)
+}
+
+/// Tells the greatest number at or below `from` that isn't a member, if there is one.
+#[unsafe(no_mangle)]
+pub extern "C" fn proved_range_set_i32_prev_gap(a: &[i32], from: i32, previous: &mut i32) -> bool
+    requires { IsAscending int_cmp a.now }
+    ensures previous { IsTrue result →
+        IsPrevious int_cmp (λ x. FitsSigned w32 x) false a.now from previous.new }
+    ensures none { result ≡ false → (x : ℤ) → (λ x. FitsSigned w32 x) x →
+        is_le (int_cmp x from) ≡ true → member int_cmp a.now x ≡ true }
+    ensures unchanged { result ≡ false → previous.new ≡ previous.old }
+{
+    prev_gap(a, &from, previous)
+}
+
+/// How many members are below a number.
+#[unsafe(no_mangle)]
+pub extern "C" fn proved_range_set_i32_rank(a: &[i32], at: i32) -> u64
+    requires { IsAscending int_cmp a.now }
+    ensures { result ≡ members_below int_cmp (signed_value (2 ^ 31)) a.now ((signed_place (2 ^ 31)) at) }
+{
+    rank(a, &at)
+}
+
+/// Tells the member with `k` others below it, if there is one.
+#[unsafe(no_mangle)]
+pub extern "C" fn proved_range_set_i32_select(a: &[i32], k: u64, at: &mut i32) -> bool
+    requires { IsAscending int_cmp a.now }
+    ensures member { IsTrue result → member int_cmp a.now at.new ≡ true }
+    ensures rank { IsTrue result → members_below int_cmp (signed_value (2 ^ 31)) a.now ((signed_place (2 ^ 31)) at.new) ≡ k }
+    ensures none { result ≡ false → members_below int_cmp (signed_value (2 ^ 31)) a.now (2 ^ 32) ≤ k }
+    ensures unchanged { result ≡ false → at.new ≡ at.old }
+{
+    select(a, k, at)
+}
+
 /// How many ranges the set has.
 #[unsafe(no_mangle)]
 pub extern "C" fn proved_range_set_i32_ranges_len(a: &[i32]) -> usize
@@ -411,13 +460,7 @@ pub extern "C" fn proved_range_set_i32_first_fit(
         cond (is_le (int_cmp start end)) (Some start) None }
     ensures unchanged { result ≡ false → at.new ≡ at.old }
 {
-    match first_place(a, start, end, u128::from(count)) {
-        Some(place) => {
-            *at = place;
-            true
-        }
-        None => false,
-    }
+    put(first_place(a, start, end, u128::from(count)), at)
 }
 
 /// Sorts the numbers, in any order, and moves the distinct ones to the front, as many as it answers.

@@ -7,7 +7,8 @@ ghost use Rattle.std.specs.Ordering.{nat_cmp, is_le, is_lt};
 ghost use Rattle.range_collections.specs.Fits.{Fits};
 ghost use Rattle.range_collections.specs.Boundaries.{IsAscending, IsSameSet, member};
 ghost use Rattle.range_collections.specs.Connective.{union_table, difference_table, symmetric_difference_table};
-ghost use Rattle.range_collections.specs.Covered.{covered_of};
+ghost use Rattle.range_collections.specs.Covered.{covered_of, members_below};
+ghost use Rattle.range_collections.specs.Members.{IsPrevious};
 ghost use Rattle.range_collections.specs.Sets.{IsSubset, Intersects, IsDisjoint};
 ghost use Rattle.range_collections.specs.Ranges.{range_items, ranges_of, IsInRange};
 ghost use Rattle.range_collections.specs.Reading.{ranges_in, unsigned_number};
@@ -30,6 +31,7 @@ use crate::combining::combine_within;
 use crate::ends::Ends;
 use crate::from_least::combine_from;
 use crate::in_place::{insert, remove};
+use crate::members::{prev_gap, prev_member, rank, select};
 use crate::parts::{
     covered, first, first_fit, last, next_gap, next_member, range, range_at, range_from,
 };
@@ -325,6 +327,53 @@ pub extern "C" fn proved_range_set_u32_next_gap(a: &[u32], from: u32, next: &mut
     ensures unchanged { result ≡ false → next.new ≡ next.old }
 {
     next_gap(a, &from, next)
+}
+
+/// Tells the greatest member at or below `from`, if there is one.
+#[unsafe(no_mangle)]
+pub extern "C" fn proved_range_set_u32_prev_member(a: &[u32], from: u32, previous: &mut u32) -> bool
+    requires { IsAscending nat_cmp a.now }
+    ensures previous { IsTrue result →
+        IsPrevious nat_cmp (λ x. x < 2 ^ 32) true a.now from previous.new }
+    ensures none { result ≡ false → (x : ℕ) → (λ x. x < 2 ^ 32) x →
+        is_le (nat_cmp x from) ≡ true → member nat_cmp a.now x ≡ false }
+    ensures unchanged { result ≡ false → previous.new ≡ previous.old }
+{
+    prev_member(a, &from, previous)
+}
+
+/// Tells the greatest number at or below `from` that isn't a member, if there is one.
+#[unsafe(no_mangle)]
+pub extern "C" fn proved_range_set_u32_prev_gap(a: &[u32], from: u32, previous: &mut u32) -> bool
+    requires { IsAscending nat_cmp a.now }
+    ensures previous { IsTrue result →
+        IsPrevious nat_cmp (λ x. x < 2 ^ 32) false a.now from previous.new }
+    ensures none { result ≡ false → (x : ℕ) → (λ x. x < 2 ^ 32) x →
+        is_le (nat_cmp x from) ≡ true → member nat_cmp a.now x ≡ true }
+    ensures unchanged { result ≡ false → previous.new ≡ previous.old }
+{
+    prev_gap(a, &from, previous)
+}
+
+/// How many members are below a number.
+#[unsafe(no_mangle)]
+pub extern "C" fn proved_range_set_u32_rank(a: &[u32], at: u32) -> u64
+    requires { IsAscending nat_cmp a.now }
+    ensures { result ≡ members_below nat_cmp (λ n. n) a.now ((λ x. x) at) }
+{
+    rank(a, &at)
+}
+
+/// Tells the member with `k` others below it, if there is one.
+#[unsafe(no_mangle)]
+pub extern "C" fn proved_range_set_u32_select(a: &[u32], k: u64, at: &mut u32) -> bool
+    requires { IsAscending nat_cmp a.now }
+    ensures member { IsTrue result → member nat_cmp a.now at.new ≡ true }
+    ensures rank { IsTrue result → members_below nat_cmp (λ n. n) a.now ((λ x. x) at.new) ≡ k }
+    ensures none { result ≡ false → members_below nat_cmp (λ n. n) a.now (2 ^ 32) ≤ k }
+    ensures unchanged { result ≡ false → at.new ≡ at.old }
+{
+    select(a, k, at)
 }
 
 /// How many ranges the set has.

@@ -58,19 +58,22 @@ pub(crate) fn range_from<T: Ord + Copy>(
 
 // Tells the least member at or above `from`, where there is one.
 pub(crate) fn next_member<T: Ord + Copy>(a: &[T], from: &T, next: &mut T) -> bool {
-    write(RangeSetRef::new_unchecked(a).next_member(from), next)
+    put(
+        RangeSetRef::new_unchecked(a).next_member(from).copied(),
+        next,
+    )
 }
 
 // Tells the least number at or above `from` that isn't a member, where there is one.
 pub(crate) fn next_gap<T: Ord + Copy>(a: &[T], from: &T, next: &mut T) -> bool {
-    write(RangeSetRef::new_unchecked(a).next_gap(from), next)
+    put(RangeSetRef::new_unchecked(a).next_gap(from).copied(), next)
 }
 
 // Writes what was found, and answers whether anything was.
-fn write<T: Copy>(found: Option<&T>, place: &mut T) -> bool {
+pub(crate) fn put<T: Copy>(found: Option<T>, place: &mut T) -> bool {
     match found {
         Some(it) => {
-            *place = *it;
+            *place = it;
             true
         }
         None => false,
@@ -121,11 +124,5 @@ pub(crate) fn covered<T: Countable>(a: &[T], count: &mut u64) -> bool {
 // Tells the least number from which on `len` numbers lie between `start` and `end` and none is a
 // member, where there is one.
 pub(crate) fn first_fit<T: Unsigned>(a: &[T], start: T, end: T, len: T, at: &mut T) -> bool {
-    match RangeSetRef::new_unchecked(a).first_fit(start..end, len) {
-        Some(place) => {
-            *at = place;
-            true
-        }
-        None => false,
-    }
+    put(RangeSetRef::new_unchecked(a).first_fit(start..end, len), at)
 }

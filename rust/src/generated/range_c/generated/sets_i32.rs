@@ -7,8 +7,9 @@ use crate::generated::range_c::ends::Ends;
 use crate::generated::range_c::fitting::first_place;
 use crate::generated::range_c::from_least::combine_from;
 use crate::generated::range_c::in_place::{insert, remove};
+use crate::generated::range_c::members::{prev_gap, prev_member, rank, select};
 use crate::generated::range_c::parts::{
-    covered, first, last, next_gap, next_member, range, range_at, range_from,
+    covered, first, last, next_gap, next_member, put, range, range_at, range_from,
 };
 use crate::generated::range_c::ranges::{from_ranges, tell_start, union_told};
 use crate::generated::range_c::reading::{check, read};
@@ -340,6 +341,68 @@ pub(crate) fn proved_next_gap(a: &[i32], from: i32, next: &mut i32) -> bool {
     next_gap(a, &from, next)
 }
 
+/// Tells the greatest member at or below `from`, if there is one.
+///
+/// # Contract
+///
+/// ```text
+/// requires IsAscending int_cmp a.now
+/// ensures previous: IsTrue result → IsPrevious int_cmp (λ x. FitsSigned w32 x) true a.now from
+///     previous.new
+/// ensures none: result ≡ false → (x : ℤ) → (λ x. FitsSigned w32 x) x → is_le (int_cmp x from)
+///     ≡ true → member int_cmp a.now x ≡ false
+/// ensures unchanged: result ≡ false → previous.new ≡ previous.old
+/// ```
+pub(crate) fn proved_prev_member(a: &[i32], from: i32, previous: &mut i32) -> bool {
+    prev_member(a, &from, previous)
+}
+
+/// Tells the greatest number at or below `from` that isn't a member, if there is one.
+///
+/// # Contract
+///
+/// ```text
+/// requires IsAscending int_cmp a.now
+/// ensures previous: IsTrue result → IsPrevious int_cmp (λ x. FitsSigned w32 x) false a.now
+///     from previous.new
+/// ensures none: result ≡ false → (x : ℤ) → (λ x. FitsSigned w32 x) x → is_le (int_cmp x from)
+///     ≡ true → member int_cmp a.now x ≡ true
+/// ensures unchanged: result ≡ false → previous.new ≡ previous.old
+/// ```
+pub(crate) fn proved_prev_gap(a: &[i32], from: i32, previous: &mut i32) -> bool {
+    prev_gap(a, &from, previous)
+}
+
+/// How many members are below a number.
+///
+/// # Contract
+///
+/// ```text
+/// requires IsAscending int_cmp a.now
+/// ensures result ≡ members_below int_cmp (signed_value (2 ^ 31)) a.now ((signed_place (2 ^
+///     31)) at)
+/// ```
+pub(crate) fn proved_rank(a: &[i32], at: i32) -> u64 {
+    rank(a, &at)
+}
+
+/// Tells the member with `k` others below it, if there is one.
+///
+/// # Contract
+///
+/// ```text
+/// requires IsAscending int_cmp a.now
+/// ensures member: IsTrue result → member int_cmp a.now at.new ≡ true
+/// ensures rank: IsTrue result → members_below int_cmp (signed_value (2 ^ 31)) a.now
+///     ((signed_place (2 ^ 31)) at.new) ≡ k
+/// ensures none: result ≡ false → members_below int_cmp (signed_value (2 ^ 31)) a.now (2 ^ 32)
+///     ≤ k
+/// ensures unchanged: result ≡ false → at.new ≡ at.old
+/// ```
+pub(crate) fn proved_select(a: &[i32], k: u64, at: &mut i32) -> bool {
+    select(a, k, at)
+}
+
 /// How many ranges the set has.
 ///
 /// # Contract
@@ -426,13 +489,7 @@ pub(crate) fn proved_covered(a: &[i32], count: &mut u64) -> bool {
 /// ensures unchanged: result ≡ false → at.new ≡ at.old
 /// ```
 pub(crate) fn proved_first_fit(a: &[i32], start: i32, end: i32, count: u32, at: &mut i32) -> bool {
-    match first_place(a, start, end, u128::from(count)) {
-        Some(place) => {
-            *at = place;
-            true
-        }
-        None => false,
-    }
+    put(first_place(a, start, end, u128::from(count)), at)
 }
 
 /// Sorts the numbers, in any order, and moves the distinct ones to the front, as many as it answers.
