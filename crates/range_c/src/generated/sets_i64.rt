@@ -35,7 +35,7 @@ use crate::ends::Ends;
 use crate::fitting::first_place;
 use crate::from_least::combine_from;
 use crate::in_place::{insert, remove};
-use crate::members::{prev_gap, prev_member, rank, select};
+use crate::members::{prev_gap, prev_member, select};
 use crate::parts::{covered, first, last, next_gap, next_member, put, range, range_at, range_from};
 use crate::ranges::{from_ranges, tell_start, union_told};
 use crate::reading::{check, read};
@@ -337,7 +337,7 @@ pub extern "C" fn proved_range_set_i64_prev_member(a: &[i64], from: i64, previou
     requires { IsAscending int_cmp a.now }
     ensures previous { IsTrue result →
         IsPrevious int_cmp (λ x. FitsSigned w64 x) true a.now from previous.new }
-    ensures none { result ≡ false → (x : ℤ) → (λ x. FitsSigned w64 x) x →
+    ensures none { result ≡ false → (x : ℤ) → FitsSigned w64 x →
         is_le (int_cmp x from) ≡ true → member int_cmp a.now x ≡ false }
     ensures unchanged { result ≡ false → previous.new ≡ previous.old }
 {
@@ -350,20 +350,11 @@ pub extern "C" fn proved_range_set_i64_prev_gap(a: &[i64], from: i64, previous: 
     requires { IsAscending int_cmp a.now }
     ensures previous { IsTrue result →
         IsPrevious int_cmp (λ x. FitsSigned w64 x) false a.now from previous.new }
-    ensures none { result ≡ false → (x : ℤ) → (λ x. FitsSigned w64 x) x →
+    ensures none { result ≡ false → (x : ℤ) → FitsSigned w64 x →
         is_le (int_cmp x from) ≡ true → member int_cmp a.now x ≡ true }
     ensures unchanged { result ≡ false → previous.new ≡ previous.old }
 {
     prev_gap(a, &from, previous)
-}
-
-/// How many members are below a number.
-#[unsafe(no_mangle)]
-pub extern "C" fn proved_range_set_i64_rank(a: &[i64], at: i64) -> u64
-    requires { IsAscending int_cmp a.now }
-    ensures { result ≡ members_below int_cmp (signed_value (2 ^ 63)) a.now ((signed_place (2 ^ 63)) at) }
-{
-    rank(a, &at)
 }
 
 /// Tells the member with `k` others below it, if there is one.
@@ -371,7 +362,7 @@ pub extern "C" fn proved_range_set_i64_rank(a: &[i64], at: i64) -> u64
 pub extern "C" fn proved_range_set_i64_select(a: &[i64], k: u64, at: &mut i64) -> bool
     requires { IsAscending int_cmp a.now }
     ensures member { IsTrue result → member int_cmp a.now at.new ≡ true }
-    ensures rank { IsTrue result → members_below int_cmp (signed_value (2 ^ 63)) a.now ((signed_place (2 ^ 63)) at.new) ≡ k }
+    ensures rank { IsTrue result → members_below int_cmp (signed_value (2 ^ 63)) a.now (signed_place (2 ^ 63) at.new) ≡ k }
     ensures none { result ≡ false → members_below int_cmp (signed_value (2 ^ 63)) a.now (2 ^ 64) ≤ k }
     ensures unchanged { result ≡ false → at.new ≡ at.old }
 {

@@ -31,7 +31,7 @@ use crate::combining::combine_within;
 use crate::ends::Ends;
 use crate::from_least::combine_from;
 use crate::in_place::{insert, remove};
-use crate::members::{prev_gap, prev_member, rank, select};
+use crate::members::{prev_gap, prev_member, select};
 use crate::parts::{
     covered, first, first_fit, last, next_gap, next_member, range, range_at, range_from,
 };
@@ -335,7 +335,7 @@ pub extern "C" fn proved_range_set_u32_prev_member(a: &[u32], from: u32, previou
     requires { IsAscending nat_cmp a.now }
     ensures previous { IsTrue result →
         IsPrevious nat_cmp (λ x. x < 2 ^ 32) true a.now from previous.new }
-    ensures none { result ≡ false → (x : ℕ) → (λ x. x < 2 ^ 32) x →
+    ensures none { result ≡ false → (x : ℕ) → x < 2 ^ 32 →
         is_le (nat_cmp x from) ≡ true → member nat_cmp a.now x ≡ false }
     ensures unchanged { result ≡ false → previous.new ≡ previous.old }
 {
@@ -348,20 +348,11 @@ pub extern "C" fn proved_range_set_u32_prev_gap(a: &[u32], from: u32, previous: 
     requires { IsAscending nat_cmp a.now }
     ensures previous { IsTrue result →
         IsPrevious nat_cmp (λ x. x < 2 ^ 32) false a.now from previous.new }
-    ensures none { result ≡ false → (x : ℕ) → (λ x. x < 2 ^ 32) x →
+    ensures none { result ≡ false → (x : ℕ) → x < 2 ^ 32 →
         is_le (nat_cmp x from) ≡ true → member nat_cmp a.now x ≡ true }
     ensures unchanged { result ≡ false → previous.new ≡ previous.old }
 {
     prev_gap(a, &from, previous)
-}
-
-/// How many members are below a number.
-#[unsafe(no_mangle)]
-pub extern "C" fn proved_range_set_u32_rank(a: &[u32], at: u32) -> u64
-    requires { IsAscending nat_cmp a.now }
-    ensures { result ≡ members_below nat_cmp (λ n. n) a.now ((λ x. x) at) }
-{
-    rank(a, &at)
 }
 
 /// Tells the member with `k` others below it, if there is one.
@@ -369,7 +360,7 @@ pub extern "C" fn proved_range_set_u32_rank(a: &[u32], at: u32) -> u64
 pub extern "C" fn proved_range_set_u32_select(a: &[u32], k: u64, at: &mut u32) -> bool
     requires { IsAscending nat_cmp a.now }
     ensures member { IsTrue result → member nat_cmp a.now at.new ≡ true }
-    ensures rank { IsTrue result → members_below nat_cmp (λ n. n) a.now ((λ x. x) at.new) ≡ k }
+    ensures rank { IsTrue result → members_below nat_cmp (λ n. n) a.now (at.new) ≡ k }
     ensures none { result ≡ false → members_below nat_cmp (λ n. n) a.now (2 ^ 32) ≤ k }
     ensures unchanged { result ≡ false → at.new ≡ at.old }
 {

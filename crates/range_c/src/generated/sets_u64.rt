@@ -31,7 +31,7 @@ use crate::combining::combine_within;
 use crate::ends::Ends;
 use crate::from_least::combine_from;
 use crate::in_place::{insert, remove};
-use crate::members::{prev_gap, prev_member, rank, select};
+use crate::members::{prev_gap, prev_member, select};
 use crate::parts::{
     covered, first, first_fit, last, next_gap, next_member, range, range_at, range_from,
 };
@@ -335,7 +335,7 @@ pub extern "C" fn proved_range_set_u64_prev_member(a: &[u64], from: u64, previou
     requires { IsAscending nat_cmp a.now }
     ensures previous { IsTrue result →
         IsPrevious nat_cmp (λ x. x < 2 ^ 64) true a.now from previous.new }
-    ensures none { result ≡ false → (x : ℕ) → (λ x. x < 2 ^ 64) x →
+    ensures none { result ≡ false → (x : ℕ) → x < 2 ^ 64 →
         is_le (nat_cmp x from) ≡ true → member nat_cmp a.now x ≡ false }
     ensures unchanged { result ≡ false → previous.new ≡ previous.old }
 {
@@ -348,20 +348,11 @@ pub extern "C" fn proved_range_set_u64_prev_gap(a: &[u64], from: u64, previous: 
     requires { IsAscending nat_cmp a.now }
     ensures previous { IsTrue result →
         IsPrevious nat_cmp (λ x. x < 2 ^ 64) false a.now from previous.new }
-    ensures none { result ≡ false → (x : ℕ) → (λ x. x < 2 ^ 64) x →
+    ensures none { result ≡ false → (x : ℕ) → x < 2 ^ 64 →
         is_le (nat_cmp x from) ≡ true → member nat_cmp a.now x ≡ true }
     ensures unchanged { result ≡ false → previous.new ≡ previous.old }
 {
     prev_gap(a, &from, previous)
-}
-
-/// How many members are below a number.
-#[unsafe(no_mangle)]
-pub extern "C" fn proved_range_set_u64_rank(a: &[u64], at: u64) -> u64
-    requires { IsAscending nat_cmp a.now }
-    ensures { result ≡ members_below nat_cmp (λ n. n) a.now ((λ x. x) at) }
-{
-    rank(a, &at)
 }
 
 /// Tells the member with `k` others below it, if there is one.
@@ -369,7 +360,7 @@ pub extern "C" fn proved_range_set_u64_rank(a: &[u64], at: u64) -> u64
 pub extern "C" fn proved_range_set_u64_select(a: &[u64], k: u64, at: &mut u64) -> bool
     requires { IsAscending nat_cmp a.now }
     ensures member { IsTrue result → member nat_cmp a.now at.new ≡ true }
-    ensures rank { IsTrue result → members_below nat_cmp (λ n. n) a.now ((λ x. x) at.new) ≡ k }
+    ensures rank { IsTrue result → members_below nat_cmp (λ n. n) a.now (at.new) ≡ k }
     ensures none { result ≡ false → members_below nat_cmp (λ n. n) a.now (2 ^ 64) ≤ k }
     ensures unchanged { result ≡ false → at.new ≡ at.old }
 {
