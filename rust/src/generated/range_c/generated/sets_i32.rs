@@ -7,7 +7,7 @@ use crate::generated::range_c::ends::Ends;
 use crate::generated::range_c::fitting::first_place;
 use crate::generated::range_c::from_least::combine_from;
 use crate::generated::range_c::in_place::{insert, remove};
-use crate::generated::range_c::members::{prev_gap, prev_member, rank, select};
+use crate::generated::range_c::members::{prev_gap, prev_member, select};
 use crate::generated::range_c::parts::{
     covered, first, last, next_gap, next_member, put, range, range_at, range_from,
 };
@@ -349,8 +349,8 @@ pub(crate) fn proved_next_gap(a: &[i32], from: i32, next: &mut i32) -> bool {
 /// requires IsAscending int_cmp a.now
 /// ensures previous: IsTrue result → IsPrevious int_cmp (λ x. FitsSigned w32 x) true a.now from
 ///     previous.new
-/// ensures none: result ≡ false → (x : ℤ) → (λ x. FitsSigned w32 x) x → is_le (int_cmp x from)
-///     ≡ true → member int_cmp a.now x ≡ false
+/// ensures none: result ≡ false → (x : ℤ) → FitsSigned w32 x → is_le (int_cmp x from) ≡ true →
+///     member int_cmp a.now x ≡ false
 /// ensures unchanged: result ≡ false → previous.new ≡ previous.old
 /// ```
 pub(crate) fn proved_prev_member(a: &[i32], from: i32, previous: &mut i32) -> bool {
@@ -365,25 +365,12 @@ pub(crate) fn proved_prev_member(a: &[i32], from: i32, previous: &mut i32) -> bo
 /// requires IsAscending int_cmp a.now
 /// ensures previous: IsTrue result → IsPrevious int_cmp (λ x. FitsSigned w32 x) false a.now
 ///     from previous.new
-/// ensures none: result ≡ false → (x : ℤ) → (λ x. FitsSigned w32 x) x → is_le (int_cmp x from)
-///     ≡ true → member int_cmp a.now x ≡ true
+/// ensures none: result ≡ false → (x : ℤ) → FitsSigned w32 x → is_le (int_cmp x from) ≡ true →
+///     member int_cmp a.now x ≡ true
 /// ensures unchanged: result ≡ false → previous.new ≡ previous.old
 /// ```
 pub(crate) fn proved_prev_gap(a: &[i32], from: i32, previous: &mut i32) -> bool {
     prev_gap(a, &from, previous)
-}
-
-/// How many members are below a number.
-///
-/// # Contract
-///
-/// ```text
-/// requires IsAscending int_cmp a.now
-/// ensures result ≡ members_below int_cmp (signed_value (2 ^ 31)) a.now ((signed_place (2 ^
-///     31)) at)
-/// ```
-pub(crate) fn proved_rank(a: &[i32], at: i32) -> u64 {
-    rank(a, &at)
 }
 
 /// Tells the member with `k` others below it, if there is one.
@@ -394,7 +381,7 @@ pub(crate) fn proved_rank(a: &[i32], at: i32) -> u64 {
 /// requires IsAscending int_cmp a.now
 /// ensures member: IsTrue result → member int_cmp a.now at.new ≡ true
 /// ensures rank: IsTrue result → members_below int_cmp (signed_value (2 ^ 31)) a.now
-///     ((signed_place (2 ^ 31)) at.new) ≡ k
+///     (signed_place (2 ^ 31) at.new) ≡ k
 /// ensures none: result ≡ false → members_below int_cmp (signed_value (2 ^ 31)) a.now (2 ^ 32)
 ///     ≤ k
 /// ensures unchanged: result ≡ false → at.new ≡ at.old

@@ -6,7 +6,7 @@ use crate::generated::range_c::combining::combine_within;
 use crate::generated::range_c::ends::Ends;
 use crate::generated::range_c::from_least::combine_from;
 use crate::generated::range_c::in_place::{insert, remove};
-use crate::generated::range_c::members::{prev_gap, prev_member, rank, select};
+use crate::generated::range_c::members::{prev_gap, prev_member, select};
 use crate::generated::range_c::parts::{
     covered, first, first_fit, last, next_gap, next_member, range, range_at, range_from,
 };
@@ -347,8 +347,8 @@ pub(crate) fn proved_next_gap(a: &[u64], from: u64, next: &mut u64) -> bool {
 /// requires IsAscending nat_cmp a.now
 /// ensures previous: IsTrue result → IsPrevious nat_cmp (λ x. x < 2 ^ 64) true a.now from
 ///     previous.new
-/// ensures none: result ≡ false → (x : ℕ) → (λ x. x < 2 ^ 64) x → is_le (nat_cmp x from) ≡ true
-///     → member nat_cmp a.now x ≡ false
+/// ensures none: result ≡ false → (x : ℕ) → x < 2 ^ 64 → is_le (nat_cmp x from) ≡ true → member
+///     nat_cmp a.now x ≡ false
 /// ensures unchanged: result ≡ false → previous.new ≡ previous.old
 /// ```
 pub(crate) fn proved_prev_member(a: &[u64], from: u64, previous: &mut u64) -> bool {
@@ -363,24 +363,12 @@ pub(crate) fn proved_prev_member(a: &[u64], from: u64, previous: &mut u64) -> bo
 /// requires IsAscending nat_cmp a.now
 /// ensures previous: IsTrue result → IsPrevious nat_cmp (λ x. x < 2 ^ 64) false a.now from
 ///     previous.new
-/// ensures none: result ≡ false → (x : ℕ) → (λ x. x < 2 ^ 64) x → is_le (nat_cmp x from) ≡ true
-///     → member nat_cmp a.now x ≡ true
+/// ensures none: result ≡ false → (x : ℕ) → x < 2 ^ 64 → is_le (nat_cmp x from) ≡ true → member
+///     nat_cmp a.now x ≡ true
 /// ensures unchanged: result ≡ false → previous.new ≡ previous.old
 /// ```
 pub(crate) fn proved_prev_gap(a: &[u64], from: u64, previous: &mut u64) -> bool {
     prev_gap(a, &from, previous)
-}
-
-/// How many members are below a number.
-///
-/// # Contract
-///
-/// ```text
-/// requires IsAscending nat_cmp a.now
-/// ensures result ≡ members_below nat_cmp (λ n. n) a.now ((λ x. x) at)
-/// ```
-pub(crate) fn proved_rank(a: &[u64], at: u64) -> u64 {
-    rank(a, &at)
 }
 
 /// Tells the member with `k` others below it, if there is one.
@@ -390,7 +378,7 @@ pub(crate) fn proved_rank(a: &[u64], at: u64) -> u64 {
 /// ```text
 /// requires IsAscending nat_cmp a.now
 /// ensures member: IsTrue result → member nat_cmp a.now at.new ≡ true
-/// ensures rank: IsTrue result → members_below nat_cmp (λ n. n) a.now ((λ x. x) at.new) ≡ k
+/// ensures rank: IsTrue result → members_below nat_cmp (λ n. n) a.now (at.new) ≡ k
 /// ensures none: result ≡ false → members_below nat_cmp (λ n. n) a.now (2 ^ 64) ≤ k
 /// ensures unchanged: result ≡ false → at.new ≡ at.old
 /// ```
