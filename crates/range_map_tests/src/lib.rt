@@ -1,0 +1,10 @@
+//! Tests of maps: rows, made-up changes beside an array of options, and changes in a process whose
+//! memory is taken away.
+#![tactic(auto)]
+
+#[cfg(test)]
+mod made_up;
+#[cfg(test)]
+mod refused;
+#[cfg(test)]
+mod rows;

@@ -1,0 +1,85 @@
+//! Ranges put into a map and taken out of it, row by row.
+use range_map::RangeMap;
+use std::alloc::{AllocError, Global};
+
+// Where a range begins and ends, and the value that it is given; `None` takes it out.
+type Change = (u64, u64, Option<char>);
+
+// Changes, the values of the first twelve numbers after them, where a dot is none, and how many
+// ranges there are.
+type Row<'a> = (&'a [Change], &'a str, usize);
+
+const A: Option<char> = Some('a');
+
+const B: Option<char> = Some('b');
+
+const NONE: Option<char> = None;
+
+// Ranges beside others, within and across them, with their values and with others, at the ends of
+// the type, and of nothing.
+const ROWS: [Row; 22] = [
+    (&[], "............", 0),
+    (&[(2, 5, A)], "..aaa.......", 1),
+    (&[(5, 5, A), (7, 3, A)], "............", 0),
+    (&[(2, 5, NONE)], "............", 0),
+    (&[(2, 5, A), (5, 8, A)], "..aaaaaa....", 1),
+    (&[(5, 8, A), (2, 5, A)], "..aaaaaa....", 1),
+    (&[(2, 5, A), (5, 8, B)], "..aaabbb....", 2),
+    (&[(2, 5, A), (6, 8, A)], "..aaa.aa....", 2),
+    (&[(2, 5, A), (7, 9, A), (5, 7, A)], "..aaaaaaa...", 1),
+    (&[(2, 5, A), (7, 9, A), (5, 7, B)], "..aaabbaa...", 3),
+    (&[(2, 8, A), (4, 6, B)], "..aabbaa....", 3),
+    (&[(2, 8, A), (4, 6, A)], "..aaaaaa....", 1),
+    (&[(2, 8, A), (4, 6, NONE)], "..aa..aa....", 2),
+    (&[(2, 8, A), (4, 6, B), (4, 6, A)], "..aaaaaa....", 1),
+    (&[(2, 5, A), (2, 5, B)], "..bbb.......", 1),
+    (&[(2, 5, A), (4, 7, B)], "..aabbb.....", 2),
+    (&[(4, 7, B), (2, 5, A)], "..aaabb.....", 2),
+    (&[(2, 4, A), (5, 7, B), (1, 9, B)], ".bbbbbbbb...", 1),
+    (&[(2, 4, A), (5, 7, B), (1, 9, NONE)], "............", 0),
+    (&[(2, 4, A), (5, 7, B), (3, 6, NONE)], "..a...b.....", 2),
+    (&[(0, u64::MAX, A), (3, 5, NONE)], "aaa..aaaaaaa", 2),
+    (
+        &[(0, 3, A), (3, 6, B), (6, 9, A), (3, 6, A)],
+        "aaaaaaaaa...",
+        1,
+    ),
+];
+
+// The map after these changes.
+fn map_of(alloc: Global, changes: &[Change]) -> Result<RangeMap<u64, char>, AllocError> {
+    let mut map = RangeMap::new(alloc);
+    for (start, end, value) in changes {
+        match value {
+            Some(value) => map.insert(*start..*end, *value)?,
+            None => map.remove(*start..*end)?,
+        }
+    }
+    Ok(map)
+}
+
+// Whether the map has these values.
+fn has(map: &RangeMap<u64, char>, values: &str) -> bool {
+    let mut key = 0u64;
+    for value in values.chars() {
+        let want = if value == '.' { None } else { Some(value) };
+        if map.get(&key).copied() != want || map.contains_key(&key) != want.is_some() {
+            return false;
+        }
+        key = key.saturating_add(1);
+    }
+    true
+}
+
+#[test]
+fn ranges_are_put_in_and_taken_out(rt: HostRuntime) -> Result<(), AllocError> {
+    for row in &ROWS {
+        let map = map_of(rt.alloc(), row.0)?;
+        assert!(rt; has(&map, row.1), "{row:?}");
+        assert!(rt;
+            map.len() == row.2 && map.is_empty() == (row.2 == 0),
+            "{row:?}"
+        );
+    }
+    Ok(())
+}
