@@ -70,6 +70,25 @@ impl<T: Ord> ChunkedRangeSet<T> {
         ChunkedRangeSet(proved::ChunkedRangeSet::new(Global))
     }
 
+    /// Returns the set of the values that lie in one of the ranges at least, which stand in any order. `collect` does
+    /// the same.
+    ///
+    /// # Examples
+    ///
+    /// ```
+    /// use range_sets::ChunkedRangeSet;
+    ///
+    /// let busy = ChunkedRangeSet::from_ranges([15..18, 11..12, 12..13]);
+    /// assert_eq!(busy.to_string(), "11..13, 15..18");
+    /// ```
+    #[must_use]
+    pub fn from_ranges<R>(ranges: impl IntoIterator<Item = R>) -> Self
+    where
+        R: Into<RangeSetRange<T>>,
+    {
+        ranges.into_iter().collect()
+    }
+
     /// Adds the values of a range [of any kind](AnyRange). An empty or a reversed range changes nothing.
     ///
     /// Of two equal boundaries the set's own stays.

@@ -174,6 +174,15 @@ fn a_set_grows_and_shrinks_at_either_end() {
 }
 
 #[test]
+fn ranges_in_any_order() {
+    let mixed = [5..10, 0..3, 8..12, 4..4, Range { start: 9, end: 2 }];
+    let set = ChunkedRangeSet::from_ranges(mixed.clone());
+    assert_eq!(set.to_string(), "0..3, 5..12");
+    assert_eq!(*fallible::ChunkedRangeSet::from_ranges(mixed).unwrap(), set);
+    assert!(ChunkedRangeSet::<u8>::from_ranges([3..3]).is_empty());
+}
+
+#[test]
 fn texts() {
     let set = ChunkedRangeSet::from_iter([15..18, 9..11]);
     assert_eq!(format!("{set}"), "9..11, 15..18");

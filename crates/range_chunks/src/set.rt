@@ -11,6 +11,7 @@ ghost use Rattle.range_collections.specs.Ranges.{range_items};
 mod asking;
 mod combining;
 mod making;
+mod many_ranges;
 
 use crate::chunk::Chunk;
 use crate::cutting::set_range;

@@ -1,10 +1,11 @@
 //! Out of memory where a range is put into a set in chunks or taken out of it, and where a set is
 //! made: each request is refused in turn, and the set has the ranges that it had.
 use range_chunks::ChunkedRangeSet;
-use range_collections::RangeSet2;
+use range_collections::{RangeSet2, RangeSetRange};
 use range_tests_kit::starving::{Answer, Call, Starved};
 use range_tests_kit::ways::refused_if;
 use std::alloc::{AllocError, Global};
+use std::ops::Range;
 
 #[derive(Clone, Copy, Debug)]
 enum Change {
@@ -126,14 +127,16 @@ fn changes_are_refused_where_the_set_grows(rt: HostRuntime) -> Result<(), AllocE
 
 #[derive(Clone, Copy, Debug)]
 enum Making {
+    FromRanges,
     FromView,
     Clone,
     IntoSet,
 }
 
 // How many ranges the set has, how another is made of it, and whether that takes memory.
-const MADE: [(u16, Making, bool); 5] = [
+const MADE: [(u16, Making, bool); 6] = [
     (0, Making::Clone, false),
+    (20, Making::FromRanges, true),
     (20, Making::FromView, true),
     (1, Making::FromView, true),
     (20, Making::Clone, true),
@@ -158,8 +161,21 @@ impl Made {
                 Err((error, set)) if has_before(&set, self.row) => Err(error),
                 Err(_) => Ok(false),
             },
+            Making::FromRanges => self.from_ranges(),
             Making::FromView => self.from_view(),
         }
+    }
+
+    // The same, from as many ranges.
+    fn from_ranges(&self) -> Result<bool, AllocError> {
+        let mut list = Vec::new(self.alloc);
+        for k in 0..self.row.0 {
+            let start = k.saturating_mul(20);
+            let end = start.saturating_add(10);
+            list.push(RangeSetRange::Range(Range { start, end }))?;
+        }
+        let made = ChunkedRangeSet::from_ranges(self.alloc, list.as_slice())?;
+        Ok(has_before(&made, self.row))
     }
 
     // The same, from a view of a set of as many.

@@ -43,6 +43,30 @@ impl<T: Ord> ChunkedRangeSet<T> {
         ChunkedRangeSet(chunked::ChunkedRangeSet::new())
     }
 
+    /// Returns the set of the values that lie in one of the ranges at least, which stand in any order.
+    ///
+    /// # Errors
+    ///
+    /// If memory is refused.
+    ///
+    /// # Examples
+    ///
+    /// ```
+    /// use range_sets::fallible::{AllocError, ChunkedRangeSet};
+    ///
+    /// let busy = ChunkedRangeSet::from_ranges([15..18, 11..12, 12..13])?;
+    /// assert_eq!(busy.to_string(), "11..13, 15..18");
+    /// # Ok::<(), AllocError>(())
+    /// ```
+    pub fn from_ranges<R>(ranges: impl IntoIterator<Item = R>) -> Result<Self, AllocError>
+    where
+        R: Into<RangeSetRange<T>>,
+    {
+        let mut set = Self::new();
+        set.extend(ranges)?;
+        Ok(set)
+    }
+
     /// Adds the values of a range [of any kind](AnyRange). An empty or a reversed range changes nothing.
     ///
     /// # Errors

@@ -4,6 +4,7 @@
 pub(crate) mod asking;
 pub(crate) mod combining;
 pub(crate) mod making;
+pub(crate) mod many_ranges;
 
 use crate::generated::range_chunks::chunk::Chunk;
 use crate::generated::range_chunks::cutting::set_range;
