@@ -1,17 +1,17 @@
 -- A map in which a range has one option, from the start of the range on: the steps below the start
 -- stay, one may stand at it, and the rest come behind.
-use Rattle.std.proofs.Common.{◌≡◌, ℕ, ◌≤◌, zero, suc, Bool, true, false, not, cond, ◌&&◌, None, Some, Option, List, [], ◌∷◌, ◌++◌, length, take, drop, get_or, refl, sym, ap, ap₂, ◌∙◌, All, arith}
+use Rattle.std.proofs.Common.{◌≡◌, ℕ, ◌≤◌, zero, suc, Bool, true, false, not, cond, ◌&&◌, Option, List, [], ◌∷◌, ◌++◌, length, take, drop, get_or, refl, sym, ap, ap₂, ◌∙◌, All, arith}
 use Rattle.std.specs.List.{AllWithin}
 use Rattle.std.specs.Cmp.{IsTotalOrder, IsEquivalence}
 use Rattle.std.proofs.lemmas.List.{get_or_default, take-append-drop, length-append, length-take-le}
 use Rattle.std.proofs.lemmas.List.Elements.{All-append}
 use Rattle.std.proofs.lemmas.Cmp.{tied_itself}
 use Rattle.std.specs.declared.cmp.Ordering.{Ordering}
-use Rattle.std.specs.declared.cmp.Ordering.TheVariants.{Less, Greater}
+use Rattle.std.specs.declared.cmp.Ordering.TheVariants.{Less}
 use Rattle.std.specs.Ordering.{is_le}
 use Rattle.range_merge.specs.Boundaries.{IsAscending}
 use Rattle.range_merge.proofs.Orders.{Greater-from_less, Less-from_greater}
-use Rattle.range_collections.proofs.Shortest.{is_le-cases, Less-then_le, le-trans}
+use Rattle.range_collections.proofs.Shortest.{is_le-cases, Less-then_le}
 use Rattle.range_collections.proofs.Cut.{All-take_within, All-drop_within, IsAscending-take}
 use Rattle.range_collections.proofs.Insertion.{IsAscending-append}
 use Rattle.range_map.specs.Changed.{is_before_end, is_in_range}

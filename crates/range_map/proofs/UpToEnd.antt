@@ -1,6 +1,6 @@
 -- The rest of a map's steps behind a range that was given one option: one may stand at the end of
 -- the range, and those above it stay.
-use Rattle.std.proofs.Common.{◌≡◌, ℕ, ◌≤◌, Bool, true, false, not, cond, None, Some, Option, List, [], ◌∷◌, ◌++◌, length, take, drop, get_or, refl, sym, ap, ap₂, ◌∙◌, All, arith, true≢false}
+use Rattle.std.proofs.Common.{◌≡◌, ℕ, ◌≤◌, Bool, true, false, cond, None, Some, Option, List, [], ◌∷◌, ◌++◌, length, drop, get_or, refl, sym, ap, ap₂, ◌∙◌, All, arith, true≢false}
 use Rattle.std.specs.List.{AllWithin}
 use Rattle.std.specs.Option.{option_to_list}
 use Rattle.std.specs.Cmp.{IsTotalOrder, IsEquivalence}
@@ -17,7 +17,6 @@ use Rattle.range_collections.proofs.Ascending.{Less-from_is_lt, IsAscending-cons
 use Rattle.range_collections.proofs.Shortest.{le-trans, le-from_greater}
 use Rattle.range_collections.proofs.Cut.{All-take_within, All-drop_within}
 use Rattle.range_map.specs.Places.{IsUpToEnd, IsAboveEnd, needs_end}
-use Rattle.range_map.specs.Changed.{is_before_end}
 use Rattle.range_map.proofs.Along.{along, along-in, along-out, along-below, along-front}
 use Rattle.range_map.proofs.Differing.{Differ, Differ-drop, Differ-alike, not-true, not-false}
 use Rattle.range_map.proofs.FromStart.{IsRest, along-equal, along-cut}

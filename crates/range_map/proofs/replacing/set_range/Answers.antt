@@ -1,7 +1,7 @@
-use Rattle.std.proofs.Common.{◌≡◌, ◌+◌, ◌-◌, ◌≤◌, ◌∷◌, inl, inr, true, false, sym, true≢false, None, Some, cond, get_or}
+use Rattle.std.proofs.Common.{◌≡◌, ◌∷◌, inl, inr, true, false, sym, true≢false, None, Some, cond, get_or}
 use Rattle.range_collections.specs.Splicing.{spliced}
 use Rattle.range_map.specs.Steps.{Steps, AreAlike}
-use Rattle.range_map.specs.Places.{ArePlaces, after_range, put_len}
+use Rattle.range_map.specs.Places.{ArePlaces, after_range}
 use Rattle.range_map.proofs.Replaced.{places_ordered, put_len-fits, no_copy, after_range-alike, IsCanonical-set, IsSetTo-set}
 use Rattle.range_map.proofs.replacing.set_range.Goals as goal
 
