@@ -11,7 +11,7 @@ use range_collections::Comparisons;
 use range_merge::count_up_to;
 use std::alloc::{AllocError, Global};
 use std::marker::Model;
-use std::ops::Range;
+use std::ops::{Range, RangeFrom};
 
 /// A map from ranges to values, which is changed range by range.
 ///
@@ -125,6 +125,39 @@ impl<K: Ord + Drop, V: MapValue> RangeMap<K, V> {
         ensures succeeds { FitsAfter K.cmp V.eq range.start (Some range.end) None self.old → IsOk result }
     {
         self.set(range, None)
+    }
+
+    /// Gives each key from the start on the value, in the place of the one that it had.
+    ///
+    /// It asks for memory only if there are more steps after it, and before it changes anything. If
+    /// that fails, the map is as it was, and the start and the value are dropped. It copies nothing.
+    pub fn insert_from(&mut self, range: RangeFrom<K>, value: V) -> Result<(), AllocError>
+        ensures values { OnOk result (IsSetTo K.cmp V.eq range.start None (Some value) self.old self.new) }
+        ensures unchanged { OnErr result (self.new ≡ self.old) }
+        ensures succeeds { FitsAfter K.cmp V.eq range.start None (Some value) self.old → IsOk result }
+    {
+        self.set_from(range.start, Some(value))
+    }
+
+    /// Takes the value of each key from the start on away.
+    ///
+    /// It asks for memory only if there are more steps after it, and before it changes anything. If
+    /// that fails, the map is as it was, and the start is dropped. It copies nothing.
+    pub fn remove_from(&mut self, range: RangeFrom<K>) -> Result<(), AllocError>
+        ensures values { OnOk result (IsSetTo K.cmp V.eq range.start None None self.old self.new) }
+        ensures unchanged { OnErr result (self.new ≡ self.old) }
+        ensures succeeds { FitsAfter K.cmp V.eq range.start None None self.old → IsOk result }
+    {
+        self.set_from(range.start, None)
+    }
+
+    // Gives each key from the start on an option.
+    fn set_from(&mut self, start: K, option: Option<V>) -> Result<(), AllocError>
+        ensures values { OnOk result (IsSetTo K.cmp V.eq start None option self.old self.new) }
+        ensures unchanged { OnErr result (self.new ≡ self.old) }
+        ensures succeeds { FitsAfter K.cmp V.eq start None option self.old → IsOk result }
+    {
+        set_range(&mut self.keys, &mut self.options, start, None, option)
     }
 
     // Gives each key of the range an option.

@@ -83,3 +83,17 @@ fn ranges_are_put_in_and_taken_out(rt: HostRuntime) -> Result<(), AllocError> {
     }
     Ok(())
 }
+
+#[test]
+fn all_from_a_start_on_is_put_in_and_taken_out(rt: HostRuntime) -> Result<(), AllocError> {
+    let mut map = map_of(rt.alloc(), &[(2, 5, A), (7, 9, B)])?;
+    map.insert_from(4.., 'c')?;
+    assert!(rt; has(&map, "..aacccccccc") && map.len() == 2);
+    map.remove_from(3..)?;
+    assert!(rt; has(&map, "..a.........") && map.len() == 1);
+    map.insert_from(3.., 'a')?;
+    assert!(rt; has(&map, "..aaaaaaaaaa") && map.len() == 1);
+    map.remove_from(0..)?;
+    assert!(rt; map.is_empty());
+    Ok(())
+}
