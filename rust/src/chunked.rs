@@ -11,7 +11,7 @@ use crate::any_range::AnyRange;
 use crate::array::{Array, List};
 use crate::entry::RangeSetEntry;
 use crate::generated::range_chunks as proved;
-use crate::generated::range_collections::Countable;
+use crate::generated::range_collections::{Countable, Unsigned};
 use crate::generated::range_entry::EntryClone;
 use crate::memory::{expect_memory, AllocError};
 use crate::range::RangeSetRange;
@@ -224,6 +224,26 @@ impl<T: Ord> ChunkedRangeSet<T> {
     /// ```
     pub fn next_gap<'a>(&'a self, from: &'a T) -> Option<&'a T> {
         self.0.next_gap(from)
+    }
+
+    /// Returns the least number of the range from which on `len` numbers of it are free, that is, not members.
+    ///
+    /// It is `None` if there is no such stretch. It takes time for each boundary up to the answer.
+    ///
+    /// # Examples
+    ///
+    /// ```
+    /// use range_sets::ChunkedRangeSet;
+    ///
+    /// let used = ChunkedRangeSet::from_iter([0u64..64, 80..128]);
+    /// assert_eq!(used.first_fit_unchanged(0..4096, 16), Some(64));
+    /// assert_eq!(used.first_fit_unchanged(0..4096, 20), Some(128));
+    /// ```
+    pub fn first_fit_unchanged(&self, within: Range<T>, len: T) -> Option<T>
+    where
+        T: Unsigned,
+    {
+        self.0.first_fit_unchanged(within, len)
     }
 
     /// Returns `true` if the set has no member.

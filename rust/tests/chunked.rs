@@ -183,6 +183,20 @@ fn ranges_in_any_order() {
 }
 
 #[test]
+fn numbers_fit_as_beside_a_range_set() {
+    let mut random = Random(7);
+    let list: RangeSet2<u32> = (0..2_000).map(|_| any_range(&mut random, 20_000)).collect();
+    let set = ChunkedRangeSet::from(list.clone());
+    for _ in 0..300 {
+        let (start, len) = (random.below(21_000) as u32, random.below(60) as u32);
+        for within in [start..21_000, 0..start] {
+            let fits = list.first_fit(within.clone(), len);
+            assert_eq!(set.first_fit_unchanged(within, len), fits);
+        }
+    }
+}
+
+#[test]
 fn texts() {
     let set = ChunkedRangeSet::from_iter([15..18, 9..11]);
     assert_eq!(format!("{set}"), "9..11, 15..18");

@@ -10,6 +10,7 @@ ghost use Rattle.range_collections.specs.Ranges.{range_items};
 
 mod asking;
 mod combining;
+mod fitting;
 mod making;
 mod many_ranges;
 

@@ -3,6 +3,7 @@
 
 pub(crate) mod asking;
 pub(crate) mod combining;
+pub(crate) mod fitting;
 pub(crate) mod making;
 pub(crate) mod many_ranges;
 
