@@ -169,6 +169,15 @@ bool range_set_i32_range_from(range_set_i32 set, int32_t value, range_set_i32_ra
 bool range_set_i32_next_member(range_set_i32 set, int32_t from, int32_t *next);
 bool range_set_i32_next_gap(range_set_i32 set, int32_t from, int32_t *next);
 
+/* Whether some number at or below `from` is a member, isn't one, and then the greatest such. Else `previous` is as it was. It may
+ * be null. At most as many comparisons as set.len has binary digits. */
+bool range_set_i32_prev_member(range_set_i32 set, int32_t from, int32_t *previous);
+bool range_set_i32_prev_gap(range_set_i32 set, int32_t from, int32_t *previous);
+
+/* Whether the set has more than `k` members, and then the one with `k` others below it. Else `at` is as it was. It may be null.
+ * Looks at each boundary up to the answer once. */
+bool range_set_i32_select(range_set_i32 set, uint64_t k, int32_t *at);
+
 /* Whether the set has a range with `index` others before it, and then that range. A loop over all of them:
  *
  *     for (size_t i = 0; range_set_i32_get(set, i, &range); i++) ..
@@ -500,6 +509,15 @@ bool range_set_u32_range_from(range_set_u32 set, uint32_t value, range_set_u32_r
  * null. At most as many comparisons as set.len has binary digits. */
 bool range_set_u32_next_member(range_set_u32 set, uint32_t from, uint32_t *next);
 bool range_set_u32_next_gap(range_set_u32 set, uint32_t from, uint32_t *next);
+
+/* Whether some number at or below `from` is a member, isn't one, and then the greatest such. Else `previous` is as it was. It may
+ * be null. At most as many comparisons as set.len has binary digits. */
+bool range_set_u32_prev_member(range_set_u32 set, uint32_t from, uint32_t *previous);
+bool range_set_u32_prev_gap(range_set_u32 set, uint32_t from, uint32_t *previous);
+
+/* Whether the set has more than `k` members, and then the one with `k` others below it. Else `at` is as it was. It may be null.
+ * Looks at each boundary up to the answer once. */
+bool range_set_u32_select(range_set_u32 set, uint64_t k, uint32_t *at);
 
 /* Whether the set has a range with `index` others before it, and then that range. A loop over all of them:
  *
@@ -833,6 +851,15 @@ bool range_set_i64_range_from(range_set_i64 set, int64_t value, range_set_i64_ra
 bool range_set_i64_next_member(range_set_i64 set, int64_t from, int64_t *next);
 bool range_set_i64_next_gap(range_set_i64 set, int64_t from, int64_t *next);
 
+/* Whether some number at or below `from` is a member, isn't one, and then the greatest such. Else `previous` is as it was. It may
+ * be null. At most as many comparisons as set.len has binary digits. */
+bool range_set_i64_prev_member(range_set_i64 set, int64_t from, int64_t *previous);
+bool range_set_i64_prev_gap(range_set_i64 set, int64_t from, int64_t *previous);
+
+/* Whether the set has more than `k` members, and then the one with `k` others below it. Else `at` is as it was. It may be null.
+ * Looks at each boundary up to the answer once. */
+bool range_set_i64_select(range_set_i64 set, uint64_t k, int64_t *at);
+
 /* Whether the set has a range with `index` others before it, and then that range. A loop over all of them:
  *
  *     for (size_t i = 0; range_set_i64_get(set, i, &range); i++) ..
@@ -1164,6 +1191,15 @@ bool range_set_u64_range_from(range_set_u64 set, uint64_t value, range_set_u64_r
  * null. At most as many comparisons as set.len has binary digits. */
 bool range_set_u64_next_member(range_set_u64 set, uint64_t from, uint64_t *next);
 bool range_set_u64_next_gap(range_set_u64 set, uint64_t from, uint64_t *next);
+
+/* Whether some number at or below `from` is a member, isn't one, and then the greatest such. Else `previous` is as it was. It may
+ * be null. At most as many comparisons as set.len has binary digits. */
+bool range_set_u64_prev_member(range_set_u64 set, uint64_t from, uint64_t *previous);
+bool range_set_u64_prev_gap(range_set_u64 set, uint64_t from, uint64_t *previous);
+
+/* Whether the set has more than `k` members, and then the one with `k` others below it. Else `at` is as it was. It may be null.
+ * Looks at each boundary up to the answer once. */
+bool range_set_u64_select(range_set_u64 set, uint64_t k, uint64_t *at);
 
 /* Whether the set has a range with `index` others before it, and then that range. A loop over all of them:
  *

@@ -83,6 +83,9 @@ template <class T> struct calls_of;
         static constexpr auto range_from = range_set_##number##_range_from; \
         static constexpr auto next_member = range_set_##number##_next_member; \
         static constexpr auto next_gap = range_set_##number##_next_gap; \
+        static constexpr auto prev_member = range_set_##number##_prev_member; \
+        static constexpr auto prev_gap = range_set_##number##_prev_gap; \
+        static constexpr auto select = range_set_##number##_select; \
         static constexpr auto get = range_set_##number##_get; \
         static constexpr auto last = range_set_##number##_last; \
         static constexpr auto ranges_len = range_set_##number##_ranges_len; \
@@ -333,6 +336,23 @@ public:
         number next = 0;
         return told(calls::next_gap(set_, from, &next), next);
     }
+    // The greatest number at or below `from` that is a member, that isn't one, or nothing.
+    std::optional<T> prev_member(T from) const noexcept
+    {
+        number previous = 0;
+        return told(calls::prev_member(set_, from, &previous), previous);
+    }
+    std::optional<T> prev_gap(T from) const noexcept
+    {
+        number previous = 0;
+        return told(calls::prev_gap(set_, from, &previous), previous);
+    }
+    // The member with `k` others below it, or nothing.
+    std::optional<T> select(std::uint64_t k) const noexcept
+    {
+        number at = 0;
+        return told(calls::select(set_, k, &at), at);
+    }
 
     // The least number from which on `count` numbers lie in `start` to below `end` and none is a member, or nothing.
     std::optional<T> first_fit(T start, T end, std::make_unsigned_t<T> count) const noexcept
@@ -478,6 +498,9 @@ public:
     std::optional<range<T>> range_from(T value) const noexcept { return view().range_from(value); }
     std::optional<T> next_member(T from) const noexcept { return view().next_member(from); }
     std::optional<T> next_gap(T from) const noexcept { return view().next_gap(from); }
+    std::optional<T> prev_member(T from) const noexcept { return view().prev_member(from); }
+    std::optional<T> prev_gap(T from) const noexcept { return view().prev_gap(from); }
+    std::optional<T> select(std::uint64_t k) const noexcept { return view().select(k); }
     std::optional<range<T>> first() const noexcept { return view().first(); }
     std::optional<range<T>> last() const noexcept { return view().last(); }
     iterator begin() const noexcept { return view().begin(); }
