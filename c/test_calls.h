@@ -292,14 +292,14 @@ static void TEST(previous_ones)(SET a, const NUMBER *points, const bool *on, siz
         /* A number is what the last point at or below it is, and none is a member below all points. */
         for (q = p + 1; q > 0 && !on[q - 1]; q--) continue;
         is_there = q > 0;
-        wanted = q == p + 1 ? points[p] : (NUMBER)(points[q] - 1);
-        check(CALL(prev_member)(a, points[p], &previous) == is_there && previous == (is_there ? wanted : 77), "prev_member");
+        wanted = !is_there ? 77 : q == p + 1 ? points[p] : (NUMBER)(points[q] - 1);
+        check(CALL(prev_member)(a, points[p], &previous) == is_there && previous == wanted, "prev_member");
         check(CALL(prev_member)(a, points[p], NULL) == is_there, "prev_member without a place");
         for (q = p + 1; q > 0 && on[q - 1]; q--) continue;
         is_there = q > 0 || points[0] > LEAST;
-        wanted = q == p + 1 ? points[p] : (NUMBER)(points[q] - 1);
+        wanted = !is_there ? 77 : q == p + 1 ? points[p] : (NUMBER)(points[q] - 1);
         previous = 77;
-        check(CALL(prev_gap)(a, points[p], &previous) == is_there && previous == (is_there ? wanted : 77), "prev_gap");
+        check(CALL(prev_gap)(a, points[p], &previous) == is_there && previous == wanted, "prev_gap");
         check(CALL(prev_gap)(a, points[p], NULL) == is_there, "prev_gap without a place");
         if (on[p]) check(CALL(select)(a, below, &at) && at == points[p] && CALL(select)(a, below, NULL), "select");
         if (on[p] && p + 1 < n) below += (uint64_t)points[p + 1] - (uint64_t)points[p];
