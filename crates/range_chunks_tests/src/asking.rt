@@ -43,9 +43,9 @@ const ENDS: [u64; 14] = [
 ];
 
 // Whether both give the same parts, of which there are at most so many.
-fn are_the_same(
-    mut these: range_chunks::RangesWithin<'_, u64>,
-    mut those: range_collections::RangesWithin<'_, u64>,
+fn are_the_same<'a>(
+    mut these: range_chunks::RangesWithin<'a, u64>,
+    mut those: range_collections::RangesWithin<'a, u64>,
     most: usize,
 ) -> bool {
     for _ in 0..=most {
@@ -58,19 +58,24 @@ fn are_the_same(
     false
 }
 
-// Whether both have the same parts of each range that starts here, and the same gaps in it.
-fn have_the_same_parts(set: &ChunkedRangeSet<u64>, flat: &RangeSet2<u64>, start: u64) -> bool {
+// Whether both have the same gaps in a range, and the same parts in it.
+fn have_the_same_parts<'a>(
+    set: &'a ChunkedRangeSet<u64>,
+    flat: &'a RangeSet2<u64>,
+    start: &'a u64,
+    end: &'a u64,
+) -> bool {
     let most = flat.boundaries().len().saturating_add(1);
+    let gaps = set.gaps(start..end);
+    let parts = set.ranges_within(start..end);
+    are_the_same(gaps, flat.gaps(start..end), most)
+        && are_the_same(parts, flat.ranges_within(start..end), most)
+}
+
+// Whether both have the same parts of each range that starts here.
+fn have_the_same_parts_from(set: &ChunkedRangeSet<u64>, flat: &RangeSet2<u64>, start: u64) -> bool {
     for end in ENDS {
-        let (these, those) = (set.gaps(&start..&end), flat.gaps(&start..&end));
-        if !are_the_same(these, those, most) {
-            return false;
-        }
-        let (these, those) = (
-            set.ranges_within(&start..&end),
-            flat.ranges_within(&start..&end),
-        );
-        if !are_the_same(these, those, most) {
+        if !have_the_same_parts(set, flat, &start, &end) {
             return false;
         }
     }
@@ -80,7 +85,7 @@ fn have_the_same_parts(set: &ChunkedRangeSet<u64>, flat: &RangeSet2<u64>, start:
 // Whether both have the same parts of each range with two of the ends.
 fn have_all_the_same_parts(set: &ChunkedRangeSet<u64>, flat: &RangeSet2<u64>) -> bool {
     for start in ENDS {
-        if !have_the_same_parts(set, flat, start) {
+        if !have_the_same_parts_from(set, flat, start) {
             return false;
         }
     }
