@@ -31,8 +31,8 @@ const ROWS: [Row; 11] = [
     (256, Change::Remove, 0, 5_120, false),
     (300, Change::Remove, 15, 5_500, false),
     (0, Change::UnionWith, 5, 10, true),
-    (300, Change::UnionWith, 12, 15, true),
-    (300, Change::DifferenceWith, 0, 5_120, true),
+    (20, Change::UnionWith, 12, 15, true),
+    (20, Change::DifferenceWith, 0, 195, true),
 ];
 
 #[derive(Drop)]
