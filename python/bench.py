@@ -3,7 +3,7 @@
     python3 bench.py [--pairs N]
 
 Each package makes a set of N pairs (100,000), the union of two such sets, and says whether numbers are members; then the same of
-N / 10 pairs of times; sets grow by N / 10 ranges one by one; and numpy and pandas do as much over arrays. Their answers are compared.
+N / 10 pairs of times; sets grow by N ranges one by one; and numpy and pandas do as much over arrays. Their answers are compared.
 A package that is missing is named and left out. Times are the least of some rounds.
 """
 
@@ -317,7 +317,7 @@ def main():
     count = parser.parse_args().pairs
     alone(count)
     numbers_and_times(count)
-    growth(count // 10)
+    growth(count)
     arrays(count)
 
 

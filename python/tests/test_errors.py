@@ -1,16 +1,25 @@
 """Each error's type and text, word for word."""
 
 import importlib.util
+import os
 import pickle
+import platform
+import shlex
+import shutil
 import subprocess
 import sys
+import tempfile
 import unittest
 from array import array
 from datetime import date, datetime, timedelta
+from functools import partial
 from ipaddress import IPv4Address
+from operator import attrgetter
+from pathlib import Path
 
 import range_sets as sets
 from range_sets import MutableRangeSet, NoRoom, NotSorted, ParseError, RangeSet, _core
+from range_sets._kinds import SIGNED as KIND, UNTOLD
 
 if importlib.util.find_spec("_testcapi"):
     import _testcapi
@@ -193,8 +202,76 @@ resource.setrlimit(resource.RLIMIT_AS, limits)
 print(refused, s == MutableRangeSet.from_boundaries(range(least, most)), len(s | more))
 """
 
+# Before the allocator of libc: it refuses the compiled module one request, after so many others of its own.
+REFUSING = """
+#define _GNU_SOURCE
+#include <dlfcn.h>
+#include <stddef.h>
+#include <string.h>
+extern void *__libc_malloc(size_t size);
+extern void *__libc_realloc(void *memory, size_t size);
+static long left = -1;
+void refuse_after(long count) { left = count; }
+static int is_refused(void *caller)
+{
+    Dl_info found;
+    return left >= 0 && dladdr(caller, &found) && strstr(found.dli_fname, "range_sets/_core") && left-- == 0;
+}
+void *malloc(size_t size) { return is_refused(__builtin_return_address(0)) ? NULL : __libc_malloc(size); }
+void *realloc(void *memory, size_t size) { return is_refused(__builtin_return_address(0)) ? NULL : __libc_realloc(memory, size); }
+"""
+
+# Each request of the library in turn is refused, in sets of no range, of few and of many, in chunks and not yet.
+OF_THE_LIBRARY = """
+import ctypes
+import os
+from range_sets import MutableRangeSet, RangeSet
+
+refuse_after = ctypes.CDLL(os.environ["LD_PRELOAD"]).refuse_after
+refused = 0
+for count in (0, 2, 255, 256, 257, 512, 3000):
+    before = RangeSet([(10 * n, 10 * n + 4) for n in range(count)])
+    for in_chunks in (False, True):
+        for name, given in [
+            *((name, (start, end)) for name in ("add", "discard") for start in (-5, 1, 6, 2500, 29991) for end in (start + 1, start + 700, None)),
+            ("__ior__", (RangeSet([(6, 7)]),)), ("__ixor__", (RangeSet([(6, 7)]),)), ("__contains__", (5,)), ("covers", (1, 3)), ("clear", ()),
+        ]:
+            for after in range(2000):
+                made, again = MutableRangeSet(before), MutableRangeSet(before)
+                if in_chunks:
+                    made.add(-99, -98)
+                    made.discard(-99, -98)
+                kind = made.kind
+                refuse_after(after)
+                try:
+                    getattr(made, name)(*given)
+                    done = True
+                except MemoryError:
+                    done = False
+                refuse_after(-1)
+                if done:
+                    break
+                refused += 1
+                assert made.kind == kind and len(made) == count and list(made) == list(before), (name, given, after)
+                getattr(made, name)(*given)
+                getattr(again, name)(*given)
+                assert made == again, (name, given, after)
+            assert done
+print(refused > 300)
+"""
+
 
 class Memory(unittest.TestCase):
+    @unittest.skipUnless(platform.libc_ver()[0] == "glibc" and shutil.which(shlex.split(os.environ.get("CC", "cc"))[0]), "glibc and a C compiler are wanted")
+    def test_each_request_of_the_library(self):
+        with tempfile.TemporaryDirectory() as work:
+            source, refusing = Path(work, "refusing.c"), Path(work, "refusing.so")
+            source.write_text(REFUSING, encoding="utf-8")
+            subprocess.run([*shlex.split(os.environ.get("CC", "cc")), "-shared", "-fPIC", "-O1", source, "-o", refusing, "-ldl"], check=True)
+            words = [sys.executable, "-c", OF_THE_LIBRARY]
+            said = subprocess.run(words, capture_output=True, text=True, env={**os.environ, "LD_PRELOAD": str(refusing)})
+            self.assertEqual((said.stdout, said.stderr), ("True\n", ""))
+
     def test_refused_memory_changes_nothing(self):
         """In a process of its own, since it takes memory away."""
         said = subprocess.run([sys.executable, "-c", IN_LITTLE_MEMORY], capture_output=True, text=True, check=True).stdout
@@ -214,12 +291,10 @@ class EachRequest(unittest.TestCase):
             _testcapi.set_nomemory(count, count + 1)
             try:
                 return call()
-            except (MemoryError, RuntimeError) as error:
-                refused = error
+            except MemoryError:
+                pass
             finally:
                 _testcapi.remove_mem_hooks()
-            # Python's own locks say it like this.
-            self.assertIn(str(refused), ("", "can't allocate lock"))
             see()
         self.fail("there is no end of requests")
 
@@ -233,6 +308,28 @@ class EachRequest(unittest.TestCase):
             expected = call(*given)
             self.assertEqual(self.refuse_each(lambda: call(*given), lambda: None), expected)
         self.assertEqual((a, b), (q(0, 10, 20), q(5, 15)))
+
+    def test_of_a_set_that_changes(self):
+        two, now = memoryview(q(-5, -3, 7, 9)), attrgetter("now")
+        for name, given in (
+            ("insert", (-5, 15)), ("insert", (None, None)), ("remove", (3, 5)), ("union", (two,)), ("union", (two[:2],)), ("intersection", (two,)),
+            ("difference", (two,)), ("symmetric_difference", (two,)), ("contains", (5,)), ("contains_range", (3, None)), ("now", ()),
+        ):
+            for changed in (False, True):
+                for told in (False, True):
+                    before = q(0, 10, 20) if told else q()
+                    made = _core.Chunks(memoryview(before), KIND if told else UNTOLD)
+                    if changed:
+                        made.insert(15, 16, made.kind, made.kind)
+                        made.remove(15, 16, made.kind, made.kind)
+                    kinds = (made.kind,) if name.startswith("contains") else (made.kind, KIND)
+                    call = partial(now, made) if name == "now" else partial(getattr(made, name), *given, *kinds)
+                    kind = made.kind
+
+                    def see():
+                        self.assertEqual((made.now[0].tolist(), made.now[1], made.kind), (before.tolist(), kind, kind))
+
+                    self.refuse_each(call, see)
 
     # Later Pythons may end with a segmentation fault where a request of their own is refused, also in a generator of one line.
     @unittest.skipIf(sys.version_info >= (3, 12), "Pythons from 3.12 on don't outlive that a request of theirs is refused")

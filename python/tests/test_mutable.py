@@ -1,9 +1,17 @@
 """MutableRangeSet: changes in place, and what they leave as it is."""
 
 import copy
+import gc
+import itertools
+import random
+import sys
+import time
 import unittest
+from array import array
 
 from range_sets import MutableRangeSet, RangeSet
+from range_sets._core import Chunks
+from range_sets._kinds import SIGNED, UNTOLD
 
 
 class Changes(unittest.TestCase):
@@ -113,6 +121,174 @@ class Changes(unittest.TestCase):
         self.assertEqual(list(made), [(2**63 + 5, None)])
         made.clear()
         self.assertTrue(made.unsigned)
+
+    def test_the_first_element_tells_the_kind(self):
+        for first, last, kind in ((3, 5, "int"), (0.5, 1.5, "float")):
+            for change, expected in (
+                (lambda it: it.add(first, last), [(first, last)]), (lambda it: it.discard(first, last), []), (lambda it: it.add(last, first), []),
+                (lambda it: it.update([(first, last)]), [(first, last)]), (lambda it: it.symmetric_difference_update([(first, last)]), [(first, last)]),
+            ):
+                made = MutableRangeSet()
+                self.assertFalse(7 in made or made.covers(first, last) or made)
+                change(made)
+                self.assertEqual((list(made), made.kind), (expected, kind))
+                with self.assertRaises(TypeError):
+                    made |= RangeSet(unsigned=True)
+        made = MutableRangeSet()
+        made |= RangeSet(unsigned=True)
+        made.add(None, 2**63)
+        self.assertEqual((list(made), made.kind, 2**63 - 1 in made), ([(0, 2**63)], "unsigned", True))
+
+    def test_a_kind_that_is_told_meanwhile(self):
+        class Five:
+            def __index__(self):
+                made.add(0.5, 1.5)
+                return 5
+
+        for change, expected in ((MutableRangeSet.add, [(0.5, 1.5), (5.0, 7.0)]), (MutableRangeSet.discard, [(0.5, 1.5)])):
+            made = MutableRangeSet()
+            change(made, Five(), 7)
+            self.assertEqual(list(made), expected)
+        made, other, calls = MutableRangeSet([(0, 5)]), RangeSet([(7, 9)]), []
+
+        def union(chunks, *given):
+            calls.append(given)
+            return len(calls) == 3 and Chunks.union(chunks, *given)
+
+        made._change(union, other._now)
+        self.assertEqual((list(made), len(calls)), ([(0, 5), (7, 9)], 3))
+        chunks, two = Chunks(memoryview(array("q", [0, 10])), SIGNED), memoryview(array("q", [3, 5, 7, 9]))
+        for call, *given in (
+            (chunks.insert, 15, 20), (chunks.remove, 3, 5), (chunks.union, two), (chunks.union, two[2:]), (chunks.intersection, two),
+            (chunks.difference, two), (chunks.symmetric_difference, two),
+        ):
+            self.assertIs(call(*given, UNTOLD, SIGNED), False)
+            self.assertEqual((chunks.now[0].tolist(), chunks.kind), ([0, 10], SIGNED))
+        self.assertEqual((chunks.contains(3, SIGNED), chunks.contains(3, UNTOLD)), (True, False))
+        self.assertEqual((chunks.contains_range(3, 5, SIGNED), chunks.contains_range(3, 5, UNTOLD)), (True, False))
+
+    def test_ranges_without_an_end(self):
+        self.set |= RangeSet((25, None))
+        self.is_now((0, 10), (20, None))
+        self.assertEqual([self.set.covers(it, None) for it in (5, 15, 20, 25)], [False, False, True, True])
+        self.set -= RangeSet((27, None))
+        self.is_now((0, 10), (20, 27))
+        self.set.update()
+        self.set.difference_update([])
+        self.is_now((0, 10), (20, 27))
+
+    def test_its_size_counts_its_boundaries(self):
+        made = MutableRangeSet.from_values(range(0, 2000, 2))
+        before = sys.getsizeof(made)
+        self.assertGreater(before, 16000)
+        made.add(-5)
+        self.assertGreater(sys.getsizeof(made), 16000)
+        made.clear()
+        self.assertLess(sys.getsizeof(made), 1000)
+
+
+class Numbers:
+    """A set as a byte for each of some numbers, the last of which may be the greatest of all."""
+
+    def __init__(self, first, count, most):
+        self.first, self.most, self.has = first, most, bytearray(count)
+
+    def end(self, place):
+        return self.first + place if self.first + place <= self.most else None
+
+    def given(self, pairs):
+        return [(self.first + start, self.end(end)) for start, end in pairs]
+
+    def boundaries(self):
+        changes = [place for place, pair in enumerate(zip(b"\0" + self.has, self.has + b"\0")) if pair[0] != pair[1]]
+        return [end for end in map(self.end, changes) if end is not None]
+
+    def put(self, pairs, is_member):
+        for start, end in pairs:
+            self.has[start:end] = bytes([is_member]) * (end - start)
+
+    def combine(self, pairs, change):
+        left, self.has = self.has, bytearray(len(self.has))
+        self.put(pairs, True)
+        self.has = bytearray(map(change, left, self.has))
+
+
+class ManyRanges(unittest.TestCase):
+    def test_beside_a_byte_for_each_number(self):
+        combining = {
+            "update": int.__or__, "intersection_update": int.__and__, "symmetric_difference_update": int.__xor__, "difference_update": int.__gt__,
+        }
+        count = 12_000
+        for seed, (first, most) in enumerate([(-3000, 2**63 - 1), (2**63 - count, 2**63 - 1), (0, 2**64 - 1), (2**64 - count, 2**64 - 1)]):
+            some, model = random.Random(seed), Numbers(first, count, most)
+            made, kept, lengths = MutableRangeSet(unsigned=most >= 2**63), [], []
+            for step in range(300):
+                name = some.choice(["add"] * 30 + ["discard"] * 10 + [*combining])
+                longest = count if name == "intersection_update" else some.choice([3] * 19 + [1000])
+                starts = [some.randrange(count) for _ in range(150 if longest == 3 else 1)]
+                pairs = [(it, some.randint(it, min(count, it + longest))) for it in starts]
+                if name in combining:
+                    getattr(made, name)(model.given(pairs))
+                    model.combine(pairs, combining[name])
+                else:
+                    for pair in model.given(pairs):
+                        getattr(made, name)(pair)
+                    model.put(pairs, name == "add")
+                start = some.randrange(count)
+                end = some.randint(start, min(count, start + 6))
+                self.assertIs(first + start in made, model.has[start] == 1)
+                self.assertIs(made.covers(first + start, model.end(end)), all(model.has[start:end]))
+                if step % 5 == 0:
+                    expected = model.boundaries()
+                    lengths.append(len(expected))
+                    self.assertEqual((len(made), bool(made)), ((len(expected) + 1) // 2, bool(expected)))
+                    self.assertEqual(made.boundaries.tolist(), expected)
+                    self.assertTrue(all(it.boundaries.tolist() == then for it, then in kept))
+                    kept = [*kept[-3:], (some.choice([MutableRangeSet, RangeSet])(made), expected)]
+                    made = made.copy() if step % 70 == 0 else made
+            # Some chunks.
+            self.assertGreater(max(lengths), 2000)
+
+    def test_growth(self):
+        made = MutableRangeSet.from_values(range(0, 800_000, 4))
+        some = random.Random(5)
+        pairs = [(start, start + 2) for start in (some.randrange(800_000) for _ in range(20_000))]
+        began = time.process_time()
+        for start, end in pairs:
+            made.add(start, end)
+        # A copy of the set for each would take 20 s.
+        self.assertLess(time.process_time() - began, 4)
+        self.assertEqual(made, RangeSet.from_values(range(0, 800_000, 4)) | RangeSet(pairs))
+
+    def test_changes_by_the_collector(self):
+        """Python's collector may run them within a call, and none is lost."""
+        made, other, numbers, added = MutableRangeSet([(0, 10)]), RangeSet([(-9, -7), (-5, -3)]), itertools.count(100, 2), []
+
+        class Late:
+            def __init__(self):
+                self.itself = self
+
+            def __del__(self):
+                added.append(next(numbers))
+                made.add(added[-1])
+
+        before = gc.get_threshold()
+        gc.set_threshold(1, 1, 1)
+        self.addCleanup(gc.set_threshold, *before)
+        self.addCleanup(gc.enable)
+        for _ in range(100):
+            # It runs at the next request for memory of some types.
+            for call in (lambda: made.boundaries, lambda: made.__ixor__(other)):
+                gc.disable()
+                Late()
+                made.add(0, 10)
+                gc.enable()
+                call()
+                gc.disable()
+                self.assertEqual(made.boundaries[-1], max(added, default=9) + 1)
+        gc.collect()
+        self.assertEqual(len(added), 200)
+        self.assertEqual(made, RangeSet([(0, 10)]) | RangeSet.from_values(added))
 
 
 if __name__ == "__main__":

@@ -182,6 +182,66 @@ class Threads(unittest.TestCase):
             expected = {n + more for first in range(4) for n in range(first, 60 * count, 60) for more in (0, 50)}
             self.assertEqual(shared, RangeSet.from_values(expected) | start)
 
+    def together(self, *calls):
+        """Runs calls in threads that take turns as often as can be."""
+        unexpected = []
+
+        def run(call):
+            try:
+                call()
+            except BaseException as error:
+                unexpected.append(error)
+
+        threads = [threading.Thread(target=run, args=(it,)) for it in calls]
+        before = sys.getswitchinterval()
+        sys.setswitchinterval(1e-6)
+        try:
+            for it in threads:
+                it.start()
+            for it in threads:
+                it.join()
+        finally:
+            sys.setswitchinterval(before)
+        self.assertEqual(unexpected, [])
+
+    def test_no_range_is_lost(self):
+        shared, count, ranges = MutableRangeSet(), 4, 10_000
+        done = []
+
+        def adding(first):
+            def call():
+                for n in range(first, count * ranges, count):
+                    shared.add(3 * n, 3 * n + 2)
+                done.append(first)
+
+            return call
+
+        def read():
+            while len(done) < count:
+                self.assertTrue(sets.is_sorted(shared.boundaries) and len(shared) <= count * ranges + 2)
+                shared.symmetric_difference_update([(-9, -7), (-5, -3)])
+
+        self.together(*map(adding, range(count)), read)
+        shared.discard(None, 0)
+        self.assertEqual(list(shared), [(3 * n, 3 * n + 2) for n in range(count * ranges)])
+
+    def test_one_thread_tells_the_kind(self):
+        for _ in range(100):
+            shared, refused = MutableRangeSet(), []
+
+            def adding(first):
+                def call():
+                    try:
+                        for n in range(20):
+                            shared.add(first + n, first + n + type(first)(0.5) + 1)
+                    except TypeError:
+                        refused.append(first)
+
+                return call
+
+            self.together(adding(0), adding(100.5), adding(200), adding(300.5))
+            self.assertIn((shared.kind, sorted(refused)), [("int", [100.5, 300.5]), ("float", [])])
+
     def test_each_answer_is_of_one_moment(self):
         shared, some, none = MutableRangeSet(), RangeSet([(0, 10), (20, None)]), RangeSet()
         questions = [

@@ -18,17 +18,6 @@ typedef struct {
 
 /* ---- What a call is given ---- */
 
-static bool read_number(PyObject *object, bool is_signed, uint64_t *bits)
-{
-    PyObject *number = PyNumber_Index(object);
-    if (number == NULL) return false;
-    *bits = is_signed ? (uint64_t)PyLong_AsLongLong(number) : PyLong_AsUnsignedLongLong(number);
-    bool fits = *bits != UINT64_MAX || !PyErr_Occurred();
-    Py_DECREF(number);
-    return fits || refuse(PyExc_OverflowError, is_signed ? "a number from -2**63 to 2**63 - 1 is wanted"
-                                                         : "a number from 0 to 2**64 - 1 is wanted");
-}
-
 static void release_all(Arguments *given)
 {
     while (given->held > 0) release(&given->lists[--given->held]);
@@ -332,7 +321,7 @@ static PyMethodDef methods[] = {
 };
 
 static struct PyModuleDef definition = {PyModuleDef_HEAD_INIT, .m_name = "range_sets._core", .m_methods = methods,
-                                        .m_slots = (PyModuleDef_Slot[]){{0, NULL}}};
+                                        .m_slots = (PyModuleDef_Slot[]){{Py_mod_exec, add_chunks}, {0, NULL}}};
 
 PyMODINIT_FUNC PyInit__core(void)
 {

@@ -22,8 +22,8 @@ class Kept:
     """What a set is now, and its other forms."""
 
     __slots__ = ("_now",)
-    # Strictly sorted boundaries that nothing changes, and their kind. A set that changes gets another pair, perhaps by another
-    # thread meanwhile: so a call takes it once.
+    # Strictly sorted boundaries that nothing changes, and their kind. A set that changes has others after each change, perhaps by
+    # another thread meanwhile: so a call takes them once.
     _now: Now
 
     @classmethod
@@ -31,6 +31,10 @@ class Kept:
         made = object.__new__(cls)
         made._now = boundaries, kind
         return made
+
+    @property
+    def _kind(self) -> Kind:
+        return self._now[1]
 
     def __repr__(self) -> str:
         boundaries, kind = self._now
@@ -84,7 +88,7 @@ class Kept:
         if type(self).__module__ == "range_sets":
             return None
         attributes, all_slots = object.__getstate__(self)  # type: ignore[attr-defined]
-        slots = {name: value for name, value in all_slots.items() if name not in ("_now", "_lock")}
+        slots = {name: value for name, value in all_slots.items() if name not in ("_now", "_chunks")}
         return (attributes, slots) if attributes or slots else None
 
     def __setstate__(self, state: Any) -> None:

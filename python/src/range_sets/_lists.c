@@ -65,6 +65,17 @@ bool borrow(PyObject *object, List *list, bool pairs, bool writable)
     return false;
 }
 
+bool read_number(PyObject *object, bool is_signed, uint64_t *bits)
+{
+    PyObject *number = PyNumber_Index(object);
+    if (number == NULL) return false;
+    *bits = is_signed ? (uint64_t)PyLong_AsLongLong(number) : PyLong_AsUnsignedLongLong(number);
+    bool fits = *bits != UINT64_MAX || !PyErr_Occurred();
+    Py_DECREF(number);
+    return fits || refuse(PyExc_OverflowError, is_signed ? "a number from -2**63 to 2**63 - 1 is wanted"
+                                                         : "a number from 0 to 2**64 - 1 is wanted");
+}
+
 range_set_status check_list(const List *list)
 {
     range_set_i64 of_signed;
@@ -89,6 +100,7 @@ PyObject *list_over(PyObject *bytes, size_t len, bool is_signed)
 
 PyObject *raise_status(range_set_status status, size_t needed)
 {
+    if (status == RANGE_SET_NO_MEMORY) return PyErr_NoMemory();
     PyObject *errors = PyImport_ImportModule("range_sets._errors"), *error;
     if (errors == NULL) return NULL;
     if (status == RANGE_SET_NOT_SORTED) error = PyObject_CallMethod(errors, "NotSorted", "s", "a list isn't strictly sorted");

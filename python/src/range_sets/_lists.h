@@ -28,6 +28,9 @@ bool refuse(PyObject *error, const char *text);
 bool borrow(PyObject *object, List *list, bool pairs, bool writable);
 void release(List *list);
 
+/* Reads a number of 64 bits. */
+bool read_number(PyObject *object, bool is_signed, uint64_t *bits);
+
 /* Whether the list is sorted. */
 range_set_status check_list(const List *list);
 
@@ -46,5 +49,8 @@ PyObject *core_parse(PyObject *module, PyObject *const *args, Py_ssize_t n);
 PyObject *core_print(PyObject *module, PyObject *object);
 PyObject *core_pack(PyObject *module, PyObject *object);
 PyObject *core_unpack(PyObject *module, PyObject *object);
+
+/* Adds the type of sets in chunks to the module. */
+int add_chunks(PyObject *module);
 
 #endif

@@ -109,7 +109,7 @@ class AnyRangeSet(Kept):
         >>> RangeSet([(0, 10)], unsigned=True).unsigned
         True
         """
-        return self._now[1].unsigned
+        return self._kind.unsigned
 
     @property
     def kind(self) -> str | None:
@@ -122,12 +122,14 @@ class AnyRangeSet(Kept):
         >>> RangeSet([(date(2026, 5, 1), date(2026, 5, 4))]).kind, RangeSet(kind="float").kind
         ('date', 'float')
         """
-        kind = self._now[1]
+        kind = self._kind
         return None if kind is UNTOLD else kind.name
 
     @property
     def boundaries(self) -> memoryview:
-        """The boundaries as a buffer that can't be written to; nothing is copied. They are whole numbers also where elements aren't.
+        """The boundaries as a buffer that can't be written to. They are whole numbers also where elements aren't.
+
+        Nothing is copied, but for a `MutableRangeSet` that has changed: it is gone over.
 
         >>> RangeSet([(0, 10), (20, None)]).boundaries.tolist()
         [0, 10, 20]
@@ -165,14 +167,18 @@ class AnyRangeSet(Kept):
         >>> s.covers(3, 10), s.covers((3, 11)), s.covers(25, None)
         (True, False, True)
         """
-        boundaries, kind = self._now
-        first, last, kind = codes_of(start, end, kind)
+        first, last, kind = codes_of(start, end, self._kind)
         low, high = kind.least, kind.most
         if last is not None and last <= first:
             return True
         if first < low or first > high or (last is not None and last > high + 1):
             return False
-        if last is None or last > high:
+        return self._covers(first, None if last is None or last > high else last, kind)
+
+    def _covers(self, first: int, last: int | None, kind: Kind) -> bool:
+        """Whether each number of a range with numbers is a member. A set of another kind has none."""
+        boundaries = self._now[0]
+        if last is None:
             return _core.is_subset(kind.listed(first, None), boundaries)
         return _core.contains_range(boundaries, first, last)
 
@@ -291,13 +297,15 @@ class AnyRangeSet(Kept):
         return kind.values(chain.from_iterable(runs))
 
     def __reversed__(self) -> Iterator[tuple[Any, Any]]:
-        return map(self._over(*self._now).__getitem__, range(len(self) - 1, -1, -1))
+        kept = self._over(*self._now)
+        return map(kept.__getitem__, range(len(kept) - 1, -1, -1))
 
     @overload
     def __getitem__(self, at: SupportsIndex) -> tuple[Any, Any]: ...
     @overload
     def __getitem__(self, at: slice) -> Self: ...
     def __getitem__(self, at: SupportsIndex | slice) -> tuple[Any, Any] | Self:
+        # Goes over a whole MutableRangeSet that has changed.
         items, kind = self._now
         count = (len(items) + 1) // 2
         if isinstance(at, slice):
@@ -341,7 +349,7 @@ class AnyRangeSet(Kept):
         return self._over(below, kind), self._over(_core.intersection(above, upper), kind)
 
     def _of(self, source: Source) -> Now:
-        kind = self._now[1]
+        kind = self._kind
         return gather(source, None if kind is UNTOLD or isinstance(source, AnyRangeSet) else kind)
 
     def union(self, *others: Source) -> Self:

@@ -2,13 +2,13 @@
 
 from __future__ import annotations
 
-from threading import RLock
 from typing import Any, Callable, Self, overload
 
 from . import _core
+from ._core import Chunks
 from ._ranges import AnyRangeSet
-from ._kinds import Element, Kind, Now, agreed
-from ._sources import OneRange, Source, intersection_of, range_of, union_of
+from ._kinds import UNTOLD, Element, Kind, Now, agreed, of
+from ._sources import OneRange, Source, bounds_of, intersection_of, range_of, union_of
 
 
 class RangeSet(AnyRangeSet):
@@ -105,29 +105,67 @@ class MutableRangeSet(AnyRangeSet):
     An operator gives a set of the kind of its left side. `RangeSet(s)` is a set that doesn't change with `s`; neither does an
     array made of it. Where a change raises an error, the set is as it was.
 
+    `add`, `discard`, `in`, `covers`, `len` and `bool` take some microseconds also of a million ranges, but for the first
+    on a set that is new, which goes over all. So do each change by another set, unless it puts in or takes out one range,
+    and the first other call after a change.
+
     Threads may share a set: each call is whole. Those who read and then write as they read lock for themselves.
     """
 
-    __slots__ = ("_lock",)
+    __slots__ = ("_chunks",)
     __module__ = "range_sets"
     __hash__ = None  # type: ignore[assignment]
-    # Held during each change. What runs between two steps of one, as a handler of signals does, may change the set too.
-    _lock: RLock
+    _chunks: Chunks
 
     @classmethod
     def _over(cls, boundaries: memoryview, kind: Kind) -> Self:
-        made = super()._over(boundaries, kind)
-        made._lock = RLock()
+        made = object.__new__(cls)
+        made._chunks = Chunks(boundaries, kind)
         return made
 
-    def _change(self, call: Callable[[memoryview, memoryview], memoryview], other: Now) -> Self:
-        with self._lock:
-            left, right, kind = agreed(self._now, other)
-            self._now = call(left, right), kind
+    @property
+    def _now(self) -> Now:  # type: ignore[override]
+        return self._chunks.now
+
+    @property
+    def _kind(self) -> Kind:
+        return self._chunks.kind
+
+    def __sizeof__(self) -> int:
+        return object.__sizeof__(self) + self._chunks.__sizeof__()
+
+    def __contains__(self, value: Element) -> bool:
+        chunks = self._chunks
+        kind = chunks.kind
+        try:
+            return chunks.contains(value if kind.is_whole else kind.number(value), kind)  # type: ignore[arg-type]
+        except OverflowError:
+            return False
+        except TypeError:
+            if kind is UNTOLD and of(value):
+                return False
+            raise
+
+    def _covers(self, first: int, last: int | None, kind: Kind) -> bool:
+        return self._chunks.contains_range(first, last, kind)
+
+    def __len__(self) -> int:
+        return len(self._chunks)
+
+    def __bool__(self) -> bool:
+        return bool(self._chunks)
+
+    def _change(self, call: Callable[[Chunks, memoryview, Kind, Kind], bool], other: Now) -> Self:
+        """Makes the set what a call gives of it and another. Tried anew where another thread told its kind meanwhile."""
+        chunks, done = self._chunks, False
+        while not done:
+            seen = chunks.kind
+            _, right, kind = agreed((seen.nothing, seen), other)
+            done = call(chunks, right, seen, kind)
         return self
 
     def copy(self) -> Self:
-        """Another set with the same members. It takes no time, since both share their memory until one changes.
+        """Another set with the same members. It goes over all ranges of a set that has changed.
 
         >>> s = MutableRangeSet([(0, 10)])
         >>> t = s.copy()
@@ -145,9 +183,7 @@ class MutableRangeSet(AnyRangeSet):
         >>> s
         MutableRangeSet()
         """
-        with self._lock:
-            kind = self._now[1]
-            self._now = kind.nothing, kind
+        self._chunks.clear()
 
     @overload
     def add(self, start: OneRange) -> None: ...
@@ -162,7 +198,10 @@ class MutableRangeSet(AnyRangeSet):
         >>> s
         MutableRangeSet([(0, 15), (20, 21)])
         """
-        self._change(_core.union, range_of(start, end, self._now[1]))
+        chunks = self._chunks
+        # Else another thread has told the kind meanwhile.
+        while not chunks.insert(*bounds_of(start, end, chunks.kind)):
+            pass
 
     @overload
     def discard(self, start: OneRange) -> None: ...
@@ -176,20 +215,22 @@ class MutableRangeSet(AnyRangeSet):
         >>> s
         MutableRangeSet([(0, 3), (5, 10)])
         """
-        self._change(_core.difference, range_of(start, end, self._now[1]))
+        chunks = self._chunks
+        while not chunks.remove(*bounds_of(start, end, chunks.kind)):
+            pass
 
     def update(self, *others: Source) -> None:
-        """Puts in the elements of other sets; `|=` takes sets alone.
+        """Puts in the elements of other sets; `|=` takes sets alone. It goes over all ranges unless it is given one range.
 
         >>> s = MutableRangeSet([(0, 10)])
         >>> s.update([(20, 30)], range(10, 12))
         >>> s
         MutableRangeSet([(0, 12), (20, 30)])
         """
-        self._change(_core.union, union_of([*map(self._of, others)]))
+        self._change(Chunks.union, union_of([*map(self._of, others)]))
 
     def intersection_update(self, *others: Source) -> None:
-        """Keeps the elements that are in each other set; `&=` takes sets alone.
+        """Keeps the elements that are in each other set; `&=` takes sets alone. It goes over all ranges.
 
         >>> s = MutableRangeSet([(0, 10)])
         >>> s.intersection_update([(5, 20)])
@@ -197,44 +238,44 @@ class MutableRangeSet(AnyRangeSet):
         MutableRangeSet([(5, 10)])
         """
         sets = [*map(self._of, others)]
-        self._change(_core.intersection, intersection_of(sets, None if sets else self._now[1]))
+        self._change(Chunks.intersection, intersection_of(sets, None if sets else self._kind))
 
     def difference_update(self, *others: Source) -> None:
-        """Takes out the elements of other sets; `-=` takes sets alone.
+        """Takes out the elements of other sets; `-=` takes sets alone. It goes over all ranges unless it is given one range.
 
         >>> s = MutableRangeSet([(0, 10)])
         >>> s.difference_update([(5, 20)])
         >>> s
         MutableRangeSet([(0, 5)])
         """
-        self._change(_core.difference, union_of([*map(self._of, others)]))
+        self._change(Chunks.difference, union_of([*map(self._of, others)]))
 
     def symmetric_difference_update(self, other: Source) -> None:
-        """Keeps the elements that are in exactly one of the two sets; `^=` takes sets alone.
+        """Keeps the elements that are in exactly one of the two sets; `^=` takes sets alone. It goes over all ranges.
 
         >>> s = MutableRangeSet([(0, 10)])
         >>> s.symmetric_difference_update([(5, 20)])
         >>> s
         MutableRangeSet([(0, 5), (10, 20)])
         """
-        self._change(_core.symmetric_difference, self._of(other))
+        self._change(Chunks.symmetric_difference, self._of(other))
 
     def __ior__(self, other: AnyRangeSet) -> Self:
         if not isinstance(other, AnyRangeSet):
             return NotImplemented
-        return self._change(_core.union, other._now)
+        return self._change(Chunks.union, other._now)
 
     def __iand__(self, other: AnyRangeSet) -> Self:
         if not isinstance(other, AnyRangeSet):
             return NotImplemented
-        return self._change(_core.intersection, other._now)
+        return self._change(Chunks.intersection, other._now)
 
     def __isub__(self, other: AnyRangeSet) -> Self:
         if not isinstance(other, AnyRangeSet):
             return NotImplemented
-        return self._change(_core.difference, other._now)
+        return self._change(Chunks.difference, other._now)
 
     def __ixor__(self, other: AnyRangeSet) -> Self:
         if not isinstance(other, AnyRangeSet):
             return NotImplemented
-        return self._change(_core.symmetric_difference, other._now)
+        return self._change(Chunks.symmetric_difference, other._now)

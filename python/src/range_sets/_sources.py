@@ -44,6 +44,14 @@ def range_of(start: Any, end: Any, kind: Kind) -> Now:
     return kind.listed(first, last), kind
 
 
+def bounds_of(start: Any, end: Any, kind: Kind) -> tuple[Any, Any, Kind, Kind]:
+    """What a set in chunks is given of a range: its ends, the kind that was seen, and its kind. It reads numbers itself."""
+    if end is not ... and kind.is_whole and kind is not UNTOLD:
+        return start, end, kind, kind
+    first, last, found = codes_of(start, end, kind)
+    return found.within(first), None if last is None else found.within(last), kind, found
+
+
 def ends_of(item: Any, wanted: str) -> Pair:
     """The start and the end of a pair, a `range` or a network."""
     if type(item) is tuple and len(item) == 2:
