@@ -65,63 +65,8 @@ static void give_back(void *context, void *items, size_t size)
     free(items);
 }
 
-#define NUMBER int32_t
-#define COUNT uint32_t
-#define LEAST INT32_MIN
-#define TEXT_ROOM 13
-#define MOST INT32_MAX
-#define SET range_set_i32
-#define RANGE range_set_i32_range
-#define BUFFER range_set_i32_buffer
-#define OWNED range_set_i32_owned
-#define CHUNKED range_set_i32_chunked
-#define CALL(call) range_set_i32_##call
-#define TEST(name) i32_##name
-#include "test_calls.h"
-
-#define NUMBER uint32_t
-#define COUNT uint32_t
-#define LEAST ((uint32_t)0)
-#define TEXT_ROOM 12
-#define MOST UINT32_MAX
-#define SET range_set_u32
-#define RANGE range_set_u32_range
-#define BUFFER range_set_u32_buffer
-#define OWNED range_set_u32_owned
-#define CHUNKED range_set_u32_chunked
-#define CALL(call) range_set_u32_##call
-#define TEST(name) u32_##name
-#define IS_UNSIGNED
-#include "test_calls.h"
-
-#define NUMBER int64_t
-#define COUNT uint64_t
-#define LEAST INT64_MIN
-#define TEXT_ROOM 22
-#define MOST INT64_MAX
-#define SET range_set_i64
-#define RANGE range_set_i64_range
-#define BUFFER range_set_i64_buffer
-#define OWNED range_set_i64_owned
-#define CHUNKED range_set_i64_chunked
-#define CALL(call) range_set_i64_##call
-#define TEST(name) i64_##name
-#include "test_calls.h"
-
-#define NUMBER uint64_t
-#define COUNT uint64_t
-#define LEAST ((uint64_t)0)
-#define TEXT_ROOM 22
-#define MOST UINT64_MAX
-#define SET range_set_u64
-#define RANGE range_set_u64_range
-#define BUFFER range_set_u64_buffer
-#define OWNED range_set_u64_owned
-#define CHUNKED range_set_u64_chunked
-#define CALL(call) range_set_u64_##call
-#define TEST(name) u64_##name
-#define IS_UNSIGNED
-#include "test_calls.h"
+#define CALLS "test_calls.h"
+#include "each_type.h"
 
 /* Each status has a sentence of its own, and what is no status has one. */
 static void status_texts(void)

@@ -1,6 +1,4 @@
-/* The tests for one type of numbers. Before each include NUMBER is the type, which is unsigned where IS_UNSIGNED is defined;
- * COUNT is the unsigned type of its width, LEAST its least number, MOST its greatest, SET, RANGE, BUFFER, OWNED and CHUNKED the header's
- * structs for it, CALL(call) the name of a call of the header, and TEST(name) the name of a function here. */
+/* The tests for one type of numbers, by the names of each_type.h. */
 
 /* A list that lies in memory of its own, so that valgrind sees each read beside it. */
 static NUMBER *TEST(copy)(const NUMBER *items, size_t len)
@@ -1202,17 +1200,3 @@ static void TEST(all)(long cases)
     for (i = 0; i < cases / 100; i++) TEST(chunked)();
     for (i = 0; i < cases / 10; i++) TEST(unsorted_searches)();
 }
-
-#undef NUMBER
-#undef COUNT
-#undef TEXT_ROOM
-#undef LEAST
-#undef MOST
-#undef SET
-#undef RANGE
-#undef BUFFER
-#undef OWNED
-#undef CHUNKED
-#undef CALL
-#undef TEST
-#undef IS_UNSIGNED

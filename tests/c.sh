@@ -8,7 +8,7 @@
 #   tests/c.sh           these
 #   tests/c.sh --rust    those over the library that cargo builds alone
 #   tests/c.sh --more    the tests as each language by each compiler, under both sanitizers, and a fuzzer for a minute; and
-#                        the library that cargo builds under valgrind
+#                        the library that cargo builds under valgrind, and beside the proved one
 #
 # Its last line is 'N passed, M failed, K skipped'. It ends with 77 where gcc is missing.
 set -u
@@ -290,6 +290,26 @@ fuzzes() {
         (cd "$work" && ./fuzz -max_total_time=60 -max_len=64 -verbosity=0 -print_final_stats=1)
 }
 
+# Whether the twins make each call of the header.
+asks_each_call() {
+    ! grep -oE '\brange_set_i64_[a-z_]+\(' c/include/range_set.h | sed 's/range_set_i64_/CALL(/; s/($/)/' | sort -u | grep -vxFf <(grep -oE 'CALL\([a-z_]+\)' c/twins_calls.h)
+}
+
+# What twins.c answers over one library, as an object that has one name for others.
+twin() {
+    clang -std=c99 $counted $strict -DANSWERS="$1" -c c/twins.c -o "$work/twins.o" && ld -r "$work/twins.o" "${@:2}" -o "$work/$1.o" &&
+        objcopy --keep-global-symbol="$1" "$work/$1.o"
+}
+
+# The proved library and the one that cargo builds, by a fuzzer that compares all that they answer and write.
+answer_alike() {
+    local counted="-O1 -g -fsanitize=fuzzer-no-link" cargo=$work/by_cargo/build/librange_set.a
+    takes_the_proved_object && clang -std=c99 $counted $strict -c c/range_set.c -o "$work/layer.o" &&
+        twin answers_of_proved "$work/layer.o" "$work/proved.o" && twin answers_of_cargo "$cargo" &&
+        clang -std=c99 -O1 -g -fsanitize=fuzzer $strict c/twins_fuzz.c "$work"/answers_of_{proved,cargo}.o -o "$work/twins" &&
+        (cd "$work" && ./twins -max_total_time=60 -max_len=200 -len_control=0 -verbosity=0 -print_final_stats=1)
+}
+
 # Whether clang finds what a fuzzer is linked with.
 has_fuzzer() {
     [ -e "$(clang --print-file-name=libclang_rt.fuzzer-x86_64.a 2>/dev/null)" ] ||
@@ -315,6 +335,8 @@ if [ "${1:-}" = --more ]; then
     fi
     if command -v valgrind >/dev/null && has_cargo; then
         step "by cargo: the library" builds_by_cargo
+        step "each call is made of both libraries" asks_each_call
+        has_fuzzer && step "both libraries answer alike, by a fuzzer for a minute" answer_alike
         archive=$work/by_cargo/build/librange_set.a
         step "by cargo: the tests compile" compiles c/test.c test
         step "by cargo: the tests under valgrind" valgrind -q --error-exitcode=9 --leak-check=full "$work/test" 1000
