@@ -95,8 +95,12 @@ def beside(name):
 def headers():
     """The package's core metadata, with the page as its description."""
     fields = {
-        "Metadata-Version": "2.1", "Name": PROJECT["name"], "Version": PROJECT["version"], "Summary": PROJECT["description"],
-        "License": PROJECT["license"]["text"], "Requires-Python": PROJECT["requires-python"],
+        "Metadata-Version": "2.1",
+        "Name": PROJECT["name"],
+        "Version": PROJECT["version"],
+        "Summary": PROJECT["description"],
+        "License": PROJECT["license"]["text"],
+        "Requires-Python": PROJECT["requires-python"],
         "Description-Content-Type": "text/markdown",
     }
     lines = [f"{name}: {text}\n" for name, text in fields.items()]

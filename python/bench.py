@@ -202,7 +202,9 @@ def numbers_and_times(count):
     lists = [made_up(count, 1), made_up(count, 2), made_up(1000, 3)]
     compare(f"{count:,} pairs", (OfRangeSet, OfIntervalTree, OfSortedDict, OfIPSet), *lists[:2], [it for it, _ in lists[2]])
     fewer = count // 10
-    kinds, times = (OfRangeSet, OfIntervalTree, OfSortedDict, OfPortion), [timed(it) for it in (lists[0][:fewer], lists[1][:fewer], lists[2])]
+    kinds, times = (OfRangeSet, OfIntervalTree, OfSortedDict, OfPortion), [
+        timed(it) for it in (lists[0][:fewer], lists[1][:fewer], lists[2])
+    ]
     compare(f"{fewer:,} pairs of times", kinds, *times[:2], [it for it, _ in times[2]])
 
 
@@ -271,7 +273,10 @@ def arrays(count):
     calls = {
         f"a set of a table of {count:,} pairs": (lambda: numpy.asarray(RangeSet(pairs)), merged, None),
         f"which of {count:,} numbers are members": (
-            lambda: made.contains(asked), lambda: numpy.searchsorted(flat, asked, side="right") % 2 == 1, lambda: index.get_indexer(asked) >= 0),
+            lambda: made.contains(asked),
+            lambda: numpy.searchsorted(flat, asked, side="right") % 2 == 1,
+            lambda: index.get_indexer(asked) >= 0,
+        ),
     }
     rows = []
     for label, row in calls.items():

@@ -3,9 +3,10 @@
 #
 #   tests/python.sh           all tests, with some seconds of made-up cases
 #   tests/python.sh --more    long runs of made-up cases, the example on a cluster of two processes, the benchmark's answers;
-#                             and the tests over a wheel whose library cargo builds of rust/
+#                             the tests over a wheel whose library cargo builds of rust/, and by a later Python
 #
 # The interpreter is PYTHON, or else the first of python3 and /usr/bin/python3 that has numpy and hypothesis, or else python3.
+# Interpreters with locks of their own, and a Python without the lock, are tested by another Python if one is at hand.
 # Its last line is 'N passed, M failed, K skipped'. It ends with 77 where a tool is missing.
 set -u
 cd "$(dirname "$0")/../python" || exit 1
@@ -76,9 +77,14 @@ links_libc_alone() {
     [ "$needed" = libc.so.6 ]
 }
 
-# How the sources look: as flake8 has it, but for lines, which may be longer, and for slices and overloads, which stand close.
+# What flake8 says of the sources, but for lines, which may be longer, and for slices, which black writes with blanks.
 looks_right() {
-    "$venv" -m flake8 --max-line-length=160 --extend-ignore=E203,E301,E302,E704 .
+    "$venv" -m flake8 --max-line-length=160 --extend-ignore=E203 .
+}
+
+# Whether black would write the sources as they are. Its version 24 writes overloads in another way.
+is_formatted() {
+    "$venv" -m black --check .
 }
 
 # Builds a wheel of the source distribution alone.
@@ -104,6 +110,11 @@ has_no_proved_code() {
     grep -q 'RUST_BACKTRACE' "$(cd "$work" && "$venv" -c 'import range_sets._core; print(range_sets._core.__file__)')"
 }
 
+skip() {
+    skipped=$((skipped + 1))
+    echo "$name: SKIPPED: $1: $2"
+}
+
 # Runs a step that wants modules, by what they are, their Debian packages, and the step.
 step_with() {
     local modules=$1 packages=$2
@@ -111,10 +122,45 @@ step_with() {
     if has "$venv" "$modules"; then
         step "$@"
     else
-        skipped=$((skipped + 1))
-        echo "$name: SKIPPED: $1: $python has no $modules; on Debian: $packages"
+        skip "$1" "$python has no $modules; on Debian: $packages"
     fi
 }
+
+# The newest Python at hand that can make a venv and compile, and of which a condition holds: of those on the path and pyenv's.
+another() {
+    local python
+    ls -d "${PYENV_ROOT:-$HOME/.pyenv}"/versions/*/bin/python3 2>/dev/null | sort -rV | cat <(printf 'python3.%s\n' 14 14t 13 13t 12) - |
+        while read -r python; do
+            if has "$python" "ensurepip, os, sys, sysconfig
+os.stat(sysconfig.get_path('include') + '/Python.h')
+sys.exit(not ($1))"; then
+                echo "$python"
+                return
+            fi
+        done
+}
+
+# Runs a step by another Python, which is installed for that.
+by_another() {
+    local what=$1 condition=$2 python venv
+    shift 2
+    python=$(another "$condition")
+    if [ -z "$python" ]; then
+        skip "$what" "no such Python is at hand"
+        return
+    fi
+    venv=$work/another/bin/python
+    step "$what" installs_and "$@"
+    rm -rf "$work/another"
+}
+
+installs_and() {
+    "$python" -m venv "$work/another" && "$venv" -m pip install --no-index --quiet "$here" && "$@"
+}
+
+# Interpreters with locks of their own come with 3.12.
+has_own_locks="sys.version_info >= (3, 12) and not sysconfig.get_config_var('Py_GIL_DISABLED')"
+has_no_lock="sysconfig.get_config_var('Py_GIL_DISABLED')"
 
 echo "$name: by $("$python" -c 'import sys; print(sys.executable, sys.version.split()[0])')"
 has "$python" ensurepip || {
@@ -138,11 +184,11 @@ if [ "${1:-}" = --more ]; then
     if ls -d "$packages"/smallvec-[0-9]* >/dev/null 2>&1; then
         step_by cargo cargo "the tests over a library that cargo builds" installs_by_cargo
     else
-        skipped=$((skipped + 1))
-        echo "$name: SKIPPED: a library that cargo builds: the crate smallvec is missing; on Debian: librust-smallvec-dev"
+        skip "a library that cargo builds" "the crate smallvec is missing; on Debian: librust-smallvec-dev"
     fi
     step_with "intervaltree, sortedcontainers, netaddr" "python3-intervaltree python3-sortedcontainers python3-netaddr" \
         "the benchmark's answers" "$venv" bench.py --pairs 2000
+    by_another "the tests by a Python from 3.12 on" "$has_own_locks" tests
     ended
 fi
 [ "$(uname)" != Linux ] || step_by readelf binutils "it links libc alone" links_libc_alone
@@ -158,7 +204,14 @@ fi
 step_with hypothesis python3-hypothesis "the tests with hypothesis" tests -p with_hypothesis.py
 step_with dask.bag python3-dask "the tests with dask" tests -p with_dask.py
 step_with mypy python3-mypy "the types" types_hold
-step_with flake8 python3-flake8 "the looks" looks_right
+step_with flake8 python3-flake8 "what flake8 says" looks_right
+if has "$venv" "black, sys; sys.exit(not black.__version__.startswith('23.'))"; then
+    step "the looks" is_formatted
+else
+    skip "the looks" "$python has no black 23; on Debian: black"
+fi
+by_another "interpreters with locks of their own" "$has_own_locks" tests -p test_interpreters.py
+by_another "a Python without the lock" "$has_no_lock" tests
 for page in ../README.md README.md; do
     step "the lines in Python of $page" runs_page "$page" python
 done

@@ -32,19 +32,26 @@ class Missing(unittest.TestCase):
 
     def test_a_compiler(self):
         with mock.patch.dict(os.environ, CC="no-such-compiler -m64"):
-            self.refused(lambda: backend.compiled(backend.DIST / "librange_set.a", ".so"),
-                         "range_sets: the C compiler no-such-compiler is missing: install gcc, or name another in CC")
+            self.refused(
+                lambda: backend.compiled(backend.DIST / "librange_set.a", ".so"),
+                "range_sets: the C compiler no-such-compiler is missing: install gcc, or name another in CC",
+            )
 
     def test_the_headers_of_python(self):
         with mock.patch.object(sysconfig, "get_path", lambda name: "/no/such/folder"):
-            self.refused(lambda: backend.compiled(backend.DIST / "librange_set.a", ".so"),
-                         "range_sets: Python's header /no/such/folder/Python.h is missing: on Debian the package python3-dev brings it")
+            self.refused(
+                lambda: backend.compiled(backend.DIST / "librange_set.a", ".so"),
+                "range_sets: Python's header /no/such/folder/Python.h is missing: on Debian the package python3-dev brings it",
+            )
 
     def test_cargo_on_another_machine(self):
-        text = ("range_sets: no-such-cargo is missing, which builds the library here: install cargo 1.64 or later, "
-                "or name another in CARGO")
+        text = (
+            "range_sets: no-such-cargo is missing, which builds the library here: install cargo 1.64 or later, " "or name another in CARGO"
+        )
         for platform in ("linux-aarch64", "macosx-14.0-arm64", "win-amd64"):
-            with mock.patch.object(sysconfig, "get_platform", lambda: platform), mock.patch.dict(os.environ, CARGO="no-such-cargo --offline"):
+            with mock.patch.object(sysconfig, "get_platform", lambda: platform), mock.patch.dict(
+                os.environ, CARGO="no-such-cargo --offline"
+            ):
                 self.refused(lambda: backend.library(None, NOWHERE), text)
 
     def test_cargo_where_it_is_chosen(self):
@@ -58,21 +65,27 @@ class Missing(unittest.TestCase):
 
     def test_a_crate_that_cargo_refuses(self):
         with tempfile.TemporaryDirectory() as work, mock.patch.dict(os.environ, CARGO="false"):
-            self.refused(lambda: backend.library({"library": "rust"}, pathlib.Path(work)),
-                         "range_sets: cargo refused the crate in rust/; what it said stands above")
+            self.refused(
+                lambda: backend.library({"library": "rust"}, pathlib.Path(work)),
+                "range_sets: cargo refused the crate in rust/; what it said stands above",
+            )
 
     def test_a_choice(self):
         self.refused(lambda: backend.library({"library": "other"}, NOWHERE), "range_sets: the library is proved or rust, and not other")
         with mock.patch.object(sysconfig, "get_platform", lambda: "linux-aarch64"):
-            self.refused(lambda: backend.library({"library": "proved"}, NOWHERE),
-                         "range_sets: there is no proved library for linux-aarch64: dist/ has that of x86-64 Linux alone")
+            self.refused(
+                lambda: backend.library({"library": "proved"}, NOWHERE),
+                "range_sets: there is no proved library for linux-aarch64: dist/ has that of x86-64 Linux alone",
+            )
 
     def test_the_library(self):
         elsewhere = mock.patch.object(backend, "DIST", NOWHERE)
         with elsewhere, mock.patch.object(sysconfig, "get_platform", lambda: "linux-x86_64"):
-            self.refused(lambda: backend.library(None, NOWHERE),
-                         "range_sets: the library /no/such/folder/librange_set.a is missing: build from a whole clone, "
-                         "or from the source distribution")
+            self.refused(
+                lambda: backend.library(None, NOWHERE),
+                "range_sets: the library /no/such/folder/librange_set.a is missing: build from a whole clone, "
+                "or from the source distribution",
+            )
 
 
 class Written(unittest.TestCase):
@@ -96,8 +109,16 @@ class Written(unittest.TestCase):
         name = backend.build_sdist(self.folder)
         with tarfile.open(self.folder / name) as archive:
             names = set(archive.getnames())
-        sources = ("src/range_sets/_core.c", "src/range_sets/py.typed", "dist/librange_set.a", "dist/range_set.h",
-                   "rust/Cargo.toml", "rust/src/lib.rs", "rust/src/c/calls.rs", "rust/src/generated/range_c/mod.rs")
+        sources = (
+            "src/range_sets/_core.c",
+            "src/range_sets/py.typed",
+            "dist/librange_set.a",
+            "dist/range_set.h",
+            "rust/Cargo.toml",
+            "rust/src/lib.rs",
+            "rust/src/c/calls.rs",
+            "rust/src/generated/range_c/mod.rs",
+        )
         for it in ("pyproject.toml", "backend.py", "README.md", "PKG-INFO", "LICENSE-MIT", *sources):
             self.assertIn(f"range_sets-0.2.0/{it}", names)
 

@@ -26,7 +26,7 @@ class Rows(unittest.TestCase):
         self.assertEqual(sets.union(q(), q()), q())
 
     def test_one_set(self):
-        self.assertEqual(sets.negation(q(0, 10)), q(-2**63, 0, 10))
+        self.assertEqual(sets.negation(q(0, 10)), q(-(2**63), 0, 10))
         self.assertEqual(sets.negation(array("Q", [0, 10])), array("Q", [10]))
         self.assertEqual(sets.insert(q(0, 10), 12, 14), q(0, 10, 12, 14))
         self.assertEqual(sets.remove(q(0, 10), 3, 7), q(0, 3, 7, 10))
@@ -36,7 +36,7 @@ class Rows(unittest.TestCase):
         a = q(0, 10, 20)
         self.assertEqual([sets.range_at(a, x) for x in (9, 10, 20)], [(0, 10), None, (20, None)])
         self.assertTrue(sets.contains_range(a, 3, 10) and not sets.contains_range(a, 3, 11))
-        self.assertEqual([sets.covered(x) for x in (a, q(0, 10), q(-2**63, 2**63 - 1))], [None, 10, 2**64 - 1])
+        self.assertEqual([sets.covered(x) for x in (a, q(0, 10), q(-(2**63), 2**63 - 1))], [None, 10, 2**64 - 1])
         self.assertEqual(sets.gaps(a, -5, 15), q(-5, 0, 10, 15))
         self.assertEqual([list(sets.ranges(x)) for x in (a, q(), q(3, 5))], [[(0, 10), (20, None)], [], [(3, 5)]])
         with self.assertRaises(sets.NotSorted):
@@ -75,7 +75,13 @@ class Rows(unittest.TestCase):
             return memoryview(q(20, 30, 9, 12, 11, 15)).cast("B").cast("q", shape=[6 // columns, columns])
 
         self.assertEqual(sets.from_ranges(table(2)), q(9, 15, 20, 30))
-        for call, columns in ((sets.from_ranges, 1), (sets.from_ranges, 3), (sets.from_unsorted, 1), (sets.from_unsorted, 2), (sets.ranges, 2)):
+        for call, columns in (
+            (sets.from_ranges, 1),
+            (sets.from_ranges, 3),
+            (sets.from_unsorted, 1),
+            (sets.from_unsorted, 2),
+            (sets.ranges, 2),
+        ):
             with self.subTest(call=call.__name__, columns=columns), self.assertRaises(TypeError):
                 call(table(columns))
 
@@ -133,7 +139,7 @@ class Rows(unittest.TestCase):
             sets.union(q(1), array("Q", [1]))
         with self.assertRaises(TypeError):
             sets.union(array("i", [1]), array("i", [1]))
-        for value in (2**63, -2**63 - 1):
+        for value in (2**63, -(2**63) - 1):
             with self.assertRaises(OverflowError):
                 sets.contains(q(1), value)
         for value in (1.0, "1", None):
@@ -159,8 +165,12 @@ class MadeUp(unittest.TestCase):
         for _ in range(2000):
             a, b = (q(*sorted(made.sample(range(20), made.randrange(12)))) for _ in range(2))
             on_a, on_b = members(a, points), members(b, points)
-            for call, f in ((sets.union, lambda x, y: x or y), (sets.intersection, lambda x, y: x and y),
-                            (sets.difference, lambda x, y: x and not y), (sets.symmetric_difference, lambda x, y: x != y)):
+            for call, f in (
+                (sets.union, lambda x, y: x or y),
+                (sets.intersection, lambda x, y: x and y),
+                (sets.difference, lambda x, y: x and not y),
+                (sets.symmetric_difference, lambda x, y: x != y),
+            ):
                 result = call(a, b)
                 self.assertTrue(sets.is_sorted(result))
                 self.assertEqual(members(result, points), [f(x, y) for x, y in zip(on_a, on_b)])

@@ -64,102 +64,130 @@ class Texts(unittest.TestCase):
                 self.assertEqual(str(raised.exception), text)
 
     def test_what_a_set_is_made_of(self):
-        self.tell((
-            (lambda: RangeSet([1, 2]), TypeError, f"{PAIR} 1"),
-            (lambda: RangeSet([(1, 2, 3)]), TypeError, f"{PAIR} (1, 2, 3)"),
-            (lambda: RangeSet([(1,), (2, 3, 4)]), TypeError, f"{PAIR} (1,)"),
-            (lambda: RangeSet([{1, 2}]), TypeError, PAIR + " {1, 2}"),
-            (lambda: RangeSet(["ab"]), TypeError, f"{PAIR} 'ab'"),
-            (lambda: RangeSet(5), TypeError, "pairs, ranges or sets are wanted, not 5"),
-            (lambda: RangeSet(None), TypeError, "pairs, ranges or sets are wanted, not None"),
-            (lambda: RangeSet("0..3"), TypeError, "pairs, ranges or sets are wanted, not a text; RangeSet.parse reads one"),
-            (lambda: RangeSet(q(0, 10)), TypeError, TABLE),
-            (lambda: RangeSet(range(0, 10, 2)), ValueError, "a range with step 1 is wanted, not range(0, 10, 2)"),
-            (lambda: RangeSet([(0, 2.5)]), TypeError, FLOAT),
-            (lambda: RangeSet([(0.5, 2)], kind=int), TypeError, FLOAT),
-            (lambda: RangeSet([(float("nan"), None)]), ValueError, NAN),
-            (lambda: RangeSet([("0", 2)]), TypeError, "a text is no element of a set: give the place of each in a sorted list of them"),
-            (lambda: RangeSet([(0, "2")]), TypeError, "'str' object cannot be interpreted as an integer"),
-            (lambda: RangeSet([(0, 2**63)]), OverflowError, SIGNED),
-            (lambda: RangeSet([(-(2**63) - 1, None)]), OverflowError, SIGNED),
-            (lambda: RangeSet([(-1, 5)], unsigned=True), OverflowError, UNSIGNED),
-            (lambda: RangeSet([(0, 2**64)], unsigned=True), OverflowError, UNSIGNED),
-        ))
+        self.tell(
+            (
+                (lambda: RangeSet([1, 2]), TypeError, f"{PAIR} 1"),
+                (lambda: RangeSet([(1, 2, 3)]), TypeError, f"{PAIR} (1, 2, 3)"),
+                (lambda: RangeSet([(1,), (2, 3, 4)]), TypeError, f"{PAIR} (1,)"),
+                (lambda: RangeSet([{1, 2}]), TypeError, PAIR + " {1, 2}"),
+                (lambda: RangeSet(["ab"]), TypeError, f"{PAIR} 'ab'"),
+                (lambda: RangeSet(5), TypeError, "pairs, ranges or sets are wanted, not 5"),
+                (lambda: RangeSet(None), TypeError, "pairs, ranges or sets are wanted, not None"),
+                (lambda: RangeSet("0..3"), TypeError, "pairs, ranges or sets are wanted, not a text; RangeSet.parse reads one"),
+                (lambda: RangeSet(q(0, 10)), TypeError, TABLE),
+                (lambda: RangeSet(range(0, 10, 2)), ValueError, "a range with step 1 is wanted, not range(0, 10, 2)"),
+                (lambda: RangeSet([(0, 2.5)]), TypeError, FLOAT),
+                (lambda: RangeSet([(0.5, 2)], kind=int), TypeError, FLOAT),
+                (lambda: RangeSet([(float("nan"), None)]), ValueError, NAN),
+                (lambda: RangeSet([("0", 2)]), TypeError, "a text is no element of a set: give the place of each in a sorted list of them"),
+                (lambda: RangeSet([(0, "2")]), TypeError, "'str' object cannot be interpreted as an integer"),
+                (lambda: RangeSet([(0, 2**63)]), OverflowError, SIGNED),
+                (lambda: RangeSet([(-(2**63) - 1, None)]), OverflowError, SIGNED),
+                (lambda: RangeSet([(-1, 5)], unsigned=True), OverflowError, UNSIGNED),
+                (lambda: RangeSet([(0, 2**64)], unsigned=True), OverflowError, UNSIGNED),
+            )
+        )
 
     def test_boundaries(self):
-        self.tell((
-            (lambda: RangeSet.from_boundaries([3, 3]), NotSorted, "a list isn't strictly sorted"),
-            (lambda: RangeSet.from_boundaries([0, 1.5]), TypeError, FLOAT),
-            (lambda: RangeSet.from_boundaries([0, 2**63]), OverflowError, SIGNED),
-            (lambda: RangeSet.from_boundaries(7), TypeError, "'int' object is not iterable"),
-            (lambda: RangeSet.from_boundaries(array("d", [0.0]), kind=int), TypeError, f"{FORMAT} 'd'"),
-            (lambda: RangeSet.from_boundaries(array("u", "a")), TypeError, f"{FORMAT} 'w'"),
-            (lambda: RangeSet.from_boundaries(q(1), unsigned=True), TypeError, f"{MIXED}: a set of unsigned ones is wanted"),
-            (lambda: RangeSet.from_values([0, 1.5]), TypeError, FLOAT),
-            (lambda: RangeSet.from_values([2**63]), OverflowError, SIGNED),
-            (lambda: RangeSet.from_values(array("b", [-1]), unsigned=True), OverflowError, UNSIGNED),
-            (lambda: RangeSet.from_values(q(1), unsigned=True), TypeError, f"{MIXED}: a set of unsigned ones is wanted"),
-            (lambda: RangeSet.from_values(array("d", [0.0])), TypeError, ONE_BY_ONE),
-            (lambda: RangeSet.from_ranges(q(1, 2, 3)), ValueError, "a start and an end each are wanted"),
-            (lambda: RangeSet.from_ranges([(1, 2)]), TypeError, f"{BUFFER} list"),
-        ))
+        self.tell(
+            (
+                (lambda: RangeSet.from_boundaries([3, 3]), NotSorted, "a list isn't strictly sorted"),
+                (lambda: RangeSet.from_boundaries([0, 1.5]), TypeError, FLOAT),
+                (lambda: RangeSet.from_boundaries([0, 2**63]), OverflowError, SIGNED),
+                (lambda: RangeSet.from_boundaries(7), TypeError, "'int' object is not iterable"),
+                (lambda: RangeSet.from_boundaries(array("d", [0.0]), kind=int), TypeError, f"{FORMAT} 'd'"),
+                (lambda: RangeSet.from_boundaries(array("u", "a")), TypeError, f"{FORMAT} 'w'"),
+                (lambda: RangeSet.from_boundaries(q(1), unsigned=True), TypeError, f"{MIXED}: a set of unsigned ones is wanted"),
+                (lambda: RangeSet.from_values([0, 1.5]), TypeError, FLOAT),
+                (lambda: RangeSet.from_values([2**63]), OverflowError, SIGNED),
+                (lambda: RangeSet.from_values(array("b", [-1]), unsigned=True), OverflowError, UNSIGNED),
+                (lambda: RangeSet.from_values(q(1), unsigned=True), TypeError, f"{MIXED}: a set of unsigned ones is wanted"),
+                (lambda: RangeSet.from_values(array("d", [0.0])), TypeError, ONE_BY_ONE),
+                (lambda: RangeSet.from_ranges(q(1, 2, 3)), ValueError, "a start and an end each are wanted"),
+                (lambda: RangeSet.from_ranges([(1, 2)]), TypeError, f"{BUFFER} list"),
+            )
+        )
 
     def test_buffers(self):
         table = memoryview(bytes(48)).cast("q", [2, 3])
-        self.tell((
-            (lambda: sets.union([0], q(1)), TypeError, f"{BUFFER} list"),
-            (lambda: sets.union(q(1), array("i", [1])), TypeError, f"{FORMAT} 'i'"),
-            (lambda: sets.union(q(1), b"12345678"), TypeError, f"{FORMAT} 'B'"),
-            (lambda: sets.union(q(1), table), TypeError, "a list is wanted, with one dimension"),
-            (lambda: sets.from_ranges(table), TypeError, "a list of starts and ends in turn is wanted, or a table with two columns"),
-            (lambda: sets.union(q(1), strided()), TypeError, SIDE),
-            (lambda: sets.union(q(1), array("Q", [1])), TypeError, f"{MIXED}: both lists have to be of one type"),
-            (lambda: sets.union(q(1), q(2), out=array("Q", [0, 0])), TypeError, f"{MIXED}: the buffer has to be of the type of the lists"),
-            (lambda: sets.union(q(1), q(2), out=memoryview(q(0, 0)).toreadonly()), TypeError, "the buffer can't be written to"),
-            (lambda: sets.union(q(1), q(2), out=crooked()), ValueError, "the buffer's numbers don't lie at multiples of 8 bytes"),
-            (lambda: (lambda a: sets.union(a, q(2), out=a))(q(1)), ValueError, "the buffer overlaps a list"),
-            (lambda: sets.union(q(0, 1), q(5, 6), out=q(0)), NoRoom, "the set has 4 boundaries, and the buffer is shorter"),
-            (lambda: sets.union(q(2, 1), q(5, 6)), NotSorted, "a list isn't strictly sorted"),
-            (lambda: sets.covered(q(2, 1)), NotSorted, "a list isn't strictly sorted"),
-            (lambda: sets.union(q(0), q(1), q(2)), TypeError, "union() takes 2 positional arguments but 3 were given"),
-            (lambda: sets.contains(q(0), 2**63), OverflowError, SIGNED),
-            (lambda: sets.contains(array("Q"), -1), OverflowError, UNSIGNED),
-            (lambda: sets.contains(q(0), 10**5000), OverflowError, SIGNED),
-            (lambda: RangeSet([(0, -(10**5000))]), OverflowError, SIGNED),
-            (lambda: sets.contains(q(0), 1.0), TypeError, FLOAT),
-        ))
+        self.tell(
+            (
+                (lambda: sets.union([0], q(1)), TypeError, f"{BUFFER} list"),
+                (lambda: sets.union(q(1), array("i", [1])), TypeError, f"{FORMAT} 'i'"),
+                (lambda: sets.union(q(1), b"12345678"), TypeError, f"{FORMAT} 'B'"),
+                (lambda: sets.union(q(1), table), TypeError, "a list is wanted, with one dimension"),
+                (lambda: sets.from_ranges(table), TypeError, "a list of starts and ends in turn is wanted, or a table with two columns"),
+                (lambda: sets.union(q(1), strided()), TypeError, SIDE),
+                (lambda: sets.union(q(1), array("Q", [1])), TypeError, f"{MIXED}: both lists have to be of one type"),
+                (
+                    lambda: sets.union(q(1), q(2), out=array("Q", [0, 0])),
+                    TypeError,
+                    f"{MIXED}: the buffer has to be of the type of the lists",
+                ),
+                (lambda: sets.union(q(1), q(2), out=memoryview(q(0, 0)).toreadonly()), TypeError, "the buffer can't be written to"),
+                (lambda: sets.union(q(1), q(2), out=crooked()), ValueError, "the buffer's numbers don't lie at multiples of 8 bytes"),
+                (lambda: (lambda a: sets.union(a, q(2), out=a))(q(1)), ValueError, "the buffer overlaps a list"),
+                (lambda: sets.union(q(0, 1), q(5, 6), out=q(0)), NoRoom, "the set has 4 boundaries, and the buffer is shorter"),
+                (lambda: sets.union(q(2, 1), q(5, 6)), NotSorted, "a list isn't strictly sorted"),
+                (lambda: sets.covered(q(2, 1)), NotSorted, "a list isn't strictly sorted"),
+                (lambda: sets.union(q(0), q(1), q(2)), TypeError, "union() takes 2 positional arguments but 3 were given"),
+                (lambda: sets.contains(q(0), 2**63), OverflowError, SIGNED),
+                (lambda: sets.contains(array("Q"), -1), OverflowError, UNSIGNED),
+                (lambda: sets.contains(q(0), 10**5000), OverflowError, SIGNED),
+                (lambda: RangeSet([(0, -(10**5000))]), OverflowError, SIGNED),
+                (lambda: sets.contains(q(0), 1.0), TypeError, FLOAT),
+            )
+        )
 
     def test_questions_and_changes(self):
-        self.tell((
-            (lambda: 1.5 in A, TypeError, FLOAT),
-            (lambda: "1" in A, TypeError, "'str' object cannot be interpreted as an integer"),
-            (lambda: (0, 1) in A, TypeError, "'tuple' object cannot be interpreted as an integer"),
-            (lambda: A.covers("5"), TypeError, f"{ENDS} '5'"),
-            (lambda: A.insert(5.0), TypeError, FLOAT),
-            (lambda: A.insert(2**63), OverflowError, SIGNED),
-            (lambda: A.overlapping(None), TypeError, f"{ENDS} None"),
-            (lambda: A.insert(0, "5"), TypeError, "'str' object cannot be interpreted as an integer"),
-            (lambda: A.insert(5, 2**63), OverflowError, SIGNED),
-            (lambda: A.split(2**63), OverflowError, SIGNED),
-            (lambda: A.first_fit(-1), ValueError, "a length from 0 on is wanted"),
-            (lambda: A.first_fit(1.0), TypeError, FLOAT),
-            (lambda: RangeSet((5, None)).bounded(), ValueError, "a set with an end is wanted, and this has none from 5 on"),
-            (lambda: A[1], IndexError, "there is no such range: the set has 1"),
-            (lambda: A[-(10**5000)], IndexError, "there is no such range: the set has 1"),
-            (lambda: RangeSet.union_all([A, 5]), TypeError, "pairs, ranges or sets are wanted, not 5"),
-            (lambda: A | RangeSet(unsigned=True), TypeError, f"{MIXED}: both sets have to be of one kind"),
-            (lambda: RangeSet.union_all([A], unsigned=True), TypeError, f"{MIXED}: a set of unsigned ones is wanted"),
-            (lambda: A | [(1, 2)], TypeError, "unsupported operand type(s) for |: 'RangeSet' and 'list'"),
-            (lambda: hash(MutableRangeSet()), TypeError, "unhashable type: 'MutableRangeSet'"),
-        ))
+        self.tell(
+            (
+                (lambda: 1.5 in A, TypeError, FLOAT),
+                (lambda: "1" in A, TypeError, "'str' object cannot be interpreted as an integer"),
+                (lambda: (0, 1) in A, TypeError, "'tuple' object cannot be interpreted as an integer"),
+                (lambda: A.covers("5"), TypeError, f"{ENDS} '5'"),
+                (lambda: A.insert(5.0), TypeError, FLOAT),
+                (lambda: A.insert(2**63), OverflowError, SIGNED),
+                (lambda: A.overlapping(None), TypeError, f"{ENDS} None"),
+                (lambda: A.insert(0, "5"), TypeError, "'str' object cannot be interpreted as an integer"),
+                (lambda: A.insert(5, 2**63), OverflowError, SIGNED),
+                (lambda: A.split(2**63), OverflowError, SIGNED),
+                (lambda: A.first_fit(-1), ValueError, "a length from 0 on is wanted"),
+                (lambda: A.first_fit(1.0), TypeError, FLOAT),
+                (lambda: RangeSet((5, None)).bounded(), ValueError, "a set with an end is wanted, and this has none from 5 on"),
+                (lambda: A[1], IndexError, "there is no such range: the set has 1"),
+                (lambda: A[-(10**5000)], IndexError, "there is no such range: the set has 1"),
+                (lambda: RangeSet.union_all([A, 5]), TypeError, "pairs, ranges or sets are wanted, not 5"),
+                (lambda: A | RangeSet(unsigned=True), TypeError, f"{MIXED}: both sets have to be of one kind"),
+                (lambda: RangeSet.union_all([A], unsigned=True), TypeError, f"{MIXED}: a set of unsigned ones is wanted"),
+                (lambda: A | [(1, 2)], TypeError, "unsupported operand type(s) for |: 'RangeSet' and 'list'"),
+                (lambda: hash(MutableRangeSet()), TypeError, "unhashable type: 'MutableRangeSet'"),
+            )
+        )
 
     def test_texts(self):
         for text, expected, position in (
-            ("x", "a number", 0), ("  ,", "a number", 2), ("0", "a dot", 1), ("0.", "a dot", 2), ("0.5", "a dot", 2),
-            ("0 ..5", "a dot", 1), ("0..x", "a number", 3), ("0..5x", "a comma or the end", 4), ("0.. x", "a comma or the end", 4),
-            ("0..5 6..7", "a comma or the end", 5), ("0..5,", "a number", 5), ("0..5, ", "a number", 6), ("0..5,,", "a number", 5),
-            ("-", "a number", 1), ("+x", "a number", 1), ("0..-", "a number", 4), ("0..-,", "a number", 4), ("0..٣", "a number", 3),
-            ("..5", "a number", 0), ("0...5", "a number", 3), ("0..9223372036854775808", "a number from -2**63 to 2**63 - 1", 3),
+            ("x", "a number", 0),
+            ("  ,", "a number", 2),
+            ("0", "a dot", 1),
+            ("0.", "a dot", 2),
+            ("0.5", "a dot", 2),
+            ("0 ..5", "a dot", 1),
+            ("0..x", "a number", 3),
+            ("0..5x", "a comma or the end", 4),
+            ("0.. x", "a comma or the end", 4),
+            ("0..5 6..7", "a comma or the end", 5),
+            ("0..5,", "a number", 5),
+            ("0..5, ", "a number", 6),
+            ("0..5,,", "a number", 5),
+            ("-", "a number", 1),
+            ("+x", "a number", 1),
+            ("0..-", "a number", 4),
+            ("0..-,", "a number", 4),
+            ("0..٣", "a number", 3),
+            ("..5", "a number", 0),
+            ("0...5", "a number", 3),
+            ("0..9223372036854775808", "a number from -2**63 to 2**63 - 1", 3),
         ):
             with self.subTest(text=text):
                 with self.assertRaises(ParseError) as raised:
@@ -167,11 +195,13 @@ class Texts(unittest.TestCase):
                 self.assertEqual((raised.exception.expected, raised.exception.position), (expected, position))
                 self.assertEqual(str(raised.exception), f"{expected} was expected at position {position}")
         unsigned = "a number from 0 to 2**64 - 1 was expected at position 2"
-        self.tell((
-            (lambda: RangeSet.parse("0.-1", unsigned=True), ParseError, "a dot was expected at position 2"),
-            (lambda: RangeSet.parse("  -1..0", unsigned=True), ParseError, unsigned),
-            (lambda: RangeSet.parse(b"0..5"), TypeError, "a text is wanted, not bytes"),
-        ))
+        self.tell(
+            (
+                (lambda: RangeSet.parse("0.-1", unsigned=True), ParseError, "a dot was expected at position 2"),
+                (lambda: RangeSet.parse("  -1..0", unsigned=True), ParseError, unsigned),
+                (lambda: RangeSet.parse(b"0..5"), TypeError, "a text is wanted, not bytes"),
+            )
+        )
 
 
 # A million ranges, then calls for which the process has no memory, then the set once more.
@@ -262,12 +292,16 @@ print(refused > 300)
 
 
 class Memory(unittest.TestCase):
-    @unittest.skipUnless(platform.libc_ver()[0] == "glibc" and shutil.which(shlex.split(os.environ.get("CC", "cc"))[0]), "glibc and a C compiler are wanted")
+    @unittest.skipUnless(
+        platform.libc_ver()[0] == "glibc" and shutil.which(shlex.split(os.environ.get("CC", "cc"))[0]), "glibc and a C compiler are wanted"
+    )
     def test_each_request_of_the_library(self):
         with tempfile.TemporaryDirectory() as work:
             source, refusing = Path(work, "refusing.c"), Path(work, "refusing.so")
             source.write_text(REFUSING, encoding="utf-8")
-            subprocess.run([*shlex.split(os.environ.get("CC", "cc")), "-shared", "-fPIC", "-O1", source, "-o", refusing, "-ldl"], check=True)
+            subprocess.run(
+                [*shlex.split(os.environ.get("CC", "cc")), "-shared", "-fPIC", "-O1", source, "-o", refusing, "-ldl"], check=True
+            )
             words = [sys.executable, "-c", OF_THE_LIBRARY]
             said = subprocess.run(words, capture_output=True, text=True, env={**os.environ, "LD_PRELOAD": str(refusing)})
             self.assertEqual((said.stdout, said.stderr), ("True\n", ""))
@@ -301,9 +335,19 @@ class EachRequest(unittest.TestCase):
     def test_of_the_compiled_module(self):
         a, b, packed = q(0, 10, 20), q(5, 15), _core.pack(q(0, 10, 20))
         for call, given in (
-            (_core.union, (a, b)), (_core.negation, (a,)), (_core.from_boundaries, (a,)), (_core.from_ranges, (b,)), (_core.from_values, (b,)),
-            (_core.contains_each, (a, b)), (_core.range_at, (a, 5)), (_core.parse, (b"0..10, 20..", False)), (_core.print, (a,)), (_core.pack, (a,)),
-            (_core.unpack, (packed,)), (_core.union, (memoryview(b"." + bytes(16))[1:].cast("q")[:1], b)), (_core.from_values, (q(2**63 - 1),)),
+            (_core.union, (a, b)),
+            (_core.negation, (a,)),
+            (_core.from_boundaries, (a,)),
+            (_core.from_ranges, (b,)),
+            (_core.from_values, (b,)),
+            (_core.contains_each, (a, b)),
+            (_core.range_at, (a, 5)),
+            (_core.parse, (b"0..10, 20..", False)),
+            (_core.print, (a,)),
+            (_core.pack, (a,)),
+            (_core.unpack, (packed,)),
+            (_core.union, (memoryview(b"." + bytes(16))[1:].cast("q")[:1], b)),
+            (_core.from_values, (q(2**63 - 1),)),
         ):
             expected = call(*given)
             self.assertEqual(self.refuse_each(lambda: call(*given), lambda: None), expected)
@@ -312,8 +356,17 @@ class EachRequest(unittest.TestCase):
     def test_of_a_set_that_changes(self):
         two, now = memoryview(q(-5, -3, 7, 9)), attrgetter("now")
         for name, given in (
-            ("insert", (-5, 15)), ("insert", (None, None)), ("remove", (3, 5)), ("union", (two,)), ("union", (two[:2],)), ("intersection", (two,)),
-            ("difference", (two,)), ("symmetric_difference", (two,)), ("contains", (5,)), ("contains_range", (3, None)), ("now", ()),
+            ("insert", (-5, 15)),
+            ("insert", (None, None)),
+            ("remove", (3, 5)),
+            ("union", (two,)),
+            ("union", (two[:2],)),
+            ("intersection", (two,)),
+            ("difference", (two,)),
+            ("symmetric_difference", (two,)),
+            ("contains", (5,)),
+            ("contains_range", (3, None)),
+            ("now", ()),
         ):
             for changed in (False, True):
                 for told in (False, True):
@@ -335,16 +388,30 @@ class EachRequest(unittest.TestCase):
     @unittest.skipIf(sys.version_info >= (3, 12), "Pythons from 3.12 on don't outlive that a request of theirs is refused")
     def test_it_is_refused_and_nothing_changes(self):
         for start, end, more in (
-            (0, 10, 20), (0.5, 1.5, 2.5), (date(2026, 5, 1), date(2026, 5, 3), date(2026, 5, 9)),
+            (0, 10, 20),
+            (0.5, 1.5, 2.5),
+            (date(2026, 5, 1), date(2026, 5, 3), date(2026, 5, 9)),
             (IPv4Address("10.0.0.0"), IPv4Address("10.0.0.9"), IPv4Address("10.0.1.0")),
-            (datetime(2026, 5, 1), datetime(2026, 5, 2), datetime(2026, 5, 3)), (timedelta(1), timedelta(2), timedelta(4)),
+            (datetime(2026, 5, 1), datetime(2026, 5, 2), datetime(2026, 5, 3)),
+            (timedelta(1), timedelta(2), timedelta(4)),
         ):
             made, kept, other = MutableRangeSet((start, end)), RangeSet((start, end)), RangeSet((end, more))
             for call in (
-                lambda: made | other, lambda: made.add(end, more), lambda: made.discard(start, end), lambda: made.__ior__(other),
-                lambda: made.update([(end, more)]), lambda: made.__ixor__(other), lambda: made.intersection_update([(end, more)]), lambda: ~made,
-                lambda: made.copy(), lambda: made.gaps(start, more), lambda: repr(made), lambda: list(made), lambda: str(made),
-                lambda: RangeSet([(start, end), (end, more)]), lambda: made.split(end),
+                lambda: made | other,
+                lambda: made.add(end, more),
+                lambda: made.discard(start, end),
+                lambda: made.__ior__(other),
+                lambda: made.update([(end, more)]),
+                lambda: made.__ixor__(other),
+                lambda: made.intersection_update([(end, more)]),
+                lambda: ~made,
+                lambda: made.copy(),
+                lambda: made.gaps(start, more),
+                lambda: repr(made),
+                lambda: list(made),
+                lambda: str(made),
+                lambda: RangeSet([(start, end), (end, more)]),
+                lambda: made.split(end),
             ):
                 self.refuse_each(call, lambda: self.assertEqual((made, made.kind, list(made)), (kept, kept.kind, list(kept))))
                 made = MutableRangeSet(kept)

@@ -42,20 +42,30 @@ class Examples(unittest.TestCase):
                 lines.append(f"{name}\t{start}\t{start + length}\n")
             files.append(self.write(file, "".join(lines)))
             marks.append(marked)
-        expected = "".join(f"{it}\t{marks[0][it].count(1)}\t{sum(x & y for x, y in zip(marks[0][it], marks[1][it]))}\n" for it in sorted(marks[0]))
+        expected = "".join(
+            f"{it}\t{marks[0][it].count(1)}\t{sum(x & y for x, y in zip(marks[0][it], marks[1][it]))}\n" for it in sorted(marks[0])
+        )
         self.assertEqual(said("bed.py", *files), expected)
 
     def test_when_people_have_time(self):
         times = {
-            "anna": ["09:00 10:00", "12:00 13:00"], "ben": ["09:00 09:30", "15:30 17:00"], "cleo": ["11:00 11:45", "11:30 12:15"],
-            "dora": ["14:00 14:15"], "emil": ["16:30 18:00"],
+            "anna": ["09:00 10:00", "12:00 13:00"],
+            "ben": ["09:00 09:30", "15:30 17:00"],
+            "cleo": ["11:00 11:45", "11:30 12:15"],
+            "dora": ["14:00 14:15"],
+            "emil": ["16:30 18:00"],
         }
         day, files = "2026-05-04", []
         for name, busy in times.items():
             lines = [" ".join(f"{day}T{it}" for it in line.split()) for line in busy]
             files.append(self.write(name, "\n".join(["# who", *lines, "", "2026-05-03T10:00 2026-05-03T23:00"])))
         free = ["free from 10:00 to 11:00", "free from 13:00 to 14:00", "free from 14:15 to 15:30"]
-        for minutes, last in ((60, "60 minutes from 10:00"), (61, "61 minutes from 14:15"), (75, "75 minutes from 14:15"), (76, "no 76 minutes are free")):
+        for minutes, last in (
+            (60, "60 minutes from 10:00"),
+            (61, "61 minutes from 14:15"),
+            (75, "75 minutes from 14:15"),
+            (76, "no 76 minutes are free"),
+        ):
             self.assertEqual(said("meeting.py", day, str(minutes), *files).splitlines(), [*free, last])
         self.assertEqual(said("meeting.py", day, "480").splitlines(), ["free from 09:00 to 17:00", "480 minutes from 09:00"])
 
@@ -63,10 +73,21 @@ class Examples(unittest.TestCase):
         for text, expected in (
             ("10.0.0.0/8\n-10.0.0.0/9\n", ["10.128.0.0/9", "8,388,608 addresses are free"]),
             ("0.0.0.0/0 -128.0.0.0/1", ["0.0.0.0/1", "2,147,483,648 addresses are free"]),
-            ("192.168.0.0/24 192.168.1.0/24 -192.168.0.4/30", [
-                "192.168.0.0/30", "192.168.0.8/29", "192.168.0.16/28", "192.168.0.32/27", "192.168.0.64/26", "192.168.0.128/25",
-                "192.168.1.0/24", "508 addresses are free"]),
-            ("10.0.0.0/24 -10.0.0.0/8", ["0 addresses are free"]), ("", ["0 addresses are free"]),
+            (
+                "192.168.0.0/24 192.168.1.0/24 -192.168.0.4/30",
+                [
+                    "192.168.0.0/30",
+                    "192.168.0.8/29",
+                    "192.168.0.16/28",
+                    "192.168.0.32/27",
+                    "192.168.0.64/26",
+                    "192.168.0.128/25",
+                    "192.168.1.0/24",
+                    "508 addresses are free",
+                ],
+            ),
+            ("10.0.0.0/24 -10.0.0.0/8", ["0 addresses are free"]),
+            ("", ["0 addresses are free"]),
             ("224.0.0.0/3 -224.0.0.0/4", ["240.0.0.0/4", "268,435,456 addresses are free"]),
         ):
             with self.subTest(text=text):
@@ -80,7 +101,9 @@ class Examples(unittest.TestCase):
             lines.append((some.random() < 0.4, network))
         free = {int(it) for is_taken, network in lines if not is_taken for it in network}
         free -= {int(it) for is_taken, network in lines if is_taken for it in network}
-        *networks, last = said("networks.py", self.write("nets", "\n".join("-" * is_taken + str(it) for is_taken, it in lines))).splitlines()
+        *networks, last = said(
+            "networks.py", self.write("nets", "\n".join("-" * is_taken + str(it) for is_taken, it in lines))
+        ).splitlines()
         self.assertEqual(sorted(int(it) for text in networks for it in ipaddress.IPv4Network(text)), sorted(free))
         self.assertEqual(last, f"{len(free):,} addresses are free")
 

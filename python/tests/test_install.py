@@ -30,7 +30,9 @@ class Installed(unittest.TestCase):
 
     def test_the_metadata(self):
         metadata = self.distribution.metadata
-        self.assertEqual((metadata["Name"], metadata["License"], metadata["Requires-Python"]), ("range-sets", "MIT OR Apache-2.0", ">=3.11"))
+        self.assertEqual(
+            (metadata["Name"], metadata["License"], metadata["Requires-Python"]), ("range-sets", "MIT OR Apache-2.0", ">=3.11")
+        )
         self.assertEqual(self.distribution.requires, ['numpy; extra == "numpy"', 'dask[distributed]; extra == "dask"'])
         self.assertIn("Typing :: Typed", metadata.get_all("Classifier"))
         licenses = metadata.get_all("License-File")

@@ -108,8 +108,10 @@ class Changes(unittest.TestCase):
 
     def test_kinds(self):
         frozen = RangeSet([(0, 1)])
-        self.assertEqual([type(it) for it in (self.set | frozen, frozen | self.set, ~self.set, self.set.union(frozen))],
-                         [MutableRangeSet, RangeSet, MutableRangeSet, MutableRangeSet])
+        self.assertEqual(
+            [type(it) for it in (self.set | frozen, frozen | self.set, ~self.set, self.set.union(frozen))],
+            [MutableRangeSet, RangeSet, MutableRangeSet, MutableRangeSet],
+        )
         self.assertFalse(hasattr(self.set, "insert") or hasattr(self.set, "remove"))
         with self.assertRaises(TypeError):
             hash(self.set)
@@ -125,8 +127,11 @@ class Changes(unittest.TestCase):
     def test_the_first_element_tells_the_kind(self):
         for first, last, kind in ((3, 5, "int"), (0.5, 1.5, "float")):
             for change, expected in (
-                (lambda it: it.add(first, last), [(first, last)]), (lambda it: it.discard(first, last), []), (lambda it: it.add(last, first), []),
-                (lambda it: it.update([(first, last)]), [(first, last)]), (lambda it: it.symmetric_difference_update([(first, last)]), [(first, last)]),
+                (lambda it: it.add(first, last), [(first, last)]),
+                (lambda it: it.discard(first, last), []),
+                (lambda it: it.add(last, first), []),
+                (lambda it: it.update([(first, last)]), [(first, last)]),
+                (lambda it: it.symmetric_difference_update([(first, last)]), [(first, last)]),
             ):
                 made = MutableRangeSet()
                 self.assertFalse(7 in made or made.covers(first, last) or made)
@@ -159,8 +164,13 @@ class Changes(unittest.TestCase):
         self.assertEqual((list(made), len(calls)), ([(0, 5), (7, 9)], 3))
         chunks, two = Chunks(memoryview(array("q", [0, 10])), SIGNED), memoryview(array("q", [3, 5, 7, 9]))
         for call, *given in (
-            (chunks.insert, 15, 20), (chunks.remove, 3, 5), (chunks.union, two), (chunks.union, two[2:]), (chunks.intersection, two),
-            (chunks.difference, two), (chunks.symmetric_difference, two),
+            (chunks.insert, 15, 20),
+            (chunks.remove, 3, 5),
+            (chunks.union, two),
+            (chunks.union, two[2:]),
+            (chunks.intersection, two),
+            (chunks.difference, two),
+            (chunks.symmetric_difference, two),
         ):
             self.assertIs(call(*given, UNTOLD, SIGNED), False)
             self.assertEqual((chunks.now[0].tolist(), chunks.kind), ([0, 10], SIGNED))
@@ -216,10 +226,15 @@ class Numbers:
 class ManyRanges(unittest.TestCase):
     def test_beside_a_byte_for_each_number(self):
         combining = {
-            "update": int.__or__, "intersection_update": int.__and__, "symmetric_difference_update": int.__xor__, "difference_update": int.__gt__,
+            "update": int.__or__,
+            "intersection_update": int.__and__,
+            "symmetric_difference_update": int.__xor__,
+            "difference_update": int.__gt__,
         }
         count = 12_000
-        for seed, (first, most) in enumerate([(-3000, 2**63 - 1), (2**63 - count, 2**63 - 1), (0, 2**64 - 1), (2**64 - count, 2**64 - 1)]):
+        for seed, (first, most) in enumerate(
+            [(-3000, 2**63 - 1), (2**63 - count, 2**63 - 1), (0, 2**64 - 1), (2**64 - count, 2**64 - 1)]
+        ):
             some, model = random.Random(seed), Numbers(first, count, most)
             made, kept, lengths = MutableRangeSet(unsigned=most >= 2**63), [], []
             for step in range(300):

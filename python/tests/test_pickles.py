@@ -16,7 +16,10 @@ from range_sets._ranges import _restored, _unpacked
 
 DAMAGED = int(os.environ.get("RANGE_SETS_PICKLES", "4000"))
 SETS = [
-    RangeSet(), RangeSet(unsigned=True), RangeSet([(-5, 10), (20, None)]), RangeSet([(0, 2**64 - 1)], unsigned=True),
+    RangeSet(),
+    RangeSet(unsigned=True),
+    RangeSet([(-5, 10), (20, None)]),
+    RangeSet([(0, 2**64 - 1)], unsigned=True),
     RangeSet((None, None)),
 ]
 
@@ -26,6 +29,7 @@ def pairs(made):
 
 
 # ---- The definition of a packed set ----
+
 
 def packed(made):
     """The version and the letter of the numbers, then the distances, seven bits a byte, the lowest first."""
@@ -128,7 +132,13 @@ class Pickles(unittest.TestCase):
             for unsigned in (None, True):
                 made = kind([(0, 5), (8, 9)], unsigned=unsigned, label=["x"])
                 made.label.append(made)
-                for again in (copy.copy(made), made.copy(), pickle.loads(pickle.dumps(made)), pickle.loads(pickle.dumps(made, 2)), copy.deepcopy(made)):
+                for again in (
+                    copy.copy(made),
+                    made.copy(),
+                    pickle.loads(pickle.dumps(made)),
+                    pickle.loads(pickle.dumps(made, 2)),
+                    copy.deepcopy(made),
+                ):
                     self.assertEqual((type(again), again.label[0], pairs(again), again.unsigned), (kind, "x", pairs(made), bool(unsigned)))
                     self.assertIsNot(again, made)
                 self.assertIs(copy.copy(made).label, made.label)
@@ -142,9 +152,13 @@ class Pickles(unittest.TestCase):
 class Packed(unittest.TestCase):
     def test_the_bytes(self):
         for made, data in (
-            (RangeSet(), b"\1q"), (RangeSet(unsigned=True), b"\1Q"), (RangeSet([(0, 10), (20, None)], unsigned=True), b"\1Q\x00\x0a\x0a"),
-            (RangeSet([(300, 428)], unsigned=True), b"\1Q\xac\x02\x80\x01"), (RangeSet((None, None)), b"\1q\x00"),
-            (RangeSet((2**64 - 1, None), unsigned=True), b"\1Q" + 9 * b"\xff" + b"\x01"), (RangeSet([(0, 1)]), b"\1q" + 9 * b"\x80" + b"\x01\x01"),
+            (RangeSet(), b"\1q"),
+            (RangeSet(unsigned=True), b"\1Q"),
+            (RangeSet([(0, 10), (20, None)], unsigned=True), b"\1Q\x00\x0a\x0a"),
+            (RangeSet([(300, 428)], unsigned=True), b"\1Q\xac\x02\x80\x01"),
+            (RangeSet((None, None)), b"\1q\x00"),
+            (RangeSet((2**64 - 1, None), unsigned=True), b"\1Q" + 9 * b"\xff" + b"\x01"),
+            (RangeSet([(0, 1)]), b"\1q" + 9 * b"\x80" + b"\x01\x01"),
         ):
             with self.subTest(made=made):
                 self.assertEqual((_core.pack(made.boundaries), packed(made)), (data, data))
@@ -153,11 +167,16 @@ class Packed(unittest.TestCase):
     def test_what_is_no_set(self):
         text = "the bytes are no set, or are one of another version"
         for data, error, said in (
-            (b"", ValueError, text), (b"\1", ValueError, text), (b"\2q", ValueError, text), (b"\1d\0", ValueError, text),
-            (b"\1Q\x80", ValueError, "the bytes of a set are damaged"), (b"\1Q\5\x80", ValueError, "the bytes of a set are damaged"),
+            (b"", ValueError, text),
+            (b"\1", ValueError, text),
+            (b"\2q", ValueError, text),
+            (b"\1d\0", ValueError, text),
+            (b"\1Q\x80", ValueError, "the bytes of a set are damaged"),
+            (b"\1Q\5\x80", ValueError, "the bytes of a set are damaged"),
             (b"\1Q" + 9 * b"\xff" + b"\x02", ValueError, "the bytes of a set are damaged"),
             (b"\1Q" + 10 * b"\x80" + b"\0", ValueError, "the bytes of a set are damaged"),
-            (b"\1Q\5\0", NotSorted, "a list isn't strictly sorted"), (b"\1Q\5" + 9 * b"\xff" + b"\1", NotSorted, "a list isn't strictly sorted"),
+            (b"\1Q\5\0", NotSorted, "a list isn't strictly sorted"),
+            (b"\1Q\5" + 9 * b"\xff" + b"\1", NotSorted, "a list isn't strictly sorted"),
         ):
             with self.subTest(data=data):
                 with self.assertRaises(error) as raised:

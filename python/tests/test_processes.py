@@ -245,9 +245,25 @@ class Threads(unittest.TestCase):
     def test_each_answer_is_of_one_moment(self):
         shared, some, none = MutableRangeSet(), RangeSet([(0, 10), (20, None)]), RangeSet()
         questions = [
-            RangeSet.span, repr, str, len, list, lambda it: it[-1:], lambda it: it[-1], lambda it: list(it.bounded()), lambda it: it.split(25),
-            lambda it: it.split(5), lambda it: it.first_fit(5, 0), lambda it: it.overlapping(5, 25), lambda it: it == some, lambda it: it < some,
-            lambda it: it > none, lambda it: it._repr_svg_(), copy.copy, lambda it: it.covers(3, 10), lambda it: list(it[::-1]),
+            RangeSet.span,
+            repr,
+            str,
+            len,
+            list,
+            lambda it: it[-1:],
+            lambda it: it[-1],
+            lambda it: list(it.bounded()),
+            lambda it: it.split(25),
+            lambda it: it.split(5),
+            lambda it: it.first_fit(5, 0),
+            lambda it: it.overlapping(5, 25),
+            lambda it: it == some,
+            lambda it: it < some,
+            lambda it: it > none,
+            lambda it: it._repr_svg_(),
+            copy.copy,
+            lambda it: it.covers(3, 10),
+            lambda it: list(it[::-1]),
         ]
 
         def answer(question, it):

@@ -70,8 +70,14 @@ class Making(unittest.TestCase):
 
     def test_text(self):
         for text, expected in (
-            ("0..10, 20..", [(0, 10), (20, None)]), ("", []), (" \t", []), ("20..30,-4..+5 , 3..8", [(-4, 8), (20, 30)]),
-            ("7..", [(7, None)]), ("5..5", []), ("9..3", []), ("00000000000000000000000000001..2", [(1, 2)]),
+            ("0..10, 20..", [(0, 10), (20, None)]),
+            ("", []),
+            (" \t", []),
+            ("20..30,-4..+5 , 3..8", [(-4, 8), (20, 30)]),
+            ("7..", [(7, None)]),
+            ("5..5", []),
+            ("9..3", []),
+            ("00000000000000000000000000001..2", [(1, 2)]),
             ("-9223372036854775808..9223372036854775807", [(LEAST, MOST)]),
         ):
             with self.subTest(text=text):
@@ -96,9 +102,16 @@ class Making(unittest.TestCase):
 
     def test_single_numbers(self):
         for values, expected in (
-            ([], []), ([5], [(5, 6)]), ((7, 3, 5, 4, 3), [(3, 6), (7, 8)]), (range(9, 0, -2), [(n, n + 1) for n in (1, 3, 5, 7, 9)]),
-            ({MOST, MOST - 1, LEAST}, [(LEAST, LEAST + 1), (MOST - 1, None)]), ([MOST], [(MOST, None)]), (iter([0, MOST]), [(0, 1), (MOST, None)]),
-            (array("q", [2, 1]), [(1, 3)]), (array("b", [-1, 0]), [(-1, 1)]), (b"\1\0", [(0, 2)]),
+            ([], []),
+            ([5], [(5, 6)]),
+            ((7, 3, 5, 4, 3), [(3, 6), (7, 8)]),
+            (range(9, 0, -2), [(n, n + 1) for n in (1, 3, 5, 7, 9)]),
+            ({MOST, MOST - 1, LEAST}, [(LEAST, LEAST + 1), (MOST - 1, None)]),
+            ([MOST], [(MOST, None)]),
+            (iter([0, MOST]), [(0, 1), (MOST, None)]),
+            (array("q", [2, 1]), [(1, 3)]),
+            (array("b", [-1, 0]), [(-1, 1)]),
+            (b"\1\0", [(0, 2)]),
         ):
             with self.subTest(values=values):
                 self.assertEqual(pairs(RangeSet.from_values(values)), expected)
@@ -120,9 +133,20 @@ class Reading(unittest.TestCase):
 
     def test_whole_ranges(self):
         for ends, answer in (
-            ((0, 10), True), ((0, 11), False), ((5, 5), True), ((9, 3), True), ((50, None), True), ((20, None), False), ((None, 0), False),
-            ((40, 2**63), True), ((40, 2**63 + 1), False), ((2**63, 2**64), False), ((2**64, 2**64), True), ((2**64, 2**63), True),
-            ((-(2**70), 5), False), ((2**63, None), False),
+            ((0, 10), True),
+            ((0, 11), False),
+            ((5, 5), True),
+            ((9, 3), True),
+            ((50, None), True),
+            ((20, None), False),
+            ((None, 0), False),
+            ((40, 2**63), True),
+            ((40, 2**63 + 1), False),
+            ((2**63, 2**64), False),
+            ((2**64, 2**64), True),
+            ((2**64, 2**63), True),
+            ((-(2**70), 5), False),
+            ((2**63, None), False),
         ):
             with self.subTest(ends=ends):
                 self.assertIs(self.set.covers(*ends), answer)
@@ -136,10 +160,26 @@ class Reading(unittest.TestCase):
     def test_overlapping(self):
         every = [(0, 10), (20, 30), (40, None)]
         for ends, expected in (
-            ((5, 25), every[:2]), ((10, 20), []), ((9, 10), every[:1]), ((9, 21), every[:2]), ((10, 21), every[1:2]), ((0, 1), every[:1]),
-            ((-9, 0), []), ((29, 40), every[1:2]), ((29, 41), every[1:]), ((50, 60), every[2:]), ((None, None), every), ((None, 20), every[:1]),
-            ((30, None), every[2:]), ((25, 25), []), ((25, 5), []), ((-(2**70), 2**70), every), ((2**63, None), []), ((MOST, 2**63), every[2:]),
-            ((None, LEAST), []), ((-(2**70), -(2**69)), []),
+            ((5, 25), every[:2]),
+            ((10, 20), []),
+            ((9, 10), every[:1]),
+            ((9, 21), every[:2]),
+            ((10, 21), every[1:2]),
+            ((0, 1), every[:1]),
+            ((-9, 0), []),
+            ((29, 40), every[1:2]),
+            ((29, 41), every[1:]),
+            ((50, 60), every[2:]),
+            ((None, None), every),
+            ((None, 20), every[:1]),
+            ((30, None), every[2:]),
+            ((25, 25), []),
+            ((25, 5), []),
+            ((-(2**70), 2**70), every),
+            ((2**63, None), []),
+            ((MOST, 2**63), every[2:]),
+            ((None, LEAST), []),
+            ((-(2**70), -(2**69)), []),
         ):
             with self.subTest(ends=ends):
                 self.assertEqual(pairs(self.set.overlapping(*ends)), expected)
@@ -173,9 +213,23 @@ class Reading(unittest.TestCase):
 
     def test_where_numbers_fit(self):
         for asked, answer in (
-            ((5, 0), 10), ((10, 0), 10), ((11, 0), None), ((1, -1), -1), ((2, -1), 10), ((10, -10), -10), ((5, 25), 30), ((0, 5), 5),
-            ((0, 5, 5), 5), ((0, 5, 4), None), ((5, 0, 14), None), ((5, 0, 15), 10), ((1, 40), None), ((3, None, None), LEAST),
-            ((1, 10, 10), None), ((2**64, None, None), None), ((2**65, None, None), None),
+            ((5, 0), 10),
+            ((10, 0), 10),
+            ((11, 0), None),
+            ((1, -1), -1),
+            ((2, -1), 10),
+            ((10, -10), -10),
+            ((5, 25), 30),
+            ((0, 5), 5),
+            ((0, 5, 5), 5),
+            ((0, 5, 4), None),
+            ((5, 0, 14), None),
+            ((5, 0, 15), 10),
+            ((1, 40), None),
+            ((3, None, None), LEAST),
+            ((1, 10, 10), None),
+            ((2**64, None, None), None),
+            ((2**65, None, None), None),
         ):
             with self.subTest(asked=asked):
                 self.assertEqual(self.set.first_fit(*asked), answer)
@@ -186,19 +240,34 @@ class Reading(unittest.TestCase):
 
     def test_where_numbers_fit_up_to_the_greatest(self):
         for pairs, asked, answer in (
-            ([(0, MOST)], (1, 0), MOST), ([(0, MOST)], (2, 0), None), ([(0, None)], (1, 0), None), ([(0, None)], (0, 5), 5),
-            ([(5, 10)], (2**63 - 10, 0), 10), ([(5, 10)], (2**63 - 9, 0), None), ([(5, 10), (MOST, None)], (2**63 - 10, 0), None),
-            ([(5, 10), (MOST, None)], (2**63 - 11, 0), 10), ([(0, MOST)], (1, 0, MOST), None), ([], (1, MOST, MOST), None),
+            ([(0, MOST)], (1, 0), MOST),
+            ([(0, MOST)], (2, 0), None),
+            ([(0, None)], (1, 0), None),
+            ([(0, None)], (0, 5), 5),
+            ([(5, 10)], (2**63 - 10, 0), 10),
+            ([(5, 10)], (2**63 - 9, 0), None),
+            ([(5, 10), (MOST, None)], (2**63 - 10, 0), None),
+            ([(5, 10), (MOST, None)], (2**63 - 11, 0), 10),
+            ([(0, MOST)], (1, 0, MOST), None),
+            ([], (1, MOST, MOST), None),
         ):
             with self.subTest(pairs=pairs, asked=asked):
                 self.assertEqual(RangeSet(pairs).first_fit(*asked), answer)
 
     def test_where_more_numbers_fit_than_there_are_of_either_sign(self):
         for pairs, asked, answer in (
-            ([], (2**63,), LEAST), ([], (2**63, LEAST, 0), LEAST), ([], (2**63, LEAST, -1), None), ([], (2**63, -5), -5),
-            ([], (2**63 + 5, -5), -5), ([], (2**63 + 6, -5), None), ([], (2**64 - 1, LEAST, MOST), LEAST),
-            ([(0, None)], (2**63,), LEAST), ([(0, None)], (2**63 + 1,), None), ([(-5, 5)], (2**63,), None),
-            ([(LEAST, LEAST + 3)], (2**64 - 4,), LEAST + 3), ([(LEAST, LEAST + 3)], (2**64 - 3,), LEAST + 3),
+            ([], (2**63,), LEAST),
+            ([], (2**63, LEAST, 0), LEAST),
+            ([], (2**63, LEAST, -1), None),
+            ([], (2**63, -5), -5),
+            ([], (2**63 + 5, -5), -5),
+            ([], (2**63 + 6, -5), None),
+            ([], (2**64 - 1, LEAST, MOST), LEAST),
+            ([(0, None)], (2**63,), LEAST),
+            ([(0, None)], (2**63 + 1,), None),
+            ([(-5, 5)], (2**63,), None),
+            ([(LEAST, LEAST + 3)], (2**64 - 4,), LEAST + 3),
+            ([(LEAST, LEAST + 3)], (2**64 - 3,), LEAST + 3),
             ([(LEAST, LEAST + 3)], (2**64 - 2,), None),
         ):
             with self.subTest(pairs=pairs, asked=asked):
@@ -236,7 +305,12 @@ class NewSets(unittest.TestCase):
     def test_operators_take_sets_alone(self):
         a = RangeSet([(0, 10)])
         calls = (
-            lambda: a | [(0, 1)], lambda: [(0, 1)] | a, lambda: a & range(3), lambda: a - {1}, lambda: a ^ (0, 1), lambda: a < [(0, 1)],
+            lambda: a | [(0, 1)],
+            lambda: [(0, 1)] | a,
+            lambda: a & range(3),
+            lambda: a - {1},
+            lambda: a ^ (0, 1),
+            lambda: a < [(0, 1)],
         )
         for call in calls:
             with self.assertRaises(TypeError):
@@ -244,8 +318,19 @@ class NewSets(unittest.TestCase):
 
     def test_signed_and_unsigned_do_not_mix(self):
         a, b = RangeSet([(0, 10)]), RangeSet([(0, 10)], unsigned=True)
-        for call in (lambda: a | b, lambda: b & a, lambda: a - b, lambda: a ^ b, lambda: a <= b, lambda: a < b, lambda: a.isdisjoint(b),
-                     lambda: RangeSet([a, b]), lambda: RangeSet(b, unsigned=False), lambda: RangeSet.union_all([a, b]), lambda: a.union(b)):
+        for call in (
+            lambda: a | b,
+            lambda: b & a,
+            lambda: a - b,
+            lambda: a ^ b,
+            lambda: a <= b,
+            lambda: a < b,
+            lambda: a.isdisjoint(b),
+            lambda: RangeSet([a, b]),
+            lambda: RangeSet(b, unsigned=False),
+            lambda: RangeSet.union_all([a, b]),
+            lambda: a.union(b),
+        ):
             with self.assertRaises(TypeError):
                 call()
         self.assertNotEqual(a, b)
@@ -317,7 +402,10 @@ class Comparisons(unittest.TestCase):
 
 class OtherForms(unittest.TestCase):
     made = [
-        RangeSet(), RangeSet(unsigned=True), RangeSet([(-5, 10), (20, None)]), RangeSet([(0, 2**64 - 1)], unsigned=True),
+        RangeSet(),
+        RangeSet(unsigned=True),
+        RangeSet([(-5, 10), (20, None)]),
+        RangeSet([(0, 2**64 - 1)], unsigned=True),
         RangeSet((None, None)),
     ]
 

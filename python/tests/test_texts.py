@@ -82,6 +82,7 @@ def by_python(text, unsigned):
 
 # ---- The library for C, called without the package ----
 
+
 class Set(ctypes.Structure):
     _fields_ = [("boundaries", ctypes.c_void_p), ("len", ctypes.c_size_t)]
 
@@ -146,30 +147,55 @@ class Rows(unittest.TestCase):
         self.tell(False, [(f"{it}0..5{it},{it}7..{it}", [0, 5, 7]) for it in BLANKS] + [(BLANKS, [])])
 
     def test_numbers_without_a_sign_have_no_minus(self):
-        self.tell(True, (
-            ("-0..", (FITS[True], 0)), ("-5..9", (FITS[True], 0)), ("0..5, -3..9", (FITS[True], 6)), ("0..-0", (FITS[True], 3)),
-            ("+0..+5", [0, 5]), ("-5", ("a dot", 2)), ("-", ("a number", 1)), ("-5, 0..3", ("a dot", 2)),
-        ))
+        self.tell(
+            True,
+            (
+                ("-0..", (FITS[True], 0)),
+                ("-5..9", (FITS[True], 0)),
+                ("0..5, -3..9", (FITS[True], 6)),
+                ("0..-0", (FITS[True], 3)),
+                ("+0..+5", [0, 5]),
+                ("-5", ("a dot", 2)),
+                ("-", ("a number", 1)),
+                ("-5, 0..3", ("a dot", 2)),
+            ),
+        )
         self.tell(False, (("-0..", [0]), ("-5", ("a dot", 2))))
 
     def test_numbers_that_are_too_large(self):
         nines = 20 * "9"
         for unsigned in (False, True):
-            self.tell(unsigned, (
-                (nines, ("a dot", 20)), (f"{nines}.", ("a dot", 21)), (f"{nines}..x", ("a number", 22)), (f"{nines}..", (FITS[unsigned], 0)),
-                (f"0..5, x, {nines}..", ("a number", 6)), (f"{nines}.., x", ("a number", 24)),
-                (f"0..1, 1{5000 * '0'}..", (FITS[unsigned], 6)), (f"0..1,\u2003 7..{nines}, {nines}..", (FITS[unsigned], 10)),
-                (f"{30 * '0'}1..2", [1, 2]),
-            ))
+            self.tell(
+                unsigned,
+                (
+                    (nines, ("a dot", 20)),
+                    (f"{nines}.", ("a dot", 21)),
+                    (f"{nines}..x", ("a number", 22)),
+                    (f"{nines}..", (FITS[unsigned], 0)),
+                    (f"0..5, x, {nines}..", ("a number", 6)),
+                    (f"{nines}.., x", ("a number", 24)),
+                    (f"0..1, 1{5000 * '0'}..", (FITS[unsigned], 6)),
+                    (f"0..1,\u2003 7..{nines}, {nines}..", (FITS[unsigned], 10)),
+                    (f"{30 * '0'}1..2", [1, 2]),
+                ),
+            )
         self.tell(False, (("0..9223372036854775808", (FITS[False], 3)), ("-9223372036854775809..", (FITS[False], 0))))
         self.tell(True, (("0..18446744073709551615", [0, 2**64 - 1]), ("0..18446744073709551616", (FITS[True], 3))))
 
     def test_positions_count_characters(self):
-        self.tell(False, (
-            ("\u2003\u3000x", ("a number", 2)), ("0..5,\u2003\u2003;", ("a number", 7)), ("0..5\u3000\U0001f600", ("a comma or the end", 5)),
-            ("\U0001f600", ("a number", 0)), ("0..5, \ud800", ("a number", 6)), ("\u2003x\udfff", ("a number", 1)), ("0..5\0", ("a comma or the end", 4)),
-            ("0..\u0663", ("a number", 3)),
-        ))
+        self.tell(
+            False,
+            (
+                ("\u2003\u3000x", ("a number", 2)),
+                ("0..5,\u2003\u2003;", ("a number", 7)),
+                ("0..5\u3000\U0001f600", ("a comma or the end", 5)),
+                ("\U0001f600", ("a number", 0)),
+                ("0..5, \ud800", ("a number", 6)),
+                ("\u2003x\udfff", ("a number", 1)),
+                ("0..5\0", ("a comma or the end", 4)),
+                ("0..\u0663", ("a number", 3)),
+            ),
+        )
 
     def test_other_types(self):
         for given in (b"0..5", None, 5, ["0..5"]):

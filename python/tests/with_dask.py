@@ -50,10 +50,17 @@ class Unions(unittest.TestCase):
 
     def test_other_elements(self):
         for elements in (
-            [datetime(2026, 5, 4, tzinfo=timezone.utc) + n * timedelta(hours=1) for n in range(9)], [date(2026, 5, 1 + n) for n in range(9)],
-            [0.5 * n - 2 for n in range(9)], [IPv4Address(2**32 - 9 + n) for n in range(9)],
+            [datetime(2026, 5, 4, tzinfo=timezone.utc) + n * timedelta(hours=1) for n in range(9)],
+            [date(2026, 5, 1 + n) for n in range(9)],
+            [0.5 * n - 2 for n in range(9)],
+            [IPv4Address(2**32 - 9 + n) for n in range(9)],
         ):
-            parts = [RangeSet(), RangeSet((elements[0], elements[2])), RangeSet((elements[1], elements[5])), RangeSet([(elements[6], elements[8])])]
+            parts = [
+                RangeSet(),
+                RangeSet((elements[0], elements[2])),
+                RangeSet((elements[1], elements[5])),
+                RangeSet([(elements[6], elements[8])]),
+            ]
             expected = RangeSet([(elements[0], elements[5]), (elements[6], elements[8])])
             for cuts in ((), elements[1:5:3], elements):
                 got = union_all(dask.bag.from_sequence(parts, npartitions=4), 2, cuts).compute(scheduler="sync")

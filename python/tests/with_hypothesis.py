@@ -150,9 +150,12 @@ ELEMENTS = {
     "IPv4Address": [IPv4Address(it) for it in (0, 1, 2, 255, 256, 257, 2**31, 2**32 - 2, 2**32 - 1)],
 }
 VALUES = {
-    "float": some.floats(allow_nan=False), "datetime": some.datetimes(), "date": some.dates(),
+    "float": some.floats(allow_nan=False),
+    "datetime": some.datetimes(),
+    "date": some.dates(),
     "datetime[UTC]": some.datetimes(datetime(2, 1, 1), datetime(9998, 1, 1), timezones=some.sampled_from(ZONES)),
-    "timedelta": some.integers(-(2**63), 2**63 - 1).map(lambda it: timedelta(microseconds=it)), "IPv4Address": some.ip_addresses(v=4),
+    "timedelta": some.integers(-(2**63), 2**63 - 1).map(lambda it: timedelta(microseconds=it)),
+    "IPv4Address": some.ip_addresses(v=4),
 }
 
 
@@ -188,10 +191,20 @@ class EachKind(unittest.TestCase):
         x, y = pairs_of(name, left), pairs_of(name, right)
         a, b, every = RangeSet(x, kind=name), RangeSet(y, kind=name), set(ELEMENTS[name])
         x, y = members_of_pairs(name, x), members_of_pairs(name, y)
-        for got, expected in ((a, x), (a | b, x | y), (a & b, x & y), (a - b, x - y), (a ^ b, x ^ y), (~a, every - x), (RangeSet([a, b]), x | y)):
+        for got, expected in (
+            (a, x),
+            (a | b, x | y),
+            (a & b, x & y),
+            (a - b, x - y),
+            (a ^ b, x ^ y),
+            (~a, every - x),
+            (RangeSet([a, b]), x | y),
+        ):
             self.assertEqual((members_of_kind(name, got), members_of_pairs(name, list(got)), got.kind), (expected, expected, name))
         self.assertEqual((a <= b, a < b, a == b, a.isdisjoint(b)), (x <= y, x < y, x == y, x.isdisjoint(y)))
-        self.assertEqual((~~a, (a - b) | (a & b), RangeSet.from_boundaries([end for pair in a for end in pair if end is not None], kind=name)), (a, a, a))
+        self.assertEqual(
+            (~~a, (a - b) | (a & b), RangeSet.from_boundaries([end for pair in a for end in pair if end is not None], kind=name)), (a, a, a)
+        )
 
     @given(of_a_kind(1), some.data())
     def test_ranges(self, drawn, data):
@@ -201,8 +214,11 @@ class EachKind(unittest.TestCase):
         start, end = (elements[data.draw(some.integers(0, len(elements) - 2))] for _ in range(2))
         inside = members_of_pairs(name, [(start, end)])
         for got, expected in (
-            (made.insert(start, end), x | inside), (made.remove((start, end)), x - inside), (made.gaps(start, end), inside - x),
-            (made.split(start)[0], {it for it in x if it < start}), (made.split(start)[1], {it for it in x if it >= start}),
+            (made.insert(start, end), x | inside),
+            (made.remove((start, end)), x - inside),
+            (made.gaps(start, end), inside - x),
+            (made.split(start)[0], {it for it in x if it < start}),
+            (made.split(start)[1], {it for it in x if it >= start}),
         ):
             self.assertEqual((members_of_kind(name, got), got.kind), (expected, name))
         changing = MutableRangeSet(made)
@@ -210,7 +226,9 @@ class EachKind(unittest.TestCase):
         changing.discard(None, start)
         self.assertEqual(members_of_kind(name, changing), {it for it in x | inside if it >= start})
         self.assertEqual(made.covers(start, end), end <= start or RangeSet([(start, end)]) <= made)
-        self.assertEqual(list(made.overlapping(start, end)), [it for it in made if start < end and RangeSet([it]) & RangeSet([(start, end)])])
+        self.assertEqual(
+            list(made.overlapping(start, end)), [it for it in made if start < end and RangeSet([it]) & RangeSet([(start, end)])]
+        )
         self.assertEqual(made.range_at(start), next((it for it in made if it[0] <= start and (it[1] is None or start < it[1])), None))
 
     @given(of_a_kind(1))
@@ -297,7 +315,9 @@ class Laws(unittest.TestCase):
                 with self.assertRaises(range_sets.NoRoom) as raised:
                     call(x, y, out=room[: length - 1])
                 self.assertEqual(raised.exception.needed, length)
-        self.assertEqual((range_sets.is_subset(x, y), range_sets.equal(x, y), range_sets.is_disjoint(x, y)), (a <= b, a == b, a.isdisjoint(b)))
+        self.assertEqual(
+            (range_sets.is_subset(x, y), range_sets.equal(x, y), range_sets.is_disjoint(x, y)), (a <= b, a == b, a.isdisjoint(b))
+        )
 
     @given(some.text(alphabet="0123 .,-+x\t", max_size=14))
     def test_of_texts(self, text):

@@ -146,8 +146,11 @@ class Sets(unittest.TestCase):
         wide = numpy.arange(24).reshape(4, 6)
         starts, ends = i64(0, 20, 5), i64(10, 30, 12)
         for table in (
-            numpy.asfortranarray([[0, 10], [20, 30], [5, 12]]), numpy.array([starts, ends]).T, numpy.stack([starts, ends], axis=1)[::-1],
-            numpy.array([ends, starts]).T[:, ::-1], numpy.array([[0, 7, 10], [20, 7, 30], [5, 7, 12]])[:, ::2],
+            numpy.asfortranarray([[0, 10], [20, 30], [5, 12]]),
+            numpy.array([starts, ends]).T,
+            numpy.stack([starts, ends], axis=1)[::-1],
+            numpy.array([ends, starts]).T[:, ::-1],
+            numpy.array([[0, 7, 10], [20, 7, 30], [5, 7, 12]])[:, ::2],
         ):
             for made in (RangeSet(table), RangeSet.from_ranges(table)):
                 self.assertEqual(list(made), [(0, 12), (20, 30)])
@@ -178,7 +181,14 @@ class Sets(unittest.TestCase):
 
     def test_which_of_many_numbers_are_members(self):
         made = RangeSet([(-3, 2), (5, 9), (2**63 - 2, None)])
-        for values in (numpy.arange(-5, 12), numpy.arange(-5, 11, dtype=numpy.int8).reshape(4, 4)[:, ::2], i64(), i64(2**63 - 1), numpy.int64(6), [7, 9]):
+        for values in (
+            numpy.arange(-5, 12),
+            numpy.arange(-5, 11, dtype=numpy.int8).reshape(4, 4)[:, ::2],
+            i64(),
+            i64(2**63 - 1),
+            numpy.int64(6),
+            [7, 9],
+        ):
             found = made.contains(values)
             expected = [n in made for n in numpy.asarray(values).ravel().tolist()]
             self.assertEqual((found.ravel().tolist(), found.shape, found.dtype), (expected, numpy.shape(values), numpy.dtype(bool)))
@@ -206,7 +216,11 @@ class Sets(unittest.TestCase):
         table = days.reshape(2, 2)
         made = RangeSet(table)
         self.assertEqual((list(made), made.kind, made.covered()), ([(days[0], days[3])], "datetime64[D]", numpy.timedelta64(8, "D")))
-        for other in (table.astype(">M8[D]"), numpy.asfortranarray(table), numpy.column_stack([table[:, 0], table[:, 1], table[:, 1]])[:, ::2]):
+        for other in (
+            table.astype(">M8[D]"),
+            numpy.asfortranarray(table),
+            numpy.column_stack([table[:, 0], table[:, 1], table[:, 1]])[:, ::2],
+        ):
             self.assertEqual((RangeSet(other), RangeSet.from_ranges(other)), (made, made))
         other = table.astype(">M8[D]")
         self.assertEqual(RangeSet([(other[0, 0], other[1, 1])]) | made, made)
@@ -233,17 +247,26 @@ class Sets(unittest.TestCase):
         nat = numpy.datetime64("NaT", "D")
         made = RangeSet([(numpy.datetime64("2026-05-01"), None)])
         for call in (
-            lambda: RangeSet(numpy.array([["2026-05-01", "NaT"]], dtype="M8[D]")), lambda: RangeSet([(nat, None)]), lambda: nat in made,
-            lambda: made.contains(numpy.array(["NaT"], dtype="M8[D]")), lambda: RangeSet.from_values(numpy.array(["NaT"], dtype="M8[s]")),
+            lambda: RangeSet(numpy.array([["2026-05-01", "NaT"]], dtype="M8[D]")),
+            lambda: RangeSet([(nat, None)]),
+            lambda: nat in made,
+            lambda: made.contains(numpy.array(["NaT"], dtype="M8[D]")),
+            lambda: RangeSet.from_values(numpy.array(["NaT"], dtype="M8[s]")),
         ):
             with self.assertRaisesRegex(ValueError, "NaT is in no order"):
                 call()
         for call in (
-            lambda: RangeSet([(numpy.datetime64(5, "s"), numpy.datetime64(5, "ms"))]), lambda: RangeSet(numpy.zeros((2, 2), dtype="M8")),
-            lambda: RangeSet(numpy.zeros((2, 3), dtype="M8[s]")), lambda: RangeSet.from_values(numpy.zeros((2, 2), dtype="M8[s]")),
-            lambda: RangeSet(numpy.zeros((2, 2), dtype="M8[s]"), kind="date"), lambda: RangeSet(numpy.zeros((2, 2), dtype="m8[s]")),
-            lambda: RangeSet(numpy.zeros((2, 2), dtype="M8[s]"), unsigned=True), lambda: RangeSet([(numpy.timedelta64(5, "s"), None)]),
-            lambda: made.contains(numpy.array([5])), lambda: datetime(2026, 5, 1) in made, lambda: numpy.array(["2026-05-01"], dtype="M8[D]") in made,
+            lambda: RangeSet([(numpy.datetime64(5, "s"), numpy.datetime64(5, "ms"))]),
+            lambda: RangeSet(numpy.zeros((2, 2), dtype="M8")),
+            lambda: RangeSet(numpy.zeros((2, 3), dtype="M8[s]")),
+            lambda: RangeSet.from_values(numpy.zeros((2, 2), dtype="M8[s]")),
+            lambda: RangeSet(numpy.zeros((2, 2), dtype="M8[s]"), kind="date"),
+            lambda: RangeSet(numpy.zeros((2, 2), dtype="m8[s]")),
+            lambda: RangeSet(numpy.zeros((2, 2), dtype="M8[s]"), unsigned=True),
+            lambda: RangeSet([(numpy.timedelta64(5, "s"), None)]),
+            lambda: made.contains(numpy.array([5])),
+            lambda: datetime(2026, 5, 1) in made,
+            lambda: numpy.array(["2026-05-01"], dtype="M8[D]") in made,
         ):
             with self.assertRaises(TypeError):
                 call()
@@ -254,8 +277,12 @@ class Sets(unittest.TestCase):
     def test_arrays_of_pythons_own_elements(self):
         day, zone = datetime(2026, 5, 4), timezone.utc
         for elements in (
-            [day, day + timedelta(hours=5)], [day.replace(tzinfo=zone), day.replace(hour=3, tzinfo=zone)], [day.date(), date(2026, 5, 9)],
-            [timedelta(0), timedelta(3)], [0.5, 2.5], [IPv4Address("10.0.0.0"), IPv4Address("10.0.0.9")],
+            [day, day + timedelta(hours=5)],
+            [day.replace(tzinfo=zone), day.replace(hour=3, tzinfo=zone)],
+            [day.date(), date(2026, 5, 9)],
+            [timedelta(0), timedelta(3)],
+            [0.5, 2.5],
+            [IPv4Address("10.0.0.0"), IPv4Address("10.0.0.9")],
         ):
             made = RangeSet([(elements[0], elements[1])])
             self.assertEqual(made.contains(elements).tolist(), [True, False])
@@ -268,7 +295,9 @@ class Sets(unittest.TestCase):
         for dtype, names in kinds.items():
             for name in names:
                 made = RangeSet(numpy.array([[5, 9], [20, 30]], dtype=dtype), kind=name)
-                self.assertEqual((made.kind, made.boundaries.tolist(), numpy.asarray(made).dtype), (name, [5, 9, 20, 30], numpy.dtype(dtype)))
+                self.assertEqual(
+                    (made.kind, made.boundaries.tolist(), numpy.asarray(made).dtype), (name, [5, 9, 20, 30], numpy.dtype(dtype))
+                )
                 self.assertEqual(made.contains(numpy.array([5, 9], dtype=dtype)).tolist(), [True, False])
         with self.assertRaisesRegex(ValueError, "its number is NaT's"):
             numpy.asarray(~RangeSet(kind="timedelta"))

@@ -19,7 +19,11 @@ class Frames(unittest.TestCase):
         self.frame = pandas.DataFrame({"name": ["a", "b", "c"], "start": [20, 0, 3], "other": [7, 7, 7], "end": [30, 5, 8]})
 
     def test_two_columns(self):
-        for table in (self.frame[["start", "end"]], self.frame[["start", "end"]].astype("int32"), self.frame[["start", "end"]].sort_values("end")):
+        for table in (
+            self.frame[["start", "end"]],
+            self.frame[["start", "end"]].astype("int32"),
+            self.frame[["start", "end"]].sort_values("end"),
+        ):
             self.assertEqual(list(RangeSet(table.to_numpy())), [(0, 8), (20, 30)])
 
     def test_one_column(self):
@@ -41,7 +45,9 @@ class Frames(unittest.TestCase):
         self.assertEqual(list(RangeSet(pandas.arrays.IntervalArray.from_arrays([0.5], [1.5], closed="left"))), [(0.5, 1.5)])
 
     def test_times(self):
-        frame = pandas.DataFrame({"start": pandas.to_datetime(["2026-05-01", "2026-05-03"]), "end": pandas.to_datetime(["2026-05-04", "2026-05-09"])})
+        frame = pandas.DataFrame(
+            {"start": pandas.to_datetime(["2026-05-01", "2026-05-03"]), "end": pandas.to_datetime(["2026-05-04", "2026-05-09"])}
+        )
         made = RangeSet(frame[["start", "end"]].to_numpy())
         self.assertEqual((made.kind, str(made.covered()), len(made)), ("datetime64[ns]", "691200000000000 nanoseconds", 1))
         self.assertEqual(made, RangeSet(pandas.arrays.IntervalArray.from_arrays(frame["start"], frame["end"], closed="left")))

@@ -24,7 +24,8 @@ from ._numbers import range_list
 class Buffer(Protocol):
     """What checkers of types know of arrays, memoryviews and numpy arrays: the buffer protocol has no type before Python 3.12."""
 
-    def tolist(self, /) -> Any: ...
+    def tolist(self, /) -> Any:
+        ...
 
 
 def _array(items: memoryview) -> array[int]:
@@ -44,9 +45,15 @@ def _range(start: SupportsIndex, end: SupportsIndex, a: Buffer) -> memoryview:
 
 
 @overload
-def union(a: Buffer, b: Buffer, *, out: None = None) -> array[int]: ...
+def union(a: Buffer, b: Buffer, *, out: None = None) -> array[int]:
+    ...
+
+
 @overload
-def union(a: Buffer, b: Buffer, *, out: Buffer) -> int: ...
+def union(a: Buffer, b: Buffer, *, out: Buffer) -> int:
+    ...
+
+
 def union(a: Buffer, b: Buffer, *, out: Buffer | None = None) -> array[int] | int:
     """The numbers in either set.
 
@@ -60,9 +67,15 @@ def union(a: Buffer, b: Buffer, *, out: Buffer | None = None) -> array[int] | in
 
 
 @overload
-def intersection(a: Buffer, b: Buffer, *, out: None = None) -> array[int]: ...
+def intersection(a: Buffer, b: Buffer, *, out: None = None) -> array[int]:
+    ...
+
+
 @overload
-def intersection(a: Buffer, b: Buffer, *, out: Buffer) -> int: ...
+def intersection(a: Buffer, b: Buffer, *, out: Buffer) -> int:
+    ...
+
+
 def intersection(a: Buffer, b: Buffer, *, out: Buffer | None = None) -> array[int] | int:
     """The numbers in both sets.
 
@@ -73,9 +86,15 @@ def intersection(a: Buffer, b: Buffer, *, out: Buffer | None = None) -> array[in
 
 
 @overload
-def difference(a: Buffer, b: Buffer, *, out: None = None) -> array[int]: ...
+def difference(a: Buffer, b: Buffer, *, out: None = None) -> array[int]:
+    ...
+
+
 @overload
-def difference(a: Buffer, b: Buffer, *, out: Buffer) -> int: ...
+def difference(a: Buffer, b: Buffer, *, out: Buffer) -> int:
+    ...
+
+
 def difference(a: Buffer, b: Buffer, *, out: Buffer | None = None) -> array[int] | int:
     """The numbers in the left set and not in the right.
 
@@ -86,9 +105,15 @@ def difference(a: Buffer, b: Buffer, *, out: Buffer | None = None) -> array[int]
 
 
 @overload
-def symmetric_difference(a: Buffer, b: Buffer, *, out: None = None) -> array[int]: ...
+def symmetric_difference(a: Buffer, b: Buffer, *, out: None = None) -> array[int]:
+    ...
+
+
 @overload
-def symmetric_difference(a: Buffer, b: Buffer, *, out: Buffer) -> int: ...
+def symmetric_difference(a: Buffer, b: Buffer, *, out: Buffer) -> int:
+    ...
+
+
 def symmetric_difference(a: Buffer, b: Buffer, *, out: Buffer | None = None) -> array[int] | int:
     """The numbers in exactly one of the two sets.
 
@@ -99,9 +124,15 @@ def symmetric_difference(a: Buffer, b: Buffer, *, out: Buffer | None = None) -> 
 
 
 @overload
-def negation(a: Buffer, *, out: None = None) -> array[int]: ...
+def negation(a: Buffer, *, out: None = None) -> array[int]:
+    ...
+
+
 @overload
-def negation(a: Buffer, *, out: Buffer) -> int: ...
+def negation(a: Buffer, *, out: Buffer) -> int:
+    ...
+
+
 def negation(a: Buffer, *, out: Buffer | None = None) -> array[int] | int:
     """The numbers that are no members.
 
@@ -112,9 +143,15 @@ def negation(a: Buffer, *, out: Buffer | None = None) -> array[int] | int:
 
 
 @overload
-def insert(a: Buffer, start: SupportsIndex, end: SupportsIndex, *, out: None = None) -> array[int]: ...
+def insert(a: Buffer, start: SupportsIndex, end: SupportsIndex, *, out: None = None) -> array[int]:
+    ...
+
+
 @overload
-def insert(a: Buffer, start: SupportsIndex, end: SupportsIndex, *, out: Buffer) -> int: ...
+def insert(a: Buffer, start: SupportsIndex, end: SupportsIndex, *, out: Buffer) -> int:
+    ...
+
+
 def insert(a: Buffer, start: SupportsIndex, end: SupportsIndex, *, out: Buffer | None = None) -> array[int] | int:
     """The set with the numbers from `start` up to, not including, `end`.
 
@@ -125,9 +162,15 @@ def insert(a: Buffer, start: SupportsIndex, end: SupportsIndex, *, out: Buffer |
 
 
 @overload
-def remove(a: Buffer, start: SupportsIndex, end: SupportsIndex, *, out: None = None) -> array[int]: ...
+def remove(a: Buffer, start: SupportsIndex, end: SupportsIndex, *, out: None = None) -> array[int]:
+    ...
+
+
 @overload
-def remove(a: Buffer, start: SupportsIndex, end: SupportsIndex, *, out: Buffer) -> int: ...
+def remove(a: Buffer, start: SupportsIndex, end: SupportsIndex, *, out: Buffer) -> int:
+    ...
+
+
 def remove(a: Buffer, start: SupportsIndex, end: SupportsIndex, *, out: Buffer | None = None) -> array[int] | int:
     """The set without the numbers from `start` up to, not including, `end`.
 
@@ -138,9 +181,15 @@ def remove(a: Buffer, start: SupportsIndex, end: SupportsIndex, *, out: Buffer |
 
 
 @overload
-def gaps(a: Buffer, start: SupportsIndex, end: SupportsIndex, *, out: None = None) -> array[int]: ...
+def gaps(a: Buffer, start: SupportsIndex, end: SupportsIndex, *, out: None = None) -> array[int]:
+    ...
+
+
 @overload
-def gaps(a: Buffer, start: SupportsIndex, end: SupportsIndex, *, out: Buffer) -> int: ...
+def gaps(a: Buffer, start: SupportsIndex, end: SupportsIndex, *, out: Buffer) -> int:
+    ...
+
+
 def gaps(a: Buffer, start: SupportsIndex, end: SupportsIndex, *, out: Buffer | None = None) -> array[int] | int:
     """The numbers from `start` up to, not including, `end` that are no members.
 
@@ -197,9 +246,15 @@ def is_empty(a: Buffer) -> bool:
 
 
 @overload
-def contains(a: Buffer, value: Buffer) -> Any: ...
+def contains(a: Buffer, value: Buffer) -> Any:
+    ...
+
+
 @overload
-def contains(a: Buffer, value: SupportsIndex) -> bool: ...
+def contains(a: Buffer, value: SupportsIndex) -> bool:
+    ...
+
+
 def contains(a: Buffer, value: Any) -> Any:
     """Whether the number is a member; or, of a numpy array of numbers, an array that says so of each.
 

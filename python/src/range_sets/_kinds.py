@@ -22,7 +22,8 @@ class Scalar(Protocol):
     """What checkers of types know of one `numpy.datetime64`."""
 
     @property
-    def dtype(self) -> Any: ...
+    def dtype(self) -> Any:
+        ...
 
 
 # One element of a set.
@@ -248,7 +249,9 @@ class Deltas(Timed):
     """Lengths of time, by their microseconds."""
 
     def __init__(self) -> None:
-        super().__init__("timedelta", "a timedelta of at most 64 bits of microseconds", _LEAST, _MOST, _MICROSECOND, "m8[us]", "lengths of time")
+        super().__init__(
+            "timedelta", "a timedelta of at most 64 bits of microseconds", _LEAST, _MOST, _MICROSECOND, "m8[us]", "lengths of time"
+        )
 
     def code(self, value: Any) -> int:
         if not isinstance(value, timedelta):

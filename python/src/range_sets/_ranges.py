@@ -8,16 +8,17 @@ from typing import Any, Iterable, Iterator, Never, Self, SupportsIndex, overload
 
 from . import _core, _text
 from ._arrays import codes_of_each, contains_each
-from ._kept import Kept, _restored, _unpacked
+from ._kept import _restored, _unpacked
 from ._kinds import FLOAT, UNTOLD, Element, Kind, Now, Told, agreed, of, of_some, told, whole
 from ._numbers import code_of
+from ._operators import Operators
 from ._sources import OneRange, Source, boundaries_of, codes_of, gather, intersection_of, range_of, ranges_of, union_of, values_of
 
 # Pickles name them here.
 __all__ = ["AnyRangeSet", "_restored", "_unpacked"]
 
 
-class AnyRangeSet(Kept):
+class AnyRangeSet(Operators):
     """A set of elements as the ranges that have them: what `RangeSet` and `MutableRangeSet` have in common.
 
     Elements are whole numbers of 64 bits, from -2**63 to 2**63 - 1 or with `unsigned=True` from 0 to 2**64 - 1; or else floats, times,
@@ -157,9 +158,13 @@ class AnyRangeSet(Kept):
         return contains_each(boundaries, values if kind.is_whole else codes_of_each(kind, values))
 
     @overload
-    def covers(self, start: OneRange) -> bool: ...
+    def covers(self, start: OneRange) -> bool:
+        ...
+
     @overload
-    def covers(self, start: Element | None, end: Element | None) -> bool: ...
+    def covers(self, start: Element | None, end: Element | None) -> bool:
+        ...
+
     def covers(self, start: Any, end: Any = ...) -> bool:
         """Whether each element from a start up to, not including, an end is a member. It takes the two, a pair, a `range` or an element.
 
@@ -199,9 +204,13 @@ class AnyRangeSet(Kept):
         return found and (kind.value(found[0]), None if found[1] is None else kind.value(found[1]))
 
     @overload
-    def overlapping(self, start: OneRange) -> Self: ...
+    def overlapping(self, start: OneRange) -> Self:
+        ...
+
     @overload
-    def overlapping(self, start: Element | None, end: Element | None) -> Self: ...
+    def overlapping(self, start: Element | None, end: Element | None) -> Self:
+        ...
+
     def overlapping(self, start: Any, end: Any = ...) -> Self:
         """The ranges that have an element from a start up to, not including, an end. They aren't cut, and nothing is copied.
 
@@ -301,9 +310,13 @@ class AnyRangeSet(Kept):
         return map(kept.__getitem__, range(len(kept) - 1, -1, -1))
 
     @overload
-    def __getitem__(self, at: SupportsIndex) -> tuple[Any, Any]: ...
+    def __getitem__(self, at: SupportsIndex) -> tuple[Any, Any]:
+        ...
+
     @overload
-    def __getitem__(self, at: slice) -> Self: ...
+    def __getitem__(self, at: slice) -> Self:
+        ...
+
     def __getitem__(self, at: SupportsIndex | slice) -> tuple[Any, Any] | Self:
         # Goes over a whole MutableRangeSet that has changed.
         items, kind = self._now
@@ -393,44 +406,6 @@ class AnyRangeSet(Kept):
         left, right, kind = agreed(self._now, self._of(other))
         return self._over(_core.symmetric_difference(left, right), kind)
 
-    def __or__(self, other: AnyRangeSet) -> Self:
-        if not isinstance(other, AnyRangeSet):
-            return NotImplemented
-        (left, kind), (right, other_kind) = self._now, other._now
-        if kind is not other_kind:
-            left, right, kind = agreed((left, kind), (right, other_kind))
-        return self._over(_core.union(left, right), kind)
-
-    def __and__(self, other: AnyRangeSet) -> Self:
-        if not isinstance(other, AnyRangeSet):
-            return NotImplemented
-        (left, kind), (right, other_kind) = self._now, other._now
-        if kind is not other_kind:
-            left, right, kind = agreed((left, kind), (right, other_kind))
-        return self._over(_core.intersection(left, right), kind)
-
-    def __sub__(self, other: AnyRangeSet) -> Self:
-        if not isinstance(other, AnyRangeSet):
-            return NotImplemented
-        (left, kind), (right, other_kind) = self._now, other._now
-        if kind is not other_kind:
-            left, right, kind = agreed((left, kind), (right, other_kind))
-        return self._over(_core.difference(left, right), kind)
-
-    def __xor__(self, other: AnyRangeSet) -> Self:
-        if not isinstance(other, AnyRangeSet):
-            return NotImplemented
-        (left, kind), (right, other_kind) = self._now, other._now
-        if kind is not other_kind:
-            left, right, kind = agreed((left, kind), (right, other_kind))
-        return self._over(_core.symmetric_difference(left, right), kind)
-
-    def __invert__(self) -> Self:
-        boundaries, kind = self._now
-        if kind.is_whole:
-            return self._over(_core.negation(boundaries), whole(kind.unsigned))
-        return self._over(_core.difference(kind.all(), boundaries), kind)
-
     # ---- Comparisons ----
 
     def isdisjoint(self, other: Source) -> bool:
@@ -459,37 +434,3 @@ class AnyRangeSet(Kept):
         """
         left, right, _ = agreed(self._now, self._of(other))
         return _core.is_subset(right, left)
-
-    def __eq__(self, other: object) -> bool:
-        if not isinstance(other, AnyRangeSet):
-            return NotImplemented
-        (left, kind), (right, other_kind) = self._now, other._now
-        return kind.name == other_kind.name and _core.equal(left, right)
-
-    def __le__(self, other: AnyRangeSet) -> bool:
-        if not isinstance(other, AnyRangeSet):
-            return NotImplemented
-        (left, kind), (right, other_kind) = self._now, other._now
-        if kind is not other_kind:
-            left, right, _ = agreed((left, kind), (right, other_kind))
-        return _core.is_subset(left, right)
-
-    def __lt__(self, other: AnyRangeSet) -> bool:
-        if not isinstance(other, AnyRangeSet):
-            return NotImplemented
-        left, right, _ = agreed(self._now, other._now)
-        return _core.is_subset(left, right) and not _core.equal(left, right)
-
-    def __ge__(self, other: AnyRangeSet) -> bool:
-        if not isinstance(other, AnyRangeSet):
-            return NotImplemented
-        (left, kind), (right, other_kind) = self._now, other._now
-        if kind is not other_kind:
-            left, right, _ = agreed((left, kind), (right, other_kind))
-        return _core.is_subset(right, left)
-
-    def __gt__(self, other: AnyRangeSet) -> bool:
-        if not isinstance(other, AnyRangeSet):
-            return NotImplemented
-        left, right, _ = agreed(self._now, other._now)
-        return _core.is_subset(right, left) and not _core.equal(left, right)

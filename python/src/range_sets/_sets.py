@@ -66,9 +66,13 @@ class RangeSet(AnyRangeSet):
         return self.__copy__()
 
     @overload
-    def insert(self, start: OneRange) -> Self: ...
+    def insert(self, start: OneRange) -> Self:
+        ...
+
     @overload
-    def insert(self, start: Element | None, end: Element | None) -> Self: ...
+    def insert(self, start: Element | None, end: Element | None) -> Self:
+        ...
+
     def insert(self, start: Any, end: Any = ...) -> Self:
         """The set with the elements from a start up to, not including, an end. It takes the two, a pair, a `range` or an element.
 
@@ -79,9 +83,13 @@ class RangeSet(AnyRangeSet):
         return self._over(_core.union(left, right), kind)
 
     @overload
-    def remove(self, start: OneRange) -> Self: ...
+    def remove(self, start: OneRange) -> Self:
+        ...
+
     @overload
-    def remove(self, start: Element | None, end: Element | None) -> Self: ...
+    def remove(self, start: Element | None, end: Element | None) -> Self:
+        ...
+
     def remove(self, start: Any, end: Any = ...) -> Self:
         """The set without the elements from a start up to, not including, an end. It takes the two, a pair, a `range` or an element.
 
@@ -186,9 +194,13 @@ class MutableRangeSet(AnyRangeSet):
         self._chunks.clear()
 
     @overload
-    def add(self, start: OneRange) -> None: ...
+    def add(self, start: OneRange) -> None:
+        ...
+
     @overload
-    def add(self, start: Element | None, end: Element | None) -> None: ...
+    def add(self, start: Element | None, end: Element | None) -> None:
+        ...
+
     def add(self, start: Any, end: Any = ...) -> None:
         """Puts in the elements from a start up to, not including, an end. It takes the two, a pair, a `range` or an element.
 
@@ -204,9 +216,13 @@ class MutableRangeSet(AnyRangeSet):
             pass
 
     @overload
-    def discard(self, start: OneRange) -> None: ...
+    def discard(self, start: OneRange) -> None:
+        ...
+
     @overload
-    def discard(self, start: Element | None, end: Element | None) -> None: ...
+    def discard(self, start: Element | None, end: Element | None) -> None:
+        ...
+
     def discard(self, start: Any, end: Any = ...) -> None:
         """Takes out the elements from a start up to, not including, an end. It takes the two, a pair, a `range` or an element.
 
