@@ -251,6 +251,9 @@ class EachKind(unittest.TestCase):
                     lambda: made.first_fit(1.0),
                     lambda: made.first_fit(1),
                     lambda: RangeSet(made).insert(1.0),
+                    lambda: made.rank(1.0),
+                    lambda: RangeSet().rank(1.0),
+                    lambda: made.select(0),
                 ):
                     with self.assertRaises(TypeError):
                         call()
@@ -260,6 +263,8 @@ class EachKind(unittest.TestCase):
             self.assertEqual(made, RangeSet.from_values([elements[2], elements[-1], elements[0]], kind=name))
             self.assertEqual([it for it in elements if it in made], [elements[0], elements[2], elements[-1]])
             self.assertEqual([*made.members()], [elements[0], elements[2], elements[-1]])
+            self.assertEqual([made.select(it) for it in range(4)], [elements[0], elements[2], elements[-1], None])
+            self.assertEqual([made.rank(elements[it]) for it in (0, 1, 2, -1)], [0, 1, 1, 2])
             self.assertEqual((made[-1], made.covered()), ((elements[-1], None), None))
             made.discard(elements[-1])
             made.discard(elements[0])

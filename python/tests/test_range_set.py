@@ -203,75 +203,8 @@ class Reading(unittest.TestCase):
     def test_whether_a_number_is_covered(self):
         self.assertEqual([self.set.covers(n) for n in (9, 10, MOST, 2**63, -(2**70))], [True, False, True, False, False])
 
-    def test_how_many(self):
-        self.assertEqual((len(self.set), bool(self.set), len(RangeSet()), bool(RangeSet())), (3, True, 0, False))
-        self.assertEqual((self.set.covered(), RangeSet([(0, 10), (20, 30)]).covered(), RangeSet().covered()), (None, 20, 0))
-        self.assertEqual(RangeSet([(LEAST, MOST)]).covered(), 2**64 - 1)
-
     def test_the_span(self):
         self.assertEqual((self.set.span(), RangeSet([(3, 5), (7, 9)]).span(), RangeSet().span()), ((0, None), (3, 9), None))
-
-    def test_where_numbers_fit(self):
-        for asked, answer in (
-            ((5, 0), 10),
-            ((10, 0), 10),
-            ((11, 0), None),
-            ((1, -1), -1),
-            ((2, -1), 10),
-            ((10, -10), -10),
-            ((5, 25), 30),
-            ((0, 5), 5),
-            ((0, 5, 5), 5),
-            ((0, 5, 4), None),
-            ((5, 0, 14), None),
-            ((5, 0, 15), 10),
-            ((1, 40), None),
-            ((3, None, None), LEAST),
-            ((1, 10, 10), None),
-            ((2**64, None, None), None),
-            ((2**65, None, None), None),
-        ):
-            with self.subTest(asked=asked):
-                self.assertEqual(self.set.first_fit(*asked), answer)
-        nothing = RangeSet()
-        self.assertEqual((nothing.first_fit(2**64), nothing.first_fit(2**64 + 1), nothing.first_fit(1, MOST)), (LEAST, None, MOST))
-        self.assertEqual(RangeSet([(0, 4)], unsigned=True).first_fit(2**64 - 4), 4)
-        self.assertIsNone(RangeSet([(0, 5)], unsigned=True).first_fit(2**64 - 4))
-
-    def test_where_numbers_fit_up_to_the_greatest(self):
-        for pairs, asked, answer in (
-            ([(0, MOST)], (1, 0), MOST),
-            ([(0, MOST)], (2, 0), None),
-            ([(0, None)], (1, 0), None),
-            ([(0, None)], (0, 5), 5),
-            ([(5, 10)], (2**63 - 10, 0), 10),
-            ([(5, 10)], (2**63 - 9, 0), None),
-            ([(5, 10), (MOST, None)], (2**63 - 10, 0), None),
-            ([(5, 10), (MOST, None)], (2**63 - 11, 0), 10),
-            ([(0, MOST)], (1, 0, MOST), None),
-            ([], (1, MOST, MOST), None),
-        ):
-            with self.subTest(pairs=pairs, asked=asked):
-                self.assertEqual(RangeSet(pairs).first_fit(*asked), answer)
-
-    def test_where_more_numbers_fit_than_there_are_of_either_sign(self):
-        for pairs, asked, answer in (
-            ([], (2**63,), LEAST),
-            ([], (2**63, LEAST, 0), LEAST),
-            ([], (2**63, LEAST, -1), None),
-            ([], (2**63, -5), -5),
-            ([], (2**63 + 5, -5), -5),
-            ([], (2**63 + 6, -5), None),
-            ([], (2**64 - 1, LEAST, MOST), LEAST),
-            ([(0, None)], (2**63,), LEAST),
-            ([(0, None)], (2**63 + 1,), None),
-            ([(-5, 5)], (2**63,), None),
-            ([(LEAST, LEAST + 3)], (2**64 - 4,), LEAST + 3),
-            ([(LEAST, LEAST + 3)], (2**64 - 3,), LEAST + 3),
-            ([(LEAST, LEAST + 3)], (2**64 - 2,), None),
-        ):
-            with self.subTest(pairs=pairs, asked=asked):
-                self.assertEqual(RangeSet(pairs).first_fit(*asked), answer)
 
     def test_the_ranges(self):
         expected = [(0, 10), (20, 30), (40, None)]

@@ -1,11 +1,11 @@
 /* Functions over buffers of 64-bit whole numbers, by the proved calls for C. They are tested, not proved. */
 #include "_lists.h"
 
-/* What a call is given: up to two lists, then up to two numbers of their type and a count, as bits. */
+/* What a call is given: up to two lists, up to two numbers of their type as bits, and a count. */
 typedef struct {
     List lists[2];
     int held;
-    uint64_t numbers[3];
+    uint64_t numbers[2], count;
 } Arguments;
 
 /* A call of range_set.h for the type of the lists, and what it is given. */
@@ -23,11 +23,12 @@ static void release_all(Arguments *given)
     while (given->held > 0) release(&given->lists[--given->held]);
 }
 
-/* Reads so many lists, then so many numbers, and leaves so many objects that may follow. */
-static bool read_arguments(Arguments *given, PyObject *const *args, Py_ssize_t n, int lists, int numbers, int more)
+/* Reads so many lists, then so many numbers and perhaps a count, and leaves so many objects that may follow. */
+static bool read_arguments(Arguments *given, PyObject *const *args, Py_ssize_t n, int lists, int numbers, bool count, int more)
 {
-    if (n < lists + numbers || n > lists + numbers + more) {
-        PyErr_Format(PyExc_TypeError, "%d arguments are wanted, not %zd", lists + numbers, n);
+    int wanted = lists + numbers + count;
+    if (n < wanted || n > wanted + more) {
+        PyErr_Format(PyExc_TypeError, "%d arguments are wanted, not %zd", wanted, n);
         return false;
     }
     bool fits = true;
@@ -37,7 +38,8 @@ static bool read_arguments(Arguments *given, PyObject *const *args, Py_ssize_t n
     if (fits && lists == 2 && given->lists[0].is_signed != given->lists[1].is_signed)
         fits = refuse(PyExc_TypeError, "signed and unsigned numbers don't mix: both lists have to be of one type");
     for (int i = 0; fits && i < numbers; i++)
-        fits = read_number(args[lists + i], given->lists[0].is_signed && i < 2, &given->numbers[i]);
+        fits = read_number(args[lists + i], given->lists[0].is_signed, &given->numbers[i]);
+    if (fits && count) fits = read_number(args[wanted - 1], false, &given->count);
     if (!fits) release_all(given);
     return fits;
 }
@@ -95,7 +97,7 @@ static PyObject *write_into(const Arguments *given, Operation *call, PyObject *o
 static PyObject *operate(PyObject *const *args, Py_ssize_t n, int lists, Operation *call)
 {
     Arguments given;
-    if (!read_arguments(&given, args, n, lists, 0, 1)) return NULL;
+    if (!read_arguments(&given, args, n, lists, 0, false, 1)) return NULL;
     PyObject *out = n > lists ? args[n - 1] : Py_None;
     PyObject *answer = out == Py_None ? write_new(&given, call) : write_into(&given, call, out);
     release_all(&given);
@@ -214,7 +216,7 @@ static PyObject *ask(PyObject *const *args, Py_ssize_t n, int lists, int numbers
 {
     Arguments given;
     bool answer = false;
-    if (!read_arguments(&given, args, n, lists, numbers, 0)) return NULL;
+    if (!read_arguments(&given, args, n, lists, numbers, false, 0)) return NULL;
     PyThreadState *thread = let_others_run(lists == 2 ? given.lists[0].len + given.lists[1].len : 0);
     range_set_status status = lists == 2 ? check_sorted(&given) : RANGE_SET_DONE;
     if (status == RANGE_SET_DONE) answer = call(&given);
@@ -242,7 +244,7 @@ QUESTION(equal, 2, 0, CALL(equal, LISTS))
 static PyObject *core_contains_each(PyObject *module, PyObject *const *args, Py_ssize_t n)
 {
     Arguments given;
-    if (!read_arguments(&given, args, n, 2, 0, 0)) return NULL;
+    if (!read_arguments(&given, args, n, 2, 0, false, 0)) return NULL;
     const List *set = &given.lists[0], *values = &given.lists[1];
     PyObject *bytes = PyBytes_FromStringAndSize(NULL, values->len);
     if (bytes != NULL) {
@@ -276,8 +278,14 @@ static PyObject *core_contains_each(PyObject *module, PyObject *const *args, Py_
     static PyObject *find_first_fit_##type(const Arguments *given) \
     { \
         number first; \
-        if (!range_set_##type##_first_fit(LIST_AND_NUMBERS(type), given->numbers[2], &first)) Py_RETURN_NONE; \
+        if (!range_set_##type##_first_fit(LIST_AND_NUMBERS(type), given->count, &first)) Py_RETURN_NONE; \
         return as_python(first); \
+    } \
+    static PyObject *find_select_##type(const Arguments *given) \
+    { \
+        number at; \
+        if (!range_set_##type##_select(LIST(type), given->count, &at)) Py_RETURN_NONE; \
+        return as_python(at); \
     } \
     static PyObject *find_covered_##type(const Arguments *given) \
     { \
@@ -291,20 +299,21 @@ static PyObject *core_contains_each(PyObject *module, PyObject *const *args, Py_
 FINDS(i64, int64_t, PyLong_FromLongLong)
 FINDS(u64, uint64_t, PyLong_FromUnsignedLongLong)
 
-#define FIND(name, number_count) \
+#define FIND(name, number_count, has_count) \
     static PyObject *core_##name(PyObject *module, PyObject *const *args, Py_ssize_t n) \
     { \
         Arguments given; \
-        if (!read_arguments(&given, args, n, 1, number_count, 0)) return NULL; \
+        if (!read_arguments(&given, args, n, 1, number_count, has_count, 0)) return NULL; \
         PyObject *found = given.lists[0].is_signed ? find_##name##_i64(&given) : find_##name##_u64(&given); \
         release_all(&given); \
         return found; \
     }
 
-FIND(range_at, 1)
-FIND(split, 1)
-FIND(first_fit, 3)
-FIND(covered, 0)
+FIND(range_at, 1, false)
+FIND(split, 1, false)
+FIND(first_fit, 2, true)
+FIND(select, 0, true)
+FIND(covered, 0, false)
 
 /* ---- The module ---- */
 
@@ -315,7 +324,7 @@ static PyMethodDef methods[] = {
     METHOD(union), METHOD(intersection), METHOD(difference), METHOD(symmetric_difference), METHOD(negation),
     METHOD_OF_ONE(from_boundaries), METHOD_OF_ONE(from_unsorted), METHOD_OF_ONE(from_ranges), METHOD(is_signed), METHOD(is_sorted),
     METHOD(is_empty), METHOD(contains), METHOD(contains_range), METHOD(is_disjoint), METHOD(intersects), METHOD(is_subset),
-    METHOD(equal), METHOD(range_at), METHOD(split), METHOD(first_fit), METHOD(covered), METHOD(parse),
+    METHOD(equal), METHOD(range_at), METHOD(split), METHOD(first_fit), METHOD(select), METHOD(covered), METHOD(parse),
     METHOD_OF_ONE(print), METHOD_OF_ONE(pack), METHOD_OF_ONE(unpack), METHOD_OF_ONE(from_values), METHOD(contains_each),
     {NULL, NULL, 0, NULL},
 };

@@ -4,6 +4,7 @@ from __future__ import annotations
 
 from array import array
 from itertools import chain, zip_longest
+from operator import index
 from typing import Any, Iterable, Iterator, Never, Self, SupportsIndex, overload
 
 from . import _core, _text
@@ -235,6 +236,34 @@ class AnyRangeSet(Operators):
         """
         boundaries, kind = self._now
         return kind.covered(boundaries)
+
+    def rank(self, value: Element) -> int:
+        """How many members are below an element. Floats can't be counted.
+
+        >>> s = RangeSet([(0, 10), (20, None)])
+        >>> s.rank(5), s.rank(15), s.rank(22)
+        (5, 10, 12)
+        """
+        below, kind = self.split(value)[0]._now
+        if kind is FLOAT:
+            kind.one(value)
+        return _core.covered(below) or 0
+
+    def select(self, k: SupportsIndex) -> Any:
+        """The member that so many others are below, or None where no more than `k` are members. Floats can't be counted.
+
+        >>> s = RangeSet([(0, 10), (20, None)])
+        >>> s.select(0), s.select(12), RangeSet([(0, 10)]).select(10)
+        (0, 22, None)
+        """
+        boundaries, kind = self._now
+        if kind is FLOAT:
+            kind.one(k)
+        at = index(k)
+        if at < 0:
+            raise ValueError("a number from 0 on is wanted: so many members are below")
+        found = _core.select(boundaries, at) if at < 2**64 else None
+        return None if found is None or found > kind.most else kind.value(found)
 
     def span(self) -> tuple[Any, Any] | None:
         """From the start of the first range to the end of the last one, or None where the set is empty.
