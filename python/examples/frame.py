@@ -12,7 +12,7 @@ from range_sets import RangeSet
 
 def main(path):
     jobs = pandas.read_csv(path)
-    busy = {name: RangeSet(its[["start", "end"]].to_numpy()) for name, its in jobs.groupby("machine")}
+    busy = {name: RangeSet(its[["start", "end"]]) for name, its in jobs.groupby("machine")}
     print(pandas.DataFrame({"jobs": jobs.groupby("machine").size(), "busy": {name: it.covered() for name, it in busy.items()}}))
     everywhere = RangeSet.intersection_all(busy.values())
     late = jobs[everywhere.contains(jobs["end"] - 1)]

@@ -7,7 +7,7 @@ import unittest
 import xml.etree.ElementTree
 from array import array
 from datetime import date, timedelta, timezone
-from ipaddress import IPv4Address, IPv4Network
+from ipaddress import IPv4Address, IPv4Network, IPv6Network
 from math import inf, nan
 
 from test_kinds import DAY, FIRST, LAST, TINY, UTC, at, longest
@@ -177,6 +177,16 @@ class Addresses(unittest.TestCase):
         self.assertEqual(ipaddress.IPv4Address("10.0.0.9") in taken, True)
         with self.assertRaises(TypeError):
             IPv4Network("10.0.0.0/8") in taken
+
+    def test_networks_of_version_6_are_refused_at_once(self):
+        made = MutableRangeSet()
+        for network in (IPv6Network("::/0"), IPv6Network("2001:db8::/32"), IPv6Network("2001:db8::/127")):
+            for call in (lambda: RangeSet(network), lambda: RangeSet([network]), lambda: made.add(network), lambda: made.update(network)):
+                with self.assertRaisesRegex(TypeError, "it has 128 bits"):
+                    call()
+            with self.assertRaises(TypeError):
+                RangeSet(network, kind=IPv4Address)
+        self.assertFalse(made)
 
 
 if __name__ == "__main__":

@@ -28,6 +28,7 @@ FORMAT = (
     "64-bit whole numbers in this machine's order of bytes are wanted, as array('q') and numpy's int64 and uint64 have them, "
     "not those of the format"
 )
+OF_SETS = "whole numbers of at most 64 bits or floats in this machine's order of bytes are wanted, not those of the format"
 BUFFER = "a buffer of 64-bit whole numbers is wanted, as an array('q') or a numpy array, not"
 SIDE = "numbers that lie side by side are wanted: copy the buffer first, as numpy's a.copy() does"
 SIGNED = "a number from -2**63 to 2**63 - 1 is wanted"
@@ -95,8 +96,12 @@ class Texts(unittest.TestCase):
                 (lambda: RangeSet.from_boundaries([0, 1.5]), TypeError, FLOAT),
                 (lambda: RangeSet.from_boundaries([0, 2**63]), OverflowError, SIGNED),
                 (lambda: RangeSet.from_boundaries(7), TypeError, "'int' object is not iterable"),
-                (lambda: RangeSet.from_boundaries(array("d", [0.0]), kind=int), TypeError, f"{FORMAT} 'd'"),
-                (lambda: RangeSet.from_boundaries(array("u", "a")), TypeError, f"{FORMAT} 'w'"),
+                (
+                    lambda: RangeSet.from_boundaries(array("d", [0.0]), kind=int),
+                    TypeError,
+                    "two kinds of elements don't mix: one set has the kind int, and the other float",
+                ),
+                (lambda: RangeSet.from_boundaries(array("u", "a")), TypeError, f"{OF_SETS} 'w'"),
                 (lambda: RangeSet.from_boundaries(q(1), unsigned=True), TypeError, f"{MIXED}: a set of unsigned ones is wanted"),
                 (lambda: RangeSet.from_values([0, 1.5]), TypeError, FLOAT),
                 (lambda: RangeSet.from_values([2**63]), OverflowError, SIGNED),

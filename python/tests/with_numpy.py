@@ -1,5 +1,6 @@
 """numpy arrays as boundaries, tables and buffers, and sets as arrays."""
 
+import operator
 import random
 import threading
 import time
@@ -10,12 +11,13 @@ from ipaddress import IPv4Address
 import numpy
 
 import range_sets as sets
-from range_sets import NotSorted, RangeSet
+from range_sets import MutableRangeSet, NotSorted, RangeSet
 
 FORMAT = (
     "64-bit whole numbers in this machine's order of bytes are wanted, as array('q') and numpy's int64 and uint64 have them, "
     "not those of the format"
 )
+OF_SETS = "whole numbers of at most 64 bits or floats in this machine's order of bytes are wanted, not those of the format"
 SIDE = "numbers that lie side by side are wanted: copy the buffer first, as numpy's a.copy() does"
 
 
@@ -68,10 +70,13 @@ class Lists(unittest.TestCase):
             (numpy.int64(3), "a list is wanted, with one dimension"),
         ):
             with self.subTest(text=text):
-                for call in (lambda: sets.union(given, i64(0)), lambda: RangeSet.from_boundaries(given), lambda: sets.from_unsorted(given)):
+                for call in (lambda: sets.union(given, i64(0)), lambda: sets.from_unsorted(given)):
                     with self.assertRaises(TypeError) as raised:
                         call()
                     self.assertEqual(str(raised.exception), text)
+                with self.assertRaises(TypeError) as raised:
+                    RangeSet.from_boundaries(given)
+                self.assertEqual(str(raised.exception), text.replace(FORMAT, OF_SETS))
 
     def test_what_sets_are_made_of_and_functions_refuse(self):
         for given, text, boundaries in (
@@ -136,8 +141,10 @@ class Sets(unittest.TestCase):
             (table.reshape(2, 3), "or a table with two columns"),
             (table.ravel(), "a table with two columns is wanted"),
             (table.astype(numpy.int32).reshape(2, 3), "or a table with two columns"),
-            (table.astype(complex), "64-bit whole numbers"),
-            (table > 3, "64-bit whole numbers"),
+            (table.astype(complex), f"{OF_SETS} 'Zd'"),
+            (table > 3, f"{OF_SETS} '.'"),
+            (table.astype(numpy.float16), f"{OF_SETS} 'e'"),
+            (numpy.ma.array(table, mask=table > 20), "an array without a mask is wanted"),
         ):
             with self.assertRaisesRegex(TypeError, text):
                 RangeSet(bad)
@@ -176,7 +183,7 @@ class Sets(unittest.TestCase):
                         call(bad)
         with self.assertRaisesRegex(OverflowError, "a number from 0 to 2"):
             RangeSet(numpy.array([[-1, 5]], dtype=numpy.int32), unsigned=True)
-        with self.assertRaisesRegex(TypeError, "64-bit whole numbers"):
+        with self.assertRaisesRegex(TypeError, f"{OF_SETS} '>i'"):
             RangeSet(numpy.array([[1, 5]], dtype=">i4"))
 
     def test_which_of_many_numbers_are_members(self):
@@ -198,9 +205,62 @@ class Sets(unittest.TestCase):
         self.assertEqual(of_unsigned.contains(unsigned).tolist(), [True, False, False, False, True, True, True])
         self.assertEqual(of_unsigned.contains(i64(-1, 0, 2, 3, -(2**63))).tolist(), [False, True, True, False, False])
         self.assertEqual(sets.contains(i64(0, 10), i64(9, 10, -1)).tolist(), [True, False, False])
-        for bad in (numpy.array([1.0]), numpy.array([True]), ["x"]):
+        for bad in (numpy.array([1.0]), numpy.array([True])):
             with self.assertRaisesRegex(TypeError, "whole numbers are wanted"):
                 made.contains(bad)
+        for bad in (["x"], [5, 1.0], [None]):
+            with self.assertRaisesRegex(TypeError, "object cannot be interpreted as an integer"):
+                made.contains(bad)
+
+    def test_which_are_members_of_lists_that_numpy_has_no_type_for(self):
+        made, of_unsigned = RangeSet([(-3, 2), (2**63 - 2, None)]), RangeSet([(0, 3), (2**63, None)], unsigned=True)
+        for values in ([1, 2**63], [-1, 2**63, 2**64 - 1], [5, 2**70, -(2**70)], [[0, 2**64], [1, 2]]):
+            for it in (made, of_unsigned):
+                for given in (values, numpy.array(values, dtype=object)):
+                    expected = [n in it for n in numpy.array(values, dtype=object).ravel().tolist()]
+                    found = it.contains(given)
+                    self.assertEqual((found.ravel().tolist(), found.shape, found.dtype), (expected, numpy.shape(values), numpy.dtype(bool)))
+        for it in (made, of_unsigned, RangeSet(), RangeSet([(0.5, 1.5)]), RangeSet(kind="date")):
+            for nothing in ([], numpy.array([]), ()):
+                self.assertEqual((it.contains(nothing).shape, it.contains(nothing).dtype), ((0,), numpy.dtype(bool)))
+
+    def test_no_element_is_a_member_of_an_empty_set_without_a_kind(self):
+        for values in ([1, 2], [0.5, 1.5], [date(2026, 5, 1)] * 2, numpy.array(["2026-05-01", "2026-05-04"], dtype="M8[ns]")):
+            self.assertEqual(RangeSet().contains(values).tolist(), [False] * len(values))
+        with self.assertRaisesRegex(TypeError, "a text is no element"):
+            RangeSet().contains(["x"])
+
+    def test_arrays_without_a_float_tell_no_kind(self):
+        some = RangeSet([(0, 5)])
+        for nothing in (RangeSet(numpy.empty((0, 2))), RangeSet.from_values(numpy.array([])), RangeSet.from_boundaries(numpy.array([]))):
+            self.assertEqual((nothing.kind, nothing | some, some - nothing), (None, some, some))
+        for told in (int, float, "date", "unsigned"):
+            self.assertEqual(RangeSet(numpy.empty((0, 2)), kind=told), RangeSet(kind=told))
+        self.assertTrue(RangeSet.from_values(numpy.array([]), unsigned=True).unsigned)
+
+    def test_smaller_floats(self):
+        for kind in (numpy.float16, numpy.float32, numpy.float64):
+            made = RangeSet([(kind(0.5), kind(1.5))])
+            self.assertEqual((list(made), kind(1.0) in made, kind(1.5) in made), ([(0.5, 1.5)], True, False))
+            with self.assertRaisesRegex(ValueError, "NaN is in no order"):
+                made.insert(kind("nan"), None)
+        third = numpy.longdouble(1) / 3
+        with self.assertRaisesRegex(ValueError, "is no float"):
+            RangeSet([(third, None)])
+        with self.assertRaisesRegex(TypeError, "'numpy.float32' object cannot be interpreted as an integer"):
+            RangeSet([(0, numpy.float32(1.5))])
+
+    def test_operators_take_no_arrays(self):
+        made, values = RangeSet([(0, 10)]), i64(5, 20)
+        for call in (operator.or_, operator.and_, operator.sub, operator.xor, operator.le, operator.gt):
+            for given in ((made, values), (values, made)):
+                with self.assertRaises(TypeError):
+                    call(*given)
+        self.assertFalse(made == values or values == made)
+        made = MutableRangeSet(made)
+        with self.assertRaises(TypeError):
+            made |= values
+        self.assertEqual(list(made), [(0, 10)])
 
     def test_many_numbers_are_members(self):
         some = numpy.random.default_rng(3)
@@ -267,6 +327,9 @@ class Sets(unittest.TestCase):
             lambda: made.contains(numpy.array([5])),
             lambda: datetime(2026, 5, 1) in made,
             lambda: numpy.array(["2026-05-01"], dtype="M8[D]") in made,
+            lambda: RangeSet([(0.0, 1e30)]).contains(numpy.array(["2026-05-01"], dtype="M8[ns]")),
+            lambda: RangeSet([(0.0, 1e30)]).contains(numpy.array([5], dtype="m8[ns]")),
+            lambda: RangeSet([(date(2026, 5, 1), None)]).contains(numpy.array(["2026-05-01"], dtype="M8[ns]")),
         ):
             with self.assertRaises(TypeError):
                 call()

@@ -11,7 +11,7 @@ from pathlib import Path
 
 import pandas
 
-from range_sets import RangeSet
+from range_sets import MutableRangeSet, RangeSet
 
 
 class Frames(unittest.TestCase):
@@ -24,7 +24,12 @@ class Frames(unittest.TestCase):
             self.frame[["start", "end"]].astype("int32"),
             self.frame[["start", "end"]].sort_values("end"),
         ):
-            self.assertEqual(list(RangeSet(table.to_numpy())), [(0, 8), (20, 30)])
+            for given in (table, table.to_numpy(), table.itertuples(index=False)):
+                self.assertEqual(list(RangeSet(given)), [(0, 8), (20, 30)])
+        with self.assertRaisesRegex(TypeError, "or a table with two columns"):
+            RangeSet(self.frame[["start", "end", "other"]])
+        with self.assertRaisesRegex(TypeError, "a table with two columns is wanted"):
+            RangeSet(self.frame["start"])
 
     def test_one_column(self):
         made = RangeSet.from_values(self.frame["start"].to_numpy())
@@ -41,7 +46,16 @@ class Frames(unittest.TestCase):
                     RangeSet(kind.from_arrays(starts, ends, closed=closed))
                 text = "intervals with their start and without their end are wanted, closed='left' and not"
                 self.assertEqual(str(raised.exception), f"{text} {closed!r}")
-        self.assertEqual(list(RangeSet(pandas.Interval(3, 5, closed="left"))), [(3, 5)])
+        three, seven = pandas.Interval(3, 5, closed="left"), pandas.Interval(7, 9, closed="left")
+        self.assertEqual(list(RangeSet(three)), [(3, 5)])
+        for several in ([three, seven], pandas.Series([three, seven]), pandas.Series([three, seven]).astype(object)):
+            self.assertEqual(list(RangeSet(several)), [(3, 5), (7, 9)])
+        made = MutableRangeSet([seven])
+        made.add(three)
+        self.assertTrue(made.covers(three) and not made.covers(pandas.Interval(3, 6, closed="left")))
+        for call in (lambda: RangeSet([pandas.Interval(3, 5)]), lambda: made.add(pandas.Interval(3, 5))):
+            with self.assertRaisesRegex(ValueError, "closed='left' and not 'right'"):
+                call()
         self.assertEqual(list(RangeSet(pandas.arrays.IntervalArray.from_arrays([0.5], [1.5], closed="left"))), [(0.5, 1.5)])
 
     def test_times(self):

@@ -2,10 +2,11 @@
 
 from __future__ import annotations
 
+from operator import index
 from typing import Any
 
 from . import _core
-from ._kinds import DELTA, FLOAT, Kind, Now
+from ._kinds import DELTA, FLOAT, Kind, Now, of_some
 from ._numbers import code_of, least, most
 
 
@@ -14,13 +15,33 @@ def contains_each(a: Any, values: Any) -> Any:
     import numpy
 
     numbers, unsigned = numpy.asarray(values), not _core.is_signed(a)
-    if numbers.dtype.kind not in "iu":
+    if numbers.dtype.kind == "O" or (numbers.dtype.kind not in "iu" and not hasattr(values, "dtype")):
+        return _contains_each_object(a, values, unsigned)
+    if numbers.dtype.kind not in "iu" and numbers.size:
         raise TypeError(f"whole numbers are wanted, not {numbers.dtype}")
     alike = numpy.ascontiguousarray(numbers, dtype=numpy.dtype(code_of(unsigned))).reshape(-1)
     found = numpy.frombuffer(_core.contains_each(a, alike), dtype=bool).reshape(numbers.shape)
     if (numbers.dtype.kind == "u") == unsigned:
         return found
     return found & (numbers >= least(unsigned) if unsigned else numbers <= most(unsigned))
+
+
+def _contains_each_object(a: Any, values: Any, unsigned: bool) -> Any:
+    """The same of what is no array of numbers: a list may have some of more than 64 bits, or none."""
+    import numpy
+
+    objects = numpy.asarray(values, dtype=object)
+    found = [least(unsigned) <= index(it) <= most(unsigned) and _core.contains(a, it) for it in objects.reshape(-1).tolist()]
+    return numpy.array(found, dtype=bool).reshape(objects.shape)
+
+
+def none_of_each(values: Any) -> Any:
+    """The same of a set of nothing, whatever the kind of the elements is."""
+    import numpy
+
+    found = numpy.asarray(values)
+    of_some(found.reshape(-1)[:1].tolist())
+    return numpy.zeros(found.shape, dtype=bool)
 
 
 def codes_of_each(kind: Kind, values: Any) -> Any:
@@ -32,7 +53,11 @@ def codes_of_each(kind: Kind, values: Any) -> Any:
         if numpy.isnat(found).any():
             raise ValueError("NaT is in no order, and no element of a set")
         return found.astype(kind.dtype).view("i8")
-    return numpy.array([kind.number(it) for it in found.reshape(-1).tolist()], dtype="i8").reshape(found.shape)
+    elements = found.reshape(-1).tolist()
+    # As which numpy has times of units that Python has no type for.
+    if found.dtype.kind in "mM" and any(isinstance(it, int) for it in elements):
+        raise TypeError(f"{kind.element} each is wanted, not an array of numpy's {found.dtype.name}")
+    return numpy.array([kind.number(it) for it in elements], dtype="i8").reshape(found.shape)
 
 
 def array_of(now: Now) -> Any:

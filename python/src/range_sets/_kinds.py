@@ -387,6 +387,8 @@ def of(value: Any) -> Kind | None:
             return kind
     if type(value).__name__ == "datetime64" and hasattr(value, "dtype"):
         return of_dtype(value.dtype)
+    if _is_numpy_float(value):
+        return FLOAT
     try:
         index(value)
     except TypeError:
@@ -424,14 +426,21 @@ def mixed(kind: Kind, other: Kind) -> str:
 
 
 def _exact_float(value: Any, kind: Kind) -> float:
-    try:
-        whole_number = index(value)
-    except TypeError:
-        raise kind.wrong(value) from None
-    found = float(whole_number)
-    if found != whole_number:
-        raise ValueError(f"{whole_number} is no float")
+    """The float of a whole number, or of one of numpy's smaller floats."""
+    number = value
+    if not _is_numpy_float(value):
+        try:
+            number = index(value)
+        except TypeError:
+            raise kind.wrong(value) from None
+    found = float(number)
+    if found != number and number == number:
+        raise ValueError(f"{number} is no float")
     return found
+
+
+def _is_numpy_float(value: Any) -> bool:
+    return getattr(getattr(value, "dtype", None), "kind", "") == "f" and not value.ndim
 
 
 def _see_no_loss(value: Any, part: str) -> None:

@@ -16,6 +16,8 @@ class Operators(Kept):
     """What Python writes between two sets or before one."""
 
     __slots__ = ()
+    # Else numpy would answer `set | array` by the bits of the boundaries.
+    __array_ufunc__ = None
 
     def __or__(self, other: AnyRangeSet) -> Self:
         if not isinstance(other, Operators):

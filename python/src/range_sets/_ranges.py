@@ -8,7 +8,7 @@ from operator import index
 from typing import Any, Iterable, Iterator, Never, Self, SupportsIndex, overload
 
 from . import _core, _text
-from ._arrays import codes_of_each, contains_each
+from ._arrays import codes_of_each, contains_each, none_of_each
 from ._kept import _restored, _unpacked
 from ._kinds import FLOAT, UNTOLD, Element, Kind, Now, Told, agreed, of, of_some, told, whole
 from ._numbers import code_of
@@ -156,6 +156,8 @@ class AnyRangeSet(Operators):
         [True, False, True]
         """
         boundaries, kind = self._now
+        if kind is UNTOLD:
+            return none_of_each(values)
         return contains_each(boundaries, values if kind.is_whole else codes_of_each(kind, values))
 
     @overload

@@ -5,7 +5,7 @@ from __future__ import annotations
 import reprlib
 import struct
 from array import array
-from ipaddress import IPv4Network
+from ipaddress import IPv4Network, IPv6Network
 from itertools import chain
 from typing import Any, Callable, Iterable, Union
 
@@ -52,8 +52,8 @@ def bounds_of(start: Any, end: Any, kind: Kind) -> tuple[Any, Any, Kind, Kind]:
     return found.within(first), None if last is None else found.within(last), kind, found
 
 
-def ends_of(item: Any, wanted: str) -> Pair:
-    """The start and the end of a pair, a `range` or a network."""
+def ends_of(item: Any, wanted: str) -> tuple[Any, Any]:
+    """The start and the end of a pair, a `range`, a network or an interval of pandas."""
     if type(item) is tuple and len(item) == 2:
         start, end = item
         return start, end
@@ -61,9 +61,12 @@ def ends_of(item: Any, wanted: str) -> Pair:
         if item.step != 1:
             raise ValueError(f"a range with step 1 is wanted, not {item!r}")
         return item.start, item.stop
-    if isinstance(item, IPv4Network):
+    if isinstance(item, (IPv4Network, IPv6Network)):
+        # Of the latter the ends are no elements, as the error says.
         last = item.broadcast_address
-        return item.network_address, None if int(last) == 2**32 - 1 else last + 1
+        return item.network_address, None if int(last) + 1 == 2**item.max_prefixlen else last + 1
+    if _has_intervals(item):
+        return item.left, item.right
     if not isinstance(item, (str, bytes, bytearray, dict, set, frozenset)):
         try:
             start, end = item
@@ -77,10 +80,10 @@ def gather(source: Any, kind: Kind | None) -> Now:
     """The union of what a set is made of."""
     if isinstance(source, _ranges.AnyRangeSet):
         return _of_kind(source._now, kind)
-    if isinstance(source, (range, IPv4Network)) or _is_pair(source):
+    if isinstance(source, (range, IPv4Network, IPv6Network)) or _is_pair(source):
         source = (source,)
     elif not isinstance(source, (list, tuple)):
-        table = _table_of(source) if hasattr(source, "closed") and hasattr(source, "left") else source
+        table = _table_of(source) if _has_intervals(source) else source.to_numpy() if hasattr(source, "to_numpy") else source
         if getattr(getattr(table, "dtype", None), "kind", "") == "O" and hasattr(table, "tolist"):
             table = table.tolist()
         if _is_buffer(table):
@@ -161,15 +164,17 @@ def _numbers_of(items: Any, kind: Kind | None) -> tuple[Any, Kind]:
 def _side_by_side(items: Any, kind: Kind | None) -> tuple[Any, Kind]:
     """The numbers of a buffer one after the other and of 64 bits, and the kind of its elements. Smaller whole numbers stay signed or
     unsigned unless a kind is told."""
+    if getattr(items, "mask", None) is not None:
+        raise TypeError("an array without a mask is wanted, as its compressed() gives one")
     if _has_times(items):
         return _numbers_of_times(items, kind)
     buffer = memoryview(items)
     code = (buffer.format or "B").removeprefix("@")
-    if code in ("d", "f") and kind in (None, FLOAT):
-        return array("q", map(FLOAT.code, memoryview(buffer.tobytes()).cast(code))), FLOAT
-    if code not in tuple("bBhHiIlLqQ"):
-        # It says which buffers are wanted.
-        return _core.from_boundaries(buffer), SIGNED
+    if code not in tuple("bBhHiIlLqQdf"):
+        wanted = "whole numbers of at most 64 bits or floats in this machine's order of bytes are wanted"
+        raise TypeError(f"{wanted}, not those of the format '{buffer.format}'")
+    if code in "df":
+        return _numbers_of_floats(memoryview(buffer.tobytes()).cast(code), kind)
     found = whole(code.isupper())
     if kind is not None and not kind.is_whole:
         raise TypeError(mixed(kind, found))
@@ -179,6 +184,15 @@ def _side_by_side(items: Any, kind: Kind | None) -> tuple[Any, Kind]:
         return buffer if buffer.c_contiguous else memoryview(buffer.tobytes()).cast(code), found
     kind = found if kind is None else kind
     return _array_of(memoryview(buffer.tobytes()).cast(code).tolist(), kind), kind
+
+
+def _numbers_of_floats(floats: Any, kind: Kind | None) -> tuple[Any, Kind]:
+    """The numbers of floats. Without a float they tell no kind: numpy has an empty list as an array of floats."""
+    if not floats:
+        return array(code_of(kind is UNSIGNED)), kind or UNTOLD
+    if not (kind is None or kind is UNTOLD or kind is FLOAT):
+        raise TypeError(mixed(kind, FLOAT))
+    return array("q", map(FLOAT.code, floats)), FLOAT
 
 
 def _has_times(items: Any) -> bool:
@@ -204,12 +218,19 @@ def _numbers_of_times(items: Any, kind: Kind | None) -> tuple[Any, Kind]:
     return memoryview(numbers), kind
 
 
+def _has_intervals(item: Any) -> bool:
+    """Whether it is an array of intervals, or one, as pandas has them. They have to be closed as ranges are."""
+    if not (hasattr(item, "closed") and hasattr(item, "left")):
+        return False
+    if item.closed != "left":
+        raise ValueError(f"intervals with their start and without their end are wanted, closed='left' and not {item.closed!r}")
+    return True
+
+
 def _table_of(intervals: Any) -> Any:
-    """The starts and the ends of an array of intervals, or of one, as pandas has them."""
+    """The starts and the ends of an array of intervals, or of one."""
     import numpy
 
-    if intervals.closed != "left":
-        raise ValueError(f"intervals with their start and without their end are wanted, closed='left' and not {intervals.closed!r}")
     return numpy.stack([intervals.left, intervals.right], axis=-1).reshape(-1, 2)
 
 
