@@ -78,7 +78,11 @@ class Unions(unittest.TestCase):
     def test_each_task_has_few_parts(self):
         graph = dict(union_all([dask.delayed(it) for it in self.parts], split_every=4).dask)
         unions = [task for task in graph.values() if isinstance(task, tuple) and getattr(task[0], "__name__", "") == "_union"]
-        self.assertEqual(sorted(len(task[1]) for task in unions), sorted([4] * 9 + [1] + [4, 4, 2] + [3] + [1]))
+        self.assertEqual(sorted(len(task[1]) for task in unions), sorted([4] * 9 + [1] + [4, 4, 2] + [3]))
+        # Beside these there are the parts alone.
+        self.assertEqual(len(graph), len(self.parts) + len(unions))
+        parts = [dask.delayed({it.span()[0]: it}) for it in self.parts]
+        self.assertLess(len(dict(covered_by_key(parts, split_every=4).dask)), len(parts) + len(unions) + 3)
 
     def test_bad_input(self):
         for words in ({"split_every": 1}, {"cuts": [3, 3]}, {"cuts": [4, 3]}):

@@ -141,8 +141,10 @@ def values_of(items: Any, kind: Kind | None) -> Now:
 
 def ranges_of(items: Any, kind: Kind | None) -> Now:
     """The union of the ranges in a buffer."""
-    if not _is_buffer(items):
-        return _core.from_ranges(items), SIGNED
+    return _ranges_of_buffer(items, kind) if _is_buffer(items) else (_core.from_ranges(items), SIGNED)
+
+
+def _ranges_of_buffer(items: Any, kind: Kind | None) -> Now:
     shape = tuple(items.shape if hasattr(items, "shape") else memoryview(items).shape or ())
     if len(shape) != 1 and shape[1:] != (2,):
         raise TypeError("a list of starts and ends in turn is wanted, or a table with two columns")
@@ -272,7 +274,7 @@ def _of_kind(now: Now, kind: Kind | None) -> Now:
 def _ranges_of_table(table: Any, kind: Kind | None) -> Now:
     if (table.ndim if hasattr(table, "ndim") else memoryview(table).ndim) != 2:
         raise TypeError("a table with two columns is wanted; RangeSet.from_boundaries reads a list of boundaries")
-    return ranges_of(table, kind)
+    return _ranges_of_buffer(table, kind)
 
 
 def _items_of(source: Any) -> list[Any]:

@@ -14,7 +14,7 @@ RangeSet([(0, 6)])
 from __future__ import annotations
 
 from bisect import bisect_right
-from itertools import pairwise
+from itertools import chain, pairwise
 from typing import TYPE_CHECKING, Any, Callable, Hashable, Iterable, Mapping, Sequence
 
 from dask.delayed import Delayed, delayed
@@ -40,6 +40,8 @@ def union_all(parts: Bag | Iterable[Delayed], split_every: int = 8, cuts: Sequen
     RangeSet([(0, 25), (40, 65), (80, 105)])
     """
     trees = _trees(parts, split_every, list(cuts), _cut_set, _union)
+    if not cuts:
+        return trees[0]
     limits = [None, *cuts, None]
     whole: Delayed = delayed(_union)([delayed(_clipped)(tree, *ends) for tree, ends in zip(trees, pairwise(limits))])
     return whole
@@ -68,11 +70,14 @@ def _trees(
     cut: Callable[[Any, list[Any]], list[Any]],
     combine: Callable[[list[Any]], Any],
 ) -> list[Delayed]:
-    """Cuts each part by key ranges, and combines the pieces of each range, so many at a time, to one."""
+    """Cuts each part by key ranges, and combines the pieces of each range, so many at a time, to one. Parts that aren't cut are
+    combined as they are: each task takes a scheduler about as long as a union of thousands of ranges."""
     if split_every < 2:
         raise ValueError(f"split_every says how many parts are reduced at a time: 2 or more, not {split_every}")
     if not all(a < b for a, b in pairwise(cuts)):
         raise ValueError("cuts in ascending order are wanted")
+    if not cuts:
+        return [_tree(_tasks(parts), split_every, combine)]
     made = [delayed(cut, nout=len(cuts) + 1)(part, cuts) for part in _tasks(parts)]
     return [_tree([pieces[i] for pieces in made], split_every, combine) for i in range(len(cuts) + 1)]
 
@@ -91,15 +96,15 @@ def _tree(pieces: list[Delayed], split_every: int, combine: Callable[[list[Any]]
     return root
 
 
-def _union(sets: Iterable[AnyRangeSet]) -> RangeSet:
+def _union(parts: Iterable[AnyRangeSet | Iterable[AnyRangeSet]]) -> RangeSet:
+    known = [*chain.from_iterable([it] if isinstance(it, AnyRangeSet) else it for it in parts)]
     # A part of nothing doesn't know which elements the others have.
-    known = list(sets)
     return RangeSet.union_all([it for it in known if it] or [it for it in known if it.kind is not None][-1:])
 
 
 def _cut_set(part: Any, cuts: list[Any]) -> list[RangeSet]:
     """The pieces of a set, which lie in its memory. Each is the set from its cut to the next, and may go on beyond."""
-    whole = part if isinstance(part, AnyRangeSet) else _union(part)
+    whole = part if isinstance(part, AnyRangeSet) else _union([part])
     if not whole:
         return [RangeSet(whole)] * (len(cuts) + 1)
     boundaries, kind = whole._now
@@ -115,19 +120,21 @@ def _clipped(piece: RangeSet, start: Any, end: Any) -> RangeSet:
 
 def _cut_keys(part: Any, cuts: list[Any]) -> list[dict[Hashable, RangeSet]]:
     """The sets of a part by their keys, in a dict for each key range."""
-    pairs = part.items() if isinstance(part, Mapping) else part
-    pieces: list[dict[Hashable, list[AnyRangeSet]]] = [{} for _ in range(len(cuts) + 1)]
-    for key, it in pairs:
-        pieces[bisect_right(cuts, key)].setdefault(key, []).append(it)
-    return [{key: _union(sets) for key, sets in piece.items()} for piece in pieces]
+    pieces: list[list[tuple[Hashable, AnyRangeSet]]] = [[] for _ in range(len(cuts) + 1)]
+    for key, it in _pairs(part):
+        pieces[bisect_right(cuts, key)].append((key, it))
+    return [_union_by_key([piece]) for piece in pieces]
 
 
-def _union_by_key(pieces: Iterable[dict[Hashable, RangeSet]]) -> dict[Hashable, RangeSet]:
-    by_key: dict[Hashable, list[RangeSet]] = {}
-    for piece in pieces:
-        for key, it in piece.items():
-            by_key.setdefault(key, []).append(it)
+def _union_by_key(parts: Iterable[Any]) -> dict[Hashable, RangeSet]:
+    by_key: dict[Hashable, list[AnyRangeSet]] = {}
+    for key, it in chain.from_iterable(map(_pairs, parts)):
+        by_key.setdefault(key, []).append(it)
     return {key: _union(sets) for key, sets in by_key.items()}
+
+
+def _pairs(part: Any) -> Iterable[tuple[Any, AnyRangeSet]]:
+    return part.items() if isinstance(part, Mapping) else part  # type: ignore[no-any-return]
 
 
 def _counted(by_key: dict[Hashable, RangeSet]) -> dict[Hashable, int | None]:
