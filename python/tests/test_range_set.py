@@ -397,6 +397,14 @@ class OtherForms(unittest.TestCase):
         self.assertEqual(len(fills(many)), 200)
         self.assertIn("and 900 more", words(many))
 
+    def test_a_buffer_of_it_can_be_released(self):
+        for made, expected in ((RangeSet([(0, 5)]), [(0, 5)]), (RangeSet(), []), (MutableRangeSet([(0, 5)]), [(0, 5)])):
+            with made.boundaries as boundaries:
+                self.assertEqual(len(boundaries), 2 * len(expected))
+            made.boundaries.release()
+            self.assertEqual((list(made), made | RangeSet(), made == RangeSet(expected)), (expected, made, True))
+        self.assertEqual(RangeSet() | RangeSet([(0, 1)]), RangeSet([(0, 1)]))
+
     def test_nothing_changes_a_set(self):
         a = RangeSet([(0, 10)])
         with self.assertRaises(AttributeError):

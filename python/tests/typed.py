@@ -21,6 +21,11 @@ assert_type(RangeSet([(0.5, 2.0), (date.min, None)], kind="float"), RangeSet)
 assert_type(RangeSet([IPv4Network("10.0.0.0/8"), (IPv4Address("10.0.0.0"), None)], kind=IPv4Address), RangeSet)
 assert_type(5 in made, bool)
 
+assert_type(RangeSet([[0, 10], [20, None]]) | RangeSet(zip([1, 2], [3, 4])), RangeSet)
+assert_type(RangeSet([map(datetime.fromisoformat, ["2026-05-04", "2026-05-05"])]), RangeSet)
+assert_type(made.rank(5), int)
+assert_type(made.select(5), Any)
+
 received = MutableRangeSet(made)
 received.add(0, None)
 received.add((5, 6))
@@ -50,6 +55,8 @@ assert_type(covered_by_key([]), Any)
 
 RangeSet([], unsinged=True)  # type: ignore[arg-type]
 RangeSet(5)  # type: ignore[arg-type]
+RangeSet([0, 5])  # type: ignore[list-item]
+RangeSet("0..5")  # type: ignore[arg-type]
 RangeSet([("a", "b")])  # type: ignore[list-item]
 made.insert("a")  # type: ignore[call-overload]
 "a" in made  # type: ignore[operator]

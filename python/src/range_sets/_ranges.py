@@ -136,7 +136,8 @@ class AnyRangeSet(Operators):
         >>> RangeSet([(0, 10), (20, None)]).boundaries.tolist()
         [0, 10, 20]
         """
-        return self._now[0]
+        # One of its own, since whoever has a memoryview may release it.
+        return self._now[0][:]
 
     def __contains__(self, value: Element) -> bool:
         boundaries, kind = self._now

@@ -15,8 +15,10 @@ from ._numbers import code_of, range_list
 
 # The start and the end of a range. None as a start is the least element, and as an end says that there is none.
 Pair = tuple["Element | None", "Element | None"]
-# What a set is made of. A table is a buffer with two columns, as a numpy array of starts and ends.
-Source = Union["_ranges.AnyRangeSet", range, IPv4Network, Pair, "Iterable[_ranges.AnyRangeSet | range | IPv4Network | Pair]"]
+# What a set is made of. A table is a buffer with two columns, as a numpy array of starts and ends. Among others a pair may be a list.
+Source = Union[
+    "_ranges.AnyRangeSet", range, IPv4Network, Pair, "Iterable[_ranges.AnyRangeSet | range | IPv4Network | Pair | Iterable[Element | None]]"
+]
 
 # What a range is given as without a second argument for its end.
 OneRange = Union[Element, range, IPv4Network, Pair]
