@@ -394,6 +394,19 @@ class EachRequest(unittest.TestCase):
 
                     self.refuse_each(call, see)
 
+    def test_a_range_of_nothing_takes_no_memory(self):
+        for before in (q(), q(0, 10, 20), q(*range(6000))):
+            for name in ("insert", "remove"):
+                for start, end in ((1, 1), (5, -5)):
+                    made = _core.Chunks(memoryview(before), KIND)
+                    call = getattr(made, name)
+                    _testcapi.set_nomemory(0)
+                    try:
+                        done = call(start, end, KIND, KIND)
+                    finally:
+                        _testcapi.remove_mem_hooks()
+                    self.assertEqual((done, made.now[0].tolist()), (True, before.tolist()))
+
     # Later Pythons may end with a segmentation fault where a request of their own is refused, also in a generator of one line.
     @unittest.skipIf(sys.version_info >= (3, 12), "Pythons from 3.12 on don't outlive that a request of theirs is refused")
     def test_it_is_refused_and_nothing_changes(self):

@@ -286,6 +286,10 @@ class Laws(unittest.TestCase):
         self.assertIs(n in a, sum(it <= n for it in a.boundaries) % 2 == 1)
         if found:
             self.assertTrue(a.covers(found) and found[0] <= n)
+        k = a.rank(n)
+        self.assertEqual(k, a.split(n)[0].covered())
+        self.assertTrue((a.select(k) == n) if found else a.select(k) is None or a.select(k) > n)
+        self.assertTrue(k == 0 or a.select(k - 1) < n)
 
     @given(with_numbers(1, 0))
     def test_of_other_forms(self, drawn):
