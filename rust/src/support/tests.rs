@@ -14,6 +14,7 @@ use crate::generated::range_merge::{
 use alloc::rc::Rc;
 use core::cell::Cell;
 use core::cmp::Ordering;
+use core::mem;
 
 /// An item that tells how many of its kind are there, and is ordered by its key.
 #[derive(Debug)]
@@ -188,65 +189,67 @@ fn merges_in_place_give_the_changes_and_drop_every_item_once() {
     }
 }
 
+/// Merges made-up lists by a call that panics at its first step, at its second, and so on, until it ends. Each item is
+/// dropped once. `panicked` looks at the left list after a panic.
 #[cfg(panic = "unwind")]
-#[test]
-fn a_comparison_that_panics_drops_every_item_once() {
+fn drop_every_item_once(
+    mut seed: u64,
+    merge: impl Fn(usize, usize, &mut SmallVec<Item, 4>, &mut SmallVec<Item, 4>),
+    panicked: impl Fn(&SmallVec<Item, 4>),
+) {
     use std::panic::{catch_unwind, AssertUnwindSafe};
 
-    let mut seed = 2;
-    for _ in (0..300).step_by(one_in()) {
+    for round in (0..300).step_by(one_in()) {
         let (a, b) = (made_up(&mut seed), made_up(&mut seed));
-        let mut panics_at = 1;
-        loop {
+        for panics_at in 1.. {
             let there = Rc::new(Cell::new(0));
-            let mut left = list::<4>(a, 0, &there);
-            let right = list::<4>(b, 1, &there);
-            let mut cmp = ByKey { made: 0, panics_at };
+            let (mut left, mut right) = (list(a, 0, &there), list(b, 1, &there));
             let merged = catch_unwind(AssertUnwindSafe(|| {
-                InPlaceMergeState::merge(&mut left, right, &XorOp, &mut cmp).is_ok()
+                merge(round, panics_at, &mut left, &mut right)
             }));
-            assert_eq!(there.get(), left.len() as isize);
-            assert!(merged.is_ok() || left.is_empty());
-            drop(left);
+            assert_eq!(there.get(), (left.len() + right.len()) as isize);
+            if merged.is_err() {
+                panicked(&left);
+            }
+            drop((left, right));
             assert_eq!(there.get(), 0);
             if merged.is_ok() {
                 break;
             }
-            panics_at += 1;
         }
     }
 }
 
 #[cfg(panic = "unwind")]
 #[test]
-fn a_copy_that_panics_drops_every_item_once() {
-    use std::panic::{catch_unwind, AssertUnwindSafe};
+fn a_comparison_that_panics_drops_every_item_once() {
+    drop_every_item_once(
+        2,
+        |_, panics_at, left, right| {
+            let right = mem::replace(right, SmallVec::new(Global));
+            let panics_at = panics_at as u128;
+            let mut cmp = ByKey { made: 0, panics_at };
+            assert!(InPlaceMergeState::merge(left, right, &XorOp, &mut cmp).is_ok());
+        },
+        |left| assert!(left.is_empty()),
+    );
+}
 
-    let mut seed = 4;
-    for round in (0..300).step_by(one_in()) {
-        let (a, b) = (made_up(&mut seed), made_up(&mut seed));
-        let mut panics_at = 1;
-        loop {
-            let there = Rc::new(Cell::new(0));
-            let mut left = list::<4>(a, 0, &there);
-            let right = list::<4>(b, 1, &there);
+#[cfg(panic = "unwind")]
+#[test]
+fn a_copy_that_panics_drops_every_item_once() {
+    drop_every_item_once(
+        4,
+        |round, panics_at, left, right| {
             let copier = Copying::new(round % 2 == 0, panics_at);
             let mut cmp = ByKey {
                 made: 0,
                 panics_at: ByKey::NEVER,
             };
-            let merged = catch_unwind(AssertUnwindSafe(|| {
-                InPlaceMergeStateRef::merge(&mut left, &right, &copier, &UnionOp, &mut cmp).is_ok()
-            }));
-            assert_eq!(there.get(), (left.len() + right.len()) as isize);
-            drop((left, right));
-            assert_eq!(there.get(), 0);
-            if merged.is_ok() {
-                break;
-            }
-            panics_at += 1;
-        }
-    }
+            assert!(InPlaceMergeStateRef::merge(left, right, &copier, &UnionOp, &mut cmp).is_ok());
+        },
+        |_| {},
+    );
 }
 
 #[test]
