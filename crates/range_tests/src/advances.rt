@@ -11,12 +11,12 @@ use std::alloc::{AllocError, Global};
 fn answers(alloc: Global, row: &Row, flags: Flags) -> Result<bool, AllocError> {
     let left = flagged(alloc, &LEFT, flags.left())?;
     let right = flagged(alloc, &RIGHT, flags.right())?;
-    let items = flagged(alloc, row.3, 0..0)?;
+    let items = flagged(alloc, row.items, 0..0)?;
     let before = [with_flag(-1, true)];
-    let is_copied = flags.left_within(row.1) || flags.right_within(row.2);
+    let is_copied = flags.left_within(row.lefts) || flags.right_within(row.rights);
     for taken in [Some(items.as_slice()), None] {
         let passing = Passing {
-            advance: row.0,
+            advance: row.advance,
             left: left.as_slice(),
             right: right.as_slice(),
             first: &before,
@@ -34,7 +34,11 @@ fn advances_are_refused_by_flags(rt: HostRuntime) -> Result<(), AllocError> {
     for row in &ROWS {
         for place in 0..4usize {
             for flags in [Flags::Left(place), Flags::Right(place), Flags::From(place)] {
-                assert!(rt; answers(rt.alloc(), row, flags)?, "{:?}, {flags:?}", row.0);
+                assert!(rt;
+                    answers(rt.alloc(), row, flags)?,
+                    "{:?}, {flags:?}",
+                    row.advance
+                );
             }
         }
     }

@@ -216,9 +216,10 @@ fn wrong(alloc: Global, a: &[i64], b: &[i64], most: u128) -> Option<&'static str
 fn calls_compare_through_their_counter(rt: HostRuntime) -> Result<(), AllocError> {
     let alloc = rt.alloc();
     let (low, high) = (numbers(alloc, 0, 64)?, numbers(alloc, 64, 128)?);
-    for (a, b, _, most) in &ROWS {
-        assert_eq!(rt; wrong(alloc, a, b, *most), None, "{a:?} and {b:?}");
-        assert_eq!(rt; wrong(alloc, b, a, *most), None, "{b:?} and {a:?}");
+    for row in &ROWS {
+        let (a, b, most) = (row.left, row.right, row.most);
+        assert_eq!(rt; wrong(alloc, a, b, most), None, "{a:?} and {b:?}");
+        assert_eq!(rt; wrong(alloc, b, a, most), None, "{b:?} and {a:?}");
     }
     let (low, high) = (low.as_slice(), high.as_slice());
     assert_eq!(rt; wrong(alloc, low, high, 28), None, "a block before another");
@@ -246,14 +247,21 @@ enum Search {
     RangesWithin,
 }
 
-// Each of them, and how many ends it searches for.
-const SEARCHES: [(Search, u128); 6] = [
-    (Search::Contains, 1),
-    (Search::Split, 1),
-    (Search::RangeAt, 1),
-    (Search::ContainsRange, 2),
-    (Search::Gaps, 2),
-    (Search::RangesWithin, 2),
+// A call, and how many ends it searches for.
+#[derive(Clone, Copy)]
+struct Ends {
+    call: Search,
+    ends: usize,
+}
+
+#[rattlefmt::skip]
+const SEARCHES: [Ends; 6] = [
+    Ends { call: Search::Contains, ends: 1 },
+    Ends { call: Search::Split, ends: 1 },
+    Ends { call: Search::RangeAt, ends: 1 },
+    Ends { call: Search::ContainsRange, ends: 2 },
+    Ends { call: Search::Gaps, ends: 2 },
+    Ends { call: Search::RangesWithin, ends: 2 },
 ];
 
 // What a call and its counted form raise the tally by, of a set and of its view, and what the
@@ -317,7 +325,7 @@ fn wrong_search(sought: Sought, digits: u128) -> Option<Option<Search>> {
     if !search_holds(sought, digits) || !nexts_hold(sought, digits) {
         return Some(None);
     }
-    for (call, ends) in SEARCHES {
+    for Ends { call, ends } in SEARCHES {
         let most = if ends == 1 {
             digits
         } else {
@@ -385,22 +393,29 @@ fn wrong_number(
 }
 
 // Where even numbers end, and the binary digits of how many there are.
-const EVENS: [(i64, u128); 10] = [
-    (0, 0),
-    (1, 1),
-    (3, 2),
-    (5, 2),
-    (7, 3),
-    (13, 3),
-    (15, 4),
-    (39, 5),
-    (125, 6),
-    (127, 7),
+#[derive(Clone, Copy)]
+struct EvenNumbers {
+    end: i64,
+    digits: u128,
+}
+
+#[rattlefmt::skip]
+const EVENS: [EvenNumbers; 10] = [
+    EvenNumbers { end: 0, digits: 0 },
+    EvenNumbers { end: 1, digits: 1 },
+    EvenNumbers { end: 3, digits: 2 },
+    EvenNumbers { end: 5, digits: 2 },
+    EvenNumbers { end: 7, digits: 3 },
+    EvenNumbers { end: 13, digits: 3 },
+    EvenNumbers { end: 15, digits: 4 },
+    EvenNumbers { end: 39, digits: 5 },
+    EvenNumbers { end: 125, digits: 6 },
+    EvenNumbers { end: 127, digits: 7 },
 ];
 
 #[test]
 fn searches_compare_through_their_counter(rt: HostRuntime) -> Result<(), AllocError> {
-    for (end, digits) in EVENS {
+    for EvenNumbers { end, digits } in EVENS {
         let wrong = wrong_number(rt.alloc(), end, digits)?;
         assert_eq!(rt; wrong, None, "the even numbers below {end}");
     }

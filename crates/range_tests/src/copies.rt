@@ -72,9 +72,9 @@ fn an_operation_is_refused_where_it_copies_a_flagged_item(
     rt: HostRuntime,
 ) -> Result<(), AllocError> {
     for row in &ROWS {
-        for (op, want) in OPERATIONS.iter().zip(&row.2) {
+        for (op, want) in OPERATIONS.iter().zip(&row.wants) {
             let wrong = wrong_flags(rt.alloc(), &case_of(*op, row, &[-1], want))?;
-            assert_eq!(rt; wrong, None, "{op:?} of {:?} and {:?}", row.0, row.1);
+            assert_eq!(rt; wrong, None, "{op:?} of {:?} and {:?}", row.left, row.right);
         }
     }
     Ok(())

@@ -46,21 +46,28 @@ fn numbers_with_a_sign(rt: HostRuntime) {
 }
 
 // Boundaries, and how many characters lie between them: none is a surrogate.
-const CHARACTERS: [(&[char], Option<u128>); 8] = [
-    (&[], Some(0)),
-    (&['\0'], None),
-    (&['\u{10FFFF}'], None),
-    (&['a', 'z'], Some(25)),
-    (&['\0', '\u{10FFFF}'], Some(1_112_063)),
-    (&['\u{D7FF}', '\u{E000}'], Some(1)),
-    (&['\u{D7FE}', '\u{E001}'], Some(3)),
-    (&['\u{E000}', '\u{E001}'], Some(1)),
+#[derive(Clone, Copy, Debug)]
+struct Counted<'a> {
+    items: &'a [char],
+    want: Option<u128>,
+}
+
+#[rattlefmt::skip]
+const CHARACTERS: [Counted; 8] = [
+    Counted { items: &[], want: Some(0) },
+    Counted { items: &['\0'], want: None },
+    Counted { items: &['\u{10FFFF}'], want: None },
+    Counted { items: &['a', 'z'], want: Some(25) },
+    Counted { items: &['\0', '\u{10FFFF}'], want: Some(1_112_063) },
+    Counted { items: &['\u{D7FF}', '\u{E000}'], want: Some(1) },
+    Counted { items: &['\u{D7FE}', '\u{E001}'], want: Some(3) },
+    Counted { items: &['\u{E000}', '\u{E001}'], want: Some(1) },
 ];
 
 #[test]
 fn characters(rt: HostRuntime) {
-    for (items, want) in CHARACTERS {
-        assert!(rt; has(items, want), "{items:?}");
+    for row in &CHARACTERS {
+        assert!(rt; has(row.items, row.want), "{row:?}");
     }
 }
 

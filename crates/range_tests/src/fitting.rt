@@ -1,58 +1,77 @@
 //! Where a stretch of numbers fits beside the members of a set.
 use range_collections::{RangeSet2, Unsigned};
 use range_tests_kit::lists::own;
+use std::alloc::Global;
+use std::default::MadeWith;
 
 // Boundaries, the start and the end of a range, a length, and where it fits.
-const BYTES: [(&[u8], u8, u8, u8, Option<u8>); 27] = [
-    (&[], 0, 10, 10, Some(0)),
-    (&[], 0, 10, 11, None),
-    (&[], 5, 5, 0, Some(5)),
-    (&[], 6, 5, 0, None),
-    (&[], 9, 3, 1, None),
-    (&[], 250, 255, 5, Some(250)),
-    (&[], 250, 255, 6, None),
-    (&[], 255, 255, 0, Some(255)),
-    (&[], 255, 255, 1, None),
-    (&[], 254, 255, 255, None),
-    (&[0, 10], 3, 20, 4, Some(10)),
-    (&[0, 10], 3, 20, 0, Some(3)),
-    (&[0, 10], 0, 13, 3, Some(10)),
-    (&[0, 10], 0, 13, 4, None),
-    (&[0, 10], 0, 10, 1, None),
-    (&[0, 10, 14, 20], 0, 30, 4, Some(10)),
-    (&[0, 10, 14, 20], 0, 30, 5, Some(20)),
-    (&[0, 10, 14, 20], 11, 30, 4, Some(20)),
-    (&[0, 10, 14, 20], 14, 30, 1, Some(20)),
-    (&[10, 20], 0, 30, 10, Some(0)),
-    (&[10, 20], 1, 30, 10, Some(20)),
-    (&[10, 20], 1, 29, 10, None),
-    (&[5], 0, 10, 5, Some(0)),
-    (&[5], 0, 10, 6, None),
-    (&[5], 6, 10, 1, None),
-    (&[5], 6, 10, 0, Some(6)),
-    (&[0, 254], 0, 255, 1, Some(254)),
+#[derive(Clone, Copy, Debug)]
+struct Stretch<'a, T> {
+    items: &'a [T],
+    start: T,
+    end: T,
+    len: T,
+    want: Option<T>,
+}
+
+#[rattlefmt::skip]
+const BYTES: [Stretch<'static, u8>; 27] = [
+    Stretch { items: &[], start: 0, end: 10, len: 10, want: Some(0) },
+    Stretch { items: &[], start: 0, end: 10, len: 11, want: None },
+    Stretch { items: &[], start: 5, end: 5, len: 0, want: Some(5) },
+    Stretch { items: &[], start: 6, end: 5, len: 0, want: None },
+    Stretch { items: &[], start: 9, end: 3, len: 1, want: None },
+    Stretch { items: &[], start: 250, end: 255, len: 5, want: Some(250) },
+    Stretch { items: &[], start: 250, end: 255, len: 6, want: None },
+    Stretch { items: &[], start: 255, end: 255, len: 0, want: Some(255) },
+    Stretch { items: &[], start: 255, end: 255, len: 1, want: None },
+    Stretch { items: &[], start: 254, end: 255, len: 255, want: None },
+    Stretch { items: &[0, 10], start: 3, end: 20, len: 4, want: Some(10) },
+    Stretch { items: &[0, 10], start: 3, end: 20, len: 0, want: Some(3) },
+    Stretch { items: &[0, 10], start: 0, end: 13, len: 3, want: Some(10) },
+    Stretch { items: &[0, 10], start: 0, end: 13, len: 4, want: None },
+    Stretch { items: &[0, 10], start: 0, end: 10, len: 1, want: None },
+    Stretch { items: &[0, 10, 14, 20], start: 0, end: 30, len: 4, want: Some(10) },
+    Stretch { items: &[0, 10, 14, 20], start: 0, end: 30, len: 5, want: Some(20) },
+    Stretch { items: &[0, 10, 14, 20], start: 11, end: 30, len: 4, want: Some(20) },
+    Stretch { items: &[0, 10, 14, 20], start: 14, end: 30, len: 1, want: Some(20) },
+    Stretch { items: &[10, 20], start: 0, end: 30, len: 10, want: Some(0) },
+    Stretch { items: &[10, 20], start: 1, end: 30, len: 10, want: Some(20) },
+    Stretch { items: &[10, 20], start: 1, end: 29, len: 10, want: None },
+    Stretch { items: &[5], start: 0, end: 10, len: 5, want: Some(0) },
+    Stretch { items: &[5], start: 0, end: 10, len: 6, want: None },
+    Stretch { items: &[5], start: 6, end: 10, len: 1, want: None },
+    Stretch { items: &[5], start: 6, end: 10, len: 0, want: Some(6) },
+    Stretch { items: &[0, 254], start: 0, end: 255, len: 1, want: Some(254) },
 ];
 
 // The same of numbers at the end of wide types.
-const LONG: [(&[u64], u64, u64, u64, Option<u64>); 5] = [
-    (&[0, MOST - 1], 0, MOST, 1, Some(MOST - 1)),
-    (&[0, MOST - 1], 0, MOST, 2, None),
-    (&[0, MOST], 0, MOST, MOST, None),
-    (&[], 1, MOST, MOST, None),
-    (&[], 0, MOST, MOST, Some(0)),
+#[rattlefmt::skip]
+const LONG: [Stretch<'static, u64>; 5] = [
+    Stretch { items: &[0, MOST - 1], start: 0, end: MOST, len: 1, want: Some(MOST - 1) },
+    Stretch { items: &[0, MOST - 1], start: 0, end: MOST, len: 2, want: None },
+    Stretch { items: &[0, MOST], start: 0, end: MOST, len: MOST, want: None },
+    Stretch { items: &[], start: 1, end: MOST, len: MOST, want: None },
+    Stretch { items: &[], start: 0, end: MOST, len: MOST, want: Some(0) },
 ];
 
 const MOST: u64 = u64::MAX;
 
-const LONGEST: [(&[u128], u128, u128, u128, Option<u128>); 5] = [
-    (&[], LAST - 1, LAST, 1, Some(LAST - 1)),
-    (&[], LAST - 1, LAST, 2, None),
-    (&[], LAST, LAST, LAST, None),
-    (&[0, LAST], 0, LAST, 1, None),
-    (&[], 0, LAST, LAST, Some(0)),
+#[rattlefmt::skip]
+const LONGEST: [Stretch<'static, u128>; 5] = [
+    Stretch { items: &[], start: LAST - 1, end: LAST, len: 1, want: Some(LAST - 1) },
+    Stretch { items: &[], start: LAST - 1, end: LAST, len: 2, want: None },
+    Stretch { items: &[], start: LAST, end: LAST, len: LAST, want: None },
+    Stretch { items: &[0, LAST], start: 0, end: LAST, len: 1, want: None },
+    Stretch { items: &[], start: 0, end: LAST, len: LAST, want: Some(0) },
 ];
 
 const LAST: u128 = u128::MAX;
+
+// Whether the stretch of the row fits there, beside the members of the set and of its view.
+fn fits<T: Unsigned + MadeWith<Global> + Drop>(alloc: Global, row: &Stretch<T>) -> bool {
+    fit(own(alloc, row.items), row.start, row.end, row.len) == Some([row.want; 2])
+}
 
 // Where the stretch fits beside the members of the set, and of its view.
 fn fit<T: Unsigned + Drop>(
@@ -72,16 +91,13 @@ fn fit<T: Unsigned + Drop>(
 fn stretches_fit_where_they_first_can(rt: HostRuntime) {
     let alloc = rt.alloc();
     for row in &BYTES {
-        let found = fit(own(alloc, row.0), row.1, row.2, row.3);
-        assert!(rt; found == Some([row.4; 2]), "{row:?}");
+        assert!(rt; fits(alloc, row), "{row:?}");
     }
     for row in &LONG {
-        let found = fit(own(alloc, row.0), row.1, row.2, row.3);
-        assert!(rt; found == Some([row.4; 2]), "{row:?}");
+        assert!(rt; fits(alloc, row), "{row:?}");
     }
     for row in &LONGEST {
-        let found = fit(own(alloc, row.0), row.1, row.2, row.3);
-        assert!(rt; found == Some([row.4; 2]), "{row:?}");
+        assert!(rt; fits(alloc, row), "{row:?}");
     }
     assert!(rt; fit(own(alloc, &[2, 4]), 0u16, 9, 3) == Some([Some(4); 2]));
     assert!(rt; fit(own(alloc, &[2, 4]), 0u32, 9, 2) == Some([Some(0); 2]));

@@ -46,7 +46,14 @@ impl Call {
 
 // Boundaries, where a range begins and where it ends, and the boundaries with the range put in and
 // with it taken out.
-type Row<'a> = (&'a [i64], i64, i64, &'a [i64], &'a [i64]);
+#[derive(Clone, Copy, Debug)]
+struct Row<'a> {
+    items: &'a [i64],
+    start: i64,
+    end: i64,
+    inserted: &'a [i64],
+    removed: &'a [i64],
+}
 
 const LEAST: i64 = i64::MIN;
 
@@ -54,53 +61,63 @@ const MOST: i64 = i64::MAX;
 
 // Ranges beside those of the set, within and across them, of sets without an end, at the ends of
 // the type, and of nothing.
+#[rattlefmt::skip]
 const ROWS: [Row; 34] = [
-    (&[], 5, 10, &[5, 10], &[]),
-    (&[0, 10], 10, 20, &[0, 20], &[0, 10]),
-    (&[10, 20], 0, 10, &[0, 20], &[10, 20]),
-    (&[0, 10, 20, 30], 10, 20, &[0, 30], &[0, 10, 20, 30]),
-    (&[0, 10], 20, 30, &[0, 10, 20, 30], &[0, 10]),
-    (&[20, 30], 0, 10, &[0, 10, 20, 30], &[20, 30]),
-    (
-        &[0, 9, 40, 50],
-        20,
-        30,
-        &[0, 9, 20, 30, 40, 50],
-        &[0, 9, 40, 50],
-    ),
-    (&[0, 100], 20, 30, &[0, 100], &[0, 20, 30, 100]),
-    (&[0, 10, 20, 30], 20, 30, &[0, 10, 20, 30], &[0, 10]),
-    (&[0, 10], 0, 10, &[0, 10], &[]),
-    (&[0, 10], 0, 5, &[0, 10], &[5, 10]),
-    (&[0, 10], 5, 10, &[0, 10], &[0, 5]),
-    (&[10, 20], 5, 15, &[5, 20], &[15, 20]),
-    (&[10, 20], 15, 25, &[10, 25], &[10, 15]),
-    (&[0, 10, 20, 30], 5, 25, &[0, 30], &[0, 5, 25, 30]),
-    (&[0, 10, 20, 30], 5, 15, &[0, 15, 20, 30], &[0, 5, 20, 30]),
-    (&[0, 10, 20, 30], -5, 40, &[-5, 40], &[]),
-    (&[10, 20, 30, 40], 10, 40, &[10, 40], &[]),
-    (&[0, 10, 15, 16, 20, 30], 10, 20, &[0, 30], &[0, 10, 20, 30]),
-    (
-        &[0, 10, 20, 30, 40, 50],
-        5,
-        30,
-        &[0, 30, 40, 50],
-        &[0, 5, 40, 50],
-    ),
-    (&[0, 10, 20, 30, 40, 50], 10, 45, &[0, 50], &[0, 10, 45, 50]),
-    (&[0, 10, 20], 5, 30, &[0], &[0, 5, 30]),
-    (&[10], 20, 30, &[10], &[10, 20, 30]),
-    (&[10], 0, 10, &[0], &[10]),
-    (&[10], 0, 5, &[0, 5, 10], &[10]),
-    (&[10], 0, 20, &[0], &[20]),
-    (&[10], 10, 20, &[10], &[20]),
-    (&[], LEAST, MOST, &[LEAST, MOST], &[]),
-    (&[LEAST], LEAST, MOST, &[LEAST], &[MOST]),
-    (&[0, MOST], 5, MOST, &[0, MOST], &[0, 5]),
-    (&[MOST], LEAST, MOST, &[LEAST], &[MOST]),
-    (&[0, 10], 5, 5, &[0, 10], &[0, 10]),
-    (&[0, 10, 20], 20, -1, &[0, 10, 20], &[0, 10, 20]),
-    (&[0], MOST, LEAST, &[0], &[0]),
+    Row { items: &[], start: 5, end: 10, inserted: &[5, 10], removed: &[] },
+    Row { items: &[0, 10], start: 10, end: 20, inserted: &[0, 20], removed: &[0, 10] },
+    Row { items: &[10, 20], start: 0, end: 10, inserted: &[0, 20], removed: &[10, 20] },
+    Row {
+        items: &[0, 10, 20, 30], start: 10, end: 20, inserted: &[0, 30], removed: &[0, 10, 20, 30],
+    },
+    Row { items: &[0, 10], start: 20, end: 30, inserted: &[0, 10, 20, 30], removed: &[0, 10] },
+    Row { items: &[20, 30], start: 0, end: 10, inserted: &[0, 10, 20, 30], removed: &[20, 30] },
+    Row {
+        items: &[0, 9, 40, 50], start: 20, end: 30, inserted: &[0, 9, 20, 30, 40, 50],
+        removed: &[0, 9, 40, 50],
+    },
+    Row { items: &[0, 100], start: 20, end: 30, inserted: &[0, 100], removed: &[0, 20, 30, 100] },
+    Row {
+        items: &[0, 10, 20, 30], start: 20, end: 30, inserted: &[0, 10, 20, 30], removed: &[0, 10],
+    },
+    Row { items: &[0, 10], start: 0, end: 10, inserted: &[0, 10], removed: &[] },
+    Row { items: &[0, 10], start: 0, end: 5, inserted: &[0, 10], removed: &[5, 10] },
+    Row { items: &[0, 10], start: 5, end: 10, inserted: &[0, 10], removed: &[0, 5] },
+    Row { items: &[10, 20], start: 5, end: 15, inserted: &[5, 20], removed: &[15, 20] },
+    Row { items: &[10, 20], start: 15, end: 25, inserted: &[10, 25], removed: &[10, 15] },
+    Row {
+        items: &[0, 10, 20, 30], start: 5, end: 25, inserted: &[0, 30], removed: &[0, 5, 25, 30],
+    },
+    Row {
+        items: &[0, 10, 20, 30], start: 5, end: 15, inserted: &[0, 15, 20, 30],
+        removed: &[0, 5, 20, 30],
+    },
+    Row { items: &[0, 10, 20, 30], start: -5, end: 40, inserted: &[-5, 40], removed: &[] },
+    Row { items: &[10, 20, 30, 40], start: 10, end: 40, inserted: &[10, 40], removed: &[] },
+    Row {
+        items: &[0, 10, 15, 16, 20, 30], start: 10, end: 20, inserted: &[0, 30],
+        removed: &[0, 10, 20, 30],
+    },
+    Row {
+        items: &[0, 10, 20, 30, 40, 50], start: 5, end: 30, inserted: &[0, 30, 40, 50],
+        removed: &[0, 5, 40, 50],
+    },
+    Row {
+        items: &[0, 10, 20, 30, 40, 50], start: 10, end: 45, inserted: &[0, 50],
+        removed: &[0, 10, 45, 50],
+    },
+    Row { items: &[0, 10, 20], start: 5, end: 30, inserted: &[0], removed: &[0, 5, 30] },
+    Row { items: &[10], start: 20, end: 30, inserted: &[10], removed: &[10, 20, 30] },
+    Row { items: &[10], start: 0, end: 10, inserted: &[0], removed: &[10] },
+    Row { items: &[10], start: 0, end: 5, inserted: &[0, 5, 10], removed: &[10] },
+    Row { items: &[10], start: 0, end: 20, inserted: &[0], removed: &[20] },
+    Row { items: &[10], start: 10, end: 20, inserted: &[10], removed: &[20] },
+    Row { items: &[], start: LEAST, end: MOST, inserted: &[LEAST, MOST], removed: &[] },
+    Row { items: &[LEAST], start: LEAST, end: MOST, inserted: &[LEAST], removed: &[MOST] },
+    Row { items: &[0, MOST], start: 5, end: MOST, inserted: &[0, MOST], removed: &[0, 5] },
+    Row { items: &[MOST], start: LEAST, end: MOST, inserted: &[LEAST], removed: &[MOST] },
+    Row { items: &[0, 10], start: 5, end: 5, inserted: &[0, 10], removed: &[0, 10] },
+    Row { items: &[0, 10, 20], start: 20, end: -1, inserted: &[0, 10, 20], removed: &[0, 10, 20] },
+    Row { items: &[0], start: MOST, end: LEAST, inserted: &[0], removed: &[0] },
 ];
 
 // The set of these boundaries, of which none can be copied.
@@ -110,8 +127,8 @@ fn set_of(alloc: Global, items: &[i64]) -> Option<RangeSet2<Flagged>> {
 
 // Whether the call with the row's range leaves these boundaries, and copies none.
 fn leaves(alloc: Global, row: &Row, call: Call, want: &[i64]) -> Option<bool> {
-    let mut set = set_of(alloc, row.0)?;
-    let range = with_flag(row.1, true)..with_flag(row.2, true);
+    let mut set = set_of(alloc, row.items)?;
+    let range = with_flag(row.start, true)..with_flag(row.end, true);
     call.change(&mut set, range, &mut Comparisons::new()).ok()?;
     let want = flagged(alloc, want, 0..0).ok()?;
     Some(set.boundaries() == want.as_slice())
@@ -122,13 +139,13 @@ fn ranges_are_put_in_and_taken_out_without_a_copy(rt: HostRuntime) {
     for row in &ROWS {
         for call in INSERTS {
             assert!(rt;
-                leaves(rt.alloc(), row, call, row.3) == Some(true),
+                leaves(rt.alloc(), row, call, row.inserted) == Some(true),
                 "{row:?}"
             );
         }
         for call in REMOVES {
             assert!(rt;
-                leaves(rt.alloc(), row, call, row.4) == Some(true),
+                leaves(rt.alloc(), row, call, row.removed) == Some(true),
                 "{row:?}"
             );
         }

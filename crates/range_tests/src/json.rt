@@ -4,18 +4,25 @@ use range_tests_kit::lists::gives;
 use serde_json::Value;
 use std::alloc::Global;
 
-// Texts of JSON that are not read as sets, and why.
-const REFUSED: [(&str, JsonError); 10] = [
-    ("{}", JsonError::NotArray),
-    ("\"5\"", JsonError::NotArray),
-    ("null", JsonError::NotArray),
-    ("[1,2.5]", JsonError::NotInteger { index: 1 }),
-    ("[9223372036854775808]", JsonError::NotInteger { index: 0 }),
-    ("[1,null,2.5]", JsonError::NotInteger { index: 1 }),
-    ("[1,[2],\"x\"]", JsonError::NotInteger { index: 1 }),
-    ("[1,2,true]", JsonError::NotInteger { index: 2 }),
-    ("[-0]", JsonError::NotInteger { index: 0 }),
-    ("[1.0]", JsonError::NotInteger { index: 0 }),
+// A text of JSON that isn't read as a set, and why.
+#[derive(Clone, Copy)]
+struct Refused<'a> {
+    text: &'a str,
+    why: JsonError,
+}
+
+#[rattlefmt::skip]
+const REFUSED: [Refused; 10] = [
+    Refused { text: "{}", why: JsonError::NotArray },
+    Refused { text: "\"5\"", why: JsonError::NotArray },
+    Refused { text: "null", why: JsonError::NotArray },
+    Refused { text: "[1,2.5]", why: JsonError::NotInteger { index: 1 } },
+    Refused { text: "[9223372036854775808]", why: JsonError::NotInteger { index: 0 } },
+    Refused { text: "[1,null,2.5]", why: JsonError::NotInteger { index: 1 } },
+    Refused { text: "[1,[2],\"x\"]", why: JsonError::NotInteger { index: 1 } },
+    Refused { text: "[1,2,true]", why: JsonError::NotInteger { index: 2 } },
+    Refused { text: "[-0]", why: JsonError::NotInteger { index: 0 } },
+    Refused { text: "[1.0]", why: JsonError::NotInteger { index: 0 } },
 ];
 
 // What a text of JSON is read as.
@@ -24,11 +31,19 @@ fn read(alloc: Global, text: &str) -> Option<Result<RangeSet2<i64>, JsonError>> 
     Some(RangeSet::from_json(alloc, &value))
 }
 
-// Texts of arrays, the boundaries of their set, and its text.
-const READ: [(&str, &[i64], &str); 3] = [
-    ("[5,1,5]", &[1, 5], "[1,5]"),
-    ("[]", &[], "[]"),
-    ("[2,1,2]", &[1, 2], "[1,2]"),
+// The text of an array, the boundaries of its set, and the set's own text.
+#[derive(Clone, Copy)]
+struct ReadAs<'a> {
+    text: &'a str,
+    items: &'a [i64],
+    sorted: &'a str,
+}
+
+#[rattlefmt::skip]
+const READ: [ReadAs; 3] = [
+    ReadAs { text: "[5,1,5]", items: &[1, 5], sorted: "[1,5]" },
+    ReadAs { text: "[]", items: &[], sorted: "[]" },
+    ReadAs { text: "[2,1,2]", items: &[1, 2], sorted: "[1,2]" },
 ];
 
 // Whether the text is read as the set of these boundaries.
@@ -53,8 +68,12 @@ fn is_written(alloc: Global, text: &str, want: &str) -> Option<bool> {
 
 #[test]
 fn arrays_in_any_order_are_read_and_written_sorted(rt: HostRuntime) {
-    for (text, want, sorted) in READ {
-        assert!(rt; is_read(rt.alloc(), text, want), "{text}");
+    for ReadAs {
+        text,
+        items,
+        sorted,
+    } in READ {
+        assert!(rt; is_read(rt.alloc(), text, items), "{text}");
         assert!(rt;
             is_written(rt.alloc(), text, sorted) == Some(true),
             "{text}"
@@ -69,7 +88,7 @@ fn refusal(alloc: Global, text: &str) -> Option<JsonError> {
 
 #[test]
 fn other_values_are_refused(rt: HostRuntime) {
-    for (text, want) in REFUSED {
-        assert!(rt; refusal(rt.alloc(), text) == Some(want), "{text}");
+    for Refused { text, why } in REFUSED {
+        assert!(rt; refusal(rt.alloc(), text) == Some(why), "{text}");
     }
 }

@@ -4,64 +4,65 @@ use range_tests_kit::lists::own;
 
 // Boundaries, a value, the member before it or there, and the value before it or there that is
 // none.
-type Row<'a, T> = (&'a [T], T, Option<T>, Option<T>);
+#[derive(Clone, Copy, Debug)]
+struct Row<'a, T> {
+    items: &'a [T],
+    from: T,
+    member: Option<T>,
+    gap: Option<T>,
+}
 
+#[rattlefmt::skip]
 const NUMBERS: [Row<'static, i8>; 17] = [
-    (&[], -128, None, Some(-128)),
-    (&[], 127, None, Some(127)),
-    (&[-128], -128, Some(-128), None),
-    (&[-128], 127, Some(127), None),
-    (&[127], 126, None, Some(126)),
-    (&[127], 127, Some(127), Some(126)),
-    (&[-128, 127], 0, Some(0), None),
-    (&[-128, 127], 127, Some(126), Some(127)),
-    (&[-127, 0], -128, None, Some(-128)),
-    (&[-127, 0], -127, Some(-127), Some(-128)),
-    (&[3, 5, 9], 2, None, Some(2)),
-    (&[3, 5, 9], 3, Some(3), Some(2)),
-    (&[3, 5, 9], 4, Some(4), Some(2)),
-    (&[3, 5, 9], 5, Some(4), Some(5)),
-    (&[3, 5, 9], 8, Some(4), Some(8)),
-    (&[3, 5, 9], 9, Some(9), Some(8)),
-    (&[3, 5, 9], 100, Some(100), Some(8)),
+    Row { items: &[], from: -128, member: None, gap: Some(-128) },
+    Row { items: &[], from: 127, member: None, gap: Some(127) },
+    Row { items: &[-128], from: -128, member: Some(-128), gap: None },
+    Row { items: &[-128], from: 127, member: Some(127), gap: None },
+    Row { items: &[127], from: 126, member: None, gap: Some(126) },
+    Row { items: &[127], from: 127, member: Some(127), gap: Some(126) },
+    Row { items: &[-128, 127], from: 0, member: Some(0), gap: None },
+    Row { items: &[-128, 127], from: 127, member: Some(126), gap: Some(127) },
+    Row { items: &[-127, 0], from: -128, member: None, gap: Some(-128) },
+    Row { items: &[-127, 0], from: -127, member: Some(-127), gap: Some(-128) },
+    Row { items: &[3, 5, 9], from: 2, member: None, gap: Some(2) },
+    Row { items: &[3, 5, 9], from: 3, member: Some(3), gap: Some(2) },
+    Row { items: &[3, 5, 9], from: 4, member: Some(4), gap: Some(2) },
+    Row { items: &[3, 5, 9], from: 5, member: Some(4), gap: Some(5) },
+    Row { items: &[3, 5, 9], from: 8, member: Some(4), gap: Some(8) },
+    Row { items: &[3, 5, 9], from: 9, member: Some(9), gap: Some(8) },
+    Row { items: &[3, 5, 9], from: 100, member: Some(100), gap: Some(8) },
 ];
 
+#[rattlefmt::skip]
 const CHARACTERS: [Row<'static, char>; 4] = [
-    (&['a', 'd'], 'z', Some('c'), Some('z')),
-    (
-        &['\u{E000}'],
-        '\u{E001}',
-        Some('\u{E001}'),
-        Some('\u{D7FF}'),
-    ),
-    (
-        &['a', '\u{E000}'],
-        '\u{E000}',
-        Some('\u{D7FF}'),
-        Some('\u{E000}'),
-    ),
-    (&['\0'], '\u{10FFFF}', Some('\u{10FFFF}'), None),
+    Row { items: &['a', 'd'], from: 'z', member: Some('c'), gap: Some('z') },
+    Row { items: &['\u{E000}'], from: '\u{E001}', member: Some('\u{E001}'), gap: Some('\u{D7FF}') },
+    Row {
+        items: &['a', '\u{E000}'], from: '\u{E000}', member: Some('\u{D7FF}'),
+        gap: Some('\u{E000}'),
+    },
+    Row { items: &['\0'], from: '\u{10FFFF}', member: Some('\u{10FFFF}'), gap: None },
 ];
 
 // Whether the set and its view go back like that from the value.
 fn go_back<T: FromPlace + Drop>(set: Option<RangeSet2<T>>, row: &Row<T>) -> Option<bool> {
-    let (set, from) = (set?, &row.1);
+    let (set, from) = (set?, &row.from);
     let view = set.as_ref();
-    let members = set.prev_member(from) == row.2 && view.prev_member(from) == row.2;
-    Some(members && set.prev_gap(from) == row.3 && view.prev_gap(from) == row.3)
+    let members = set.prev_member(from) == row.member && view.prev_member(from) == row.member;
+    Some(members && set.prev_gap(from) == row.gap && view.prev_gap(from) == row.gap)
 }
 
 #[test]
 fn a_value_comes_after_a_member_and_after_a_gap(rt: HostRuntime) {
     for row in &NUMBERS {
         assert!(rt;
-            go_back(own(rt.alloc(), row.0), row) == Some(true),
+            go_back(own(rt.alloc(), row.items), row) == Some(true),
             "{row:?}"
         );
     }
     for row in &CHARACTERS {
         assert!(rt;
-            go_back(own(rt.alloc(), row.0), row) == Some(true),
+            go_back(own(rt.alloc(), row.items), row) == Some(true),
             "{row:?}"
         );
     }
@@ -96,35 +97,51 @@ fn a_value_is_made_from_its_place(rt: HostRuntime) {
 }
 
 // Boundaries, a value, and how many members are below it.
-const RANKS: [(&[i8], i8, u128); 12] = [
-    (&[], 0, 0),
-    (&[-128], -128, 0),
-    (&[-128], 127, 255),
-    (&[-128, 127], 127, 255),
-    (&[127], 127, 0),
-    (&[3, 5, 9], 2, 0),
-    (&[3, 5, 9], 3, 0),
-    (&[3, 5, 9], 4, 1),
-    (&[3, 5, 9], 5, 2),
-    (&[3, 5, 9], 9, 2),
-    (&[3, 5, 9], 12, 5),
-    (&[-9, -5, 0, 7, 9, 11], 10, 12),
+#[derive(Clone, Copy, Debug)]
+struct Rank<'a> {
+    items: &'a [i8],
+    at: i8,
+    want: u128,
+}
+
+#[rattlefmt::skip]
+const RANKS: [Rank; 12] = [
+    Rank { items: &[], at: 0, want: 0 },
+    Rank { items: &[-128], at: -128, want: 0 },
+    Rank { items: &[-128], at: 127, want: 255 },
+    Rank { items: &[-128, 127], at: 127, want: 255 },
+    Rank { items: &[127], at: 127, want: 0 },
+    Rank { items: &[3, 5, 9], at: 2, want: 0 },
+    Rank { items: &[3, 5, 9], at: 3, want: 0 },
+    Rank { items: &[3, 5, 9], at: 4, want: 1 },
+    Rank { items: &[3, 5, 9], at: 5, want: 2 },
+    Rank { items: &[3, 5, 9], at: 9, want: 2 },
+    Rank { items: &[3, 5, 9], at: 12, want: 5 },
+    Rank { items: &[-9, -5, 0, 7, 9, 11], at: 10, want: 12 },
 ];
 
 // Boundaries, a number, and the member with so many below it.
-const SELECTED: [(&[i8], u128, Option<i8>); 12] = [
-    (&[], 0, None),
-    (&[-128], 0, Some(-128)),
-    (&[-128], 255, Some(127)),
-    (&[-128], 256, None),
-    (&[-128], u128::MAX, None),
-    (&[3, 5], 1, Some(4)),
-    (&[3, 5], 2, None),
-    (&[3, 5, 9], 1, Some(4)),
-    (&[3, 5, 9], 2, Some(9)),
-    (&[3, 5, 9], 120, Some(127)),
-    (&[3, 5, 9], 121, None),
-    (&[-9, -5, 0, 7, 9, 11], 12, Some(10)),
+#[derive(Clone, Copy, Debug)]
+struct Selected<'a> {
+    items: &'a [i8],
+    k: u128,
+    want: Option<i8>,
+}
+
+#[rattlefmt::skip]
+const SELECTED: [Selected; 12] = [
+    Selected { items: &[], k: 0, want: None },
+    Selected { items: &[-128], k: 0, want: Some(-128) },
+    Selected { items: &[-128], k: 255, want: Some(127) },
+    Selected { items: &[-128], k: 256, want: None },
+    Selected { items: &[-128], k: u128::MAX, want: None },
+    Selected { items: &[3, 5], k: 1, want: Some(4) },
+    Selected { items: &[3, 5], k: 2, want: None },
+    Selected { items: &[3, 5, 9], k: 1, want: Some(4) },
+    Selected { items: &[3, 5, 9], k: 2, want: Some(9) },
+    Selected { items: &[3, 5, 9], k: 120, want: Some(127) },
+    Selected { items: &[3, 5, 9], k: 121, want: None },
+    Selected { items: &[-9, -5, 0, 7, 9, 11], k: 12, want: Some(10) },
 ];
 
 // Whether so many members are below the value.
@@ -141,7 +158,10 @@ fn has_nth<T: FromPlace + Drop>(set: Option<RangeSet2<T>>, k: u128, want: Option
 fn members_below_a_value_are_counted(rt: HostRuntime) {
     let alloc = rt.alloc();
     for row in &RANKS {
-        assert!(rt; has_below(own(alloc, row.0), &row.1, row.2), "{row:?}");
+        assert!(rt;
+            has_below(own(alloc, row.items), &row.at, row.want),
+            "{row:?}"
+        );
     }
     assert!(rt; has_below(own(alloc, &['\u{D7FE}', '\u{E001}']), &'\u{E000}', 2));
     assert!(rt; has_below(own(alloc, &['\u{D7FE}', '\u{E001}']), &'\u{F000}', 3));
@@ -152,7 +172,7 @@ fn members_below_a_value_are_counted(rt: HostRuntime) {
 fn members_are_found_by_how_many_are_below(rt: HostRuntime) {
     let alloc = rt.alloc();
     for row in &SELECTED {
-        assert!(rt; has_nth(own(alloc, row.0), row.1, row.2), "{row:?}");
+        assert!(rt; has_nth(own(alloc, row.items), row.k, row.want), "{row:?}");
     }
     assert!(rt; has_nth(own(alloc, &['\u{D7FE}', '\u{E001}']), 2, Some('\u{E000}')));
     assert!(rt; has_nth(own(alloc, &['\u{10FFFE}']), 2, None));

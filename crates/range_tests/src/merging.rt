@@ -209,27 +209,36 @@ pub(crate) fn wrong_merge(alloc: Global, case: Case) -> Option<Call> {
     }
 }
 
-// Two lists of which something is taken, and how many comparisons find it: one where it is a first
-// item, of however long a run.
-const FOUND: [(Operation, &[i64], &[i64], u128); 12] = [
-    (Operation::Union, &[0, 1, 2, 3], &[10, 20], 1),
-    (Operation::Union, &[10, 20], &[0, 1, 2, 3], 1),
-    (Operation::Union, &[0, 20], &[10], 1),
-    (Operation::Union, &[10], &[0, 20], 1),
-    (Operation::Union, &[0, 1], &[0, 1, 2], 1),
-    (Operation::Intersection, &[0, 1, 2], &[0, 5], 1),
-    (Operation::Difference, &[0, 1, 2, 3], &[10, 20], 1),
-    (Operation::SymmetricDifference, &[0, 20], &[10, 30, 40], 1),
-    (Operation::SymmetricDifference, &[10, 30, 40], &[0, 20], 1),
-    (Operation::SymmetricDifference, &[5, 6], &[0, 1, 2, 3, 4], 1),
+// Two lists of which the operation takes something, and how many comparisons find it.
+#[derive(Clone, Copy)]
+struct Found<'a> {
+    op: Operation,
+    left: &'a [i64],
+    right: &'a [i64],
+    made: u128,
+}
+
+// One comparison finds a first item that is taken, of however long a run.
+#[rattlefmt::skip]
+const FOUND: [Found; 12] = [
+    Found { op: Operation::Union, left: &[0, 1, 2, 3], right: &[10, 20], made: 1 },
+    Found { op: Operation::Union, left: &[10, 20], right: &[0, 1, 2, 3], made: 1 },
+    Found { op: Operation::Union, left: &[0, 20], right: &[10], made: 1 },
+    Found { op: Operation::Union, left: &[10], right: &[0, 20], made: 1 },
+    Found { op: Operation::Union, left: &[0, 1], right: &[0, 1, 2], made: 1 },
+    Found { op: Operation::Intersection, left: &[0, 1, 2], right: &[0, 5], made: 1 },
+    Found { op: Operation::Difference, left: &[0, 1, 2, 3], right: &[10, 20], made: 1 },
+    Found { op: Operation::SymmetricDifference, left: &[0, 20], right: &[10, 30, 40], made: 1 },
+    Found { op: Operation::SymmetricDifference, left: &[10, 30, 40], right: &[0, 20], made: 1 },
+    Found { op: Operation::SymmetricDifference, left: &[5, 6], right: &[0, 1, 2, 3, 4], made: 1 },
     // A run of one is dropped first, which takes two comparisons and tells how the next one begins.
-    (Operation::Intersection, &[0, 5, 6, 7], &[3, 4], 2),
-    (Operation::Intersection, &[3, 4], &[0, 5, 6, 7], 2),
+    Found { op: Operation::Intersection, left: &[0, 5, 6, 7], right: &[3, 4], made: 2 },
+    Found { op: Operation::Intersection, left: &[3, 4], right: &[0, 5, 6, 7], made: 2 },
 ];
 
-fn found_after(alloc: Global, op: Operation, left: &[i64], right: &[i64]) -> Option<[u128; 4]> {
-    let (set, that) = (set_of(alloc, left)?, RangeSetRef::new(right)?);
-    match op {
+fn found_after(alloc: Global, row: Found) -> Option<[u128; 4]> {
+    let (set, that) = (set_of(alloc, row.left)?, RangeSetRef::new(row.right)?);
+    match row.op {
         Operation::Union => tests(&set, that, &UnionOp, true),
         Operation::Intersection => tests(&set, that, &IntersectionOp, true),
         Operation::Difference => tests(&set, that, &DiffOp, true),
@@ -239,9 +248,14 @@ fn found_after(alloc: Global, op: Operation, left: &[i64], right: &[i64]) -> Opt
 
 #[test]
 fn a_test_stops_before_it_measures_a_run(rt: HostRuntime) {
-    for (op, left, right, made) in FOUND {
-        let found = found_after(rt.alloc(), op, left, right);
-        assert_eq!(rt; found, Some([made; 4]), "{op:?} of {left:?} and {right:?}");
+    for row in FOUND {
+        let found = found_after(rt.alloc(), row);
+        let (op, left, right) = (row.op, row.left, row.right);
+        assert_eq!(rt;
+            found,
+            Some([row.made; 4]),
+            "{op:?} of {left:?} and {right:?}"
+        );
     }
 }
 
@@ -351,6 +365,22 @@ fn searches_count_the_items_at_or_below(rt: HostRuntime) {
     }
 }
 
+// Two lists, their first run, and how many comparisons it may take.
+#[derive(Clone, Copy)]
+struct First<'a> {
+    left: &'a [i64],
+    right: &'a [i64],
+    run: Run,
+    most: u128,
+}
+
+#[rattlefmt::skip]
+const FIRSTS: [First; 3] = [
+    First { left: &[0, 1, 2, 7], right: &[3, 5], run: Run::Left(3), most: 4 },
+    First { left: &[3], right: &[3, 5], run: Run::Both, most: 2 },
+    First { left: &[3, 5], right: &[0, 1, 2, 7], run: Run::Right(3), most: 4 },
+];
+
 // The first run of two lists that are not empty, and how many comparisons it took.
 fn first_run(a: &[i64], b: &[i64]) -> Option<(Run, u128)> {
     let (a, b) = (
@@ -367,16 +397,12 @@ fn first_run(a: &[i64], b: &[i64]) -> Option<(Run, u128)> {
 
 #[test]
 fn first_runs_are_measured(rt: HostRuntime) {
-    let rows: [(&[i64], &[i64], Run, u128); 3] = [
-        (&[0, 1, 2, 7], &[3, 5], Run::Left(3), 4),
-        (&[3], &[3, 5], Run::Both, 2),
-        (&[3, 5], &[0, 1, 2, 7], Run::Right(3), 4),
-    ];
-    for (a, b, want, most) in rows {
-        let found = first_run(a, b);
+    for row in FIRSTS {
+        let found = first_run(row.left, row.right);
         assert!(rt;
-            matches!(found, Some((run, made)) if run == want && made <= most),
-            "{want:?}"
+            matches!(found, Some((run, made)) if run == row.run && made <= row.most),
+            "{:?}",
+            row.run
         );
     }
     assert!(rt; Run::Left(3) != Run::Right(3) && Run::Left(3) != Run::Left(2));

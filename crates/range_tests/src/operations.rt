@@ -13,7 +13,12 @@ const MIN: i64 = i64::MIN;
 
 macro_rules! row {
     ($a:expr, $b:expr => $union:expr, $both:expr, $less:expr, $differ:expr; $most:expr) => {
-        (&$a, &$b, [&$union, &$both, &$less, &$differ], $most)
+        Row {
+            left: &$a,
+            right: &$b,
+            wants: [&$union, &$both, &$less, &$differ],
+            most: $most,
+        }
     };
 }
 
@@ -88,7 +93,12 @@ fn wrong_call(alloc: Global, case: Case) -> Option<Call> {
 
 // That of a row.
 fn wrong_of_row(alloc: Global, row: &Row) -> Option<(Operation, Call)> {
-    let (left, right, wants, most) = *row;
+    let Row {
+        left,
+        right,
+        wants,
+        most,
+    } = *row;
     for (op, want) in OPERATIONS.iter().zip(wants) {
         let op = *op;
         if let Some(call) = wrong_call(
@@ -136,8 +146,16 @@ pub(crate) fn wrong_of(
 fn every_form_gives_the_rows(rt: HostRuntime) {
     for row in &ROWS {
         let found = wrong_of_row(rt.alloc(), row);
-        assert_eq!(rt; found, None, "of {:?} and {:?}", row.0, row.1);
+        assert_eq!(rt; found, None, "of {:?} and {:?}", row.left, row.right);
     }
+}
+
+// Two lists, and how many comparisons each operation of them may take.
+#[derive(Clone, Copy)]
+struct Pair<'a> {
+    left: &'a [i64],
+    right: &'a [i64],
+    most: u128,
 }
 
 // Lists that lie apart, every other number, and lists of which the one's last half is the other's
@@ -148,49 +166,60 @@ fn every_form_gives_long_lists(rt: HostRuntime) -> Result<(), Fail> {
     let points = numbers(alloc, -5, 201)?;
     let (low, next) = (numbers(alloc, 0, 64)?, numbers(alloc, 32, 96)?);
     let (even, odd) = (every_other(alloc, 0, 128)?, every_other(alloc, 1, 128)?);
-    let rows: [(&[i64], &[i64], u128); 4] = [
-        (&[100, 200], low.as_slice(), 18),
-        (low.as_slice(), &[-5, 100], 18),
-        (even.as_slice(), odd.as_slice(), 256),
-        (low.as_slice(), next.as_slice(), 88),
+    let (low, next) = (low.as_slice(), next.as_slice());
+    #[rattlefmt::skip]
+    let pairs = [
+        Pair { left: &[100, 200], right: low, most: 18 },
+        Pair { left: low, right: &[-5, 100], most: 18 },
+        Pair { left: even.as_slice(), right: odd.as_slice(), most: 256 },
+        Pair { left: low, right: next, most: 88 },
     ];
-    for (a, b, most) in rows {
-        let found = wrong_of(alloc, points.as_slice(), a, b, most)?;
-        assert_eq!(rt; found, None, "of {a:?} and {b:?}");
+    for Pair { left, right, most } in pairs {
+        let found = wrong_of(alloc, points.as_slice(), left, right, most)?;
+        assert_eq!(rt; found, None, "of {left:?} and {right:?}");
     }
     Ok(())
 }
+
+// So many numbers beside as many, and how many comparisons that may take.
+#[derive(Clone, Copy)]
+struct Block {
+    length: usize,
+    most: u128,
+}
+
+// Four times as many comparisons as the length has binary digits.
+#[rattlefmt::skip]
+const BLOCKS: [Block; 9] = [
+    Block { length: 1, most: 4 },
+    Block { length: 2, most: 8 },
+    Block { length: 3, most: 8 },
+    Block { length: 4, most: 12 },
+    Block { length: 7, most: 12 },
+    Block { length: 8, most: 16 },
+    Block { length: 63, most: 24 },
+    Block { length: 64, most: 28 },
+    Block { length: 10_000, most: 56 },
+];
 
 // The first wrong call of so many numbers and as many that follow them.
 fn wrong_blocks(
     alloc: Global,
     all: &[i64],
-    length: usize,
-    most: u128,
+    block: Block,
 ) -> Result<Option<(Operation, Call)>, AllocError> {
-    let low = all.get(..length).unwrap_or(&[]);
-    let rest = all.get(length..).unwrap_or(&[]);
-    let high = rest.get(..length).unwrap_or(&[]);
-    wrong_of(alloc, all, low, high, most)
+    let low = all.get(..block.length).unwrap_or(&[]);
+    let rest = all.get(block.length..).unwrap_or(&[]);
+    let high = rest.get(..block.length).unwrap_or(&[]);
+    wrong_of(alloc, all, low, high, block.most)
 }
 
-// At most four times as many comparisons as the length has binary digits.
 #[test]
 fn blocks_cost_their_digits(rt: HostRuntime) -> Result<(), Fail> {
     let all = numbers(rt.alloc(), 0, 20_000)?;
-    for (length, most) in [
-        (1, 4),
-        (2, 8),
-        (3, 8),
-        (4, 12),
-        (7, 12),
-        (8, 16),
-        (63, 24),
-        (64, 28),
-        (10_000, 56),
-    ] {
-        let found = wrong_blocks(rt.alloc(), all.as_slice(), length, most)?;
-        assert_eq!(rt; found, None, "at {length}");
+    for block in BLOCKS {
+        let found = wrong_blocks(rt.alloc(), all.as_slice(), block)?;
+        assert_eq!(rt; found, None, "at {}", block.length);
     }
     Ok(())
 }
@@ -235,11 +264,14 @@ fn made_of(
 
 // The first operation and form that makes other items.
 fn wrong_letters(alloc: Global, row: &Row) -> Result<Option<(Operation, Form)>, AllocError> {
-    let (a, b) = (lettered(alloc, row.0, b'a')?, lettered(alloc, row.1, b'b')?);
-    for (op, want) in OPERATIONS.iter().zip(row.2) {
+    let (a, b) = (
+        lettered(alloc, row.left, b'a')?,
+        lettered(alloc, row.right, b'b')?,
+    );
+    for (op, want) in OPERATIONS.iter().zip(row.wants) {
         for form in FORMS {
             match made_of(alloc, form, *op, a.as_slice(), b.as_slice()) {
-                Some(set) if are_lettered(set.boundaries(), want, row.0) => {}
+                Some(set) if are_lettered(set.boundaries(), want, row.left) => {}
                 _ => return Ok(Some((*op, form))),
             }
         }
@@ -251,7 +283,7 @@ fn wrong_letters(alloc: Global, row: &Row) -> Result<Option<(Operation, Form)>, 
 fn of_equal_boundaries_the_left_one_stays(rt: HostRuntime) -> Result<(), Fail> {
     for row in &ROWS {
         let found = wrong_letters(rt.alloc(), row)?;
-        assert_eq!(rt; found, None, "of {:?} and {:?}", row.0, row.1);
+        assert_eq!(rt; found, None, "of {:?} and {:?}", row.left, row.right);
     }
     Ok(())
 }

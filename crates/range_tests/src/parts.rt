@@ -64,6 +64,11 @@ fn sets_are_cut_into_the_shortest_parts(rt: HostRuntime) {
     for row in &SIGNED {
         assert!(rt; are_cut(alloc, row) == Some(true), "{row:?}");
     }
-    let only = Cut { items: &[Only], at: Only, left: &[], right: &[Only] };
+    let only = Cut {
+        items: &[Only],
+        at: Only,
+        left: &[],
+        right: &[Only],
+    };
     assert!(rt; are_cut(alloc, &only) == Some(true));
 }

@@ -8,28 +8,38 @@ use std::cmp::Ordering::{self, Equal, Greater, Less};
 use std::test::Fail;
 
 // Boundaries, an element, whether it is a member, and how many comparisons may tell that.
-const MEMBERS: [(&[u64], u64, bool, u128); 8] = [
-    (&[0, 2], 0, true, 2),
-    (&[0, 2], 1, true, 2),
-    (&[0, 2], 2, false, 2),
-    (&[0, 2, 4, 8], 2, false, 3),
-    (&[0, 2, 4, 8], 3, false, 3),
-    (&[0, 2, 4, 8], 4, true, 3),
-    (&[0, 2, 4, 8], 8, false, 3),
-    (&[u64::MAX], u64::MAX, true, 1),
+#[derive(Clone, Copy, Debug)]
+struct Asked<'a, T> {
+    items: &'a [T],
+    item: T,
+    want: bool,
+    most: u128,
+}
+
+#[rattlefmt::skip]
+const MEMBERS: [Asked<'static, u64>; 8] = [
+    Asked { items: &[0, 2], item: 0, want: true, most: 2 },
+    Asked { items: &[0, 2], item: 1, want: true, most: 2 },
+    Asked { items: &[0, 2], item: 2, want: false, most: 2 },
+    Asked { items: &[0, 2, 4, 8], item: 2, want: false, most: 3 },
+    Asked { items: &[0, 2, 4, 8], item: 3, want: false, most: 3 },
+    Asked { items: &[0, 2, 4, 8], item: 4, want: true, most: 3 },
+    Asked { items: &[0, 2, 4, 8], item: 8, want: false, most: 3 },
+    Asked { items: &[u64::MAX], item: u64::MAX, want: true, most: 1 },
 ];
 
 // The same of numbers with a sign.
-const SIGNED: [(&[i64], i64, bool, u128); 9] = [
-    (&[0, 10], -1, false, 2),
-    (&[0, 10], 0, true, 2),
-    (&[0, 10], 1, true, 2),
-    (&[0, 10], 9, true, 2),
-    (&[0, 10], 10, false, 2),
-    (&[0, 10, 20], 10, false, 2),
-    (&[], 0, false, 0),
-    (&[7], 6, false, 1),
-    (&[7], 7, true, 1),
+#[rattlefmt::skip]
+const SIGNED: [Asked<'static, i64>; 9] = [
+    Asked { items: &[0, 10], item: -1, want: false, most: 2 },
+    Asked { items: &[0, 10], item: 0, want: true, most: 2 },
+    Asked { items: &[0, 10], item: 1, want: true, most: 2 },
+    Asked { items: &[0, 10], item: 9, want: true, most: 2 },
+    Asked { items: &[0, 10], item: 10, want: false, most: 2 },
+    Asked { items: &[0, 10, 20], item: 10, want: false, most: 2 },
+    Asked { items: &[], item: 0, want: false, most: 0 },
+    Asked { items: &[7], item: 6, want: false, most: 1 },
+    Asked { items: &[7], item: 7, want: true, most: 1 },
 ];
 
 // Whether the set and its view say of an element that it is a member or not, plain and counted, in
@@ -45,13 +55,13 @@ fn has<T: Ord + Drop>(set: Option<RangeSet2<T>>, item: &T, want: bool, most: u12
 #[test]
 fn elements_are_members(rt: HostRuntime) {
     let (alloc, back) = (rt.alloc(), [from_end(255), from_end(250)]);
-    for (items, item, want, most) in MEMBERS {
-        let found = has(own(alloc, items), &item, want, most);
-        assert!(rt; found == Some(true), "{item} in {items:?}");
+    for row in &MEMBERS {
+        let found = has(own(alloc, row.items), &row.item, row.want, row.most);
+        assert!(rt; found == Some(true), "{row:?}");
     }
-    for (items, item, want, most) in SIGNED {
-        let found = has(own(alloc, items), &item, want, most);
-        assert!(rt; found == Some(true), "{item} in {items:?}");
+    for row in &SIGNED {
+        let found = has(own(alloc, row.items), &row.item, row.want, row.most);
+        assert!(rt; found == Some(true), "{row:?}");
     }
     for (c, want) in [
         ('a', true),
@@ -83,7 +93,7 @@ fn is_empty<T: Ord + Drop>(set: Option<RangeSet2<T>>) -> Option<[bool; 2]> {
 #[test]
 fn sets_without_a_boundary_are_empty(rt: HostRuntime) {
     let alloc = rt.alloc();
-    for (items, _, _, _) in SIGNED {
+    for Asked { items, .. } in SIGNED {
         let want = items.len() == 0;
         assert!(rt; is_empty(own(alloc, items)) == Some([want; 2]), "{items:?}");
     }
@@ -94,34 +104,59 @@ const LEAST: i64 = i64::MIN;
 
 // Two lists of boundaries, whether the first intersects, is a subset and is a superset of the
 // second, and how they stand in order.
-type Row<'a> = (&'a [i64], &'a [i64], [bool; 3], Ordering);
+#[derive(Clone, Copy, Debug)]
+struct Row<'a> {
+    left: &'a [i64],
+    right: &'a [i64],
+    meet: bool,
+    within: bool,
+    over: bool,
+    order: Ordering,
+}
 
+#[rattlefmt::skip]
 const PAIRS: [Row; 11] = [
-    (&[0, 10], &[20], [false, false, false], Less),
-    (&[0, 10], &[LEAST, 10], [true, true, false], Greater),
-    (&[0, 5], &[0, 10], [true, true, false], Less),
-    (&[0, 10], &[0, 5], [true, false, true], Greater),
-    (&[3, 5], &[0], [true, true, false], Greater),
-    (&[], &[], [false, true, true], Equal),
-    (&[], &[0, 5], [false, true, false], Less),
-    (&[0, 10], &[0, 10], [true, true, true], Equal),
-    (&[0, 10], &[0, 11], [true, true, false], Less),
-    (&[0, 5], &[5, 10], [false, false, false], Less),
-    (&[LEAST, 10], &[20], [false, false, false], Less),
+    Row { left: &[0, 10], right: &[20], meet: false, within: false, over: false, order: Less },
+    Row {
+        left: &[0, 10], right: &[LEAST, 10], meet: true, within: true, over: false, order: Greater,
+    },
+    Row { left: &[0, 5], right: &[0, 10], meet: true, within: true, over: false, order: Less },
+    Row { left: &[0, 10], right: &[0, 5], meet: true, within: false, over: true, order: Greater },
+    Row { left: &[3, 5], right: &[0], meet: true, within: true, over: false, order: Greater },
+    Row { left: &[], right: &[], meet: false, within: true, over: true, order: Equal },
+    Row { left: &[], right: &[0, 5], meet: false, within: true, over: false, order: Less },
+    Row { left: &[0, 10], right: &[0, 10], meet: true, within: true, over: true, order: Equal },
+    Row { left: &[0, 10], right: &[0, 11], meet: true, within: true, over: false, order: Less },
+    Row { left: &[0, 5], right: &[5, 10], meet: false, within: false, over: false, order: Less },
+    Row { left: &[LEAST, 10], right: &[20], meet: false, within: false, over: false, order: Less },
 ];
 
 // The question of two sets, or of their views, that is answered otherwise, if there is one.
 fn wrong<T: Ord>(left: &RangeSet2<T>, right: &RangeSet2<T>, row: &Row) -> Option<&'static str> {
     let (a, b) = (left.as_ref(), right.as_ref());
-    let ([meet, within, over], order) = (row.2, row.3);
     let answers = [
-        ("intersects", left.intersects(b), a.intersects(b), meet),
-        ("is_disjoint", left.is_disjoint(b), a.is_disjoint(b), !meet),
-        ("is_subset", left.is_subset(b), a.is_subset(b), within),
-        ("is_superset", left.is_superset(b), a.is_superset(b), over),
-        ("==", left == right, a == b, order.is_eq()),
-        ("eq_ref", left.eq_ref(b), right.eq_ref(a), order.is_eq()),
-        ("cmp", a.cmp(&b) == order, (a < b) == order.is_lt(), true),
+        ("intersects", left.intersects(b), a.intersects(b), row.meet),
+        (
+            "is_disjoint",
+            left.is_disjoint(b),
+            a.is_disjoint(b),
+            !row.meet,
+        ),
+        ("is_subset", left.is_subset(b), a.is_subset(b), row.within),
+        (
+            "is_superset",
+            left.is_superset(b),
+            a.is_superset(b),
+            row.over,
+        ),
+        ("==", left == right, a == b, row.order.is_eq()),
+        ("eq_ref", left.eq_ref(b), right.eq_ref(a), row.order.is_eq()),
+        (
+            "cmp",
+            a.cmp(&b) == row.order,
+            (a < b) == row.order.is_lt(),
+            true,
+        ),
     ];
     for (name, of_sets, of_views, want) in answers {
         if of_sets != want || of_views != want {
@@ -147,9 +182,12 @@ fn wrong_of<T: Ord + Drop>(
 fn questions_of_two_sets_are_answered_by_members(rt: HostRuntime) -> Result<(), Fail> {
     let alloc = rt.alloc();
     for row in &PAIRS {
-        let found = wrong_of::<i64>(own(alloc, row.0), own(alloc, row.1), row);
+        let found = wrong_of::<i64>(own(alloc, row.left), own(alloc, row.right), row);
         assert_eq!(rt; found, None, "{row:?}");
-        let (left, right) = (lettered(alloc, row.0, b'a')?, lettered(alloc, row.1, b'b')?);
+        let (left, right) = (
+            lettered(alloc, row.left, b'a')?,
+            lettered(alloc, row.right, b'b')?,
+        );
         let found = wrong_of(
             own(alloc, left.as_slice()),
             own(alloc, right.as_slice()),

@@ -6,12 +6,19 @@ use std::alloc::Global;
 use std::ops::Bound;
 
 // Boundaries, and those of each of their ranges.
-const IN_ORDER: [(&[i64], &[&[i64]]); 5] = [
-    (&[], &[]),
-    (&[3, 5], &[&[3, 5]]),
-    (&[7], &[&[7]]),
-    (&[0, 2, 4], &[&[0, 2], &[4]]),
-    (&[0, 10, 20], &[&[0, 10], &[20]]),
+#[derive(Clone, Copy)]
+struct Ranges<'a> {
+    items: &'a [i64],
+    ranges: &'a [&'a [i64]],
+}
+
+#[rattlefmt::skip]
+const IN_ORDER: [Ranges; 5] = [
+    Ranges { items: &[], ranges: &[] },
+    Ranges { items: &[3, 5], ranges: &[&[3, 5]] },
+    Ranges { items: &[7], ranges: &[&[7]] },
+    Ranges { items: &[0, 2, 4], ranges: &[&[0, 2], &[4]] },
+    Ranges { items: &[0, 10, 20], ranges: &[&[0, 10], &[20]] },
 ];
 
 // Whether the iterator gives these ranges, tells before each how many are left, and gives none
@@ -48,32 +55,40 @@ fn come_in_order(set: Option<RangeSet2<i64>>, want: &[&[i64]]) -> Option<bool> {
 
 #[test]
 fn ranges_come_in_order_and_then_none(rt: HostRuntime) {
-    for (items, want) in IN_ORDER {
+    for Ranges { items, ranges } in IN_ORDER {
         assert!(rt;
-            come_in_order(own(rt.alloc(), items), want) == Some(true),
+            come_in_order(own(rt.alloc(), items), ranges) == Some(true),
             "{items:?}"
         );
     }
 }
 
 // Boundaries, a value, and the range that holds it, by its boundaries.
-const HELD: [(&[i8], i8, &[i8]); 16] = [
-    (&[], 0, &[]),
-    (&[-128], -128, &[-128]),
-    (&[-128], 127, &[-128]),
-    (&[127], 126, &[]),
-    (&[127], 127, &[127]),
-    (&[-128, 127], -128, &[-128, 127]),
-    (&[-128, 127], 126, &[-128, 127]),
-    (&[-128, 127], 127, &[]),
-    (&[0, 1], -1, &[]),
-    (&[0, 1], 0, &[0, 1]),
-    (&[0, 1], 1, &[]),
-    (&[3, 5, 9], 2, &[]),
-    (&[3, 5, 9], 4, &[3, 5]),
-    (&[3, 5, 9], 5, &[]),
-    (&[3, 5, 9], 9, &[9]),
-    (&[3, 5, 9], 100, &[9]),
+#[derive(Clone, Copy, Debug)]
+struct Held<'a> {
+    items: &'a [i8],
+    value: i8,
+    range: &'a [i8],
+}
+
+#[rattlefmt::skip]
+const HELD: [Held; 16] = [
+    Held { items: &[], value: 0, range: &[] },
+    Held { items: &[-128], value: -128, range: &[-128] },
+    Held { items: &[-128], value: 127, range: &[-128] },
+    Held { items: &[127], value: 126, range: &[] },
+    Held { items: &[127], value: 127, range: &[127] },
+    Held { items: &[-128, 127], value: -128, range: &[-128, 127] },
+    Held { items: &[-128, 127], value: 126, range: &[-128, 127] },
+    Held { items: &[-128, 127], value: 127, range: &[] },
+    Held { items: &[0, 1], value: -1, range: &[] },
+    Held { items: &[0, 1], value: 0, range: &[0, 1] },
+    Held { items: &[0, 1], value: 1, range: &[] },
+    Held { items: &[3, 5, 9], value: 2, range: &[] },
+    Held { items: &[3, 5, 9], value: 4, range: &[3, 5] },
+    Held { items: &[3, 5, 9], value: 5, range: &[] },
+    Held { items: &[3, 5, 9], value: 9, range: &[9] },
+    Held { items: &[3, 5, 9], value: 100, range: &[9] },
 ];
 
 // Whether the set, and its view, hold the value in this range, plain and counted.
@@ -88,106 +103,136 @@ fn hold(set: Option<RangeSet2<i8>>, value: &i8, want: &[i8]) -> Option<bool> {
 #[test]
 fn a_value_is_held_by_the_range_around_it(rt: HostRuntime) {
     for row in &HELD {
-        let found = hold(own(rt.alloc(), row.0), &row.1, row.2);
+        let found = hold(own(rt.alloc(), row.items), &row.value, row.range);
         assert!(rt; found == Some(true), "{row:?}");
     }
 }
 
 // Boundaries, a value, the next member from it on, and the next value from it on that is none.
-type Nexts<'a> = (&'a [i8], i8, Option<i8>, Option<i8>);
+#[derive(Clone, Copy, Debug)]
+struct Nexts<'a> {
+    items: &'a [i8],
+    from: i8,
+    member: Option<i8>,
+    gap: Option<i8>,
+}
 
+#[rattlefmt::skip]
 const NEXTS: [Nexts; 15] = [
-    (&[], -128, None, Some(-128)),
-    (&[], 127, None, Some(127)),
-    (&[-128], -128, Some(-128), None),
-    (&[-128], 127, Some(127), None),
-    (&[127], -128, Some(127), Some(-128)),
-    (&[127], 127, Some(127), None),
-    (&[-128, 127], 0, Some(0), Some(127)),
-    (&[-128, 127], 127, None, Some(127)),
-    (&[3, 5, 9], 2, Some(3), Some(2)),
-    (&[3, 5, 9], 3, Some(3), Some(5)),
-    (&[3, 5, 9], 4, Some(4), Some(5)),
-    (&[3, 5, 9], 5, Some(9), Some(5)),
-    (&[3, 5, 9], 8, Some(9), Some(8)),
-    (&[3, 5, 9], 9, Some(9), None),
-    (&[3, 5, 9], 100, Some(100), None),
+    Nexts { items: &[], from: -128, member: None, gap: Some(-128) },
+    Nexts { items: &[], from: 127, member: None, gap: Some(127) },
+    Nexts { items: &[-128], from: -128, member: Some(-128), gap: None },
+    Nexts { items: &[-128], from: 127, member: Some(127), gap: None },
+    Nexts { items: &[127], from: -128, member: Some(127), gap: Some(-128) },
+    Nexts { items: &[127], from: 127, member: Some(127), gap: None },
+    Nexts { items: &[-128, 127], from: 0, member: Some(0), gap: Some(127) },
+    Nexts { items: &[-128, 127], from: 127, member: None, gap: Some(127) },
+    Nexts { items: &[3, 5, 9], from: 2, member: Some(3), gap: Some(2) },
+    Nexts { items: &[3, 5, 9], from: 3, member: Some(3), gap: Some(5) },
+    Nexts { items: &[3, 5, 9], from: 4, member: Some(4), gap: Some(5) },
+    Nexts { items: &[3, 5, 9], from: 5, member: Some(9), gap: Some(5) },
+    Nexts { items: &[3, 5, 9], from: 8, member: Some(9), gap: Some(8) },
+    Nexts { items: &[3, 5, 9], from: 9, member: Some(9), gap: None },
+    Nexts { items: &[3, 5, 9], from: 100, member: Some(100), gap: None },
 ];
 
 // Whether the set and its view go on like that from the value.
 fn go_on(set: Option<RangeSet2<i8>>, row: &Nexts) -> Option<bool> {
-    let (set, from) = (set?, &row.1);
+    let (set, from) = (set?, &row.from);
     let view = set.as_ref();
-    let members = set.next_member(from).copied() == row.2
-        && view.next_member(from).copied() == row.2;
-    let gaps = set.next_gap(from).copied() == row.3 && view.next_gap(from).copied() == row.3;
+    let members = set.next_member(from).copied() == row.member
+        && view.next_member(from).copied() == row.member;
+    let gaps = set.next_gap(from).copied() == row.gap && view.next_gap(from).copied() == row.gap;
     Some(members && gaps)
 }
 
 #[test]
 fn a_value_is_followed_by_a_member_and_by_a_gap(rt: HostRuntime) {
     for row in &NEXTS {
-        assert!(rt; go_on(own(rt.alloc(), row.0), row) == Some(true), "{row:?}");
+        assert!(rt;
+            go_on(own(rt.alloc(), row.items), row) == Some(true),
+            "{row:?}"
+        );
     }
 }
 
 // Boundaries, the first range, the last one, the range from one to the other, and how many there
 // are.
-type Extent<'a> = (&'a [i8], &'a [i8], &'a [i8], &'a [i8], usize);
+#[derive(Clone, Copy, Debug)]
+struct Extent<'a> {
+    items: &'a [i8],
+    first: &'a [i8],
+    last: &'a [i8],
+    span: &'a [i8],
+    len: usize,
+}
 
+#[rattlefmt::skip]
 const EXTENTS: [Extent; 8] = [
-    (&[], &[], &[], &[], 0),
-    (&[-128], &[-128], &[-128], &[-128], 1),
-    (&[127], &[127], &[127], &[127], 1),
-    (&[0, 1], &[0, 1], &[0, 1], &[0, 1], 1),
-    (&[-128, 127], &[-128, 127], &[-128, 127], &[-128, 127], 1),
-    (&[3, 5, 9], &[3, 5], &[9], &[3], 2),
-    (&[3, 5, 9, 11], &[3, 5], &[9, 11], &[3, 11], 2),
-    (&[1, 2, 3, 4, 5], &[1, 2], &[5], &[1], 3),
+    Extent { items: &[], first: &[], last: &[], span: &[], len: 0 },
+    Extent { items: &[-128], first: &[-128], last: &[-128], span: &[-128], len: 1 },
+    Extent { items: &[127], first: &[127], last: &[127], span: &[127], len: 1 },
+    Extent { items: &[0, 1], first: &[0, 1], last: &[0, 1], span: &[0, 1], len: 1 },
+    Extent {
+        items: &[-128, 127], first: &[-128, 127], last: &[-128, 127], span: &[-128, 127], len: 1,
+    },
+    Extent { items: &[3, 5, 9], first: &[3, 5], last: &[9], span: &[3], len: 2 },
+    Extent { items: &[3, 5, 9, 11], first: &[3, 5], last: &[9, 11], span: &[3, 11], len: 2 },
+    Extent { items: &[1, 2, 3, 4, 5], first: &[1, 2], last: &[5], span: &[1], len: 3 },
 ];
 
 // Whether the set and its view begin and end so, and have so many ranges.
 fn extend(set: Option<RangeSet2<i8>>, row: &Extent) -> Option<bool> {
     let set = set?;
     let view = set.as_ref();
-    let first = is_range(set.first(), row.1) && is_range(view.first(), row.1);
-    let last = is_range(set.last(), row.2) && is_range(view.last(), row.2);
-    let span = is_range(set.span(), row.3) && is_range(view.span(), row.3);
-    Some(first && last && span && [set.ranges_len(), view.ranges_len()] == [row.4; 2])
+    let first = is_range(set.first(), row.first) && is_range(view.first(), row.first);
+    let last = is_range(set.last(), row.last) && is_range(view.last(), row.last);
+    let span = is_range(set.span(), row.span) && is_range(view.span(), row.span);
+    Some(first && last && span && [set.ranges_len(), view.ranges_len()] == [row.len; 2])
 }
 
 #[test]
 fn sets_begin_and_end_with_their_ranges(rt: HostRuntime) {
     for row in &EXTENTS {
         assert!(rt;
-            extend(own(rt.alloc(), row.0), row) == Some(true),
+            extend(own(rt.alloc(), row.items), row) == Some(true),
             "{row:?}"
         );
     }
 }
 
 // Boundaries, a range, and whether it has a member.
-const MEETINGS: [(&[u64], u64, u64, bool); 6] = [
-    (&[0, 2], 0, 2, true),
-    (&[0, 2], 2, 4, false),
-    (&[0, 2, 4, 8], 0, 2, true),
-    (&[0, 2, 4, 8], 2, 4, false),
-    (&[0, 2, 4, 8], 4, 8, true),
-    (&[0, 2, 4, 8], 8, 12, false),
+#[derive(Clone, Copy, Debug)]
+struct Meeting<'a, T> {
+    items: &'a [T],
+    start: T,
+    end: T,
+    want: bool,
+}
+
+#[rattlefmt::skip]
+const MEETINGS: [Meeting<'static, u64>; 6] = [
+    Meeting { items: &[0, 2], start: 0, end: 2, want: true },
+    Meeting { items: &[0, 2], start: 2, end: 4, want: false },
+    Meeting { items: &[0, 2, 4, 8], start: 0, end: 2, want: true },
+    Meeting { items: &[0, 2, 4, 8], start: 2, end: 4, want: false },
+    Meeting { items: &[0, 2, 4, 8], start: 4, end: 8, want: true },
+    Meeting { items: &[0, 2, 4, 8], start: 8, end: 12, want: false },
 ];
 
 // The same of numbers with a sign.
-const SIGNED_MEETINGS: [(&[i64], i64, i64, bool); 10] = [
-    (&[0, 10], 5, 3, false),
-    (&[0, 10], 5, 6, true),
-    (&[0, 10], 10, 12, false),
-    (&[0, 2, 4, 8], 2, 4, false),
-    (&[0, 2, 4, 8], 4, 8, true),
-    (&[0, 2, 4, 8], 8, 12, false),
-    (&[0, 10], 5, 5, false),
-    (&[4, 10], 2, 5, true),
-    (&[3, 5], 4, 9, true),
-    (&[3, 5], 5, 9, false),
+#[rattlefmt::skip]
+const SIGNED_MEETINGS: [Meeting<'static, i64>; 10] = [
+    Meeting { items: &[0, 10], start: 5, end: 3, want: false },
+    Meeting { items: &[0, 10], start: 5, end: 6, want: true },
+    Meeting { items: &[0, 10], start: 10, end: 12, want: false },
+    Meeting { items: &[0, 2, 4, 8], start: 2, end: 4, want: false },
+    Meeting { items: &[0, 2, 4, 8], start: 4, end: 8, want: true },
+    Meeting { items: &[0, 2, 4, 8], start: 8, end: 12, want: false },
+    Meeting { items: &[0, 10], start: 5, end: 5, want: false },
+    Meeting { items: &[4, 10], start: 2, end: 5, want: true },
+    Meeting { items: &[3, 5], start: 4, end: 9, want: true },
+    Meeting { items: &[3, 5], start: 5, end: 9, want: false },
 ];
 
 // Whether the range has a member of the set, and of its view.
@@ -202,12 +247,12 @@ fn meets<T: Ord + Copy + Drop>(set: Option<RangeSet2<T>>, start: T, end: T) -> O
 #[test]
 fn ranges_meet_sets_with_a_member_in_them(rt: HostRuntime) {
     for row in &MEETINGS {
-        let found = meets(own(rt.alloc(), row.0), row.1, row.2);
-        assert!(rt; found == Some([row.3; 2]), "{row:?}");
+        let found = meets(own(rt.alloc(), row.items), row.start, row.end);
+        assert!(rt; found == Some([row.want; 2]), "{row:?}");
     }
     for row in &SIGNED_MEETINGS {
-        let found = meets(own(rt.alloc(), row.0), row.1, row.2);
-        assert!(rt; found == Some([row.3; 2]), "{row:?}");
+        let found = meets(own(rt.alloc(), row.items), row.start, row.end);
+        assert!(rt; found == Some([row.want; 2]), "{row:?}");
     }
 }
 
@@ -252,18 +297,27 @@ fn ranges_are_copied_with_their_bounds(rt: HostRuntime) {
 }
 
 // Boundaries, a start, whether all from it on are members, and whether some are.
-const ENDLESS: [(&[i8], i8, bool, bool); 11] = [
-    (&[], 0, false, false),
-    (&[-128], -128, true, true),
-    (&[-128], 0, true, true),
-    (&[127], 126, false, true),
-    (&[127], 127, true, true),
-    (&[3, 5], 0, false, true),
-    (&[3, 5], 4, false, true),
-    (&[3, 5], 5, false, false),
-    (&[3, 5, 9], 8, false, true),
-    (&[3, 5, 9], 9, true, true),
-    (&[3, 5, 9], 127, true, true),
+#[derive(Clone, Copy, Debug)]
+struct Endless<'a> {
+    items: &'a [i8],
+    start: i8,
+    all: bool,
+    some: bool,
+}
+
+#[rattlefmt::skip]
+const ENDLESS: [Endless; 11] = [
+    Endless { items: &[], start: 0, all: false, some: false },
+    Endless { items: &[-128], start: -128, all: true, some: true },
+    Endless { items: &[-128], start: 0, all: true, some: true },
+    Endless { items: &[127], start: 126, all: false, some: true },
+    Endless { items: &[127], start: 127, all: true, some: true },
+    Endless { items: &[3, 5], start: 0, all: false, some: true },
+    Endless { items: &[3, 5], start: 4, all: false, some: true },
+    Endless { items: &[3, 5], start: 5, all: false, some: false },
+    Endless { items: &[3, 5, 9], start: 8, all: false, some: true },
+    Endless { items: &[3, 5, 9], start: 9, all: true, some: true },
+    Endless { items: &[3, 5, 9], start: 127, all: true, some: true },
 ];
 
 // Whether the set and its view answer so of what lies from the start on.
@@ -282,7 +336,7 @@ fn answer_from(set: Option<RangeSet2<i8>>, start: i8, all: bool, some: bool) -> 
 #[test]
 fn ranges_without_an_end_are_asked_about(rt: HostRuntime) {
     for row in &ENDLESS {
-        let found = answer_from(own(rt.alloc(), row.0), row.1, row.2, row.3);
+        let found = answer_from(own(rt.alloc(), row.items), row.start, row.all, row.some);
         assert!(rt; found == Some(true), "{row:?}");
     }
 }

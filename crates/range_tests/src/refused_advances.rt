@@ -127,30 +127,35 @@ impl<'a, K> MergeStateMut for Refusing<'a, K> {
 }
 
 // Two lists of boundaries, how many runs they have, and twice their weight.
-type Row<'a> = (&'a [i64], &'a [i64], usize, u128);
+#[derive(Clone, Copy)]
+struct Row<'a> {
+    left: &'a [i64],
+    right: &'a [i64],
+    runs: usize,
+    most: u128,
+}
 
 // Whether the merge whose advance after so many is refused ends there, or at the end where it makes
 // no more of them.
 fn ends_rightly(table: [u8; 4], row: &Row, until: usize) -> bool {
-    let (a, b, runs, most) = *row;
-    let (Some(left), Some(right)) = (RangeSetRef::new(a), RangeSetRef::new(b)) else {
+    let (Some(left), Some(right)) = (RangeSetRef::new(row.left), RangeSetRef::new(row.right)) else {
         return false;
     };
     let mut state = Refusing::new(left.boundaries(), right.boundaries(), until);
     let mut count = Comparisons::new();
     let answer = merge(&mut state, &connective(table), &mut count).ok();
-    let want = if until < runs {
+    let want = if until < row.runs {
         (None, until, 1)
     } else {
-        (Some(true), runs, 0)
+        (Some(true), row.runs, 0)
     };
-    (answer, state.made, state.refused) == want && count.made() <= most
+    (answer, state.made, state.refused) == want && count.made() <= row.most
 }
 
 // The first connective and the first advance at which it doesn't.
 fn first_wrong(row: &Row) -> Option<([u8; 4], usize)> {
     for table in TABLES {
-        for until in 0..=row.2.saturating_add(1) {
+        for until in 0..=row.runs.saturating_add(1) {
             if !ends_rightly(table, row, until) {
                 return Some((table, until));
             }
@@ -162,14 +167,15 @@ fn first_wrong(row: &Row) -> Option<([u8; 4], usize)> {
 #[test]
 fn merges_end_at_a_refused_advance(rt: HostRuntime) -> Result<(), AllocError> {
     let (low, high) = (numbers(rt.alloc(), 0, 64)?, numbers(rt.alloc(), 64, 128)?);
+    #[rattlefmt::skip]
     let rows: [Row; 7] = [
-        (&[], &[], 0, 0),
-        (&[0, 10], &[20], 2, 6),
-        (&[0, 2, 4], &[1, 3, 5], 6, 12),
-        (&[0, 10], &[0, 10], 2, 4),
-        (&[0, 5], &[5, 10], 3, 6),
-        (&[], &[1, 2, 3], 1, 4),
-        (low.as_slice(), high.as_slice(), 2, 28),
+        Row { left: &[], right: &[], runs: 0, most: 0 },
+        Row { left: &[0, 10], right: &[20], runs: 2, most: 6 },
+        Row { left: &[0, 2, 4], right: &[1, 3, 5], runs: 6, most: 12 },
+        Row { left: &[0, 10], right: &[0, 10], runs: 2, most: 4 },
+        Row { left: &[0, 5], right: &[5, 10], runs: 3, most: 6 },
+        Row { left: &[], right: &[1, 2, 3], runs: 1, most: 4 },
+        Row { left: low.as_slice(), right: high.as_slice(), runs: 2, most: 28 },
     ];
     for (number, row) in rows.iter().enumerate() {
         assert_eq!(rt; first_wrong(row), None, "row {number}");

@@ -8,19 +8,26 @@ use std::error::Error;
 use std::fmt::Display;
 
 // Boundaries, and the text of their set.
-const TEXTS: [(&[i64], &str); 12] = [
-    (&[], ""),
-    (&[0], "0.."),
-    (&[0, 10], "0..10"),
-    (&[-1, 0], "-1..0"),
-    (&[-3, 4], "-3..4"),
-    (&[1, 5, 10], "1..5, 10.."),
-    (&[0, 10, 20], "0..10, 20.."),
-    (&[0, 10, 20, 30], "0..10, 20..30"),
-    (&[0, 5, 10, 15, 20, 25], "0..5, 10..15, 20..25"),
-    (&[LEAST], "-9223372036854775808.."),
-    (&[LEAST, MOST], "-9223372036854775808..9223372036854775807"),
-    (&[MOST], "9223372036854775807.."),
+#[derive(Clone, Copy)]
+struct Written<'a, T> {
+    items: &'a [T],
+    text: &'a str,
+}
+
+#[rattlefmt::skip]
+const TEXTS: [Written<'static, i64>; 12] = [
+    Written { items: &[], text: "" },
+    Written { items: &[0], text: "0.." },
+    Written { items: &[0, 10], text: "0..10" },
+    Written { items: &[-1, 0], text: "-1..0" },
+    Written { items: &[-3, 4], text: "-3..4" },
+    Written { items: &[1, 5, 10], text: "1..5, 10.." },
+    Written { items: &[0, 10, 20], text: "0..10, 20.." },
+    Written { items: &[0, 10, 20, 30], text: "0..10, 20..30" },
+    Written { items: &[0, 5, 10, 15, 20, 25], text: "0..5, 10..15, 20..25" },
+    Written { items: &[LEAST], text: "-9223372036854775808.." },
+    Written { items: &[LEAST, MOST], text: "-9223372036854775808..9223372036854775807" },
+    Written { items: &[MOST], text: "9223372036854775807.." },
 ];
 
 const LEAST: i64 = i64::MIN;
@@ -62,8 +69,8 @@ fn is_written<T: Ord + WholeNumber + Drop>(
 #[test]
 fn sets_are_written_by_their_ranges(rt: HostRuntime) {
     let alloc = rt.alloc();
-    for (items, want) in TEXTS {
-        assert!(rt; is_written(alloc, own(alloc, items), want), "{want}");
+    for Written { items, text } in TEXTS {
+        assert!(rt; is_written(alloc, own(alloc, items), text), "{text}");
     }
     assert!(rt; is_written(alloc, own(alloc, &[1i32, 5]), "1..5"));
     assert!(rt; is_written(alloc, own(alloc, &[10i32]), "10.."));
@@ -71,17 +78,18 @@ fn sets_are_written_by_their_ranges(rt: HostRuntime) {
     assert!(rt; is_written::<i8>(alloc, own(alloc, &[]), ""));
 }
 
-// Characters, and the text of their set: each stands between quotes, as Rust prints it.
-const CHARACTERS: [(&[char], &str); 9] = [
-    (&[], ""),
-    (&['a'], "'a'.."),
-    (&['a', '{'], "'a'..'{'"),
-    (&['\n', ' ', '\''], "'\\n'..' ', '\\''.."),
-    (&['\0', '\u{7f}', 'é'], "'\\0'..'\\u{7f}', 'é'.."),
-    (&['é'], "'é'.."),
-    (&['a', 'é'], "'a'..'é'"),
-    (&['é', '日'], "'é'..'日'"),
-    (&['é', 'ö', '日', '本'], "'é'..'ö', '日'..'本'"),
+// Each character stands between quotes, as Rust prints it.
+#[rattlefmt::skip]
+const CHARACTERS: [Written<'static, char>; 9] = [
+    Written { items: &[], text: "" },
+    Written { items: &['a'], text: "'a'.." },
+    Written { items: &['a', '{'], text: "'a'..'{'" },
+    Written { items: &['\n', ' ', '\''], text: "'\\n'..' ', '\\''.." },
+    Written { items: &['\0', '\u{7f}', 'é'], text: "'\\0'..'\\u{7f}', 'é'.." },
+    Written { items: &['é'], text: "'é'.." },
+    Written { items: &['a', 'é'], text: "'a'..'é'" },
+    Written { items: &['é', '日'], text: "'é'..'日'" },
+    Written { items: &['é', 'ö', '日', '本'], text: "'é'..'ö', '日'..'本'" },
 ];
 
 // Whether a set of these characters and its view have this text, and the set is printed so, between
@@ -96,9 +104,9 @@ fn characters_are_written(alloc: Global, items: &[char], want: &str) -> Option<b
 #[test]
 fn sets_of_characters_are_written_with_quotes(rt: HostRuntime) {
     let alloc = rt.alloc();
-    for (items, want) in CHARACTERS {
-        let written = characters_are_written(alloc, items, want);
-        assert!(rt; written == Some(true), "{want}");
+    for Written { items, text } in CHARACTERS {
+        let written = characters_are_written(alloc, items, text);
+        assert!(rt; written == Some(true), "{text}");
     }
     assert!(rt; prints(alloc, &RangeSetRange::from('a'..'{'), "'a'..'{'"));
     assert!(rt; prints(alloc, &RangeSetRange::from('\t'..), "'\\t'.."));

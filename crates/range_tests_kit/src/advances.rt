@@ -19,16 +19,23 @@ pub const LEFT: [i64; 3] = [0, 2, 4];
 pub const RIGHT: [i64; 3] = [1, 3, 5];
 
 /// An advance, how many items of the left list and of the right one it copies, and those items.
-pub type Row = (Advance, usize, usize, &'static [i64]);
+#[derive(Clone, Copy)]
+pub struct Row {
+    pub advance: Advance,
+    pub lefts: usize,
+    pub rights: usize,
+    pub items: &'static [i64],
+}
 
+#[rattlefmt::skip]
 pub const ROWS: [Row; 7] = [
-    (Advance::Left(1), 1, 0, &[0]),
-    (Advance::Left(2), 2, 0, &[0, 2]),
-    (Advance::Left(3), 3, 0, &[0, 2, 4]),
-    (Advance::Right(1), 0, 1, &[1]),
-    (Advance::Right(2), 0, 2, &[1, 3]),
-    (Advance::Right(3), 0, 3, &[1, 3, 5]),
-    (Advance::Both, 1, 0, &[0]),
+    Row { advance: Advance::Left(1), lefts: 1, rights: 0, items: &[0] },
+    Row { advance: Advance::Left(2), lefts: 2, rights: 0, items: &[0, 2] },
+    Row { advance: Advance::Left(3), lefts: 3, rights: 0, items: &[0, 2, 4] },
+    Row { advance: Advance::Right(1), lefts: 0, rights: 1, items: &[1] },
+    Row { advance: Advance::Right(2), lefts: 0, rights: 2, items: &[1, 3] },
+    Row { advance: Advance::Right(3), lefts: 0, rights: 3, items: &[1, 3, 5] },
+    Row { advance: Advance::Both, lefts: 1, rights: 0, items: &[0] },
 ];
 
 impl Advance {

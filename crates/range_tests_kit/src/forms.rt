@@ -48,13 +48,13 @@ pub enum Form {
     OfSet,
     OfBorrowed,
     OfBorrowedAndOwned,
-    OfOwnedAndLent,
+    OfOwnedAndBorrowed,
     OfOwned,
     MergeViews,
     MergeSet,
     Change,
     Assign,
-    MergeLent,
+    MergeBorrowed,
     MergeOwned,
 }
 
@@ -63,20 +63,26 @@ pub const FORMS: [Form; 12] = [
     Form::OfSet,
     Form::OfBorrowed,
     Form::OfBorrowedAndOwned,
-    Form::OfOwnedAndLent,
+    Form::OfOwnedAndBorrowed,
     Form::OfOwned,
     Form::MergeViews,
     Form::MergeSet,
     Form::Change,
     Form::Assign,
-    Form::MergeLent,
+    Form::MergeBorrowed,
     Form::MergeOwned,
 ];
 
 /// Two lists of boundaries, those of their union, intersection, difference and symmetric
 /// difference, and how many comparisons each may take: twice the binary digits of the lengths of
 /// all runs, where a shared boundary is a run of one.
-pub type Row<'a> = (&'a [i64], &'a [i64], [&'a [i64]; 4], u128);
+#[derive(Clone, Copy)]
+pub struct Row<'a> {
+    pub left: &'a [i64],
+    pub right: &'a [i64],
+    pub wants: [&'a [i64]; 4],
+    pub most: u128,
+}
 
 type Made<T, const N: usize> = Result<RangeSet<T, N>, AllocError>;
 
@@ -223,7 +229,7 @@ impl<T: EntryClone + MadeWith<Global> + Drop, const N: usize> Outcome<T, N> {
                 let made = left.merge_owned(right, op, count);
                 Outcome::of_assignment(left, made)
             }
-            Form::MergeLent => {
+            Form::MergeBorrowed => {
                 let made = left.merge_ref(right.as_ref(), op, count);
                 Outcome::of_change(left, made.is_err().then_some(right))
             }
@@ -238,7 +244,7 @@ impl Form {
     pub fn is_in_place(self) -> bool {
         matches!(
             self,
-            Form::Change | Form::Assign | Form::MergeLent | Form::MergeOwned
+            Form::Change | Form::Assign | Form::MergeBorrowed | Form::MergeOwned
         )
     }
 
@@ -250,7 +256,7 @@ impl Form {
     /// The form that counts what this one compares.
     pub fn counted(self) -> Form {
         match self {
-            Form::Change | Form::MergeLent => Form::MergeLent,
+            Form::Change | Form::MergeBorrowed => Form::MergeBorrowed,
             Form::Assign | Form::MergeOwned => Form::MergeOwned,
             Form::MergeSet => Form::MergeSet,
             _ => Form::MergeViews,
@@ -278,7 +284,7 @@ impl Form {
             Form::OfSet => Outcome::of(Outcome::of_set(op, &left, right.as_ref())),
             Form::OfBorrowed => Outcome::of(by_operator(op, &left, &right)),
             Form::OfBorrowedAndOwned => Outcome::of(by_operator(op, &left, right)),
-            Form::OfOwnedAndLent => Outcome::of(by_operator(op, left, &right)),
+            Form::OfOwnedAndBorrowed => Outcome::of(by_operator(op, left, &right)),
             Form::OfOwned => Outcome::of(by_operator(op, left, right)),
             Form::Change => {
                 let made = Outcome::change(op, &mut left, right.as_ref());

@@ -1,10 +1,11 @@
 //! What the tests begin with, and how they look at an answer.
 use crate::elements::{Lettered, with_letter};
-use range_collections::{RangeSet, RangeSet2, RangeSetRange};
+use range_collections::{Iter, RangeSet, RangeSet2, RangeSetRange};
 use smallvec::SmallVec;
 use std::alloc::{AllocError, Global};
 use std::default::MadeWith;
 use std::fmt::Debug;
+use std::ops::Range;
 
 /// Whether a set was made, with these boundaries.
 pub fn gives<T: Ord + Drop, E: Drop>(made: Result<RangeSet2<T>, E>, want: &[T]) -> bool {
@@ -22,6 +23,19 @@ pub fn is_range<T: Ord>(range: Option<RangeSetRange<&T>>, want: &[T]) -> bool {
         None => (None, None),
     };
     want.len() <= 2 && want.first() == start && want.get(1) == end
+}
+
+/// Whether these are the ranges between the boundaries, each with its end.
+pub fn are_ranges_between<T: Ord>(ranges: Iter<T>, boundaries: &[T]) -> bool {
+    let mut ends = boundaries.iter();
+    for range in ranges {
+        match range {
+            RangeSetRange::Range(Range { start, end })
+                if ends.next() == Some(start) && ends.next() == Some(end) => {}
+            _ => return false,
+        }
+    }
+    ends.next().is_none()
 }
 
 /// The numbers from `low` on, below `high`.

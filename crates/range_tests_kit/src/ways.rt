@@ -32,13 +32,13 @@ pub const WAYS: [Way; 20] = [
     Way::Form(Form::OfSet),
     Way::Form(Form::OfBorrowed),
     Way::Form(Form::OfBorrowedAndOwned),
-    Way::Form(Form::OfOwnedAndLent),
+    Way::Form(Form::OfOwnedAndBorrowed),
     Way::Form(Form::OfOwned),
     Way::Form(Form::MergeViews),
     Way::Form(Form::MergeSet),
     Way::Form(Form::Change),
     Way::Form(Form::Assign),
-    Way::Form(Form::MergeLent),
+    Way::Form(Form::MergeBorrowed),
     Way::Form(Form::MergeOwned),
     Way::CombineViews,
     Way::CombineSets,
@@ -98,11 +98,11 @@ pub fn case_of<'a>(
     Case {
         table,
         op: Some(op),
-        left: row.0,
-        right: row.1,
+        left: row.left,
+        right: row.right,
         first,
         want,
-        most: row.3,
+        most: row.most,
     }
 }
 
