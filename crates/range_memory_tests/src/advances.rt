@@ -40,20 +40,20 @@ fn advances_are_refused_beyond_their_room(rt: HostRuntime) -> Result<(), AllocEr
     let alloc = rt.alloc();
     let (left, right) = (flagged(alloc, &LEFT, 0..0)?, flagged(alloc, &RIGHT, 0..0)?);
     let before = [with_flag(-2, true), with_flag(-1, true)];
-    for (advance, _, _, numbers) in ROWS {
-        let items = flagged(alloc, numbers, 0..0)?;
+    for row in ROWS {
+        let items = flagged(alloc, row.items, 0..0)?;
         let mut starved = Starved::new(alloc)?;
         for first in [&[], &before[1..], &before[..]] {
             for taken in [Some(items.as_slice()), None] {
                 let passing = Passing {
-                    advance,
+                    advance: row.advance,
                     left: left.as_slice(),
                     right: right.as_slice(),
                     first,
                     taken,
                 };
                 let agrees = agrees(alloc, &mut starved, passing);
-                assert!(rt; agrees, "{advance:?} after {}", first.len());
+                assert!(rt; agrees, "{:?} after {}", row.advance, first.len());
             }
         }
     }

@@ -53,13 +53,13 @@ impl Call for Asking {
     type Given = (Vec<String>, Vec<u8>);
 
     fn given(&self) -> Option<Self::Given> {
-        let words = self.words.of(self.alloc, self.row.0).ok()?;
+        let words = self.words.of(self.alloc, self.row.given).ok()?;
         Some((words, Vec::with_capacity(self.alloc, 128).ok()?))
     }
 
     fn answer(&self, given: Self::Given) -> Answer {
         let (words, mut out) = given;
-        let line = self.row.1;
+        let line = self.row.line;
         match (
             answer(self.alloc, words.as_slice(), &mut out),
             out.split_last(),
@@ -128,12 +128,14 @@ fn words_that_ask_for_no_memory_need_none(rt: HostRuntime) -> Result<(), AllocEr
     let alloc = rt.alloc();
     assert_eq!(rt; wrong(alloc, Words::Command, &UNSORTED, false)?, None);
     assert_eq!(rt; wrong(alloc, Words::Command, &BAD, false)?, None);
+    let [given, line] = ["", "bad json"];
     assert_eq!(rt;
-        wrong(alloc, Words::Text, &[("", "bad json")], false)?,
+        wrong(alloc, Words::Text, &[Row { given, line }], false)?,
         None
     );
+    let line = "bad words";
     assert_eq!(rt;
-        wrong(alloc, Words::Nothing, &[("", "bad words")], false)?,
+        wrong(alloc, Words::Nothing, &[Row { given, line }], false)?,
         None
     );
     Ok(())

@@ -5,34 +5,41 @@ use std::alloc::AllocError;
 
 const LEAST: i64 = i64::MIN;
 
-// Tables, two lists, and what they make of them.
-const ROWS: [([u8; 4], &[i64], &[i64], &[i64]); 6] = [
-    ([0, 1, 1, 1], &[0, 10], &[20, 30, 40], &[0, 10, 20, 30, 40]),
-    ([0, 0, 1, 1], &[0, 10], &[20, 30, 40], &[20, 30, 40]),
-    (
-        [1, 0, 0, 0],
-        &[0, 10],
-        &[20, 30, 40],
-        &[LEAST, 0, 10, 20, 30, 40],
-    ),
-    ([1, 1, 0, 0], &[0, 10], &[20, 30, 40], &[LEAST, 20, 30, 40]),
-    ([0, 1, 1, 0], &[0], &[5], &[0, 5]),
-    ([1, 0, 1, 0], &[0], &[], &[LEAST, 0]),
+// A table, two lists, and what it makes of them.
+#[derive(Clone, Copy)]
+struct Row<'a> {
+    table: [u8; 4],
+    left: &'a [i64],
+    right: &'a [i64],
+    want: &'a [i64],
+}
+
+#[rattlefmt::skip]
+const ROWS: [Row; 6] = [
+    Row { table: [0, 1, 1, 1], left: &[0, 10], right: &[20, 30, 40], want: &[0, 10, 20, 30, 40] },
+    Row { table: [0, 0, 1, 1], left: &[0, 10], right: &[20, 30, 40], want: &[20, 30, 40] },
+    Row {
+        table: [1, 0, 0, 0], left: &[0, 10], right: &[20, 30, 40],
+        want: &[LEAST, 0, 10, 20, 30, 40],
+    },
+    Row { table: [1, 1, 0, 0], left: &[0, 10], right: &[20, 30, 40], want: &[LEAST, 20, 30, 40] },
+    Row { table: [0, 1, 1, 0], left: &[0], right: &[5], want: &[0, 5] },
+    Row { table: [1, 0, 1, 0], left: &[0], right: &[], want: &[LEAST, 0] },
 ];
 
 #[test]
 fn connectives_are_refused_beyond_their_room(rt: HostRuntime) -> Result<(), AllocError> {
-    for (table, left, right, want) in &ROWS {
+    for row in &ROWS {
         let case = Case {
-            table: *table,
+            table: row.table,
             op: None,
-            left,
-            right,
+            left: row.left,
+            right: row.right,
             first: &[],
-            want,
+            want: row.want,
             most: 8,
         };
-        assert_eq!(rt; wrong_way(rt.alloc(), &case)?, None, "{table:?}");
+        assert_eq!(rt; wrong_way(rt.alloc(), &case)?, None, "{:?}", row.table);
     }
     Ok(())
 }

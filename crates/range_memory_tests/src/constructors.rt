@@ -17,17 +17,24 @@ enum Constructor {
     RangeSetRangeOfNothing,
 }
 
-// Each of them, and the boundaries that it makes.
-const ROWS: [(Constructor, &[i64]); 9] = [
-    (Constructor::Range, &[1, 5]),
-    (Constructor::RangeFrom, &[5]),
-    (Constructor::RangeUntil, &[i64::MIN, 5]),
-    (Constructor::Full, &[i64::MIN]),
-    (Constructor::True, &[i64::MIN]),
-    (Constructor::All, &[i64::MIN]),
-    (Constructor::RangeSetRange, &[0, 2]),
-    (Constructor::RangeSetRangeFrom, &[4]),
-    (Constructor::RangeSetRangeOfNothing, &[]),
+// A constructor, and the boundaries that it makes.
+#[derive(Clone, Copy)]
+struct Row<'a> {
+    call: Constructor,
+    want: &'a [i64],
+}
+
+#[rattlefmt::skip]
+const ROWS: [Row; 9] = [
+    Row { call: Constructor::Range, want: &[1, 5] },
+    Row { call: Constructor::RangeFrom, want: &[5] },
+    Row { call: Constructor::RangeUntil, want: &[i64::MIN, 5] },
+    Row { call: Constructor::Full, want: &[i64::MIN] },
+    Row { call: Constructor::True, want: &[i64::MIN] },
+    Row { call: Constructor::All, want: &[i64::MIN] },
+    Row { call: Constructor::RangeSetRange, want: &[0, 2] },
+    Row { call: Constructor::RangeSetRangeFrom, want: &[4] },
+    Row { call: Constructor::RangeSetRangeOfNothing, want: &[] },
 ];
 
 impl Constructor {
@@ -81,7 +88,7 @@ impl<'a> Call for Attempt<'a> {
 fn constructors_are_refused_beyond_their_room(rt: HostRuntime) -> Result<(), AllocError> {
     let alloc = rt.alloc();
     let mut starved = Starved::new(alloc)?;
-    for (call, want) in ROWS {
+    for Row { call, want } in ROWS {
         for room in 0..3usize {
             let attempt = Attempt {
                 alloc,

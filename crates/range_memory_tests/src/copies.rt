@@ -147,43 +147,50 @@ const ITEMS: &[i64] = &[20, 30, 40];
 const NEGATED: &[i64] = &[LEAST, 20, 30, 40];
 
 // A call, the boundaries of the set, and those of what it makes.
-type Row = (OfSet, &'static [i64], &'static [i64]);
+#[derive(Clone, Copy, Debug)]
+struct Row<'a> {
+    call: OfSet,
+    items: &'a [i64],
+    want: &'a [i64],
+}
+
+impl<'a> Row<'a> {
+    // The call on a set with room for N.
+    fn attempt<const N: usize>(&self, alloc: Global) -> Attempt<'a, N> {
+        Attempt {
+            alloc,
+            call: self.call,
+            items: self.items,
+            want: self.want,
+        }
+    }
+}
 
 // With room for two.
+#[rattlefmt::skip]
 const REFUSED: [Row; 3] = [
-    (OfSet::Clone, ITEMS, ITEMS),
-    (OfSet::Not, ITEMS, NEGATED),
-    (OfSet::NotOwned, ITEMS, NEGATED),
+    Row { call: OfSet::Clone, items: ITEMS, want: ITEMS },
+    Row { call: OfSet::Not, items: ITEMS, want: NEGATED },
+    Row { call: OfSet::NotOwned, items: ITEMS, want: NEGATED },
 ];
 
 // With room for one.
+#[rattlefmt::skip]
 const UNREFUSED: [Row; 3] = [
-    (OfSet::Clone, &[5], &[5]),
-    (OfSet::Not, &[LEAST], &[]),
-    (OfSet::NotOwned, &[LEAST], &[]),
+    Row { call: OfSet::Clone, items: &[5], want: &[5] },
+    Row { call: OfSet::Not, items: &[LEAST], want: &[] },
+    Row { call: OfSet::NotOwned, items: &[LEAST], want: &[] },
 ];
 
 #[test]
 fn copies_of_sets_are_refused_beyond_their_room(rt: HostRuntime) -> Result<(), AllocError> {
     let alloc = rt.alloc();
     let mut starved = Starved::new(alloc)?;
-    for (call, items, want) in REFUSED {
-        let attempt: Attempt<2> = Attempt {
-            alloc,
-            call,
-            items,
-            want,
-        };
-        assert!(rt; starved.refuses(&attempt), "{call:?} of {items:?}");
+    for row in &REFUSED {
+        assert!(rt; starved.refuses(&row.attempt::<2>(alloc)), "{row:?}");
     }
-    for (call, items, want) in UNREFUSED {
-        let attempt: Attempt<1> = Attempt {
-            alloc,
-            call,
-            items,
-            want,
-        };
-        assert!(rt; starved.needs_none(&attempt), "{call:?} of {items:?}");
+    for row in &UNREFUSED {
+        assert!(rt; starved.needs_none(&row.attempt::<1>(alloc)), "{row:?}");
     }
     Ok(())
 }

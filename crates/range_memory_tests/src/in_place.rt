@@ -10,12 +10,19 @@ const LEFT: [i64; 4] = [0, 2, 4, 6];
 
 const RIGHT: [i64; 4] = [1, 3, 5, 7];
 
-// What each operation makes of these sides.
-const ROWS: [(Operation, &[i64]); 4] = [
-    (Operation::Union, &[0, 3, 4, 7]),
-    (Operation::Intersection, &[1, 2, 5, 6]),
-    (Operation::SymmetricDifference, &[0, 1, 2, 3, 4, 5, 6, 7]),
-    (Operation::Difference, &[0, 1, 4, 5]),
+// What an operation makes of these sides.
+#[derive(Clone, Copy)]
+struct Row<'a> {
+    op: Operation,
+    want: &'a [i64],
+}
+
+#[rattlefmt::skip]
+const ROWS: [Row; 4] = [
+    Row { op: Operation::Union, want: &[0, 3, 4, 7] },
+    Row { op: Operation::Intersection, want: &[1, 2, 5, 6] },
+    Row { op: Operation::SymmetricDifference, want: &[0, 1, 2, 3, 4, 5, 6, 7] },
+    Row { op: Operation::Difference, want: &[0, 1, 4, 5] },
 ];
 
 #[derive(Drop)]
@@ -45,7 +52,7 @@ impl<'a> Call for Attempt<'a> {
 fn sides_with_room_need_no_memory(rt: HostRuntime) -> Result<(), AllocError> {
     let alloc = rt.alloc();
     let mut starved = Starved::new(alloc)?;
-    for (op, want) in ROWS {
+    for Row { op, want } in ROWS {
         for form in FORMS {
             let attempt = Attempt {
                 alloc,

@@ -23,35 +23,46 @@ const CHANGES: [Change; 4] = [
 ];
 
 // Boundaries, a range, and the boundaries with the range put in and with it taken out.
-type Row = (&'static [i64], (i64, i64), &'static [i64], &'static [i64]);
+#[derive(Clone, Copy, Debug)]
+struct Row<'a> {
+    items: &'a [i64],
+    start: i64,
+    end: i64,
+    inserted: &'a [i64],
+    removed: &'a [i64],
+}
 
 // Ranges beside those of the set, within and across them.
+#[rattlefmt::skip]
 const ROWS: [Row; 15] = [
-    (&[0, 10], (20, 30), &[0, 10, 20, 30], &[0, 10]),
-    (&[20, 30], (0, 10), &[0, 10, 20, 30], &[20, 30]),
-    (
-        &[0, 9, 40, 50],
-        (20, 30),
-        &[0, 9, 20, 30, 40, 50],
-        &[0, 9, 40, 50],
-    ),
-    (&[0, 100], (20, 30), &[0, 100], &[0, 20, 30, 100]),
-    (&[0, 10, 20, 30], (20, 30), &[0, 10, 20, 30], &[0, 10]),
-    (&[0, 10], (0, 10), &[0, 10], &[]),
-    (&[0, 10], (0, 5), &[0, 10], &[5, 10]),
-    (&[0, 10], (5, 10), &[0, 10], &[0, 5]),
-    (&[10, 20], (5, 15), &[5, 20], &[15, 20]),
-    (&[10, 20], (15, 25), &[10, 25], &[10, 15]),
-    (&[0, 10, 20, 30], (5, 25), &[0, 30], &[0, 5, 25, 30]),
-    (&[0, 10, 20, 30], (5, 15), &[0, 15, 20, 30], &[0, 5, 20, 30]),
-    (&[0, 10, 20, 30], (-5, 40), &[-5, 40], &[]),
-    (&[10, 20, 30, 40], (10, 40), &[10, 40], &[]),
-    (
-        &[0, 10, 15, 16, 20, 30],
-        (10, 20),
-        &[0, 30],
-        &[0, 10, 20, 30],
-    ),
+    Row { items: &[0, 10], start: 20, end: 30, inserted: &[0, 10, 20, 30], removed: &[0, 10] },
+    Row { items: &[20, 30], start: 0, end: 10, inserted: &[0, 10, 20, 30], removed: &[20, 30] },
+    Row {
+        items: &[0, 9, 40, 50], start: 20, end: 30, inserted: &[0, 9, 20, 30, 40, 50],
+        removed: &[0, 9, 40, 50],
+    },
+    Row { items: &[0, 100], start: 20, end: 30, inserted: &[0, 100], removed: &[0, 20, 30, 100] },
+    Row {
+        items: &[0, 10, 20, 30], start: 20, end: 30, inserted: &[0, 10, 20, 30], removed: &[0, 10],
+    },
+    Row { items: &[0, 10], start: 0, end: 10, inserted: &[0, 10], removed: &[] },
+    Row { items: &[0, 10], start: 0, end: 5, inserted: &[0, 10], removed: &[5, 10] },
+    Row { items: &[0, 10], start: 5, end: 10, inserted: &[0, 10], removed: &[0, 5] },
+    Row { items: &[10, 20], start: 5, end: 15, inserted: &[5, 20], removed: &[15, 20] },
+    Row { items: &[10, 20], start: 15, end: 25, inserted: &[10, 25], removed: &[10, 15] },
+    Row {
+        items: &[0, 10, 20, 30], start: 5, end: 25, inserted: &[0, 30], removed: &[0, 5, 25, 30],
+    },
+    Row {
+        items: &[0, 10, 20, 30], start: 5, end: 15, inserted: &[0, 15, 20, 30],
+        removed: &[0, 5, 20, 30],
+    },
+    Row { items: &[0, 10, 20, 30], start: -5, end: 40, inserted: &[-5, 40], removed: &[] },
+    Row { items: &[10, 20, 30, 40], start: 10, end: 40, inserted: &[10, 40], removed: &[] },
+    Row {
+        items: &[0, 10, 15, 16, 20, 30], start: 10, end: 20, inserted: &[0, 30],
+        removed: &[0, 10, 20, 30],
+    },
 ];
 
 // Where the boundaries have room: for four in the set itself, or for so many in an allocation, if
@@ -63,18 +74,18 @@ enum Room {
 }
 
 #[derive(Drop)]
-struct Attempt {
+struct Attempt<'a> {
     alloc: Global,
     change: Change,
-    row: Row,
+    row: Row<'a>,
     room: Room,
 }
 
-impl Attempt {
-    fn want(&self) -> &'static [i64] {
+impl<'a> Attempt<'a> {
+    fn want(&self) -> &'a [i64] {
         match self.change {
-            Change::Insert | Change::InsertCounted => self.row.2,
-            Change::Remove | Change::RemoveCounted => self.row.3,
+            Change::Insert | Change::InsertCounted => self.row.inserted,
+            Change::Remove | Change::RemoveCounted => self.row.removed,
         }
     }
 
@@ -88,7 +99,7 @@ impl Attempt {
     }
 
     fn changed<const N: usize>(&self, mut set: RangeSet<i64, N>) -> Answer {
-        let (start, end) = self.row.1;
+        let (start, end) = (self.row.start, self.row.end);
         let mut count = Comparisons::new();
         let made = match self.change {
             Change::Insert => set.insert(start..end),
@@ -98,12 +109,12 @@ impl Attempt {
         };
         match made {
             Ok(()) => Answer::right_if(set.boundaries() == self.want()),
-            Err(_) => refused_if(set.boundaries() == self.row.0),
+            Err(_) => refused_if(set.boundaries() == self.row.items),
         }
     }
 }
 
-impl Call for Attempt {
+impl<'a> Call for Attempt<'a> {
     type Given = RangeSet2<i64>;
 
     fn given(&self) -> Option<RangeSet2<i64>> {
@@ -112,7 +123,7 @@ impl Call for Attempt {
             Room::Four => 0,
         };
         let mut list = SmallVec::with_capacity(self.alloc, room).ok()?;
-        for item in self.row.0 {
+        for item in self.row.items {
             list.push(*item).ok()?;
         }
         RangeSet::new(list)
@@ -120,7 +131,7 @@ impl Call for Attempt {
 
     fn answer(&self, set: RangeSet2<i64>) -> Answer {
         match self.room {
-            Room::Four => match own::<_, 4>(self.alloc, self.row.0) {
+            Room::Four => match own::<_, 4>(self.alloc, self.row.items) {
                 Some(set) => self.changed(set),
                 None => Answer::Wrong,
             },
@@ -135,7 +146,7 @@ fn changes_are_refused_beyond_their_room(rt: HostRuntime) -> Result<(), AllocErr
     for row in ROWS {
         let mut starved = Starved::new(alloc)?;
         for change in CHANGES {
-            let room = Room::Allocated(row.0.len());
+            let room = Room::Allocated(row.items.len());
             let attempt = Attempt {
                 alloc,
                 change,
@@ -149,9 +160,10 @@ fn changes_are_refused_beyond_their_room(rt: HostRuntime) -> Result<(), AllocErr
 }
 
 // Two ranges that make a list of two grow.
+#[rattlefmt::skip]
 const GROWING: [Row; 2] = [
-    (&[0, 10], (20, 30), &[0, 10, 20, 30], &[0, 10]),
-    (&[0, 10], (3, 5), &[0, 10], &[0, 3, 5, 10]),
+    Row { items: &[0, 10], start: 20, end: 30, inserted: &[0, 10, 20, 30], removed: &[0, 10] },
+    Row { items: &[0, 10], start: 3, end: 5, inserted: &[0, 10], removed: &[0, 3, 5, 10] },
 ];
 
 #[test]

@@ -7,29 +7,37 @@ use serde_json::Value;
 use std::alloc::{AllocError, Global};
 
 // A text of JSON, and what its value says.
-type Row = (&'static str, Result<&'static [i64], JsonError>);
+#[derive(Clone, Copy)]
+struct Row<'a> {
+    text: &'a str,
+    want: Result<&'a [i64], JsonError>,
+}
 
+#[rattlefmt::skip]
 const ROWS: [Row; 3] = [
-    ("[40,20,30,20]", Ok(&[20, 30, 40])),
-    ("{}", Err(JsonError::NotArray)),
-    ("[1,2.5]", Err(JsonError::NotInteger { index: 1 })),
+    Row { text: "[40,20,30,20]", want: Ok(&[20, 30, 40]) },
+    Row { text: "{}", want: Err(JsonError::NotArray) },
+    Row { text: "[1,2.5]", want: Err(JsonError::NotInteger { index: 1 }) },
 ];
 
 #[derive(Drop)]
-struct Reading {
+struct Reading<'a> {
     alloc: Global,
-    row: Row,
+    row: Row<'a>,
 }
 
-impl Call for Reading {
+impl<'a> Call for Reading<'a> {
     type Given = Value;
 
     fn given(&self) -> Option<Value> {
-        Value::from_str(self.alloc, self.row.0).ok()
+        Value::from_str(self.alloc, self.row.text).ok()
     }
 
     fn answer(&self, value: Value) -> Answer {
-        match (RangeSet2::<i64>::from_json(self.alloc, &value), self.row.1) {
+        match (
+            RangeSet2::<i64>::from_json(self.alloc, &value),
+            self.row.want,
+        ) {
             (Ok(set), Ok(want)) => Answer::right_if(set.boundaries() == want),
             (Err(JsonError::OutOfMemory), _) => Answer::Refused,
             (Err(error), Err(want)) => Answer::right_if(error == want),
@@ -66,8 +74,8 @@ fn arrays_are_refused(rt: HostRuntime) -> Result<(), AllocError> {
     let alloc = rt.alloc();
     let mut starved = Starved::new(alloc)?;
     for row in ROWS {
-        let agrees = starved.agrees(&Reading { alloc, row }, row.1.is_ok());
-        assert!(rt; agrees, "{}", row.0);
+        let agrees = starved.agrees(&Reading { alloc, row }, row.want.is_ok());
+        assert!(rt; agrees, "{}", row.text);
     }
     assert!(rt; starved.refuses(&Writing { alloc }), "written");
     Ok(())

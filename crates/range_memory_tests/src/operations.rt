@@ -80,78 +80,73 @@ pub(crate) fn wrong_way(alloc: Global, numbers: &Case<i64>) -> Result<Option<Way
     Ok(None)
 }
 
-// Two lists, what each operation makes of them, how many comparisons it may take, and what a
-// state's list begins with. Sides and results have room in a set of two, or not.
-const ROWS: [(Row, &[i64]); 8] = [
-    (
-        (
-            &[0, 10, 20],
-            &[5, 15, 25],
-            [
-                &[0, 15, 20],
-                &[5, 10, 25],
-                &[0, 5, 20, 25],
-                &[0, 5, 10, 15, 20, 25],
-            ],
-            12,
-        ),
-        &[-1],
-    ),
-    (
-        (
-            &[0, 10],
-            &[20, 30, 40],
-            [&[0, 10, 20, 30, 40], &[], &[0, 10], &[0, 10, 20, 30, 40]],
-            8,
-        ),
-        &[],
-    ),
-    (
-        (
-            &[0, 10],
-            &[20],
-            [&[0, 10, 20], &[], &[0, 10], &[0, 10, 20]],
-            6,
-        ),
-        &[-1],
-    ),
-    (
-        (&[10], &[1, 5], [&[1, 5, 10], &[], &[10], &[1, 5, 10]], 6),
-        &[],
-    ),
-    ((&[0], &[20], [&[0], &[20], &[0, 20], &[0, 20]], 4), &[]),
-    ((&[], &[0, 10], [&[0, 10], &[], &[], &[0, 10]], 4), &[]),
-    (
-        (
-            &[0, 10],
-            &[5, 15],
-            [&[0, 15], &[5, 10], &[0, 5], &[0, 5, 10, 15]],
-            8,
-        ),
-        &[],
-    ),
-    (
-        (
-            &[0, 1, 2, 3, 4, 5, 6],
-            &[3, 8],
-            [
-                &[0, 1, 2],
-                &[4, 5, 6, 8],
-                &[0, 1, 2, 3, 8],
-                &[0, 1, 2, 4, 5, 6, 8],
-            ],
-            12,
-        ),
-        &[-2, -1],
-    ),
+// A row of operations, and what a state's list begins with. Sides and results have room in a set of
+// two, or not.
+#[derive(Clone, Copy)]
+struct Begun<'a> {
+    row: Row<'a>,
+    first: &'a [i64],
+}
+
+#[rattlefmt::skip]
+const ROWS: [Begun; 8] = [
+    Begun { first: &[-1], row: Row {
+        left: &[0, 10, 20],
+        right: &[5, 15, 25],
+        wants: [&[0, 15, 20], &[5, 10, 25], &[0, 5, 20, 25], &[0, 5, 10, 15, 20, 25]],
+        most: 12,
+    } },
+    Begun { first: &[], row: Row {
+        left: &[0, 10],
+        right: &[20, 30, 40],
+        wants: [&[0, 10, 20, 30, 40], &[], &[0, 10], &[0, 10, 20, 30, 40]],
+        most: 8,
+    } },
+    Begun { first: &[-1], row: Row {
+        left: &[0, 10],
+        right: &[20],
+        wants: [&[0, 10, 20], &[], &[0, 10], &[0, 10, 20]],
+        most: 6,
+    } },
+    Begun { first: &[], row: Row {
+        left: &[10],
+        right: &[1, 5],
+        wants: [&[1, 5, 10], &[], &[10], &[1, 5, 10]],
+        most: 6,
+    } },
+    Begun { first: &[], row: Row {
+        left: &[0],
+        right: &[20],
+        wants: [&[0], &[20], &[0, 20], &[0, 20]],
+        most: 4,
+    } },
+    Begun { first: &[], row: Row {
+        left: &[],
+        right: &[0, 10],
+        wants: [&[0, 10], &[], &[], &[0, 10]],
+        most: 4,
+    } },
+    Begun { first: &[], row: Row {
+        left: &[0, 10],
+        right: &[5, 15],
+        wants: [&[0, 15], &[5, 10], &[0, 5], &[0, 5, 10, 15]],
+        most: 8,
+    } },
+    Begun { first: &[-2, -1], row: Row {
+        left: &[0, 1, 2, 3, 4, 5, 6],
+        right: &[3, 8],
+        wants: [&[0, 1, 2], &[4, 5, 6, 8], &[0, 1, 2, 3, 8], &[0, 1, 2, 4, 5, 6, 8]],
+        most: 12,
+    } },
 ];
 
 #[test]
 fn operations_are_refused_beyond_their_room(rt: HostRuntime) -> Result<(), AllocError> {
-    for (row, first) in &ROWS {
-        for (op, want) in OPERATIONS.iter().zip(&row.2) {
+    for Begun { row, first } in &ROWS {
+        for (op, want) in OPERATIONS.iter().zip(&row.wants) {
             let wrong = wrong_way(rt.alloc(), &case_of(*op, row, first, want))?;
-            assert_eq!(rt; wrong, None, "{op:?} of {:?} and {:?}", row.0, row.1);
+            let (left, right) = (row.left, row.right);
+            assert_eq!(rt; wrong, None, "{op:?} of {left:?} and {right:?}");
         }
     }
     Ok(())

@@ -4,24 +4,29 @@ use range_tests_kit::starving::{Answer, Call, Starved};
 use std::alloc::{AllocError, Global};
 
 // A text, and the boundaries of its set, which has room for one, if it is a text of ranges.
-type Row = (&'static str, Option<&'static [i64]>);
+#[derive(Clone, Copy)]
+struct Row<'a> {
+    text: &'a str,
+    want: Option<&'a [i64]>,
+}
 
+#[rattlefmt::skip]
 const ROWS: [Row; 6] = [
-    ("8.., 2..6, 9..3, 0..4", Some(&[0, 6, 8])),
-    ("2..6", Some(&[2, 6])),
-    ("1..2..3", None),
-    ("1..2,", None),
-    ("x", None),
-    ("1..99999999999999999999", None),
+    Row { text: "8.., 2..6, 9..3, 0..4", want: Some(&[0, 6, 8]) },
+    Row { text: "2..6", want: Some(&[2, 6]) },
+    Row { text: "1..2..3", want: None },
+    Row { text: "1..2,", want: None },
+    Row { text: "x", want: None },
+    Row { text: "1..99999999999999999999", want: None },
 ];
 
 #[derive(Drop)]
-struct Attempt {
+struct Attempt<'a> {
     alloc: Global,
-    row: Row,
+    row: Row<'a>,
 }
 
-impl Call for Attempt {
+impl<'a> Call for Attempt<'a> {
     type Given = ();
 
     fn given(&self) -> Option<()> {
@@ -29,8 +34,8 @@ impl Call for Attempt {
     }
 
     fn answer(&self, _given: ()) -> Answer {
-        let made: Result<RangeSet<i64, 1>, ParseError> = RangeSet::parse(self.alloc, self.row.0);
-        match (made, self.row.1) {
+        let made: Result<RangeSet<i64, 1>, ParseError> = RangeSet::parse(self.alloc, self.row.text);
+        match (made, self.row.want) {
             (Ok(set), Some(want)) => Answer::right_if(set.boundaries() == want),
             (Err(ParseError::OutOfMemory), _) => Answer::Refused,
             (Err(_), None) => Answer::Right,
@@ -44,8 +49,8 @@ fn texts_are_refused_if_they_are_of_ranges(rt: HostRuntime) -> Result<(), AllocE
     let alloc = rt.alloc();
     let mut starved = Starved::new(alloc)?;
     for row in ROWS {
-        let agrees = starved.agrees(&Attempt { alloc, row }, row.1.is_some());
-        assert!(rt; agrees, "{}", row.0);
+        let agrees = starved.agrees(&Attempt { alloc, row }, row.want.is_some());
+        assert!(rt; agrees, "{}", row.text);
     }
     Ok(())
 }

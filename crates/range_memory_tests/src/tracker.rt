@@ -1,11 +1,10 @@
 //! Out of memory in a tracker: a refused command changes nothing, and one that is too many stays
 //! so.
-use range_collections::RangeSetRange;
+use range_tests_kit::lists::are_ranges_between;
 use range_tests_kit::starving::{Answer, Call, Starved};
 use range_tests_kit::ways::refused_if;
 use range_tracker::{Command, TrackError, Tracker};
 use std::alloc::{AllocError, Global};
-use std::ops::Range;
 
 type Reply = Result<(), TrackError>;
 
@@ -14,19 +13,6 @@ const NOTHING: Reply = Err(TrackError::OutOfMemory);
 const FOUR: Reply = Err(TrackError::TooMany { boundaries: 4 });
 
 const EIGHT: Reply = Err(TrackError::TooMany { boundaries: 8 });
-
-// Whether the tracker has the ranges between these boundaries alone.
-fn has_ranges(tracker: &Tracker, want: &[u64]) -> bool {
-    let mut ends = want.iter();
-    for range in tracker.ranges() {
-        match range {
-            RangeSetRange::Range(Range { start, end })
-                if ends.next() == Some(start) && ends.next() == Some(end) => {}
-            _ => return false,
-        }
-    }
-    ends.next().is_none()
-}
 
 // The boundaries of a tracker with two ranges, and the tracker.
 const BEGUN: &[u64] = &[0, 10, 20, 30];
@@ -39,15 +25,25 @@ fn begun(alloc: Global, limit: usize) -> Option<Tracker> {
 }
 
 // The replies to commands, and the boundaries after them.
-type Replies<const N: usize> = ([Reply; N], &'static [u64]);
+struct Outcome<const N: usize> {
+    replies: [Reply; N],
+    ranges: &'static [u64],
+}
+
+impl<const N: usize> Outcome<N> {
+    // Whether it is what a tracker replied, and has then.
+    fn is(&self, replies: &[Reply; N], tracker: &Tracker) -> bool {
+        self.replies == *replies && are_ranges_between(tracker.ranges(), self.ranges)
+    }
+}
 
 // A limit, commands for a tracker with two ranges, and what they come to with ample memory, and
 // where memory is refused.
 struct Row {
     limit: usize,
     commands: [Command; 3],
-    ample: Replies<3>,
-    refused: Replies<3>,
+    ample: Outcome<3>,
+    refused: Outcome<3>,
 }
 
 const ROWS: [Row; 3] = [
@@ -58,8 +54,14 @@ const ROWS: [Row; 3] = [
             Command::Add(5..5),
             Command::Forget(60..70),
         ],
-        ample: ([Ok(()); 3], &[0, 10, 20, 30, 40, 50]),
-        refused: ([NOTHING, Ok(()), Ok(())], BEGUN),
+        ample: Outcome {
+            replies: [Ok(()); 3],
+            ranges: &[0, 10, 20, 30, 40, 50],
+        },
+        refused: Outcome {
+            replies: [NOTHING, Ok(()), Ok(())],
+            ranges: BEGUN,
+        },
     },
     Row {
         limit: 100,
@@ -68,8 +70,14 @@ const ROWS: [Row; 3] = [
             Command::Add(5..5),
             Command::Forget(60..70),
         ],
-        ample: ([Ok(()); 3], &[0, 4, 5, 10, 20, 30]),
-        refused: ([NOTHING, Ok(()), Ok(())], BEGUN),
+        ample: Outcome {
+            replies: [Ok(()); 3],
+            ranges: &[0, 4, 5, 10, 20, 30],
+        },
+        refused: Outcome {
+            replies: [NOTHING, Ok(()), Ok(())],
+            ranges: BEGUN,
+        },
     },
     // Too many after the first command alone.
     Row {
@@ -79,8 +87,14 @@ const ROWS: [Row; 3] = [
             Command::Forget(25..26),
             Command::Add(10..20),
         ],
-        ample: ([Ok(()), EIGHT, Ok(())], &[0, 30, 40, 50]),
-        refused: ([NOTHING, NOTHING, Ok(())], &[0, 30]),
+        ample: Outcome {
+            replies: [Ok(()), EIGHT, Ok(())],
+            ranges: &[0, 30, 40, 50],
+        },
+        refused: Outcome {
+            replies: [NOTHING, NOTHING, Ok(())],
+            ranges: &[0, 30],
+        },
     },
 ];
 
@@ -129,18 +143,20 @@ impl<'a> Call for Attempt<'a> {
 fn run(row: &Row, mut tracker: Tracker) -> Answer {
     let mut replies = [Ok(()); 3];
     tracker.run(&row.commands, &mut replies);
-    if replies == row.ample.0 && has_ranges(&tracker, row.ample.1) {
+    if row.ample.is(&replies, &tracker) {
         Answer::Right
     } else {
-        refused_if(replies == row.refused.0 && has_ranges(&tracker, row.refused.1))
+        refused_if(row.refused.is(&replies, &tracker))
     }
 }
 
 // What a reply says where the list grows.
 fn replied(tracker: &Tracker, reply: Reply, want: &[u64]) -> Answer {
     match reply {
-        Ok(()) => Answer::right_if(has_ranges(tracker, want)),
-        Err(error) => refused_if(error == TrackError::OutOfMemory && has_ranges(tracker, BEGUN)),
+        Ok(()) => Answer::right_if(are_ranges_between(tracker.ranges(), want)),
+        Err(error) => refused_if(
+            error == TrackError::OutOfMemory && are_ranges_between(tracker.ranges(), BEGUN),
+        ),
     }
 }
 
@@ -182,7 +198,7 @@ fn record_forget_and_missing_are_refused(rt: HostRuntime) -> Result<(), AllocErr
 struct Bare {
     limit: usize,
     commands: [Command; 5],
-    want: Replies<5>,
+    want: Outcome<5>,
 }
 
 const BARE: [Bare; 3] = [
@@ -196,7 +212,10 @@ const BARE: [Bare; 3] = [
             Command::Add(7..8),
             Command::Forget(7..8),
         ],
-        want: ([Ok(()); 5], &[]),
+        want: Outcome {
+            replies: [Ok(()); 5],
+            ranges: &[],
+        },
     },
     // Too many.
     Bare {
@@ -208,7 +227,10 @@ const BARE: [Bare; 3] = [
             Command::Add(10..20),
             Command::Forget(4..5),
         ],
-        want: ([Ok(()), FOUR, FOUR, Ok(()), FOUR], &[0, 20]),
+        want: Outcome {
+            replies: [Ok(()), FOUR, FOUR, Ok(()), FOUR],
+            ranges: &[0, 20],
+        },
     },
     // Those that need some are refused in place.
     Bare {
@@ -220,7 +242,10 @@ const BARE: [Bare; 3] = [
             Command::Add(10..20),
             Command::Forget(5..6),
         ],
-        want: ([Ok(()), NOTHING, NOTHING, Ok(()), NOTHING], &[0, 20]),
+        want: Outcome {
+            replies: [Ok(()), NOTHING, NOTHING, Ok(()), NOTHING],
+            ranges: &[0, 20],
+        },
     },
 ];
 
@@ -245,7 +270,7 @@ impl<'a> Call for BareAttempt<'a> {
         let mut tracker = Tracker::new(self.alloc, row.limit.min(100));
         let mut replies = [Ok(()); 5];
         tracker.run(&row.commands, &mut replies);
-        Answer::right_if(replies == row.want.0 && has_ranges(&tracker, row.want.1))
+        Answer::right_if(row.want.is(&replies, &tracker))
     }
 }
 
