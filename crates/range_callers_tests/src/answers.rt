@@ -116,9 +116,9 @@ fn is_right(alloc: Global, given: Given, row: &str, line: &str) -> bool {
 
 /// The first row that isn't answered by its line.
 fn wrong(alloc: Global, given: Given, rows: &[Row]) -> Option<&'static str> {
-    for (row, line) in rows {
-        if !is_right(alloc, given, row, line) {
-            return Some(row);
+    for row in rows {
+        if !is_right(alloc, given, row.given, row.line) {
+            return Some(row.given);
         }
     }
     None

@@ -2,32 +2,33 @@
 use range_track_answers::{Status, limit_asked, serve};
 use std::alloc::{AllocError, Global};
 
-/// Inputs, and what answers them where four boundaries are the most.
-const INPUTS: [(&str, &str); 9] = [
-    (
-        "+ 0 10\n+ 20 30\n+ 40 50\n+ 10 20\nranges\n- 5 6\nranges\n- 10 12\n? 0 5\n? 4 7\n? 7 7\nmissing 40\nmissing 0\n",
-        "ok\nok\ntoo many 6\nok\n0..30\nok\n0..5, 6..30\ntoo many 6\ntrue\nfalse\ntrue\n5,6,30,40\n-\n",
-    ),
-    ("", ""),
-    ("ranges", "-\n"),
-    ("ranges\n", "-\n"),
-    ("ranges\n\n", "-\nbad line\n"),
-    (
-        "+ 5 5\n+ 9 3\n- 9 3\nranges\nmissing 3",
-        "ok\nok\nok\n-\n0,3\n",
-    ),
-    (
-        "+ 0 18446744073709551615\n? 18446744073709551614 18446744073709551615\nmissing 18446744073709551615\n",
-        "ok\ntrue\n-\n",
-    ),
-    (
-        "+ 00000000000000000000 00000000000000000007\nranges\n",
-        "ok\n0..7\n",
-    ),
-    (
-        "+ 0 2\n- 0 1\n? 0 1\n? 1 2\n? 3 2\nmissing 2\n- 0 9\nranges\n",
-        "ok\nok\nfalse\ntrue\ntrue\n0,1\nok\n-\n",
-    ),
+/// An input, and the text that answers it if four boundaries are the most.
+#[derive(Clone, Copy)]
+struct Answered<'a> {
+    input: &'a str,
+    text: &'a str,
+}
+
+#[rattlefmt::skip]
+const INPUTS: [Answered; 9] = [
+    Answered {
+        input: "+ 0 10\n+ 20 30\n+ 40 50\n+ 10 20\nranges\n- 5 6\nranges\n- 10 12\n? 0 5\n? 4 7\n? 7 7\nmissing 40\nmissing 0\n",
+        text: "ok\nok\ntoo many 6\nok\n0..30\nok\n0..5, 6..30\ntoo many 6\ntrue\nfalse\ntrue\n5,6,30,40\n-\n",
+    },
+    Answered { input: "", text: "" },
+    Answered { input: "ranges", text: "-\n" },
+    Answered { input: "ranges\n", text: "-\n" },
+    Answered { input: "ranges\n\n", text: "-\nbad line\n" },
+    Answered { input: "+ 5 5\n+ 9 3\n- 9 3\nranges\nmissing 3", text: "ok\nok\nok\n-\n0,3\n" },
+    Answered {
+        input: "+ 0 18446744073709551615\n? 18446744073709551614 18446744073709551615\nmissing 18446744073709551615\n",
+        text: "ok\ntrue\n-\n",
+    },
+    Answered { input: "+ 00000000000000000000 00000000000000000007\nranges\n", text: "ok\n0..7\n" },
+    Answered {
+        input: "+ 0 2\n- 0 1\n? 0 1\n? 1 2\n? 3 2\nmissing 2\n- 0 9\nranges\n",
+        text: "ok\nok\nfalse\ntrue\ntrue\n0,1\nok\n-\n",
+    },
 ];
 
 /// Whether the input is answered by this text.
@@ -41,7 +42,7 @@ fn is_answered(alloc: Global, input: &[u8], text: &str) -> bool {
 
 #[test]
 fn inputs_are_answered_line_by_line(rt: HostRuntime) {
-    for (input, text) in INPUTS {
+    for Answered { input, text } in INPUTS {
         assert!(rt;
             is_answered(rt.alloc(), input.as_bytes(), text),
             "{input:?}"
@@ -130,21 +131,28 @@ fn long_lines_are_bad_lines_up_to_their_end(rt: HostRuntime) {
 }
 
 /// A word, and the limit that it asks for.
-const LIMITS: [(&str, Option<usize>); 14] = [
-    ("", None),
-    ("0", Some(0)),
-    ("4", Some(4)),
-    ("007", Some(7)),
-    ("18446744073709551613", Some(usize::MAX - 2)),
-    ("18446744073709551614", None),
-    ("18446744073709551615", None),
-    ("18446744073709551616", None),
-    ("000000000000000000001", None),
-    ("-1", None),
-    ("+1", None),
-    ("1.0", None),
-    ("x", None),
-    ("1x", None),
+#[derive(Clone, Copy)]
+struct Limit<'a> {
+    word: &'a str,
+    limit: Option<usize>,
+}
+
+#[rattlefmt::skip]
+const LIMITS: [Limit; 14] = [
+    Limit { word: "", limit: None },
+    Limit { word: "0", limit: Some(0) },
+    Limit { word: "4", limit: Some(4) },
+    Limit { word: "007", limit: Some(7) },
+    Limit { word: "18446744073709551613", limit: Some(usize::MAX - 2) },
+    Limit { word: "18446744073709551614", limit: None },
+    Limit { word: "18446744073709551615", limit: None },
+    Limit { word: "18446744073709551616", limit: None },
+    Limit { word: "000000000000000000001", limit: None },
+    Limit { word: "-1", limit: None },
+    Limit { word: "+1", limit: None },
+    Limit { word: "1.0", limit: None },
+    Limit { word: "x", limit: None },
+    Limit { word: "1x", limit: None },
 ];
 
 /// The limit that so many times the word ask for, if there is memory for the words.
@@ -159,7 +167,7 @@ fn limit_of(alloc: Global, word: &str, times: usize) -> Result<Option<usize>, Al
 #[test]
 fn limits_are_read_from_the_arguments(rt: HostRuntime) {
     let alloc = rt.alloc();
-    for (word, limit) in LIMITS {
+    for Limit { word, limit } in LIMITS {
         assert_eq!(rt; limit_of(alloc, word, 1), Ok(limit), "{word:?}");
     }
     assert_eq!(rt; limit_of(alloc, "", 0), Ok(Some(1_000_000)));

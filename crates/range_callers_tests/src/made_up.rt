@@ -1,6 +1,7 @@
 //! Made-up commands of a tracker, against a bitmap of 256 offsets.
-use crate::tracker::{has_ranges, misses, too_many};
+use crate::tracker::{misses, too_many};
 use range_tests_kit::generator::Generator;
+use range_tests_kit::lists::are_ranges_between;
 use range_tracker::Tracker;
 use std::alloc::{AllocError, Global};
 use std::ops::Range;
@@ -40,7 +41,7 @@ fn changes_of(alloc: Global, bits: &Bitmap) -> Result<Vec<u64>, AllocError> {
 /// Whether the tracker has the offsets of the bitmap.
 fn has_all(alloc: Global, tracker: &Tracker, there: &Bitmap) -> bool {
     match changes_of(alloc, there) {
-        Ok(want) => has_ranges(tracker, want.as_slice()),
+        Ok(want) => are_ranges_between(tracker.ranges(), want.as_slice()),
         Err(_) => false,
     }
 }

@@ -1,6 +1,5 @@
 //! A tracker of offsets: what answers its commands, and what is there then.
-use range_collections::RangeSetRange;
-use range_tests_kit::lists::prints;
+use range_tests_kit::lists::{are_ranges_between, prints};
 use range_tracker::{Command, TrackError, Tracker};
 use std::alloc::Global;
 use std::ops::Range;
@@ -18,19 +17,6 @@ const FOUR: Reply = Err(TrackError::TooMany { boundaries: 4 });
 
 const SIX: Reply = Err(TrackError::TooMany { boundaries: 6 });
 
-/// Whether the tracker has the ranges between these boundaries alone.
-pub(crate) fn has_ranges(tracker: &Tracker, want: &[u64]) -> bool {
-    let mut ends = want.iter();
-    for range in tracker.ranges() {
-        match range {
-            RangeSetRange::Range(Range { start, end })
-                if ends.next() == Some(start) && ends.next() == Some(end) => {}
-            _ => return false,
-        }
-    }
-    ends.next().is_none()
-}
-
 /// Whether these are the offsets that are missing below the length.
 pub(crate) fn misses(tracker: &Tracker, len: u64, want: &[u64]) -> bool {
     match tracker.missing(len) {
@@ -40,12 +26,17 @@ pub(crate) fn misses(tracker: &Tracker, len: u64, want: &[u64]) -> bool {
 }
 
 /// A limit, commands with their replies, and the boundaries of the ranges that are there then.
-type Row<'a> = (usize, [Command; 6], [Reply; 6], &'a [u64]);
+struct Row<'a> {
+    limit: usize,
+    commands: [Command; 6],
+    replies: [Reply; 6],
+    ranges: &'a [u64],
+}
 
 const ROWS: [Row; 4] = [
-    (
-        4,
-        [
+    Row {
+        limit: 4,
+        commands: [
             Command::Add(0..10),
             Command::Add(20..30),
             Command::Add(40..50),
@@ -53,12 +44,12 @@ const ROWS: [Row; 4] = [
             Command::Forget(5..6),
             Command::Forget(10..12),
         ],
-        [Ok(()), Ok(()), SIX, Ok(()), Ok(()), SIX],
-        &[0, 5, 6, 30],
-    ),
-    (
-        0,
-        [
+        replies: [Ok(()), Ok(()), SIX, Ok(()), Ok(()), SIX],
+        ranges: &[0, 5, 6, 30],
+    },
+    Row {
+        limit: 0,
+        commands: [
             Command::Add(5..5),
             Command::Add(9..3),
             Command::Add(0..1),
@@ -66,12 +57,12 @@ const ROWS: [Row; 4] = [
             Command::Add(7..8),
             Command::Forget(8..7),
         ],
-        [Ok(()), Ok(()), TWO, Ok(()), TWO, Ok(())],
-        &[],
-    ),
-    (
-        2,
-        [
+        replies: [Ok(()), Ok(()), TWO, Ok(()), TWO, Ok(())],
+        ranges: &[],
+    },
+    Row {
+        limit: 2,
+        commands: [
             Command::Add(0..10),
             Command::Add(5..20),
             Command::Forget(4..5),
@@ -79,12 +70,12 @@ const ROWS: [Row; 4] = [
             Command::Forget(0..2),
             Command::Add(20..u64::MAX),
         ],
-        [Ok(()), Ok(()), FOUR, Ok(()), Ok(()), Ok(())],
-        &[2, u64::MAX],
-    ),
-    (
-        4,
-        [
+        replies: [Ok(()), Ok(()), FOUR, Ok(()), Ok(()), Ok(())],
+        ranges: &[2, u64::MAX],
+    },
+    Row {
+        limit: 4,
+        commands: [
             Command::Add(0..u64::MAX),
             Command::Forget(4..5),
             Command::Forget(7..8),
@@ -92,24 +83,23 @@ const ROWS: [Row; 4] = [
             Command::Add(4..6),
             Command::Forget(0..u64::MAX),
         ],
-        [Ok(()), Ok(()), SIX, Ok(()), Ok(()), Ok(())],
-        &[],
-    ),
+        replies: [Ok(()), Ok(()), SIX, Ok(()), Ok(()), Ok(())],
+        ranges: &[],
+    },
 ];
 
 /// Whether a run of the row's commands has its replies, and leaves its ranges.
 fn is_run(alloc: Global, row: &Row) -> bool {
-    let (limit, commands, want, ranges) = row;
-    let mut tracker = Tracker::new(alloc, (*limit).min(100));
+    let mut tracker = Tracker::new(alloc, row.limit.min(100));
     let mut replies = [Err(TrackError::OutOfMemory); 6];
-    tracker.run(commands, &mut replies);
-    replies == *want && has_ranges(&tracker, ranges)
+    tracker.run(&row.commands, &mut replies);
+    replies == row.replies && are_ranges_between(tracker.ranges(), row.ranges)
 }
 
 #[test]
 fn commands_are_answered_in_turn(rt: HostRuntime) {
     for row in &ROWS {
-        assert!(rt; is_run(rt.alloc(), row), "{:?}", row.1);
+        assert!(rt; is_run(rt.alloc(), row), "{:?}", row.commands);
     }
 }
 
@@ -132,87 +122,76 @@ enum Answer {
     Boundaries(&'static [u64]),
 }
 
-/// A limit, and calls of a tracker without ranges, each with its answer.
-type Calls<'a> = (usize, &'a [(Call, Answer)]);
+/// A call, and what answers it.
+struct Asked {
+    call: Call,
+    answer: Answer,
+}
 
+/// A limit, and calls of a tracker without ranges, one after the other.
+struct Calls<'a> {
+    limit: usize,
+    calls: &'a [Asked],
+}
+
+#[rattlefmt::skip]
 const CALLS: [Calls; 7] = [
-    (
-        4,
-        &[
-            (Call::Record(0..10), Answer::Reply(Ok(()))),
-            (Call::Record(20..30), Answer::Reply(Ok(()))),
-            (Call::Record(40..50), Answer::Reply(SIX)),
-            (Call::Record(10..20), Answer::Reply(Ok(()))),
-            (Call::Ranges, Answer::Boundaries(&[0, 30])),
-            (Call::Forget(5..6), Answer::Reply(Ok(()))),
-            (Call::Ranges, Answer::Boundaries(&[0, 5, 6, 30])),
-            (Call::Forget(10..12), Answer::Reply(SIX)),
-            (Call::Has(0..5), Answer::Truth(true)),
-            (Call::Has(4..7), Answer::Truth(false)),
-            (Call::Has(7..7), Answer::Truth(true)),
-            (Call::Missing(40), Answer::Boundaries(&[5, 6, 30, 40])),
-            (Call::Missing(0), Answer::Boundaries(&[])),
-        ],
-    ),
-    (
-        0,
-        &[
-            (Call::Record(5..5), Answer::Reply(Ok(()))),
-            (Call::Record(9..3), Answer::Reply(Ok(()))),
-            (Call::Record(0..1), Answer::Reply(TWO)),
-            (Call::Forget(0..1), Answer::Reply(Ok(()))),
-        ],
-    ),
-    (
-        2,
-        &[
-            (Call::Record(0..10), Answer::Reply(Ok(()))),
-            (Call::Record(5..20), Answer::Reply(Ok(()))),
-            (Call::Ranges, Answer::Boundaries(&[0, 20])),
-        ],
-    ),
-    (
-        4,
-        &[
-            (
-                Call::Run(&[
-                    Command::Add(0..10),
-                    Command::Add(20..30),
-                    Command::Add(40..50),
-                    Command::Add(10..20),
-                    Command::Forget(5..6),
-                ]),
-                Answer::Replies(&[Ok(()), Ok(()), SIX, Ok(()), Ok(())]),
-            ),
-            (Call::Ranges, Answer::Boundaries(&[0, 5, 6, 30])),
-        ],
-    ),
-    (
-        2,
-        &[
-            (Call::Record(0..10), Answer::Reply(Ok(()))),
-            (Call::Forget(4..5), Answer::Reply(FOUR)),
-            (Call::Missing(10), Answer::Boundaries(&[])),
-        ],
-    ),
-    (
-        4,
-        &[
-            (Call::Record(0..u64::MAX), Answer::Reply(Ok(()))),
-            (Call::Has(u64::MAX - 1..u64::MAX), Answer::Truth(true)),
-            (Call::Missing(u64::MAX), Answer::Boundaries(&[])),
-        ],
-    ),
-    (
-        2,
-        &[
-            (Call::Record(0..20), Answer::Reply(Ok(()))),
-            (Call::Missing(25), Answer::Boundaries(&[20, 25])),
-            (Call::Forget(0..5), Answer::Reply(Ok(()))),
-            (Call::Has(4..6), Answer::Truth(false)),
-            (Call::Missing(25), Answer::Boundaries(&[0, 5, 20, 25])),
-        ],
-    ),
+    Calls { limit: 4, calls: &[
+        Asked { call: Call::Record(0..10), answer: Answer::Reply(Ok(())) },
+        Asked { call: Call::Record(20..30), answer: Answer::Reply(Ok(())) },
+        Asked { call: Call::Record(40..50), answer: Answer::Reply(SIX) },
+        Asked { call: Call::Record(10..20), answer: Answer::Reply(Ok(())) },
+        Asked { call: Call::Ranges, answer: Answer::Boundaries(&[0, 30]) },
+        Asked { call: Call::Forget(5..6), answer: Answer::Reply(Ok(())) },
+        Asked { call: Call::Ranges, answer: Answer::Boundaries(&[0, 5, 6, 30]) },
+        Asked { call: Call::Forget(10..12), answer: Answer::Reply(SIX) },
+        Asked { call: Call::Has(0..5), answer: Answer::Truth(true) },
+        Asked { call: Call::Has(4..7), answer: Answer::Truth(false) },
+        Asked { call: Call::Has(7..7), answer: Answer::Truth(true) },
+        Asked { call: Call::Missing(40), answer: Answer::Boundaries(&[5, 6, 30, 40]) },
+        Asked { call: Call::Missing(0), answer: Answer::Boundaries(&[]) },
+    ] },
+    Calls { limit: 0, calls: &[
+        Asked { call: Call::Record(5..5), answer: Answer::Reply(Ok(())) },
+        Asked { call: Call::Record(9..3), answer: Answer::Reply(Ok(())) },
+        Asked { call: Call::Record(0..1), answer: Answer::Reply(TWO) },
+        Asked { call: Call::Forget(0..1), answer: Answer::Reply(Ok(())) },
+    ] },
+    Calls { limit: 2, calls: &[
+        Asked { call: Call::Record(0..10), answer: Answer::Reply(Ok(())) },
+        Asked { call: Call::Record(5..20), answer: Answer::Reply(Ok(())) },
+        Asked { call: Call::Ranges, answer: Answer::Boundaries(&[0, 20]) },
+    ] },
+    Calls { limit: 4, calls: &[
+        Asked {
+            call: Call::Run(&[
+                Command::Add(0..10),
+                Command::Add(20..30),
+                Command::Add(40..50),
+                Command::Add(10..20),
+                Command::Forget(5..6),
+            ]),
+            answer: Answer::Replies(&[Ok(()), Ok(()), SIX, Ok(()), Ok(())]),
+        },
+        Asked { call: Call::Ranges, answer: Answer::Boundaries(&[0, 5, 6, 30]) },
+    ] },
+    Calls { limit: 2, calls: &[
+        Asked { call: Call::Record(0..10), answer: Answer::Reply(Ok(())) },
+        Asked { call: Call::Forget(4..5), answer: Answer::Reply(FOUR) },
+        Asked { call: Call::Missing(10), answer: Answer::Boundaries(&[]) },
+    ] },
+    Calls { limit: 4, calls: &[
+        Asked { call: Call::Record(0..u64::MAX), answer: Answer::Reply(Ok(())) },
+        Asked { call: Call::Has(u64::MAX - 1..u64::MAX), answer: Answer::Truth(true) },
+        Asked { call: Call::Missing(u64::MAX), answer: Answer::Boundaries(&[]) },
+    ] },
+    Calls { limit: 2, calls: &[
+        Asked { call: Call::Record(0..20), answer: Answer::Reply(Ok(())) },
+        Asked { call: Call::Missing(25), answer: Answer::Boundaries(&[20, 25]) },
+        Asked { call: Call::Forget(0..5), answer: Answer::Reply(Ok(())) },
+        Asked { call: Call::Has(4..6), answer: Answer::Truth(false) },
+        Asked { call: Call::Missing(25), answer: Answer::Boundaries(&[0, 5, 20, 25]) },
+    ] },
 ];
 
 /// Whether the tracker answers so.
@@ -230,18 +209,18 @@ fn answers(tracker: &mut Tracker, call: &Call, answer: &Answer) -> bool {
             replies == **want
         }
         (Call::Has(range), Answer::Truth(want)) => tracker.has(range.start..range.end) == *want,
-        (Call::Ranges, Answer::Boundaries(want)) => has_ranges(tracker, want),
+        (Call::Ranges, Answer::Boundaries(want)) => are_ranges_between(tracker.ranges(), want),
         (Call::Missing(len), Answer::Boundaries(want)) => misses(tracker, *len, want),
         _ => false,
     }
 }
 
-/// The first call that a tracker with this limit answers otherwise.
-fn wrong_call<'a>(alloc: Global, limit: usize, calls: &'a [(Call, Answer)]) -> Option<&'a Call> {
-    let mut tracker = Tracker::new(alloc, limit.min(100));
-    for (call, answer) in calls {
-        if !answers(&mut tracker, call, answer) {
-            return Some(call);
+/// The first call of the row that is answered otherwise.
+fn wrong_call<'a>(alloc: Global, row: &'a Calls) -> Option<&'a Call> {
+    let mut tracker = Tracker::new(alloc, row.limit.min(100));
+    for asked in row.calls {
+        if !answers(&mut tracker, &asked.call, &asked.answer) {
+            return Some(&asked.call);
         }
     }
     None
@@ -249,9 +228,9 @@ fn wrong_call<'a>(alloc: Global, limit: usize, calls: &'a [(Call, Answer)]) -> O
 
 #[test]
 fn calls_are_answered_one_by_one(rt: HostRuntime) {
-    for (limit, calls) in &CALLS {
-        let wrong = wrong_call(rt.alloc(), *limit, calls);
-        assert!(rt; wrong.is_none(), "{wrong:?} where {limit} are the most");
+    for row in &CALLS {
+        let wrong = wrong_call(rt.alloc(), row);
+        assert!(rt; wrong.is_none(), "{wrong:?} if {} are the most", row.limit);
     }
 }
 
