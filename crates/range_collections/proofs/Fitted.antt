@@ -51,6 +51,9 @@ module _ {K : Type 0} where
   pub two-from_range : (unread rest : List K) (s e : K) → ranges_of unread ≡ Range (record { start = s; end = e }) ∷ ranges_of rest → unread ≡ s ∷ e ∷ rest
   two-from_range unread rest s e h = same_ranges unread (s ∷ e ∷ rest) h
 
+  pub nil-from_ranges : (unread : List K) → ranges_of unread ≡ [] → unread ≡ []
+  nil-from_ranges unread h = same_ranges unread [] h
+
 -- what a walk through the gaps keeps: `at` of their boundaries are read, and nothing fits before
 -- these
 pub record Searched {K : Type 0} (order : K → K → Ordering) (place : K → ℕ) (items : List K) (start end len : K) (unread : List K) : Type 0 where

@@ -41,5 +41,7 @@ pub mod Next
 pub mod Endless
 pub mod Previous
 pub mod Ranked
+pub mod Rows
+pub mod Multiples
 pub mod RangeMembers
 pub mod Texts

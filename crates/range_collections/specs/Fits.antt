@@ -1,8 +1,17 @@
--- Where a stretch of elements fits into what is not in a set, for elements that stand for numbers.
+-- Where a stretch of values fits beside a set, or in it: of values that stand in a row, so many of
+-- them below each.
 --     Fits order number items start end len x     the len elements from x on lie between start and end, and none is a member
-use Rattle.std.specs.Prelude.{◌≡◌, ℕ, ◌+◌, ◌<◌, ◌≤◌, false, List}
+--     IsRow order value inside items start end count at   the `count` values from the place `at` on lie between the places start and end, and are members exactly if `inside`
+--     has_values place count range                the range has at least so many values
+--     IsFirstFit order place items start end count answer     the start of the first gap that has as many
+use Rattle.std.specs.Prelude.{◌≡◌, ℕ, ◌+◌, ◌-◌, ◌<◌, ◌≤◌, nat_le, Bool, true, false, filter, List, Option, slice_get}
+use Rattle.std.specs.Option.{option_map}
 use Rattle.std.specs.declared.cmp.Ordering.{Ordering}
 use Rattle.range_merge.specs.Boundaries.{member}
+use Rattle.range_merge.specs.Connective.{Means, difference_table}
+use Rattle.range_collections.specs.Ranges.{range_items, range_start, ranges_of}
+use Rattle.range_collections.specs.declared.range_set_range.RangeSetRange.{RangeSetRange}
+use Rattle.range_collections.specs.declared.range_set_range.RangeSetRange.TheVariants.{Range, RangeFrom}
 
 module _ {K : Type 0} (order : K → K → Ordering) (number : K → ℕ) where
   -- x is at or above start, x and `len` together are at or below end, and none of the `len`
@@ -12,3 +21,23 @@ module _ {K : Type 0} (order : K → K → Ordering) (number : K → ℕ) where
     pub up_to : number x + number len ≤ number end
     pub free : (y : K) → number x ≤ number y → number y < number x + number len →
         member order items y ≡ false
+
+module _ {K : Type 0} (order : K → K → Ordering) (value : ℕ → K) where
+  -- the `count` values from the place `at` on lie at or above the place start and below the place
+  -- end, and each is a member exactly if `inside`
+  pub record IsRow (inside : Bool) (items : List K) (start end count at : ℕ) : Type 0 where
+    pub from : start ≤ at
+    pub up_to : at + count ≤ end
+    pub alike : (n : ℕ) → at ≤ n → n < at + count → member order items (value n) ≡ inside
+
+module _ {K : Type 0} (order : K → K → Ordering) (place : K → ℕ) where
+  abbrev pub has_values : ℕ → RangeSetRange K → Bool
+  has_values count (Range r) = nat_le count (place r.end - place r.start)
+  has_values count (RangeFrom r) = true
+
+  -- of the gaps of the set from start to below end, the first one with at least `count` values
+  -- starts there, if there is one
+  pub record IsFirstFit (items : List K) (start end : K) (count : ℕ) (answer : Option K) : Type 0 where
+    pub gaps : List K
+    pub are_gaps : Means order difference_table gaps (range_items order start end) items
+    pub first : answer ≡ option_map range_start (slice_get (filter (has_values count) (ranges_of gaps)) 0)

@@ -11,6 +11,7 @@ ghost use Rattle.range_collections.specs.Sets.{AreEqual};
 mod by_view;
 mod constructors;
 mod endless;
+mod fitting;
 mod in_place;
 mod insertion;
 mod joining;
@@ -62,7 +63,7 @@ use std::marker::Model;
 /// | `contains`, `range_at`, `split`, `next_member`, `next_gap`, `prev_member`, `prev_gap`, `rank` | `d(n)` | |
 /// | `contains_range`, `gaps`, `ranges_within` | `2 d(n) + 1` | |
 /// | `intersects_range` | `d(n) + 2` | |
-/// | `first_fit` | `2 d(n) + 1`, then two numbers a boundary | |
+/// | `first_fit`, `first_fit_count`, `first_fit_aligned`, `first_run` | `2 d(n) + 1`, then two numbers a boundary | |
 /// | `iter`, `first`, `last`, `span`, `ranges_len`, `covered`, `select`, `is_empty`, `as_ref`, `boundaries` | none | |
 /// | `is_all` | one `is_min_value` | |
 /// | `==`, `eq_ref`, `new` | one a boundary | |

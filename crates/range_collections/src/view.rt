@@ -8,6 +8,7 @@ ghost use Rattle.range_merge.specs.Boundaries.{IsAscending, member};
 mod counting;
 mod endless;
 mod equality;
+mod fitting;
 mod members;
 mod operations;
 mod parts;

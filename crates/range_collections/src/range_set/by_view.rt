@@ -14,12 +14,11 @@ ghost use Rattle.range_collections.specs.Ranges.{ranges_of, range_now, IsInRange
 ghost use Rattle.range_collections.specs.Split.{split_left, split_right, IsLeastBelow, IsLeastFrom};
 ghost use Rattle.range_collections.specs.Within.{GivesParts};
 ghost use Rattle.range_collections.specs.Covered.{covered_of};
-ghost use Rattle.range_collections.specs.Fits.{Fits};
 ghost use Rattle.range_collections.specs.Buffers.{WritesOperation};
 ghost use Rattle.std.specs.Ordering.{is_le, is_lt};
 
 use crate::comparisons::Comparisons;
-use crate::countable::{Countable, Unsigned};
+use crate::countable::Countable;
 use crate::iter::{Gaps, Iter, RangesWithin};
 use crate::range_set::RangeSet;
 use crate::range_set_range::RangeSetRange;
@@ -396,24 +395,5 @@ impl<T: Countable, const N: usize> RangeSet<T, N> {
         ensures value { result ≡ covered_of T.cmp T.value T.count self.now }
     {
         self.as_ref().covered()
-    }
-}
-
-impl<T: Unsigned, const N: usize> RangeSet<T, N> {
-    /// The least number from which `len` numbers lie in the range, none of them a member, or `None`
-    /// if there is no such number. If `len` is 0, it is the start of the range, unless that is
-    /// reversed.
-    ///
-    /// It looks at each gap from the start up to the answer, and takes no memory.
-    pub fn first_fit(&self, within: Range<T>, len: T) -> Option<T>
-        ensures fits { IfSome result (Fits T.cmp T.place self.now within.start within.end len) }
-        ensures free { IfSome result (λ at. (x : T) → T.place at ≤ T.place x →
-            T.place x < T.place at + T.place len → member T.cmp self.now x ≡ false) }
-        ensures least { IfSome result (λ x. (y : T) →
-            Fits T.cmp T.place self.now within.start within.end len y → T.place x ≤ T.place y) }
-        ensures none { IfNone result ((x : T) →
-            ¬ (Fits T.cmp T.place self.now within.start within.end len x)) }
-    {
-        self.as_ref().first_fit(within, len)
     }
 }

@@ -1,14 +1,12 @@
-//! How many values are members of a view, and where a stretch of numbers fits beside them.
-ghost use Rattle.std.specs.Prelude.{◌≡◌, ◌-◌, ◌<◌, length, IfSome, ◌≤◌, IfNone, ◌+◌, false};
+//! How many values are members of a view.
+ghost use Rattle.std.specs.Prelude.{◌≡◌, ◌-◌, ◌<◌, length, IfSome, false};
 ghost use Rattle.std.specs.declared.cmp.Ordering.TheVariants.{Less};
-ghost use Rattle.range_merge.specs.Boundaries.{IsAscending, member, is_odd as odd};
+ghost use Rattle.range_merge.specs.Boundaries.{IsAscending, is_odd as odd};
 ghost use Rattle.range_collections.specs.Covered.{covered_of, members_below};
-ghost use Rattle.range_collections.specs.Fits.{Fits};
 
-use crate::countable::{Countable, Unsigned};
+use crate::countable::Countable;
 use crate::lists::is_odd;
 use crate::view::RangeSetRef;
-use std::ops::Range;
 
 impl<'a, T: Countable> RangeSetRef<'a, T> {
     /// The cardinality: how many values are members, or `None` if the set has no end. A set with an
@@ -23,42 +21,6 @@ impl<'a, T: Countable> RangeSetRef<'a, T> {
             return None;
         }
         Some(count_members(self.boundaries))
-    }
-}
-
-impl<'a, T: Unsigned> RangeSetRef<'a, T> {
-    /// The least number from which `len` numbers lie in the range, none of them a member, or `None`
-    /// if there is no such number. If `len` is 0, it is the start of the range, unless that is
-    /// reversed.
-    ///
-    /// It looks at each gap from the start up to the answer, and takes no memory.
-    pub fn first_fit(&self, within: Range<T>, len: T) -> Option<T>
-        ensures fits { IfSome result
-            (Fits T.cmp T.place self.now.boundaries.now within.start within.end len) }
-        ensures free { IfSome result (λ at. (x : T) → T.place at ≤ T.place x →
-            T.place x < T.place at + T.place len → member T.cmp self.now.boundaries.now x ≡ false) }
-        ensures least { IfSome result (λ x. (y : T) →
-            Fits T.cmp T.place self.now.boundaries.now within.start within.end len y →
-            T.place x ≤ T.place y) }
-        ensures none { IfNone result ((x : T) →
-            ¬ (Fits T.cmp T.place self.now.boundaries.now within.start within.end len x)) }
-    {
-        let Range { start, end } = within;
-        if len.place() == 0 {
-            return if start.place() <= end.place() {
-                Some(start)
-            } else {
-                None
-            };
-        }
-        // A view that need not live longer than the ends.
-        let set = RangeSetRef::new_unchecked(self.boundaries);
-        for gap in set.gaps(&start..&end) {
-            if gap.end.place() - gap.start.place() >= len.place() {
-                return Some(*gap.start);
-            }
-        }
-        None
     }
 }
 
