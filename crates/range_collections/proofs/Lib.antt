@@ -43,5 +43,8 @@ pub mod Previous
 pub mod Ranked
 pub mod Rows
 pub mod Multiples
+pub mod MembersOf
+pub mod Ends
+pub mod Highest
 pub mod RangeMembers
 pub mod Texts

@@ -51,7 +51,7 @@ module _ {K : Type 0} {order : K → K → Ordering} (o : IsTotalOrder order) (i
     (place_of_value : (n : ℕ) → n < count → place (value n) ≡ n)
     (place_fits : (x : K) → is_value x → place x < count)
     (in_order : (x y : K) → is_value x → is_value y → order x y ≡ nat_cmp (place x) (place y)) where
-  up_to-value : (x : K) (n : ℕ) → is_value x → n < count → n ≤ place x → is_le (order (value n) x) ≡ true
+  pub up_to-value : (x : K) (n : ℕ) → is_value x → n < count → n ≤ place x → is_le (order (value n) x) ≡ true
   up_to-value x n v less low =
       by_ranked (n < place x) (n ≡ place x) (place x < n) (nat_cmp n (place x)) (ranks n (place x))
       (λ e _. ap is_le (there ∙ e)) (λ e _. ap is_le (there ∙ e)) (λ e more. absurd (omega (arith, low, more)))

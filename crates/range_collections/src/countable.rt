@@ -2,7 +2,7 @@
 //!
 //! A value's place is the number of values below it. The places go from 0 up without a gap, in the
 //! order of the values.
-ghost use Rattle.std.specs.Prelude.{◌≡◌, ◌<◌, ◌≤◌, ◌^◌, ℕ};
+ghost use Rattle.std.specs.Prelude.{◌≡◌, ◌-◌, ◌<◌, ◌≤◌, ◌^◌, ℕ, length, get_or};
 ghost use Rattle.std.specs.Ordering.{nat_cmp};
 
 mod chars;
@@ -46,4 +46,13 @@ pub trait Countable: RangeSetEntry {
 pub trait Unsigned: Countable + Copy {
     // All numbers are in the order of their places.
     ghost order_of_places: { (x y : Self) → Self.cmp x y ≡ nat_cmp (Self.place x) (Self.place y) };
+}
+
+// A caller learns that the last item, where there is one, is a value.
+pub(crate) fn know_last<T: RangeSetEntry>(items: &[T])
+    ensures { (d : T) → 0 < length items.now → T.is_value (get_or items.now (length items.now - 1) d) }
+{
+    if let Some(last) = items.last() {
+        last.known();
+    }
 }

@@ -8,6 +8,7 @@ mod iter;
 mod json;
 pub mod laws;
 mod lists;
+mod members;
 mod parse;
 mod range_set;
 mod range_set_range;
@@ -19,6 +20,7 @@ pub use comparisons::{Comparisons, EntryCopier};
 pub use countable::{Countable, FromPlace, Unsigned};
 pub use iter::{Gaps, Iter, RangesWithin};
 pub use json::JsonError;
+pub use members::Members;
 pub use parse::{Expected, ParseError, check_ranges};
 pub use range_entry::{
     EntryClone, NonZeroU8, NonZeroU16, NonZeroU32, NonZeroU64, NonZeroU128, NonZeroUsize,

@@ -1,17 +1,17 @@
 //! The members of a view one by one, of values that stand in a row.
-ghost use Rattle.std.specs.Prelude.{◌≡◌, ◌+◌, ◌-◌, ◌<◌, ◌≤◌, length, get_or, IfSome, IfNone, MatchOption, true, false, not};
+ghost use Rattle.std.specs.Prelude.{◌≡◌, ◌+◌, ◌-◌, ◌<◌, ◌≤◌, length, IfSome, IfNone, MatchOption, true, false, not};
 ghost use Rattle.std.specs.Ordering.{is_le};
 ghost use Rattle.std.specs.declared.cmp.Ordering.TheVariants.{Less};
 ghost use Rattle.range_merge.specs.Boundaries.{IsAscending, count_up_to, member};
 ghost use Rattle.range_collections.specs.Covered.{members_below};
-ghost use Rattle.range_collections.specs.Members.{IsPrevious};
+ghost use Rattle.range_collections.specs.Members.{IsPrevious, members_of};
 
 use crate::comparisons::Comparisons;
-use crate::countable::{Countable, FromPlace};
+use crate::countable::{Countable, FromPlace, know_last};
 use crate::lists::is_odd;
+use crate::members::Members;
 use crate::view::RangeSetRef;
 use crate::view::counting::{between, count_members};
-use range_entry::RangeSetEntry;
 use range_merge::count_up_to;
 
 impl<'a, T: Countable> RangeSetRef<'a, T> {
@@ -77,6 +77,15 @@ impl<'a, T: FromPlace> RangeSetRef<'a, T> {
         nth_member(self.boundaries, k)
     }
 
+    /// The members one by one, from the lowest on or from the highest down.
+    ///
+    /// It takes no memory, and makes no comparison.
+    pub fn members(&self) -> Members<'a, T>
+        ensures { result ≡ members_of T.cmp T.value self.now.boundaries.now 0 T.count }
+    {
+        Members::new(self.boundaries)
+    }
+
     // The greatest value at or below `from` that is a member, where `inside` is true, or else that
     // is none.
     fn prev_at(&self, from: &T, inside: bool) -> Option<T>
@@ -133,13 +142,4 @@ fn value_below<T: FromPlace>(items: &[T]) -> Option<T>
     last.known();
     know_last(rest);
     T::from_place(last.place().checked_sub(1)?)
-}
-
-// A caller learns that the last item, where there is one, is a value.
-fn know_last<T: RangeSetEntry>(items: &[T])
-    ensures { (d : T) → 0 < length items.now → T.is_value (get_or items.now (length items.now - 1) d) }
-{
-    if let Some(last) = items.last() {
-        last.known();
-    }
 }
