@@ -107,6 +107,19 @@ module _ {K : Type 0} {order : K → K → Ordering} (o : IsTotalOrder order) (i
         | inr fine ↦ fine
       ]
 
+  -- one boundary is at or below the lowest member
+  count-start : (start : K) (after : List K) → IsAscending order (start ∷ after) → is_value start → count_up_to order (start ∷ after) (value (place start)) ≡ 1
+  count-start start after up v =
+      let fits = place_fits start v in
+      count_up_to-cons_in order start after (value (place start)) (le-value o is_value value place count value_is_value place_of_value place_fits in_order start (place start) v fits (omega arith))
+      ∙ ap suc
+      (count_up_to-none order (value (place start)) after
+      (λ k d within.
+      Greater-from_less o (value (place start)) (get_or after k d)
+      (Less-from_le o (value (place start)) start (get_or after k d)
+      (up_to-value o is_value value place count value_is_value place_of_value place_fits in_order start (place start) v fits (omega arith))
+      (up 0 (suc k) d (omega arith) (omega (arith, within))))))
+
   module _ (items : List K) (first last : ℕ) (it : AreEnds order value count items first last) where
     pub first_member : member order items (value first) ≡ true
     first_member = ap is_odd it.in_first
@@ -241,16 +254,7 @@ module _ {K : Type 0} {order : K → K → Ordering} (o : IsTotalOrder order) (i
             sorted = tail_ascends o e rest (tail_ascends o s (e ∷ rest) up2);
             ordered = up_to_last;
             fits = it.fits;
-            in_first =
-            subst (λ l. count_up_to order l (value (place start)) ≡ 1) (sym later)
-            (count_up_to-cons_in order start after (value (place start)) (le-value o is_value value place count value_is_value place_of_value place_fits in_order start (place start) v fits (omega arith))
-            ∙ ap suc
-            (count_up_to-none order (value (place start)) after
-            (λ k d within.
-            Greater-from_less o (value (place start)) (get_or after k d)
-            (Less-from_le o (value (place start)) start (get_or after k d)
-            (up_to-value o is_value value place count value_is_value place_of_value place_fits in_order start (place start) v fits (omega arith))
-            (up3 0 (suc k) d (omega arith) (omega (arith, within)))))));
+            in_first = subst (λ l. count_up_to order l (value (place start)) ≡ 1) (sym later) (count-start start after up3 v);
             is_member = sym (same_past last it.fits more) ∙ it.is_member;
             in_last = omega (arith, it.in_last, past_end last it.fits more, ap length split);
           }
@@ -260,3 +264,49 @@ module _ {K : Type 0} {order : K → K → Ordering} (o : IsTotalOrder order) (i
               others_above rest (place start) up_to_last above_end
               (λ i a b. same_past i (omega (arith, b, fits)) a ∙ ap is_odd (before_start i (omega (arith, b, fits)) b))
               (λ i a b. same_past i (omega (arith, b, it.fits)) (omega (arith, a, above_end)))
+
+  -- all members lie between the places of the lowest and of the highest
+  module _ (items : List K) (up : IsAscending order items) (start : K) (after : List K) (split : items ≡ start ∷ after) (v : is_value start)
+      (last : ℕ) (fits : last < count) (is_member : member order items (value last) ≡ true) (in_last : length items ≤ count_up_to order items (value last) + 1)
+      (highest : (n : ℕ) → last < n → n < count → member order items (value n) ≡ false) where
+    up_start : IsAscending order (start ∷ after)
+    up_start = subst (IsAscending order) split up
+
+    some_count : 0 < count_up_to order items (value last)
+    some_count =
+        elim (cases_lt 0 (count_up_to order items (value last))) as (λ _. 0 < count_up_to order items (value last)) [
+          | inl some ↦ some
+          | inr none ↦ absurd (not_odd (count_up_to order items (value last)) is_member (omega (arith, none)))
+        ]
+
+    in_order_ends : place start ≤ last
+    in_order_ends =
+        up_to_place start last v fits
+        (count-head o start after up_start (value last) (omega (arith, some_count, ap (λ l. count_up_to order l (value last)) split)))
+
+    pub AreEnds-all : AreEnds order value count items (place start) last
+    AreEnds-all = record {
+      sorted = up;
+      ordered = in_order_ends;
+      fits = fits;
+      in_first = subst (λ l. count_up_to order l (value (place start)) ≡ 1) (sym split) (count-start start after up_start v);
+      is_member = is_member;
+      in_last = in_last;
+    }
+
+    none_before : (n : ℕ) → n < place start → member order items (value n) ≡ false
+    none_before n below =
+        subst (λ l. member order l (value n) ≡ false) (sym split)
+        (ap is_odd (count-above_head o start after up_start (value n) (Greater-value o is_value value place count value_is_value place_of_value place_fits in_order start n v (omega (arith, below, place_fits start v)) below)))
+
+    pub members_of-ends : members_of order value items 0 count ≡ members_of order value items (place start) (suc last - place start)
+    members_of-ends =
+        let parts : count ≡ place start + (count - place start) = omega (arith, place_fits start v) in
+        let rest : count - place start ≡ (suc last - place start) + (count - suc last) = omega (arith, fits, in_order_ends) in
+        ap (members_of order value items 0) parts
+        ∙ members_of-skip order value items (place start) 0 (place start) (count - place start) (omega arith) (λ i a b. none_before i b)
+        ∙ ap (members_of order value items (place start)) rest
+        ∙ members_of-append order value items (place start) (suc last - place start) (count - suc last) (suc last) (omega (arith, in_order_ends))
+        ∙ ap (λ l. members_of order value items (place start) (suc last - place start) ++ l)
+        (members_of-none order value items (suc last) (count - suc last) (λ i a b. highest i (omega (arith, a)) (omega (arith, b, fits))))
+        ∙ append-nil (members_of order value items (place start) (suc last - place start))

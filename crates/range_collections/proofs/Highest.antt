@@ -1,6 +1,6 @@
 -- Members one by one: what is left below the highest.
 use Rattle.std.proofs.Common.{◌≡◌, refl, sym, ap, ap₂, ◌∙◌, subst, ℕ, suc, inl, inr, ◌<◌, ◌≤◌, ◌+◌, ◌-◌, ◌%◌, Bool, true, false, List, [], ◌∷◌, ◌++◌, length, get_or, arith, length-append}
-use Rattle.std.proofs.lemmas.List.{append-nil}
+use Rattle.std.proofs.lemmas.List.{append-nil, get_or-append-add, get_or_append_left}
 use Rattle.std.specs.Cmp.{IsTotalOrder}
 use Rattle.std.specs.Ordering.{is_le, nat_cmp}
 use Rattle.std.specs.declared.cmp.Ordering.{Ordering}
@@ -164,9 +164,15 @@ module _ {K : Type 0} {order : K → K → Ordering} (o : IsTotalOrder order) (i
               elim (cases_lt last (place end)) as (λ _. place end ≤ last) [
                 | inl past ↦
                     let high = Greater-value o is_value value place count value_is_value place_of_value place_fits in_order end last w it.fits past in
-                    absurd (omega (arith, length_before, front_below o before start after up (value last) start_up_to,
-                    ap (λ l. count_up_to order l (value last)) parts, count_up_to-append order front (end ∷ []) (value last),
-                    count-above_head o end [] (back_ascends o front end [] up_before) (value last) high, count_up_to-le_length order (value last) front))
+                    absurd (omega (
+                      arith,
+                      length_before,
+                      front_below o before start after up (value last) start_up_to,
+                      ap (λ l. count_up_to order l (value last)) parts,
+                      count_up_to-append order front (end ∷ []) (value last),
+                      count-above_head o end [] (back_ascends o front end [] up_before) (value last) high,
+                      count_up_to-le_length order (value last) front,
+                    ))
                 | inr fine ↦ fine
               ]
 
@@ -191,3 +197,75 @@ module _ {K : Type 0} {order : K → K → Ordering} (o : IsTotalOrder order) (i
               others_below before n (omega (arith, at, above_first)) (omega (arith, at, above_first, end_up_to)) more
               (λ i a b. ap is_odd (front_members i b ∙ from_end i (omega (arith, b, it.fits)) (omega (arith, at, a, above_first))) ∙ is_odd-at_zero (length before) pairs)
               (λ i a. ap is_odd (front_members i (omega (arith, at, a, above_first, end_up_to))))
+
+  -- the highest member of all, by the last boundary
+  module _ (before : List K) (end : K) (up : IsAscending order (before ++ end ∷ [])) (w : is_value end)
+      (known : (d : K) → 0 < length before → is_value (get_or before (length before - 1) d)) where
+    length_all : length (before ++ end ∷ []) ≡ length before + 1
+    length_all = length-append before (end ∷ [])
+
+    count_from_end : (n : ℕ) → n < count → place end ≤ n → count_up_to order (before ++ end ∷ []) (value n) ≡ length before + 1
+    count_from_end n less far =
+        let low = le-value o is_value value place count value_is_value place_of_value place_fits in_order end n w less far in
+        count_up_to-append order before (end ∷ []) (value n)
+        ∙ ap₂ ◌+◌ (front_below o before end [] up (value n) low) (count_up_to-cons_in order end [] (value n) low ∙ ap suc (count_up_to-nil order (value n)))
+
+    -- a last range with an end
+    module _ (odd : length before % 2 ≡ 0 → ⊥) where
+      some : 0 < length before
+      some =
+          elim (cases_lt 0 (length before)) as (λ _. 0 < length before) [
+            | inl fine ↦ fine
+            | inr none ↦ absurd (odd (omega (arith, none)))
+          ]
+
+      pub past_first : 0 < place end
+      past_first =
+          let last : K = get_or before (length before - 1) end in
+          let final : length before ≡ length before + 0 = omega arith in
+          let less : order last end ≡ Less =
+          subst (λ y. order last y ≡ Less) (ap (λ n. get_or (before ++ end ∷ []) n end) final ∙ get_or-append-add before (end ∷ []) 0 end)
+          (subst (λ y. order y (get_or (before ++ end ∷ []) (length before) end) ≡ Less) (get_or_append_left before (end ∷ []) end (length before - 1) (omega (arith, some)))
+          (up (length before - 1) (length before) end (omega (arith, some)) (omega (arith, length_all)))) in
+          omega (arith, place-less o is_value value place count value_is_value place_of_value place_fits in_order last end (known end some) w less)
+
+      below_end_counts : (n : ℕ) → n + 1 ≡ place end → count_up_to order (before ++ end ∷ []) (value n) + 1 ≡ length (before ++ end ∷ [])
+      below_end_counts n at =
+          count-below o is_value value place count value_is_value place_of_value place_fits in_order before end up w n (omega (arith, at)) known
+
+      pub fits-below_end : (n : ℕ) → n + 1 ≡ place end → n < count
+      fits-below_end n at = omega (arith, at, place_fits end w)
+
+      pub member-below_end : (n : ℕ) → n + 1 ≡ place end → member order (before ++ end ∷ []) (value n) ≡ true
+      member-below_end n at =
+          is_odd-at_one (count_up_to order (before ++ end ∷ []) (value n)) (omega (arith, below_end_counts n at, length_all, other_parity (length before) odd))
+        where
+          other_parity : (n : ℕ) → (n % 2 ≡ 0 → ⊥) → n % 2 ≡ 1
+          other_parity n other =
+              elim (cases_lt 0 (n % 2)) as (λ _. n % 2 ≡ 1) [
+                | inl one ↦ omega (arith, one)
+                | inr none ↦ absurd (other (omega (arith, none)))
+              ]
+
+      pub count-below_end : (n : ℕ) → n + 1 ≡ place end → length before ≤ count_up_to order (before ++ end ∷ []) (value n)
+      count-below_end n at = omega (arith, below_end_counts n at, length_all)
+
+      pub none-from_end : (n i : ℕ) → n + 1 ≡ place end → n < i → i < count → member order (before ++ end ∷ []) (value i) ≡ false
+      none-from_end n i at past less =
+          ap is_odd (count_from_end i less (omega (arith, at, past))) ∙ is_odd-at_zero (length before + 1) (omega (arith, other_parity (length before) odd))
+        where
+          other_parity : (n : ℕ) → (n % 2 ≡ 0 → ⊥) → n % 2 ≡ 1
+          other_parity n other =
+              elim (cases_lt 0 (n % 2)) as (λ _. n % 2 ≡ 1) [
+                | inl one ↦ omega (arith, one)
+                | inr none ↦ absurd (other (omega (arith, none)))
+              ]
+
+    -- a last range without an end
+    module _ (even : length before % 2 ≡ 0) (n : ℕ) (greatest : n + 1 ≡ count) where
+      pub member-greatest : member order (before ++ end ∷ []) (value n) ≡ true
+      member-greatest =
+          ap is_odd (count_from_end n (omega (arith, greatest)) (omega (arith, greatest, place_fits end w))) ∙ is_odd-at_one (length before + 1) (omega (arith, even))
+
+      pub count-greatest : length before ≤ count_up_to order (before ++ end ∷ []) (value n)
+      count-greatest = omega (arith, count_from_end n (omega (arith, greatest)) (omega (arith, greatest, place_fits end w)))

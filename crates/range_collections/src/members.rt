@@ -1,6 +1,6 @@
 //! The members of a set one by one, from the lowest on and from the highest down, of values that
 //! stand in a row.
-ghost use Rattle.std.specs.Prelude.{◌≡◌, ◌+◌, ◌-◌, ◌<◌, ◌≤◌, ◌%◌, suc, false, [], ◌∷◌, ◌++◌, List, ℕ, length, IfSome, IfNone};
+ghost use Rattle.std.specs.Prelude.{◌≡◌, ◌+◌, ◌-◌, ◌<◌, ◌≤◌, ◌%◌, suc, true, false, [], ◌∷◌, ◌++◌, List, ℕ, length, IfSome, IfNone};
 ghost use Rattle.std.specs.Iterator.{YieldsFirst, YieldsLast, item_count};
 ghost use Rattle.range_merge.specs.Boundaries.{IsAscending, count_up_to, member};
 ghost use Rattle.range_collections.specs.Members.{members_of, AreEnds};
@@ -107,26 +107,27 @@ fn ends_of<T: FromPlace>(items: &[T]) -> Option<(u128, u128)>
     ensures none { IfNone result (items.now ≡ []) }
 {
     let (start, _) = items.split_first()?;
+    let (end, before) = items.split_last()?;
     start.known();
-    Some((start.place(), last_place(items)))
+    Some((start.place(), last_place(before, end)))
 }
 
-// The place of the highest member.
-fn last_place<T: FromPlace>(items: &[T]) -> u128
-    requires sorted { IsAscending T.cmp items.now }
-    requires some { 0 < length items.now }
+// The place of the highest member, by the last boundary and those before it.
+fn last_place<T: FromPlace>(before: &[T], end: &T) -> u128
+    requires { IsAscending T.cmp (before.now ++ end.now ∷ []) }
     ensures fits { result < T.count }
-    ensures is_member { member T.cmp items.now (T.value result) ≡ true }
-    ensures in_last { length items.now ≤ count_up_to T.cmp items.now (T.value result) + 1 }
-    ensures highest { (n : ℕ) → result < n → n < T.count → member T.cmp items.now (T.value n) ≡ false }
+    ensures is_member { member T.cmp (before.now ++ end.now ∷ []) (T.value result) ≡ true }
+    ensures in_last { length before.now ≤
+        count_up_to T.cmp (before.now ++ end.now ∷ []) (T.value result) }
+    ensures highest { (n : ℕ) → result < n → n < T.count →
+        member T.cmp (before.now ++ end.now ∷ []) (T.value n) ≡ false }
 {
-    know_last(items);
-    match items.split_last() {
-        Some((end, before)) if !is_odd(items.len()) => {
-            know_last(before);
-            end.place() - 1
-        }
-        _ => T::greatest().place(),
+    end.known();
+    know_last(before);
+    if is_odd(before.len()) {
+        end.place() - 1
+    } else {
+        T::greatest().place()
     }
 }
 

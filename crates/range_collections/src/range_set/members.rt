@@ -3,9 +3,10 @@ ghost use Rattle.std.specs.Prelude.{◌≡◌, ◌≤◌, IfSome, IfNone, true, 
 ghost use Rattle.std.specs.Ordering.{is_le};
 ghost use Rattle.range_merge.specs.Boundaries.{member};
 ghost use Rattle.range_collections.specs.Covered.{members_below};
-ghost use Rattle.range_collections.specs.Members.{IsPrevious};
+ghost use Rattle.range_collections.specs.Members.{IsPrevious, members_of};
 
 use crate::countable::{Countable, FromPlace};
+use crate::members::Members;
 use crate::range_set::RangeSet;
 
 impl<T: Countable, const N: usize> RangeSet<T, N> {
@@ -59,5 +60,14 @@ impl<T: FromPlace, const N: usize> RangeSet<T, N> {
         ensures none { IfNone result (members_below T.cmp T.value self.now T.count ≤ k) }
     {
         self.as_ref().select(k)
+    }
+
+    /// The members one by one, from the lowest on or from the highest down.
+    ///
+    /// It takes no memory, and makes no comparison.
+    pub fn members(&self) -> Members<'_, T>
+        ensures { result ≡ members_of T.cmp T.value self.now 0 T.count }
+    {
+        self.as_ref().members()
     }
 }

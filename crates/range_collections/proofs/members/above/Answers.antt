@@ -58,22 +58,22 @@ returns-clause-ends g c =
     let law = g.met.T.Countable in
     elim c.match-split_first.branch [
       | in-Some+else-place-first w ↦
-        AreEnds-next g.met.T.Ord.total g.T.RangeSetEntry.is_value g.T.Countable.value g.T.Countable.place g.T.Countable.count
-    law.value_is_value law.place_of_value law.place_fits law.in_order
-    c.args.items.now c.args.first c.args.last c.requires c.if-first-last.false c.in_ok-others.field-0-0.now c.in_ok-others.others.now c.in_ok-others.ensures.cases.0
-        (subst (λ l. count_up_to g.T.Ord.cmp l (g.T.Countable.value (c.args.first + 1)) ≡ 0) (sym w.in-Some.ensures.cases.0)
-        (free-end g.met.T.Ord.total g.T.RangeSetEntry.is_value g.T.Countable.value g.T.Countable.place g.T.Countable.count
-    law.value_is_value law.place_of_value law.place_fits law.in_order
-    c.args.items.now c.args.first c.args.last c.requires c.if-first-last.false c.in_ok-others.field-0-0.now w.in-Some.end.now w.in-Some.rest.now
-        (c.in_ok-others.ensures.cases.0 ∙ ap (λ l. c.in_ok-others.field-0-0.now ∷ l) w.in-Some.ensures.cases.0) w.known.ensures
-        (λ same. w.if-place-first.false (w.place.ensures ∙ same))))
+          AreEnds-next g.met.T.Ord.total g.T.RangeSetEntry.is_value g.T.Countable.value g.T.Countable.place g.T.Countable.count
+          law.value_is_value law.place_of_value law.place_fits law.in_order
+          c.args.items.now c.args.first c.args.last c.requires c.if-first-last.false c.in_ok-others.field-0-0.now c.in_ok-others.others.now c.in_ok-others.ensures.cases.0
+          (subst (λ l. count_up_to g.T.Ord.cmp l (g.T.Countable.value (c.args.first + 1)) ≡ 0) (sym w.in-Some.ensures.cases.0)
+          (free-end g.met.T.Ord.total g.T.RangeSetEntry.is_value g.T.Countable.value g.T.Countable.place g.T.Countable.count
+          law.value_is_value law.place_of_value law.place_fits law.in_order
+          c.args.items.now c.args.first c.args.last c.requires c.if-first-last.false c.in_ok-others.field-0-0.now w.in-Some.end.now w.in-Some.rest.now
+          (c.in_ok-others.ensures.cases.0 ∙ ap (λ l. c.in_ok-others.field-0-0.now ∷ l) w.in-Some.ensures.cases.0) w.known.ensures
+          (λ same. w.if-place-first.false (w.place.ensures ∙ same))))
       | in_default w ↦
-        AreEnds-next g.met.T.Ord.total g.T.RangeSetEntry.is_value g.T.Countable.value g.T.Countable.place g.T.Countable.count
-    law.value_is_value law.place_of_value law.place_fits law.in_order
-    c.args.items.now c.args.first c.args.last c.requires c.if-first-last.false c.in_ok-others.field-0-0.now c.in_ok-others.others.now c.in_ok-others.ensures.cases.0
-        (free-none g.met.T.Ord.total g.T.RangeSetEntry.is_value g.T.Countable.value g.T.Countable.place g.T.Countable.count
-    law.value_is_value law.place_of_value law.place_fits law.in_order
-    c.args.items.now c.args.first c.args.last c.requires c.if-first-last.false c.in_ok-others.others.now w.in_default.ensures.cases)
+          AreEnds-next g.met.T.Ord.total g.T.RangeSetEntry.is_value g.T.Countable.value g.T.Countable.place g.T.Countable.count
+          law.value_is_value law.place_of_value law.place_fits law.in_order
+          c.args.items.now c.args.first c.args.last c.requires c.if-first-last.false c.in_ok-others.field-0-0.now c.in_ok-others.others.now c.in_ok-others.ensures.cases.0
+          (free-none g.met.T.Ord.total g.T.RangeSetEntry.is_value g.T.Countable.value g.T.Countable.place g.T.Countable.count
+          law.value_is_value law.place_of_value law.place_fits law.in_order
+          c.args.items.now c.args.first c.args.last c.requires c.if-first-last.false c.in_ok-others.others.now w.in_default.ensures.cases)
     ]
 
 pub returns-clause-others : goal.returns-clause-others
@@ -81,20 +81,20 @@ returns-clause-others g c =
     let law = g.met.T.Countable in
     elim c.match-split_first.branch [
       | in-Some+else-place-first w ↦
-        others-next g.met.T.Ord.total g.T.RangeSetEntry.is_value g.T.Countable.value g.T.Countable.place g.T.Countable.count
-    law.value_is_value law.place_of_value law.place_fits law.in_order
-    c.args.items.now c.args.first c.args.last c.requires c.if-first-last.false c.in_ok-others.field-0-0.now c.in_ok-others.others.now c.in_ok-others.ensures.cases.0
-        (subst (λ l. count_up_to g.T.Ord.cmp l (g.T.Countable.value (c.args.first + 1)) ≡ 0) (sym w.in-Some.ensures.cases.0)
-        (free-end g.met.T.Ord.total g.T.RangeSetEntry.is_value g.T.Countable.value g.T.Countable.place g.T.Countable.count
-    law.value_is_value law.place_of_value law.place_fits law.in_order
-    c.args.items.now c.args.first c.args.last c.requires c.if-first-last.false c.in_ok-others.field-0-0.now w.in-Some.end.now w.in-Some.rest.now
-        (c.in_ok-others.ensures.cases.0 ∙ ap (λ l. c.in_ok-others.field-0-0.now ∷ l) w.in-Some.ensures.cases.0) w.known.ensures
-        (λ same. w.if-place-first.false (w.place.ensures ∙ same))))
+          others-next g.met.T.Ord.total g.T.RangeSetEntry.is_value g.T.Countable.value g.T.Countable.place g.T.Countable.count
+          law.value_is_value law.place_of_value law.place_fits law.in_order
+          c.args.items.now c.args.first c.args.last c.requires c.if-first-last.false c.in_ok-others.field-0-0.now c.in_ok-others.others.now c.in_ok-others.ensures.cases.0
+          (subst (λ l. count_up_to g.T.Ord.cmp l (g.T.Countable.value (c.args.first + 1)) ≡ 0) (sym w.in-Some.ensures.cases.0)
+          (free-end g.met.T.Ord.total g.T.RangeSetEntry.is_value g.T.Countable.value g.T.Countable.place g.T.Countable.count
+          law.value_is_value law.place_of_value law.place_fits law.in_order
+          c.args.items.now c.args.first c.args.last c.requires c.if-first-last.false c.in_ok-others.field-0-0.now w.in-Some.end.now w.in-Some.rest.now
+          (c.in_ok-others.ensures.cases.0 ∙ ap (λ l. c.in_ok-others.field-0-0.now ∷ l) w.in-Some.ensures.cases.0) w.known.ensures
+          (λ same. w.if-place-first.false (w.place.ensures ∙ same))))
       | in_default w ↦
-        others-next g.met.T.Ord.total g.T.RangeSetEntry.is_value g.T.Countable.value g.T.Countable.place g.T.Countable.count
-    law.value_is_value law.place_of_value law.place_fits law.in_order
-    c.args.items.now c.args.first c.args.last c.requires c.if-first-last.false c.in_ok-others.field-0-0.now c.in_ok-others.others.now c.in_ok-others.ensures.cases.0
-        (free-none g.met.T.Ord.total g.T.RangeSetEntry.is_value g.T.Countable.value g.T.Countable.place g.T.Countable.count
-    law.value_is_value law.place_of_value law.place_fits law.in_order
-    c.args.items.now c.args.first c.args.last c.requires c.if-first-last.false c.in_ok-others.others.now w.in_default.ensures.cases)
+          others-next g.met.T.Ord.total g.T.RangeSetEntry.is_value g.T.Countable.value g.T.Countable.place g.T.Countable.count
+          law.value_is_value law.place_of_value law.place_fits law.in_order
+          c.args.items.now c.args.first c.args.last c.requires c.if-first-last.false c.in_ok-others.field-0-0.now c.in_ok-others.others.now c.in_ok-others.ensures.cases.0
+          (free-none g.met.T.Ord.total g.T.RangeSetEntry.is_value g.T.Countable.value g.T.Countable.place g.T.Countable.count
+          law.value_is_value law.place_of_value law.place_fits law.in_order
+          c.args.items.now c.args.first c.args.last c.requires c.if-first-last.false c.in_ok-others.others.now w.in_default.ensures.cases)
     ]
