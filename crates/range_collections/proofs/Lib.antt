@@ -46,5 +46,6 @@ pub mod Multiples
 pub mod MembersOf
 pub mod Ends
 pub mod Highest
+pub mod SingleValues
 pub mod RangeMembers
 pub mod Texts

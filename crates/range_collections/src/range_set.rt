@@ -21,6 +21,7 @@ mod members;
 mod operations;
 mod operators;
 mod splicing;
+mod values;
 
 use crate::iter::Iter;
 use crate::lists::is_ascending;

@@ -16,8 +16,13 @@ returns-clause-ends g c =
     c.args.items.now c.requires c.in_ok-start.start.now c.in_ok-start.field-0-1.now c.in_ok-start.ensures.cases.0 c.known.ensures
     c.last_place.result c.last_place.ensures.fits
     (ap (λ items. member g.T.Ord.cmp items (g.T.Countable.value c.last_place.result)) c.in_ok-end.ensures.cases.0 ∙ c.last_place.ensures.is_member)
-    (omega (arith, c.last_place.ensures.in_last, ap length c.in_ok-end.ensures.cases.0, length-append c.in_ok-end.before.now (c.in_ok-end.end.now ∷ []),
-    ap (λ items. count_up_to g.T.Ord.cmp items (g.T.Countable.value c.last_place.result)) c.in_ok-end.ensures.cases.0))
+    (omega (
+      arith,
+      c.last_place.ensures.in_last,
+      ap length c.in_ok-end.ensures.cases.0,
+      length-append c.in_ok-end.before.now (c.in_ok-end.end.now ∷ []),
+      ap (λ items. count_up_to g.T.Ord.cmp items (g.T.Countable.value c.last_place.result)) c.in_ok-end.ensures.cases.0,
+    ))
     (λ n past less. ap (λ items. member g.T.Ord.cmp items (g.T.Countable.value n)) c.in_ok-end.ensures.cases.0 ∙ c.last_place.ensures.highest n past less))
 
 pub returns-clause-all : goal.returns-clause-all
@@ -30,6 +35,11 @@ returns-clause-all g c =
     c.args.items.now c.requires c.in_ok-start.start.now c.in_ok-start.field-0-1.now c.in_ok-start.ensures.cases.0 c.known.ensures
     c.last_place.result c.last_place.ensures.fits
     (ap (λ items. member g.T.Ord.cmp items (g.T.Countable.value c.last_place.result)) c.in_ok-end.ensures.cases.0 ∙ c.last_place.ensures.is_member)
-    (omega (arith, c.last_place.ensures.in_last, ap length c.in_ok-end.ensures.cases.0, length-append c.in_ok-end.before.now (c.in_ok-end.end.now ∷ []),
-    ap (λ items. count_up_to g.T.Ord.cmp items (g.T.Countable.value c.last_place.result)) c.in_ok-end.ensures.cases.0))
+    (omega (
+      arith,
+      c.last_place.ensures.in_last,
+      ap length c.in_ok-end.ensures.cases.0,
+      length-append c.in_ok-end.before.now (c.in_ok-end.end.now ∷ []),
+      ap (λ items. count_up_to g.T.Ord.cmp items (g.T.Countable.value c.last_place.result)) c.in_ok-end.ensures.cases.0,
+    ))
     (λ n past less. ap (λ items. member g.T.Ord.cmp items (g.T.Countable.value n)) c.in_ok-end.ensures.cases.0 ∙ c.last_place.ensures.highest n past less))
