@@ -257,6 +257,17 @@ def linking(page, check):
             check.same(f"{value} in {row}", page.id(f"{row}-readout").get_property("textContent"), expected)
 
 
+def greatest(page, check):
+    """The greatest boundary there can be is shown as others are, alone too."""
+    for text, boundaries_of in (("18446744073709551615..", ["18446744073709551615"]), ("5..7, 18446744073709551615..", ["5", "7", "18446744073709551615"])):
+        page.open()
+        page.type("sets-b", "")
+        page.type("sets-a", text)
+        for row in ("sets-a", "sets-result"):
+            check.same(f"{row} of {text!r}", [it.text for it in page.all(f"#{row}-boundaries .chip")], boundaries_of)
+            check.same(f"{row} of {text!r}: its dots", [len(page.dots(row)), len(page.all(f"#{row}-row .arrow"))], [len(boundaries_of), 1])
+
+
 def windows(page, check):
     """A range that reaches past the window has no arrow, and its boundary is in no list until it
     is shown."""

@@ -42,7 +42,8 @@
 
         /** Ranges that aren't of the file are left out. */
         set state({ limit, did }) {
-            this.limit.value = limit;
+            // Of what is no number the slider would make one in its middle.
+            this.limit.value = /^\d+$/.test(limit) ? limit : LIMIT;
             this.commands = [...did.matchAll(/(-?)\b(\d+)\.\.(\d+)/g)]
                 .map(([, minus, start, end]) => ({ records: minus === "", start: BigInt(start), end: BigInt(end) }))
                 .filter(({ start, end }) => start < end && end <= LENGTH);

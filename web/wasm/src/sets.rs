@@ -155,7 +155,10 @@ pub extern "C" fn boundaries(place: usize) -> usize {
 pub extern "C" fn part(place: usize, start: u64, end: u64) -> usize {
     with_page(|page| {
         let rest = page.sets[place].split(start).1;
-        let within = rest.split(end.saturating_add(1)).0.boundaries().len();
+        let within = match end.checked_add(1) {
+            Some(past) => rest.split(past).0.boundaries().len(),
+            None => rest.boundaries().len(),
+        };
         let whole = within + within % 2;
         let part = rest.boundaries().iter().take(whole).copied().collect();
         page.write_numbers(part)
