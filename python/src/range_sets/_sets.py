@@ -115,7 +115,7 @@ class MutableRangeSet(AnyRangeSet):
 
     `add`, `discard`, `in`, `covers`, `len` and `bool` take some microseconds also of a million ranges, but for the first
     on a set that is new, which goes over all. So do each change by another set, unless it puts in or takes out one range,
-    and the first other call after a change.
+    and the first other call after a change, as `boundaries`, `copy` and an index.
 
     Threads may share a set: each call is whole. Those who read and then write as they read lock for themselves.
     """
