@@ -173,6 +173,7 @@ has "$python" "sysconfig, os; os.stat(sysconfig.get_path('include') + '/Python.h
 }
 step "it is installed" installs
 if [ "${1:-}" = --more ]; then
+    by_another "the tests by a Python from 3.12 on" "$has_own_locks" tests
     export RANGE_SETS_EXAMPLES=1000 RANGE_SETS_SECONDS=20 RANGE_SETS_TEXTS=400000 RANGE_SETS_PICKLES=185000
     step "threads and processes" tests -p test_processes.py
     step_with hypothesis python3-hypothesis "long runs of made-up cases" tests -p with_hypothesis.py
@@ -188,7 +189,6 @@ if [ "${1:-}" = --more ]; then
     fi
     step_with "intervaltree, sortedcontainers, netaddr" "python3-intervaltree python3-sortedcontainers python3-netaddr" \
         "the benchmark's answers" "$venv" bench.py --pairs 2000
-    by_another "the tests by a Python from 3.12 on" "$has_own_locks" tests
     ended
 fi
 [ "$(uname)" != Linux ] || step_by readelf binutils "it links libc alone" links_libc_alone
