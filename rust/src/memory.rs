@@ -32,7 +32,7 @@ impl<T: Clone> Copier<T> for ByClone {
 
     /// Of elements without a drop, such as numbers: if a clone panics, nothing is to be dropped.
     #[inline(always)]
-    fn never_refuses(&self) -> bool {
+    fn all_infallible(&self) -> bool {
         !mem::needs_drop::<T>()
     }
 

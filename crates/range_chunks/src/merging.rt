@@ -101,7 +101,7 @@ impl<'a, T: EntryClone + Drop> MergeStateMut for CloningMergeState<'a, T> {
     ghost can_stop = { false };
 
     // Nothing is said of when it succeeds, since it asks for memory.
-    ghost infallible = { λ _. ⊥ };
+    ghost is_infallible = { λ _. ⊥ };
 
     fn advance_a(&mut self, n: usize, take: bool) -> Result<bool, AllocError> {
         self.own_on = self.own_on != (n % 2 == 1);

@@ -23,7 +23,7 @@ pub trait EntryClone: Ord {
     /// Whether copies of elements never fail: `true` only if the type says so, as numbers,
     /// characters and references do.
     #[inline(always)]
-    fn never_refuses() -> bool
+    fn all_infallible() -> bool
         ensures { IsTrue result → (x : Self) → is_infallible x }
     {
         false

@@ -98,7 +98,7 @@ impl<T: Ord> EntryClone for &[T] {
     }
 
     #[inline(always)]
-    fn never_refuses() -> bool
+    fn all_infallible() -> bool
         ensures { result ≡ true }
     {
         true

@@ -69,7 +69,7 @@ impl<T: Number> EntryClone for T {
     }
 
     #[inline(always)]
-    fn never_refuses() -> bool
+    fn all_infallible() -> bool
         ensures { result ≡ true }
     {
         true

@@ -92,7 +92,7 @@ impl EntryClone for &str {
     }
 
     #[inline(always)]
-    fn never_refuses() -> bool
+    fn all_infallible() -> bool
         ensures { result ≡ true }
     {
         true

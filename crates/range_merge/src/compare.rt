@@ -47,7 +47,7 @@ pub trait Copier<K> {
     /// Whether copies of items never fail: `true` only if their type says so. Then a merge in place
     /// copies an item as it takes it, and makes no list of copies first.
     #[inline(always)]
-    fn never_refuses(&self) -> bool
+    fn all_infallible(&self) -> bool
         ensures { IsTrue result → (x : K) → is_infallible x }
     {
         false

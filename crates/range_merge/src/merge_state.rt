@@ -74,8 +74,8 @@ pub trait MergeStateMut: MergeState {
     // Whether an advance that takes stops the merge.
     ghost can_stop: { Bool };
 
-    // No advance from here on is refused.
-    ghost infallible: { Self → Type 0 };
+    // No advance from here on fails.
+    ghost is_infallible: { Self → Type 0 };
 
     /// Removes the first `n` unread items of the left list, and appends them to the output if
     /// `take`. `false` stops the merge. It is an error if an allocation or a copy fails.
@@ -90,8 +90,8 @@ pub trait MergeStateMut: MergeState {
         ensures output { OnOk result ((before : List (Taken Self.Item)) →
             output self.old before → output self.new (before ++ taken_left take n (Self.left self.old))) }
         ensures began { began self.new ≡ began self.old }
-        ensures succeeds { infallible self.old → IsOk result }
-        ensures still_infallible { infallible self.old → OnOk result (infallible self.new) };
+        ensures succeeds { is_infallible self.old → IsOk result }
+        ensures still_infallible { is_infallible self.old → OnOk result (is_infallible self.new) };
 
     /// The same for the right list.
     fn advance_b(&mut self, n: usize, take: bool) -> Result<bool, AllocError>
@@ -105,8 +105,8 @@ pub trait MergeStateMut: MergeState {
         ensures output { OnOk result ((before : List (Taken Self.Item)) →
             output self.old before → output self.new (before ++ taken_right take n (Self.right self.old))) }
         ensures began { began self.new ≡ began self.old }
-        ensures succeeds { infallible self.old → IsOk result }
-        ensures still_infallible { infallible self.old → OnOk result (infallible self.new) };
+        ensures succeeds { is_infallible self.old → IsOk result }
+        ensures still_infallible { is_infallible self.old → OnOk result (is_infallible self.new) };
 
     /// Removes the first unread item of each list, and appends the left one to the output if
     /// `take`.
@@ -121,8 +121,8 @@ pub trait MergeStateMut: MergeState {
         ensures output { OnOk result ((before : List (Taken Self.Item)) →
             output self.old before → output self.new (before ++ taken_left take 1 (Self.left self.old))) }
         ensures began { began self.new ≡ began self.old }
-        ensures succeeds { infallible self.old → IsOk result }
-        ensures still_infallible { infallible self.old → OnOk result (infallible self.new) };
+        ensures succeeds { is_infallible self.old → IsOk result }
+        ensures still_infallible { is_infallible self.old → OnOk result (is_infallible self.new) };
 
     /// Whether the left side is on just before its first unread item.
     fn ac(&self) -> bool

@@ -92,7 +92,7 @@ impl<'a, K> MergeStateMut for Refusing<'a, K> {
 
     ghost can_stop = { false };
 
-    ghost infallible = { λ _. ⊥ };
+    ghost is_infallible = { λ _. ⊥ };
 
     fn advance_a(&mut self, n: usize, _take: bool) -> Result<bool, AllocError> {
         self.advance()?;

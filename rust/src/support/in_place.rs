@@ -51,7 +51,7 @@ impl<K, P: Copier<K>, const N: usize> InPlaceMergeStateRef<K, P, N> {
         cmp: &mut C,
     ) -> Result<(), AllocError> {
         let slots = Slot::slots(b);
-        if copier.never_refuses() {
+        if copier.all_infallible() {
             prepared(a, b.len())?;
             let copier = OfSlots(copier);
             merge_opened(a, BorrowedRight::over(slots, &copier), b.len(), op, cmp);

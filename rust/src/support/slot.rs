@@ -59,7 +59,7 @@ impl<K, P: Copier<K>> Copier<Slot<K>> for OfSlots<'_, P> {
     }
 
     #[inline(always)]
-    fn never_refuses(&self) -> bool {
-        self.0.never_refuses()
+    fn all_infallible(&self) -> bool {
+        self.0.all_infallible()
     }
 }

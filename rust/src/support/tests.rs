@@ -83,7 +83,7 @@ impl Copier<Item> for Copying {
         Ok(Item::new(item.key, item.side, &item.there))
     }
 
-    fn never_refuses(&self) -> bool {
+    fn all_infallible(&self) -> bool {
         self.late
     }
 }

@@ -44,7 +44,7 @@ pub fn a_refused_change_changes_nothing<T: EntryClone>()
 {}
 
 /// Where there is room for the boundaries, and no copy of one fails, no call is refused.
-pub fn enough_room_is_never_refused<T: EntryClone + RangeSetEntry>()
+pub fn enough_room_is_infallible<T: EntryClone + RangeSetEntry>()
     ensures by_view { (f : Table) (room : ℕ) (a b new : List T) (r : Result (Unit {0}) AllocError) →
         length a + length b ≤ room → All T.is_infallible b →
         IsChangedByView T.cmp T.is_copy T.is_infallible f room a b new r → IsOk r }

@@ -49,7 +49,7 @@ impl<'a, K> CountMergeState<'a, K> {
         ensures comparisons { AddsAtMost (C.count cmp.old) (C.count cmp.new) (2 * weight C.order a.now b.now) }
     {
         let mut state = Self::new(a, b);
-        // Nothing is lost: a count never stops a merge, and is never refused.
+        // Nothing is lost: a count never stops a merge, and never fails.
         let _ = merging::merge(&mut state, op, cmp);
         state.result()
     }

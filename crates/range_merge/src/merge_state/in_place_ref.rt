@@ -87,7 +87,7 @@ impl<'a, K: MadeWith<Global> + Drop, P: Copier<K>, const N: usize> InPlaceMergeS
         ensures comparisons { AddsAtMost (C.count cmp.old) (C.count cmp.new) (2 * weight C.order a.old.items b.now) }
     {
         let alloc = *a.allocator();
-        if copier.never_refuses() {
+        if copier.all_infallible() {
             prepared(a, b.len())?;
             let right = BorrowedRight::over(b, copier);
             let state = PlacingMergeState::<K, N, _, _>::over(&mut *a, right, b.len());

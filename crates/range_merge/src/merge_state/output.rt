@@ -23,7 +23,7 @@ pub trait Output<K, By> {
     // So many more items are taken without asking for memory.
     ghost has_room: { Self → ℕ → Type 0 };
 
-    // This item is never refused where there is room.
+    // Copying this item never fails.
     ghost is_infallible: { K → Type 0 };
 
     /// Appends the items, if they are taken. `false` stops the merge. It is an error if an

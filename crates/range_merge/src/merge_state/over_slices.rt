@@ -105,7 +105,7 @@ impl<'a, K, O: Output<K, By>, By> MergeStateMut for SliceMergeState<'a, K, O, By
 
     ghost can_stop = { O.can_stop };
 
-    ghost infallible = { λ s. O.has_room s.taken (length s.left + length s.right) × All O.is_infallible s.left × All O.is_infallible s.right };
+    ghost is_infallible = { λ s. O.has_room s.taken (length s.left + length s.right) × All O.is_infallible s.left × All O.is_infallible s.right };
 
     #[inline(always)]
     fn advance_a(&mut self, n: usize, take: bool) -> Result<bool, AllocError> {

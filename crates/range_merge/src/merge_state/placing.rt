@@ -77,7 +77,7 @@ impl<K, const N: usize, R: RightSide<K>, L: Place<K>> PlacingMergeState<K, N, R,
         ensures comparisons { AddsAtMost (C.count cmp.old) (C.count cmp.new)
             (2 * weight C.order self.left self.right) }
     {
-        // Nothing is lost: this merge never stops and is never refused.
+        // Nothing is lost: this merge never stops and never fails.
         let _ = merging::merge(&mut self, op, cmp);
         self.result()
     }
@@ -130,7 +130,7 @@ impl<K, const N: usize, R: RightSide<K>, L: Place<K>> MergeStateMut
 
     ghost can_stop = { false };
 
-    ghost infallible = { λ _. ⊤ };
+    ghost is_infallible = { λ _. ⊤ };
 
     #[inline(always)]
     fn advance_a(&mut self, n: usize, take: bool) -> Result<bool, AllocError> {

@@ -25,7 +25,7 @@ returns-in-Ok-false-clause-part g c =
       appends = went.output;
       begins = c.advance_both.ensures.began;
       succeeds = λ _. refl;
-      stays_infallible = went.still_infallible;
+      still_infallible = went.still_infallible;
     }
 
 pub returns-in-Ok-true-clause-part : goal.returns-in-Ok-true-clause-part
@@ -51,7 +51,7 @@ returns-in-Ok-true-clause-part g c =
       appends = went.output;
       begins = c.advance_both.ensures.began;
       succeeds = λ _. refl;
-      stays_infallible = went.still_infallible;
+      still_infallible = went.still_infallible;
     }
 
 pub returns-in-Err-clause-part : goal.returns-in-Err-clause-part
@@ -68,5 +68,5 @@ returns-in-Err-clause-part g c =
       appends = tt;
       begins = went.began;
       succeeds = c.in-Err.ensures.succeeds;
-      stays_infallible = λ _. tt;
+      still_infallible = λ _. tt;
     }
