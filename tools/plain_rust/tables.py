@@ -123,7 +123,7 @@ UNCALLED = {
     "range_tracker/tracker": {"Tracker::gaps"},
 }
 # Fields that clauses alone read, by their file.
-FIELDS_LEFT_OUT = {"range_merge/merge_state/small_vec": {"began"}}
+FIELDS_LEFT_OUT = {"range_merge/merge_state/small_vec": {"at_first"}}
 # Names that support has in place of what is left out.
 BY_SUPPORT = {"InPlaceMergeState", "InPlaceMergeStateRef"}
 # Traits whose impls are left out: the crate has a trait of its own for its users, and one impl for all of them.

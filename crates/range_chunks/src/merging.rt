@@ -59,7 +59,7 @@ impl<'a, T: EntryClone + Drop> Model for CloningMergeState<'a, T> {
       left_on = s.own_on;
       right_on = s.that_on;
       taken = s.clones.items;
-      began = 0;
+      fixed = 0;
     } };
 }
 
@@ -96,7 +96,7 @@ impl<'a, T: EntryClone + Drop> MergeStateMut for CloningMergeState<'a, T> {
 
     ghost output = { λ s ts. AreKeptThenCopies T.is_copy 0 ts s.taken };
 
-    ghost began = { λ _. 0 };
+    ghost fixed = { λ _. 0 };
 
     ghost can_stop = { false };
 

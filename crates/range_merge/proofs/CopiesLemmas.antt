@@ -55,20 +55,20 @@ module _ {K : Type 0} (alike : K → K → Type 0) where
   AreCopies-items (t ∷ ts) (x ∷ xs) h = (h.0, AreCopies-items ts xs h.1)
 
   -- what is taken and copied further
-  pub AreKeptThenCopies-append : (began : ℕ) (ts news : List (Taken K)) (xs old new : List K) → taken_items news ≡ xs
-      → IsAppended alike xs old new → AreKeptThenCopies alike began ts old → AreKeptThenCopies alike began (ts ++ news) new
-  AreKeptThenCopies-append began ts news xs old new are h holds =
+  pub AreKeptThenCopies-append : (at_first : ℕ) (ts news : List (Taken K)) (xs old new : List K) → taken_items news ≡ xs
+      → IsAppended alike xs old new → AreKeptThenCopies alike at_first ts old → AreKeptThenCopies alike at_first (ts ++ news) new
+  AreKeptThenCopies-append at_first ts news xs old new are h holds =
       let copied : AreCopies alike news h.copies = AreCopies-from_items alike news h.copies (rw are h.alike_to) in
-      let front : taken_items (take began (ts ++ news)) ≡ taken_items (take began ts) = ap taken_items (take-append-le began ts news holds.within) in
+      let front : taken_items (take at_first (ts ++ news)) ≡ taken_items (take at_first ts) = ap taken_items (take-append-le at_first ts news holds.within) in
       record {
         within = simp length-append (omega (arith, holds.within));
         copies = holds.copies ++ h.copies;
         copied =
-            rw (drop-append-le began ts news holds.within)
-            (AllZip-append (λ t x. alike (taken_item t) x) (drop began ts) holds.copies news h.copies holds.copied copied);
+            rw (drop-append-le at_first ts news holds.within)
+            (AllZip-append (λ t x. alike (taken_item t) x) (drop at_first ts) holds.copies news h.copies holds.copied copied);
         appended =
             rw front
-            (h.appended ∙ ap (λ items. items ++ h.copies) holds.appended ∙ append_assoc (taken_items (take began ts)) holds.copies h.copies);
+            (h.appended ∙ ap (λ items. items ++ h.copies) holds.appended ∙ append_assoc (taken_items (take at_first ts)) holds.copies h.copies);
       }
 
   -- a list at first

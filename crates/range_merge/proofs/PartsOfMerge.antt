@@ -59,19 +59,19 @@ module _ {K : Type 0} {order : K → K → Ordering} (o : IsTotalOrder order) (l
   front-right_all goes_on count some none =
       front-first (Right (length r)) None goes_on 0 count count (runs-right_all o l r l_ascends r_ascends (omega arith) none) (λ any. absurd (omega arith)) (omega arith) (omega arith)
 
-module _ {K S E : Type 0} {left right : S → List K} {left_on right_on : S → Bool} {output : S → List (Taken K) → Type 0} {began : S → ℕ} {is_infallible : S → Type 0} {can_stop : Bool}
+module _ {K S E : Type 0} {left right : S → List K} {left_on right_on : S → Bool} {output : S → List (Taken K) → Type 0} {fixed : S → ℕ} {is_infallible : S → Type 0} {can_stop : Bool}
     {order : K → K → Ordering} {f : Table} (o : IsTotalOrder order) where
   -- nothing was done but to see how the first items stand
   pub Part-none : (s : S) (firsts : Option Ordering) (known count0 count : ℕ) → IsAscending order (left s) → IsAscending order (right s) → FirstsStand order (left s) (right s) firsts
       → count0 ≤ count → count + known ≤ count0 + ahead_of firsts
-      → Part left right left_on right_on output began is_infallible can_stop order f s s known count0 count {E = E} (Ok (On firsts))
+      → Part left right left_on right_on output fixed is_infallible can_stop order f s s known count0 count {E = E} (Ok (On firsts))
   Part-none s firsts known count0 count l_ascends r_ascends stands at_least at_most = record {
     on = record { progress = Progress-none; left_ascends = l_ascends; right_ascends = r_ascends; stands = stands };
     stops = tt;
     counted = omega arith;
     at_least = at_least;
     at_most = omega (arith, ahead_of-weight o (left s) (right s) l_ascends r_ascends firsts stands);
-    begins = refl;
+    stays = refl;
     succeeds = λ _. refl;
     still_infallible = λ holds. holds;
   }
@@ -80,8 +80,8 @@ module _ {K S E : Type 0} {left right : S → List K} {left_on right_on : S → 
       (front : IsFront order run (left old) (right old) next (not (can_stop && take)) known count0 count) where
     -- a run was taken or dropped, and the merge goes on
     pub Part-on : IsAscending order (left old) → IsAscending order (right old)
-        → Ran left right left_on right_on output began is_infallible can_stop run take old new {E = E} (Ok true)
-        → Part left right left_on right_on output began is_infallible can_stop order f old new known count0 count {E = E} (Ok (On next))
+        → Ran left right left_on right_on output fixed is_infallible can_stop run take old new {E = E} (Ok true)
+        → Part left right left_on right_on output fixed is_infallible can_stop order f old new known count0 count {E = E} (Ok (On next))
     Part-on l_ascends r_ascends ran =
         let goes : not (can_stop && take) ≡ true = sym ran.goes_on in
         let goes_on = rw takes_is at ran.goes_on in
@@ -99,14 +99,14 @@ module _ {K S E : Type 0} {left right : S → List K} {left_on right_on : S → 
           counted = rw (lefts, rights) (omega (arith, front.weighs goes, front.cost goes));
           at_least = front.at_least;
           at_most = front.at_most;
-          begins = ran.begins;
+          stays = ran.stays;
           succeeds = λ _. refl;
           still_infallible = ran.still_infallible;
         }
 
     -- the state stopped at a run
-    pub Part-stopped : Ran left right left_on right_on output began is_infallible can_stop run take old new {E = E} (Ok false)
-        → Part left right left_on right_on output began is_infallible can_stop order f old new known count0 count {E = E} (Ok Stopped)
+    pub Part-stopped : Ran left right left_on right_on output fixed is_infallible can_stop run take old new {E = E} (Ok false)
+        → Part left right left_on right_on output fixed is_infallible can_stop order f old new known count0 count {E = E} (Ok Stopped)
     Part-stopped ran =
         let stops = rw takes_is at ran.goes_on in
         let appends = rw takes_is at ran.appends in
@@ -116,31 +116,31 @@ module _ {K S E : Type 0} {left right : S → List K} {left_on right_on : S → 
           counted = tt;
           at_least = front.at_least;
           at_most = front.at_most;
-          begins = ran.begins;
+          stays = ran.stays;
           succeeds = λ _. refl;
           still_infallible = ran.still_infallible;
         }
 
   -- a run was refused
   pub Part-refused : (run : Run) {take : Bool} {old new : S} {known count0 count : ℕ} (e : E) → count0 ≤ count → count + known ≤ count0 + 2 * weight order (left old) (right old)
-      → Ran left right left_on right_on output began is_infallible can_stop run take old new {E = E} (Err e)
-      → Part left right left_on right_on output began is_infallible can_stop order f old new known count0 count {E = E} (Err e)
+      → Ran left right left_on right_on output fixed is_infallible can_stop run take old new {E = E} (Err e)
+      → Part left right left_on right_on output fixed is_infallible can_stop order f old new known count0 count {E = E} (Err e)
   Part-refused run e at_least at_most ran = record {
     on = tt;
     stops = tt;
     counted = tt;
     at_least = at_least;
     at_most = at_most;
-    begins = ran.begins;
+    stays = ran.stays;
     succeeds = ran.succeeds;
     still_infallible = ran.still_infallible;
   }
 
   -- one part after another
   pub Part-then : {old mid new : S} {next : Option Ordering} {known count0 count1 count2 : ℕ} (result : Result Went E)
-      → Part left right left_on right_on output began is_infallible can_stop order f old mid known count0 count1 {E = E} (Ok (On next))
-      → Part left right left_on right_on output began is_infallible can_stop order f mid new (ahead_of next) count1 count2 {E = E} result
-      → Part left right left_on right_on output began is_infallible can_stop order f old new known count0 count2 {E = E} result
+      → Part left right left_on right_on output fixed is_infallible can_stop order f old mid known count0 count1 {E = E} (Ok (On next))
+      → Part left right left_on right_on output fixed is_infallible can_stop order f mid new (ahead_of next) count1 count2 {E = E} result
+      → Part left right left_on right_on output fixed is_infallible can_stop order f old new known count0 count2 {E = E} result
   Part-then (Ok (On after)) a b = record {
     on = record {
       progress = Progress-then a.on.progress b.on.progress;
@@ -152,7 +152,7 @@ module _ {K S E : Type 0} {left right : S → List K} {left_on right_on : S → 
     counted = omega (arith, a.counted, b.counted);
     at_least = omega (arith, a.at_least, b.at_least);
     at_most = omega (arith, a.counted, b.at_most);
-    begins = b.begins ∙ a.begins;
+    stays = b.stays ∙ a.stays;
     succeeds = λ _. refl;
     still_infallible = λ holds. b.still_infallible (a.still_infallible holds);
   }
@@ -162,7 +162,7 @@ module _ {K S E : Type 0} {left right : S → List K} {left_on right_on : S → 
     counted = tt;
     at_least = omega (arith, a.at_least, b.at_least);
     at_most = omega (arith, a.counted, b.at_most);
-    begins = b.begins ∙ a.begins;
+    stays = b.stays ∙ a.stays;
     succeeds = λ _. refl;
     still_infallible = λ holds. b.still_infallible (a.still_infallible holds);
   }
@@ -172,17 +172,17 @@ module _ {K S E : Type 0} {left right : S → List K} {left_on right_on : S → 
     counted = tt;
     at_least = omega (arith, a.at_least, b.at_least);
     at_most = omega (arith, a.counted, b.at_most);
-    begins = b.begins ∙ a.begins;
+    stays = b.stays ∙ a.stays;
     succeeds = λ holds. b.succeeds (a.still_infallible holds);
     still_infallible = λ holds. tt;
   }
 
   -- where one list is used up, what is left is one run, or nothing
   module _ {mid new : S} {count : ℕ} (more : Bool) (l_ascends : IsAscending order (left mid)) (r_ascends : IsAscending order (right mid)) (one : FirstsStand order (left mid) (right mid) None)
-      (lefts : 1 ≤ length (left mid) → Ran left right left_on right_on output began is_infallible can_stop (Left (length (left mid))) (takes f (left_on mid) (right_on mid) (Left (length (left mid)))) mid new {E = E} (Ok more))
-      (rights : 1 ≤ length (right mid) → Ran left right left_on right_on output began is_infallible can_stop (Right (length (right mid))) (takes f (left_on mid) (right_on mid) (Right (length (right mid)))) mid new {E = E} (Ok more))
+      (lefts : 1 ≤ length (left mid) → Ran left right left_on right_on output fixed is_infallible can_stop (Left (length (left mid))) (takes f (left_on mid) (right_on mid) (Left (length (left mid)))) mid new {E = E} (Ok more))
+      (rights : 1 ≤ length (right mid) → Ran left right left_on right_on output fixed is_infallible can_stop (Right (length (right mid))) (takes f (left_on mid) (right_on mid) (Right (length (right mid)))) mid new {E = E} (Ok more))
       (nothing : length (left mid) ≡ 0 → length (right mid) ≡ 0 → (◌≡◌ {A = Result Bool E} (Ok more) (Ok true)) × (new ≡ mid)) where
-    rest-on : (n m : ℕ) → length (left mid) ≡ n → length (right mid) ≡ m → more ≡ true → Part left right left_on right_on output began is_infallible can_stop order f mid new 0 count count {E = E} (Ok (On None))
+    rest-on : (n m : ℕ) → length (left mid) ≡ n → length (right mid) ≡ m → more ≡ true → Part left right left_on right_on output fixed is_infallible can_stop order f mid new 0 count count {E = E} (Ok (On None))
     rest-on zero zero no_left no_right goes = rw (nothing no_left no_right).1 (Part-none mid None 0 count count l_ascends r_ascends one (omega arith) (omega arith))
     rest-on (suc n) m is_left is_right goes =
         let some : 1 ≤ length (left mid) = omega arith in
@@ -191,7 +191,7 @@ module _ {K S E : Type 0} {left right : S → List K} {left_on right_on : S → 
         let some : 1 ≤ length (right mid) = omega arith in
         Part-on (Right (length (right mid))) refl (front-right_all o (left mid) (right mid) l_ascends r_ascends _ count some no_left) l_ascends r_ascends (rw goes at rights some)
 
-    rest-stopped : (n m : ℕ) → length (left mid) ≡ n → length (right mid) ≡ m → more ≡ false → Part left right left_on right_on output began is_infallible can_stop order f mid new 0 count count {E = E} (Ok Stopped)
+    rest-stopped : (n m : ℕ) → length (left mid) ≡ n → length (right mid) ≡ m → more ≡ false → Part left right left_on right_on output fixed is_infallible can_stop order f mid new 0 count count {E = E} (Ok Stopped)
     rest-stopped zero zero no_left no_right stops = absurd (false≢true (sym stops ∙ cc ((nothing no_left no_right).0)))
     rest-stopped (suc n) m is_left is_right stops =
         let some : 1 ≤ length (left mid) = omega arith in
@@ -200,8 +200,8 @@ module _ {K S E : Type 0} {left right : S → List K} {left_on right_on : S → 
         let some : 1 ≤ length (right mid) = omega arith in
         Part-stopped (Right (length (right mid))) refl (front-right_all o (left mid) (right mid) l_ascends r_ascends _ count some no_left) (rw stops at rights some)
 
-    pub Part-rest : more ≡ true → Part left right left_on right_on output began is_infallible can_stop order f mid new 0 count count {E = E} (Ok (On None))
+    pub Part-rest : more ≡ true → Part left right left_on right_on output fixed is_infallible can_stop order f mid new 0 count count {E = E} (Ok (On None))
     Part-rest = rest-on (length (left mid)) (length (right mid)) refl refl
 
-    pub Part-rest_stopped : more ≡ false → Part left right left_on right_on output began is_infallible can_stop order f mid new 0 count count {E = E} (Ok Stopped)
+    pub Part-rest_stopped : more ≡ false → Part left right left_on right_on output fixed is_infallible can_stop order f mid new 0 count count {E = E} (Ok Stopped)
     Part-rest_stopped = rest-stopped (length (left mid)) (length (right mid)) refl refl

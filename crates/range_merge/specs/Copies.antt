@@ -19,14 +19,14 @@ module _ {K : Type 0} where
   abbrev pub AreCopies : (K → K → Type 0) → List (Taken K) → List K → Type 0
   AreCopies alike ts items = AllZip (λ t x. alike (taken_item t) x) ts items
 
-  -- the first `began` items are those that were taken first themselves, and after them stands a
+  -- the first `at_first` items are those that were taken first themselves, and after them stands a
   -- copy alike to each of the others
-  pub record AreKeptThenCopies (alike : K → K → Type 0) (began : ℕ) (ts : List (Taken K))
+  pub record AreKeptThenCopies (alike : K → K → Type 0) (at_first : ℕ) (ts : List (Taken K))
       (items : List K) : Type 0 where
-    pub within : began ≤ length ts
+    pub within : at_first ≤ length ts
     pub copies : List K
-    pub copied : AreCopies alike (drop began ts) copies
-    pub appended : items ≡ taken_items (take began ts) ++ copies
+    pub copied : AreCopies alike (drop at_first ts) copies
+    pub appended : items ≡ taken_items (take at_first ts) ++ copies
 
   -- y is the left's own item, or a copy alike to the right's
   abbrev pub IsOwnOrCopy : (K → K → Type 0) → Taken K → K → Type 0

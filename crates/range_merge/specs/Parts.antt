@@ -60,7 +60,7 @@ module _ {K : Type 0} (order : K → K → Ordering) where
 
 -- the members of a state, and whether it can stop
 module _ {K S : Type 0} (left right : S → List K) (left_on right_on : S → Bool)
-    (output : S → List (Taken K) → Type 0) (began : S → ℕ) (is_infallible : S → Type 0)
+    (output : S → List (Taken K) → Type 0) (fixed : S → ℕ) (is_infallible : S → Type 0)
     (can_stop : Bool) where
   -- a run was removed, and taken or dropped
   pub record Ran (run : Run) (take : Bool) (old new : S) {E : Type 0}
@@ -72,7 +72,7 @@ module _ {K S : Type 0} (left right : S → List K) (left_on right_on : S → Bo
     pub rights_on : OnOk result (right_on new ≡ right_on_after run (right_on old))
     pub appends : OnOk result ((before : List (Taken K)) → output old before →
         output new (before ++ taken_of_run take run (left old) (right old)))
-    pub begins : began new ≡ began old
+    pub stays : fixed new ≡ fixed old
     pub succeeds : is_infallible old → IsOk result
     pub still_infallible : is_infallible old → OnOk result (is_infallible new)
 
@@ -103,6 +103,6 @@ module _ {K S : Type 0} (left right : S → List K) (left_on right_on : S → Bo
           ≤ count0 + 2 * weight order (left old) (right old) + ahead_of next))
       pub at_least : count0 ≤ count
       pub at_most : count + known ≤ count0 + 2 * weight order (left old) (right old)
-      pub begins : began new ≡ began old
+      pub stays : fixed new ≡ fixed old
       pub succeeds : is_infallible old → IsOk result
       pub still_infallible : is_infallible old → OnOk result (is_infallible new)

@@ -11,7 +11,7 @@ pub record Merging (K : Type 0) (Output : Type 0) : Type 0 where
   pub left_on : Bool
   pub right_on : Bool
   pub taken : Output
-  pub began : ℕ
+  pub fixed : ℕ
 
 -- the list has room for what is unread, and no copy of it fails
 abbrev pub HasRoomForAll : {K : Type 0} → (K → Type 0) → Merging K (SmallVec K) → Type 0

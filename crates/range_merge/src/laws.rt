@@ -76,8 +76,8 @@ pub fn copies_stand_after_what_was_there<K, P: Copier<K>>()
     ensures after { (r : List K) (ts : List (Taken K)) (items : List K) →
         AreKeptThenCopies P.alike (length r) (map from_left r ++ ts) items →
         IsAppended P.alike (taken_items ts) r items }
-    ensures kept { (began : ℕ) (ts : List (Taken K)) (items : List K) →
-        AreKeptThenCopies P.alike began ts items → began ≤ length items }
+    ensures kept { (at_first : ℕ) (ts : List (Taken K)) (items : List K) →
+        AreKeptThenCopies P.alike at_first ts items → at_first ≤ length items }
 {}
 
 /// A merge that fills a list gives copies of the changes, and is never refused where the items of

@@ -69,7 +69,7 @@ pub trait MergeStateMut: MergeState {
     ghost output: { Self → List (Taken Self.Item) → Type 0 };
 
     // A number that no advance changes, as how many items the output had at first.
-    ghost began: { Self → ℕ };
+    ghost fixed: { Self → ℕ };
 
     // Whether an advance that takes stops the merge.
     ghost can_stop: { Bool };
@@ -89,7 +89,7 @@ pub trait MergeStateMut: MergeState {
         ensures other_on { OnOk result (right_on self.new ≡ right_on self.old) }
         ensures output { OnOk result ((before : List (Taken Self.Item)) →
             output self.old before → output self.new (before ++ taken_left take n (Self.left self.old))) }
-        ensures began { began self.new ≡ began self.old }
+        ensures fixed { fixed self.new ≡ fixed self.old }
         ensures succeeds { is_infallible self.old → IsOk result }
         ensures still_infallible { is_infallible self.old → OnOk result (is_infallible self.new) };
 
@@ -104,7 +104,7 @@ pub trait MergeStateMut: MergeState {
         ensures other_on { OnOk result (left_on self.new ≡ left_on self.old) }
         ensures output { OnOk result ((before : List (Taken Self.Item)) →
             output self.old before → output self.new (before ++ taken_right take n (Self.right self.old))) }
-        ensures began { began self.new ≡ began self.old }
+        ensures fixed { fixed self.new ≡ fixed self.old }
         ensures succeeds { is_infallible self.old → IsOk result }
         ensures still_infallible { is_infallible self.old → OnOk result (is_infallible self.new) };
 
@@ -120,7 +120,7 @@ pub trait MergeStateMut: MergeState {
         ensures right_on { OnOk result (right_on self.new ≡ not (right_on self.old)) }
         ensures output { OnOk result ((before : List (Taken Self.Item)) →
             output self.old before → output self.new (before ++ taken_left take 1 (Self.left self.old))) }
-        ensures began { began self.new ≡ began self.old }
+        ensures fixed { fixed self.new ≡ fixed self.old }
         ensures succeeds { is_infallible self.old → IsOk result }
         ensures still_infallible { is_infallible self.old → OnOk result (is_infallible self.new) };
 

@@ -54,7 +54,7 @@ pub fn merge<S: MergeStateMut, O: MergeOperation, C: Compare<S::Item>>(
         (changes C.order (O.connective op.now) (S.left state.old) (S.right state.old))) }
     ensures not_stopped { S.can_stop ≡ true → IfOk result (λ more. more ≡ true
         → changes C.order (O.connective op.now) (S.left state.old) (S.right state.old) ≡ []) }
-    ensures began { S.began state.new ≡ S.began state.old }
+    ensures fixed { S.fixed state.new ≡ S.fixed state.old }
 
     // An infallible state doesn't fail, and stays infallible.
     ensures succeeds { S.is_infallible state.old → IsOk result }
@@ -88,7 +88,7 @@ fn take_all<S: MergeStateMut, O: MergeOperation, C: Compare<S::Item>>(
     requires left_ascending { IsAscending C.order (S.left state.old) }
     requires right_ascending { IsAscending C.order (S.right state.old) }
     requires made { C.count cmp.old < 2 ^ 64 }
-    ensures part { Part S.left S.right S.left_on S.right_on S.output S.began S.is_infallible
+    ensures part { Part S.left S.right S.left_on S.right_on S.output S.fixed S.is_infallible
         S.can_stop C.order (O.connective op.now) state.old state.new
         0 (C.count cmp.old) (C.count cmp.new) result }
     ensures used_up { IfOk result (IfOn (λ _.
@@ -116,7 +116,7 @@ fn take_runs<S: MergeStateMut, O: MergeOperation, C: Compare<S::Item>>(
     requires left_ascending { IsAscending C.order (S.left state.old) }
     requires right_ascending { IsAscending C.order (S.right state.old) }
     requires made { C.count cmp.old < 2 ^ 64 }
-    ensures part { Part S.left S.right S.left_on S.right_on S.output S.began S.is_infallible
+    ensures part { Part S.left S.right S.left_on S.right_on S.output S.fixed S.is_infallible
         S.can_stop C.order (O.connective op.now) state.old state.new
         0 (C.count cmp.old) (C.count cmp.new) result }
     ensures used_up { IfOk result (IfOn (λ next. next ≡ None)) }
@@ -151,7 +151,7 @@ fn step_left<S: MergeStateMut, O: MergeOperation, C: Compare<S::Item>>(
     requires left_ascending { IsAscending C.order (S.left state.old) }
     requires right_ascending { IsAscending C.order (S.right state.old) }
     requires made { C.count cmp.old < 2 ^ 127 }
-    ensures part { Part S.left S.right S.left_on S.right_on S.output S.began S.is_infallible
+    ensures part { Part S.left S.right S.left_on S.right_on S.output S.fixed S.is_infallible
         S.can_stop C.order (O.connective op.now) state.old state.new
         (ahead_of firsts) (C.count cmp.old) (C.count cmp.new) result }
     ensures turn { IfOk result (IfOn (λ next. IsTurn Less firsts next
@@ -181,7 +181,7 @@ fn step_right<S: MergeStateMut, O: MergeOperation, C: Compare<S::Item>>(
     requires left_ascending { IsAscending C.order (S.left state.old) }
     requires right_ascending { IsAscending C.order (S.right state.old) }
     requires made { C.count cmp.old < 2 ^ 127 }
-    ensures part { Part S.left S.right S.left_on S.right_on S.output S.began S.is_infallible
+    ensures part { Part S.left S.right S.left_on S.right_on S.output S.fixed S.is_infallible
         S.can_stop C.order (O.connective op.now) state.old state.new
         (ahead_of firsts) (C.count cmp.old) (C.count cmp.new) result }
     ensures turn { IfOk result (IfOn (λ next. IsTurn Greater firsts next
@@ -212,7 +212,7 @@ fn steps_both<S: MergeStateMut, O: MergeOperation, C: Compare<S::Item>>(
     requires right_ascending { IsAscending C.order (S.right state.old) }
     requires fits { length (S.left state.old) + length (S.right state.old) < 2 ^ 65 }
     requires made { C.count cmp.old < 2 ^ 126 }
-    ensures part { Part S.left S.right S.left_on S.right_on S.output S.began S.is_infallible
+    ensures part { Part S.left S.right S.left_on S.right_on S.output S.fixed S.is_infallible
         S.can_stop C.order (O.connective op.now) state.old state.new
         (ahead_of firsts) (C.count cmp.old) (C.count cmp.new) result }
     ensures turn { IfOk result (IfOn (λ next. IsTurn Equal firsts next
@@ -239,7 +239,7 @@ fn step_both<S: MergeStateMut, O: MergeOperation, C: Compare<S::Item>>(
     requires left_ascending { IsAscending C.order (S.left state.old) }
     requires right_ascending { IsAscending C.order (S.right state.old) }
     requires made { C.count cmp.old < 2 ^ 127 }
-    ensures part { Part S.left S.right S.left_on S.right_on S.output S.began S.is_infallible
+    ensures part { Part S.left S.right S.left_on S.right_on S.output S.fixed S.is_infallible
         S.can_stop C.order (O.connective op.now) state.old state.new
         1 (C.count cmp.old) (C.count cmp.new) result }
     ensures shorter { IfOk result (IfOn (λ _.
@@ -267,12 +267,12 @@ fn stand(firsts: Option<Ordering>, how: Ordering) -> bool
 fn take_rest<S: MergeStateMut, O: MergeOperation>(state: &mut S, op: &O) -> Result<bool, AllocError>
     requires used_up { 1 ≤ length (S.left state.old) → length (S.right state.old) ≡ 0 }
     ensures left { 1 ≤ length (S.left state.old) →
-        Ran S.left S.right S.left_on S.right_on S.output S.began S.is_infallible S.can_stop
+        Ran S.left S.right S.left_on S.right_on S.output S.fixed S.is_infallible S.can_stop
         (Left (length (S.left state.old)))
         (takes (O.connective op.now) (S.left_on state.old) (S.right_on state.old)
         (Left (length (S.left state.old)))) state.old state.new result }
     ensures right { 1 ≤ length (S.right state.old) →
-        Ran S.left S.right S.left_on S.right_on S.output S.began S.is_infallible S.can_stop
+        Ran S.left S.right S.left_on S.right_on S.output S.fixed S.is_infallible S.can_stop
         (Right (length (S.right state.old)))
         (takes (O.connective op.now) (S.left_on state.old) (S.right_on state.old)
         (Right (length (S.right state.old)))) state.old state.new result }
@@ -333,7 +333,7 @@ fn right_front<S: MergeStateMut, C: Compare<S::Item>>(state: &S, take: bool, cmp
 fn advance_left<S: MergeStateMut>(state: &mut S, n: usize, take: bool) -> Result<bool, AllocError>
     requires some { 1 ≤ n }
     requires within { n ≤ length (S.left state.old) }
-    ensures { Ran S.left S.right S.left_on S.right_on S.output S.began S.is_infallible S.can_stop
+    ensures { Ran S.left S.right S.left_on S.right_on S.output S.fixed S.is_infallible S.can_stop
         (Left n) take state.old state.new result }
 {
     if n == 1 {
@@ -347,7 +347,7 @@ fn advance_left<S: MergeStateMut>(state: &mut S, n: usize, take: bool) -> Result
 fn advance_right<S: MergeStateMut>(state: &mut S, n: usize, take: bool) -> Result<bool, AllocError>
     requires some { 1 ≤ n }
     requires within { n ≤ length (S.right state.old) }
-    ensures { Ran S.left S.right S.left_on S.right_on S.output S.began S.is_infallible S.can_stop
+    ensures { Ran S.left S.right S.left_on S.right_on S.output S.fixed S.is_infallible S.can_stop
         (Right n) take state.old state.new result }
 {
     if n == 1 {

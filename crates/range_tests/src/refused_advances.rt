@@ -88,7 +88,7 @@ impl<'a, K> MergeStateMut for Refusing<'a, K> {
 
     ghost output = { λ _ _. ⊤ };
 
-    ghost began = { λ _. 0 };
+    ghost fixed = { λ _. 0 };
 
     ghost can_stop = { false };
 

@@ -56,7 +56,7 @@ impl<'a, K> BoolOpMergeState<'a, K> {
 impl<K> Output<K, ()> for bool {
     ghost may_be = { λ s _ ts. s ≡ any_item ts };
 
-    ghost began = { λ _ _. 0 };
+    ghost fixed = { λ _ _. 0 };
 
     ghost can_stop = { true };
 

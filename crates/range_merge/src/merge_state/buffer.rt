@@ -47,7 +47,7 @@ impl<'a, 'o, K: Copy> BufferMergeState<'a, 'o, K> {
         ensures right_on { result.right_on ≡ false }
         ensures items { result.taken.items.now ≡ out.old }
         ensures given { result.taken.given ≡ 0 }
-        ensures began { result.began ≡ out.entry.ghost_name }
+        ensures fixed { result.fixed ≡ out.entry.ghost_name }
         ensures borrowed { result.taken.items.ghost_name ≡ out.entry.ghost_name }
     {
         Self::over(
@@ -122,7 +122,7 @@ impl<'a, 'o, K: Copy> BufferMergeState<'a, 'o, K> {
 impl<'o, K: Copy> Output<K, ()> for Buffer<'o, K> {
     ghost may_be = { λ buffer slice ts. (buffer.items.ghost_name ≡ slice) × IsFilled ts buffer.given buffer.items.now };
 
-    ghost began = { λ buffer _. buffer.items.ghost_name };
+    ghost fixed = { λ buffer _. buffer.items.ghost_name };
 
     ghost can_stop = { false };
 

@@ -59,7 +59,7 @@ impl<'a, K> CountMergeState<'a, K> {
 impl<K> Output<K, ()> for usize {
     ghost may_be = { λ s _ ts. s ≡ length ts };
 
-    ghost began = { λ _ _. 0 };
+    ghost fixed = { λ _ _. 0 };
 
     ghost can_stop = { false };
 

@@ -12,7 +12,7 @@ pub trait Output<K, By> {
     ghost may_be: { Self → ℕ → List (Taken K) → Type 0 };
 
     // A number that no items change: how many there were at first, or which slice is filled.
-    ghost began: { Self → By → ℕ };
+    ghost fixed: { Self → By → ℕ };
 
     // Whether items that are taken stop the merge.
     ghost can_stop: { Bool };
@@ -34,7 +34,7 @@ pub trait Output<K, By> {
         ensures goes_on { IfOk result (λ more. more ≡ not (can_stop && take)) }
         ensures output { OnOk result ((first : ℕ) (before ts : List (Taken K)) → taken_items ts ≡ items_if take items.now →
             may_be self.old first before → may_be self.new first (before ++ ts)) }
-        ensures began { (means : By) → began self.new means ≡ began self.old means }
+        ensures fixed { (means : By) → fixed self.new means ≡ fixed self.old means }
         ensures fits { (m n : ℕ) → length items.now + m ≤ n → fits self.old n → fits self.new m }
         ensures succeeds { (n : ℕ) → length items.now ≤ n → has_room self.old n → All is_infallible items.now → IsOk result }
         ensures has_room { (m n : ℕ) → length items.now + m ≤ n → has_room self.old n → OnOk result (has_room self.new m) };
@@ -52,7 +52,7 @@ pub trait Output<K, By> {
 impl<K, By, L: Output<K, By>> Output<K, By> for &mut L {
     ghost may_be = { λ output. L.may_be output.now };
 
-    ghost began = { λ output means. L.began output.now means };
+    ghost fixed = { λ output means. L.fixed output.now means };
 
     ghost can_stop = { L.can_stop };
 

@@ -30,7 +30,7 @@ impl<'a, K, O: Output<K, By>, By> Model for SliceMergeState<'a, K, O, By> {
       left_on = s.ac;
       right_on = s.bc;
       taken = s.output;
-      began = O.began s.output s.by;
+      fixed = O.fixed s.output s.by;
     } };
 
     ghost invariant = { λ s. O.fits s.output (length s.a + length s.b) };
@@ -45,7 +45,7 @@ impl<'a, K, O: Output<K, By>, By: Drop> SliceMergeState<'a, K, O, By> {
         ensures left_on { result.left_on ≡ false }
         ensures right_on { result.right_on ≡ false }
         ensures taken { result.taken ≡ output }
-        ensures began { result.began ≡ O.began output by }
+        ensures fixed { result.fixed ≡ O.fixed output by }
     {
         SliceMergeState {
             a: SliceIterator::new(a),
@@ -99,9 +99,9 @@ impl<'a, K, O: Output<K, By>, By> MergeStateMut for SliceMergeState<'a, K, O, By
 
     ghost right_on = { λ s. s.right_on };
 
-    ghost output = { λ s ts. O.may_be s.taken s.began ts };
+    ghost output = { λ s ts. O.may_be s.taken s.fixed ts };
 
-    ghost began = { λ s. s.began };
+    ghost fixed = { λ s. s.fixed };
 
     ghost can_stop = { O.can_stop };
 

@@ -126,7 +126,7 @@ impl<K, const N: usize, R: RightSide<K>, L: Place<K>> MergeStateMut
 
     ghost output = { λ s ts. R.may_be ts s.kept };
 
-    ghost began = { λ _. 0 };
+    ghost fixed = { λ _. 0 };
 
     ghost can_stop = { false };
 

@@ -39,15 +39,15 @@ impl<'a, K: MadeWith<Global> + Drop, P: Copier<K>, const M: usize> SmallVecMerge
         ensures left_on { result.left_on ≡ false }
         ensures right_on { result.right_on ≡ false }
         ensures items { result.taken.items ≡ r.items }
-        ensures began { result.began ≡ length r.items }
-        ensures output { AreKeptThenCopies P.alike result.began (map from_left r.items) result.taken.items }
+        ensures fixed { result.fixed ≡ length r.items }
+        ensures output { AreKeptThenCopies P.alike result.fixed (map from_left r.items) result.taken.items }
         ensures at_least_inline { M ≤ result.taken.capacity }
         ensures infallible { length r.items + length a.now + length b.now ≤ M → All P.is_infallible a.now → All P.is_infallible b.now → HasRoomForAll P.is_infallible result }
     {
         // `capacity` is called for its clause that it is at least M, which the proof cites.
         let _inline = r.capacity();
-        let began = r.len();
-        Self::over(a, b, r, Copying { copier, began })
+        let at_first = r.len();
+        Self::over(a, b, r, Copying { copier, at_first })
     }
 
     /// Fills the empty list `r` with copies of the items at which the connective of `op` changes
@@ -99,7 +99,7 @@ impl<'a, K: MadeWith<Global> + Drop, P: Copier<K>, const M: usize> SmallVecMerge
         let alloc = *r.allocator();
         // `capacity` is called for its clause that it is at least M, which the proof cites.
         let _inline = r.capacity();
-        let mut state = SliceMergeState::over(a, b, &mut r, Copying { copier, began: 0 });
+        let mut state = SliceMergeState::over(a, b, &mut r, Copying { copier, at_first: 0 });
         let _went_through = merging::merge(&mut state, op, cmp)?;
         Ok(mem::replace(state.result(), SmallVec::new(alloc)))
     }
@@ -127,7 +127,7 @@ impl<'a, K: MadeWith<Global> + Drop, P: Copier<K>, const M: usize> SmallVecMerge
         let mut list = r.into_vec()?;
         // Where there is no room for both at once, the list grows run by run.
         let _asked = list.reserve(a.len().saturating_add(b.len()));
-        let mut state = SliceMergeState::over(a, b, &mut list, Copying { copier, began: 0 });
+        let mut state = SliceMergeState::over(a, b, &mut list, Copying { copier, at_first: 0 });
         let _went_through = merging::merge(&mut state, op, cmp)?;
         Ok(inline_if_few(mem::replace(state.result(), Vec::new(alloc))))
     }
@@ -159,14 +159,14 @@ fn fit_together(a: usize, b: usize, room: usize) -> bool
 #[derive(Drop)]
 pub struct Copying<'a, P> {
     pub copier: &'a P,
-    pub began: usize,
+    pub at_first: usize,
 }
 
 impl<'a, K: MadeWith<Global> + Drop, P: Copier<K>, const M: usize> Output<K, Copying<'a, P>>
     for SmallVec<K, M> {
-    ghost may_be = { λ list began ts. AreKeptThenCopies P.alike began ts list.items };
+    ghost may_be = { λ list at_first ts. AreKeptThenCopies P.alike at_first ts list.items };
 
-    ghost began = { λ _ by. by.began };
+    ghost fixed = { λ _ by. by.at_first };
 
     ghost can_stop = { false };
 

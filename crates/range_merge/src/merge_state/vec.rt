@@ -12,9 +12,9 @@ use std::alloc::AllocError;
 const MANY: usize = 8;
 
 impl<'a, K, P: Copier<K>> Output<K, Copying<'a, P>> for Vec<K> {
-    ghost may_be = { λ list began ts. AreKeptThenCopies P.alike began ts list.items };
+    ghost may_be = { λ list at_first ts. AreKeptThenCopies P.alike at_first ts list.items };
 
-    ghost began = { λ _ by. by.began };
+    ghost fixed = { λ _ by. by.at_first };
 
     ghost can_stop = { false };
 

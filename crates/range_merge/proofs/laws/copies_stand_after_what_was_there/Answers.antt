@@ -7,8 +7,8 @@ use Rattle.range_merge.proofs.laws.copies_stand_after_what_was_there.Goals as go
 pub returns : goal.returns
 returns g c = record {
   after = IsAppended-kept g.P.Copier.alike;
-  kept = λ began ts items h.
-      let front : length (taken_items (take began ts)) ≡ began = length-map (take began ts) taken_item ∙ length-take-le began ts h.within in
-      let all : length items ≡ length (taken_items (take began ts)) + length h.copies = ap length h.appended ∙ length-append (taken_items (take began ts)) h.copies in
+  kept = λ at_first ts items h.
+      let front : length (taken_items (take at_first ts)) ≡ at_first = length-map (take at_first ts) taken_item ∙ length-take-le at_first ts h.within in
+      let all : length items ≡ length (taken_items (take at_first ts)) + length h.copies = ap length h.appended ∙ length-append (taken_items (take at_first ts)) h.copies in
       omega (arith, front, all);
 }

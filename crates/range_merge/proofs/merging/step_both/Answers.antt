@@ -23,7 +23,7 @@ returns-in-Ok-false-clause-part g c =
       lefts_on = went.left_on;
       rights_on = went.right_on;
       appends = went.output;
-      begins = c.advance_both.ensures.began;
+      stays = c.advance_both.ensures.fixed;
       succeeds = λ _. refl;
       still_infallible = went.still_infallible;
     }
@@ -49,7 +49,7 @@ returns-in-Ok-true-clause-part g c =
       lefts_on = went.left_on;
       rights_on = went.right_on;
       appends = went.output;
-      begins = c.advance_both.ensures.began;
+      stays = c.advance_both.ensures.fixed;
       succeeds = λ _. refl;
       still_infallible = went.still_infallible;
     }
@@ -66,7 +66,7 @@ returns-in-Err-clause-part g c =
       lefts_on = tt;
       rights_on = tt;
       appends = tt;
-      begins = went.began;
+      stays = went.fixed;
       succeeds = c.in-Err.ensures.succeeds;
       still_infallible = λ _. tt;
     }

@@ -11,7 +11,7 @@ invariant-loop-state g l =
     let state = g.S.MergeStateMut in
     let count = g.C.Compare.count in
     record {
-      part : Part left right state.left_on state.right_on state.output state.began state.is_infallible state.can_stop
+      part : Part left right state.left_on state.right_on state.output state.fixed state.is_infallible state.can_stop
           g.C.Compare.order (g.O.MergeOperation.connective l.op) l.fn.state l.state 0 (count l.fn.cmp) (count l.cmp) {E = AllocError} (Ok (On l.firsts));
       fits : length (left l.fn.state) + length (right l.fn.state) < 2 ^ 65;
       no_longer : length (left l.state) + length (right l.state) ≤ length (left l.fn.state) + length (right l.fn.state);

@@ -10,11 +10,11 @@ returns-clause-borrowed g c =
     let merged = rw (c.new-state.ensures.left, c.new-state.ensures.right) at c.merge.ensures in
     let ts = changes g.C.Compare.order (g.O.MergeOperation.connective c.args.op.now) c.args.a.now c.args.b.now in
     let filled = whole-output_after c.merge.result
-    (λ ts. (new_state.taken.items.ghost_name ≡ new_state.began) × IsFilled ts new_state.taken.given new_state.taken.items.now)
-    (λ ts. (c.merge.new.state.taken.items.ghost_name ≡ c.merge.new.state.began) × IsFilled ts c.merge.new.state.taken.given c.merge.new.state.taken.items.now)
+    (λ ts. (new_state.taken.items.ghost_name ≡ new_state.fixed) × IsFilled ts new_state.taken.given new_state.taken.items.now)
+    (λ ts. (c.merge.new.state.taken.items.ghost_name ≡ c.merge.new.state.fixed) × IsFilled ts c.merge.new.state.taken.given c.merge.new.state.taken.items.now)
     (map from_left c.args.out.now) ts _ (merged.succeeds (tt, λ _ _ _. tt, λ _ _ _. tt)) merged.taken merged.stopped
-    (c.new-state.ensures.borrowed ∙ sym c.new-state.ensures.began, rw (c.new-state.ensures.given, c.new-state.ensures.items) (IsFilled-none c.args.out.now)) in
-    ap (λ b. b.items.ghost_name) c.result.ensures ∙ filled.0 ∙ c.merge.ensures.began ∙ c.new-state.ensures.began
+    (c.new-state.ensures.borrowed ∙ sym c.new-state.ensures.fixed, rw (c.new-state.ensures.given, c.new-state.ensures.items) (IsFilled-none c.args.out.now)) in
+    ap (λ b. b.items.ghost_name) c.result.ensures ∙ filled.0 ∙ c.merge.ensures.fixed ∙ c.new-state.ensures.fixed
 
 pub returns-clause-filled : goal.returns-clause-filled
 returns-clause-filled g c =
@@ -22,10 +22,10 @@ returns-clause-filled g c =
     let merged = rw (c.new-state.ensures.left, c.new-state.ensures.right) at c.merge.ensures in
     let ts = changes g.C.Compare.order (g.O.MergeOperation.connective c.args.op.now) c.args.a.now c.args.b.now in
     let filled = whole-output_after c.merge.result
-    (λ ts. (new_state.taken.items.ghost_name ≡ new_state.began) × IsFilled ts new_state.taken.given new_state.taken.items.now)
-    (λ ts. (c.merge.new.state.taken.items.ghost_name ≡ c.merge.new.state.began) × IsFilled ts c.merge.new.state.taken.given c.merge.new.state.taken.items.now)
+    (λ ts. (new_state.taken.items.ghost_name ≡ new_state.fixed) × IsFilled ts new_state.taken.given new_state.taken.items.now)
+    (λ ts. (c.merge.new.state.taken.items.ghost_name ≡ c.merge.new.state.fixed) × IsFilled ts c.merge.new.state.taken.given c.merge.new.state.taken.items.now)
     (map from_left c.args.out.now) ts _ (merged.succeeds (tt, λ _ _ _. tt, λ _ _ _. tt)) merged.taken merged.stopped
-    (c.new-state.ensures.borrowed ∙ sym c.new-state.ensures.began, rw (c.new-state.ensures.given, c.new-state.ensures.items) (IsFilled-none c.args.out.now)) in
+    (c.new-state.ensures.borrowed ∙ sym c.new-state.ensures.fixed, rw (c.new-state.ensures.given, c.new-state.ensures.items) (IsFilled-none c.args.out.now)) in
     rw c.result.ensures filled.1
 
 pub returns-clause-comparisons : goal.returns-clause-comparisons

@@ -16,5 +16,5 @@ returns-clause-right_on g c = refl
 pub returns-clause-taken : goal.returns-clause-taken
 returns-clause-taken g c = refl
 
-pub returns-clause-began : goal.returns-clause-began
-returns-clause-began g c = refl
+pub returns-clause-fixed : goal.returns-clause-fixed
+returns-clause-fixed g c = refl

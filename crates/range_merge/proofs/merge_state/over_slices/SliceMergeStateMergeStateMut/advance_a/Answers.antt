@@ -47,10 +47,10 @@ pub returns-clause-output : goal.returns-clause-output
 returns-clause-output g c =
     let taken = taken_items-taken_left c.args.take c.args.n c.self.inside.a ∙ ap (items_if c.args.take) (sym c.take_front-front.ensures.front) in
     rw (← c.self.view_is)
-    (on_ok_weaker c.append.result (λ appends before so_far. rw (c.append.ensures.began _) (appends _ before (taken_left c.args.take c.args.n c.self.inside.a) taken so_far)) c.append.ensures.output)
+    (on_ok_weaker c.append.result (λ appends before so_far. rw (c.append.ensures.fixed _) (appends _ before (taken_left c.args.take c.args.n c.self.inside.a) taken so_far)) c.append.ensures.output)
 
-pub returns-clause-began : goal.returns-clause-began
-returns-clause-began g c = rw (← c.self.view_is) (c.append.ensures.began _)
+pub returns-clause-fixed : goal.returns-clause-fixed
+returns-clause-fixed g c = rw (← c.self.view_is) (c.append.ensures.fixed _)
 
 pub returns-clause-succeeds : goal.returns-clause-succeeds
 returns-clause-succeeds g c =

@@ -29,8 +29,8 @@ returns-clause-output g c =
     let builder = c.self.inside.builder in
     rw (← c.self.view_is) (λ before. c.keeps_own.ensures c.args.take c.args.n builder.unread builder.kept c.keep_if.new.self.kept before c.keep_if.ensures.kept)
 
-pub returns-clause-began : goal.returns-clause-began
-returns-clause-began g c = refl
+pub returns-clause-fixed : goal.returns-clause-fixed
+returns-clause-fixed g c = refl
 
 pub returns-clause-succeeds : goal.returns-clause-succeeds
 returns-clause-succeeds g c = λ _. refl

@@ -27,8 +27,8 @@ returns-clause-other_on g c = rw (← c.self.view_is) refl
 pub returns-clause-output : goal.returns-clause-output
 returns-clause-output g c = rw (← c.self.view_is) c.put_front.ensures.kept
 
-pub returns-clause-began : goal.returns-clause-began
-returns-clause-began g c = refl
+pub returns-clause-fixed : goal.returns-clause-fixed
+returns-clause-fixed g c = refl
 
 pub returns-clause-succeeds : goal.returns-clause-succeeds
 returns-clause-succeeds g c = λ _. refl

@@ -45,8 +45,8 @@ returns-clause-gives g c =
     let merged = rw (c.over-state.ensures.left, c.over-state.ensures.right) at c.in_ok-_went_through.ensures in
     let went = went_through c.in_ok-_went_through._went_through merged.stopped in
     let empty : c.over-state.result.taken.now.items ≡ [] = ap (λ list. list.now.items) c.over-state.ensures.taken ∙ c.requires.empty in
-    let kept = merged.taken went [] (rw (empty, c.over-state.ensures.began) (AreKeptThenCopies-first alike [])) in
-    let copies = AreCopies-kept alike _ _ (rw (merged.began, c.over-state.ensures.began) at kept) in
+    let kept = merged.taken went [] (rw (empty, c.over-state.ensures.fixed) (AreKeptThenCopies-first alike [])) in
+    let copies = AreCopies-kept alike _ _ (rw (merged.fixed, c.over-state.ensures.fixed) at kept) in
     let items = ap (λ list. list.now.items) c.result.ensures in
     record { copied = rw (c.replace.ensures.value, items) copies; succeeds = λ _. refl }
 

@@ -3,7 +3,7 @@ use Rattle.range_merge.proofs.CopiesLemmas.{AreKeptThenCopies-first}
 use Rattle.range_merge.proofs.merge_state.small_vec.SmallVecMergeState+K+P+M.new.Goals as goal
 
 pub returns-clause-output : goal.returns-clause-output
-returns-clause-output g c = rw (c.over.ensures.taken, c.over.ensures.began ∙ c.len-began.ensures.value) (AreKeptThenCopies-first g.P.Copier.alike c.args.r.items)
+returns-clause-output g c = rw (c.over.ensures.taken, c.over.ensures.fixed ∙ c.len-at_first.ensures.value) (AreKeptThenCopies-first g.P.Copier.alike c.args.r.items)
 
 pub returns-clause-left : goal.returns-clause-left
 returns-clause-left g c = c.over.ensures.left
@@ -14,8 +14,8 @@ returns-clause-right g c = c.over.ensures.right
 pub returns-clause-items : goal.returns-clause-items
 returns-clause-items g c = ap (λ list. list.items) c.over.ensures.taken
 
-pub returns-clause-began : goal.returns-clause-began
-returns-clause-began g c = c.over.ensures.began ∙ c.len-began.ensures.value
+pub returns-clause-fixed : goal.returns-clause-fixed
+returns-clause-fixed g c = c.over.ensures.fixed ∙ c.len-at_first.ensures.value
 
 pub returns-clause-left_on : goal.returns-clause-left_on
 returns-clause-left_on g c = c.over.ensures.left_on
