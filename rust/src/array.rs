@@ -98,7 +98,7 @@ pub trait List: Sized {
     where
         Self::Item: RangeSetEntry;
 
-    /// Sorts the items. Equal ones stay in the order in which they stood. A refusal of memory ends the process.
+    /// Sorts the items. Equal ones stay in the order in which they stood. If memory runs out, the process ends.
     fn sort(&mut self)
     where
         Self::Item: Ord;
@@ -142,7 +142,7 @@ pub trait List: Sized {
         P: Copier<Self::Item>,
         O: MergeOperation;
 
-    /// Leaves the boundaries at which an operation with an owned list switches. A refusal gives that list back.
+    /// Leaves the boundaries at which an operation with an owned list switches. An error gives that list back.
     fn merge_owned<O>(&mut self, that: Self, op: &O) -> Result<(), (AllocError, Self)>
     where
         Self::Item: Ord,
@@ -157,7 +157,7 @@ pub trait List: Sized {
     where
         Self::Item: Ord;
 
-    /// The set in chunks with these boundaries. If memory is refused, they are dropped.
+    /// The set in chunks with these boundaries. If memory runs out, they are dropped.
     fn into_chunks(self) -> Result<ChunkedRangeSet<Self::Item>, AllocError>
     where
         Self::Item: Ord;

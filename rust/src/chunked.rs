@@ -47,7 +47,7 @@ use core::ops::Range;
 ///
 /// # Memory
 ///
-/// A call that is refused memory ends the process, as std's collections do.
+/// If memory runs out, a call ends the process, as std's collections do.
 /// [`fallible::ChunkedRangeSet`](crate::fallible::ChunkedRangeSet) returns an error instead.
 ///
 /// # Panics in elements

@@ -250,7 +250,7 @@ impl<T: Ord> RangeSetEntry for Option<T> {
     }
 }
 
-/// The generated code asks for a least value that may be refused memory.
+/// The generated code asks for a least value that may run out of memory.
 impl<T: RangeSetEntry> range_entry::RangeSetEntry for T {
     #[inline(always)]
     fn min_value(_: Global) -> Result<Self, AllocError> {

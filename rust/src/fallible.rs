@@ -1,7 +1,7 @@
 //! The same sets for those who can't let memory run out: an allocation failure is an error.
 //!
 //! A kernel, an embedded program or a server under a limit can't end where memory does. Here every call that may ask
-//! for memory returns a [`Result`], and where it is refused the set is as it was.
+//! for memory returns a [`Result`], and if it runs out the set is as it was.
 //!
 //! ```
 //! use range_sets::fallible::{AllocError, RangeSet2};
@@ -86,7 +86,7 @@ pub use crate::generated::range_entry::EntryClone;
 /// ```
 pub use crate::support::AllocError;
 
-/// A set of values whose calls return an error where memory is refused.
+/// A set of values whose calls return an error if memory runs out.
 ///
 /// # Examples
 ///
@@ -154,7 +154,7 @@ impl<T, A: Array<Item = T>> RangeSet<A> {
     ///
     /// # Errors
     ///
-    /// If memory is refused, which happens only where the set keeps no boundary in itself.
+    /// If memory runs out, which happens only if the set keeps no boundary in itself.
     ///
     /// # Examples
     ///
@@ -203,7 +203,7 @@ impl<T, A: Array<Item = T>> RangeSet<A> {
     ///
     /// # Errors
     ///
-    /// If memory is refused.
+    /// If memory runs out.
     ///
     /// # Examples
     ///
@@ -226,7 +226,7 @@ impl<T, A: Array<Item = T>> RangeSet<A> {
     ///
     /// # Errors
     ///
-    /// If memory or a copy is refused.
+    /// If memory runs out or a copy fails.
     ///
     /// # Examples
     ///
@@ -250,7 +250,7 @@ impl<T, A: Array<Item = T>> RangeSet<A> {
     ///
     /// # Errors
     ///
-    /// If memory or a copy is refused.
+    /// If memory runs out or a copy fails.
     ///
     /// # Examples
     ///
@@ -274,7 +274,7 @@ impl<T, A: Array<Item = T>> RangeSet<A> {
     ///
     /// # Errors
     ///
-    /// If memory or a copy is refused.
+    /// If memory runs out or a copy fails.
     ///
     /// # Examples
     ///

@@ -101,7 +101,7 @@ impl<'de, T: Deserialize<'de> + Ord> Deserialize<'de> for fallible::ChunkedRange
     }
 }
 
-/// Reads the list of a set, in any order. A refusal of memory is told apart from the format's errors.
+/// Reads the list of a set, in any order. Running out of memory is apart from the format's errors.
 struct Boundaries<A>(PhantomData<A>);
 
 impl<'de, T: Deserialize<'de> + Ord, A: Array<Item = T>> Visitor<'de> for Boundaries<A> {

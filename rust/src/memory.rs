@@ -1,4 +1,4 @@
-//! What a call does when it is refused memory: here it ends the process, as std does. The calls of `fallible` don't.
+//! What a call does if memory runs out: here it ends the process, as std does. The calls of `fallible` don't.
 
 use crate::generated::range_merge::Copier;
 pub(crate) use crate::support::AllocError;
@@ -6,7 +6,7 @@ use crate::support::Vec;
 use alloc::alloc::{handle_alloc_error, Layout};
 use core::mem;
 
-/// The value of a call on a list of `T`. It ends the process if the call was refused memory.
+/// The value of a call on a list of `T`. It ends the process if memory ran out.
 #[inline(always)]
 pub(crate) fn expect_memory<T, R, E>(result: Result<R, E>) -> R {
     match result {

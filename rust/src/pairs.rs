@@ -96,7 +96,7 @@ where
     read(deserializer).map(|set| expect_memory::<T, _, _>(set))
 }
 
-/// Reads a sequence of pairs. A refusal of memory is told apart from the format's errors.
+/// Reads a sequence of pairs. Running out of memory is apart from the format's errors.
 pub(crate) fn read<'de, T, A, D>(
     deserializer: D,
 ) -> Result<Result<RangeSet<A>, AllocError>, D::Error>

@@ -50,7 +50,7 @@ use smallvec::SmallVec;
 ///
 /// # Memory
 ///
-/// A call that is refused memory ends the process, as std's collections do. The calls of [`fallible`] answer a
+/// If memory runs out, a call ends the process, as std's collections do. The calls of [`fallible`] answer a
 /// `Result`.
 ///
 /// [`fallible`]: crate::fallible

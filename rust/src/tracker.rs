@@ -82,7 +82,7 @@ impl Tracker {
     ///
     /// # Errors
     ///
-    /// If memory is refused.
+    /// If memory runs out.
     ///
     /// # Examples
     ///
@@ -105,7 +105,7 @@ impl Tracker {
     ///
     /// # Errors
     ///
-    /// If the tracker would keep more boundaries than the limit, or if memory is refused. It is then as it was.
+    /// If the tracker would keep more boundaries than the limit, or if memory runs out. It is then as it was.
     ///
     /// # Examples
     ///
@@ -126,7 +126,7 @@ impl Tracker {
     ///
     /// # Errors
     ///
-    /// If the tracker would keep more boundaries than the limit, or if memory is refused. It is then as it was.
+    /// If the tracker would keep more boundaries than the limit, or if memory runs out. It is then as it was.
     ///
     /// # Examples
     ///
@@ -186,7 +186,7 @@ impl Tracker {
     ///
     /// # Errors
     ///
-    /// If memory is refused.
+    /// If memory runs out.
     ///
     /// # Examples
     ///

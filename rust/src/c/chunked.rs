@@ -20,7 +20,7 @@ impl<T: Ord> Chunked<T> {
         at: ptr::null_mut(),
     };
 
-    /// A set in memory of its own, or none where memory is refused.
+    /// A set in memory of its own, or none if memory runs out.
     pub(super) fn of(set: ChunkedRangeSet<T>) -> Self {
         let at: *mut ChunkedRangeSet<T> =
             unsafe { alloc::alloc::alloc(Layout::new::<ChunkedRangeSet<T>>()) }.cast();

@@ -75,7 +75,7 @@ impl<T: Copy> Owned<T> {
         unsafe { self.replace(ptr::null_mut(), 0, 0) };
     }
 
-    /// A buffer for so many boundaries: null for none, and where memory is refused.
+    /// A buffer for so many boundaries: null for none, and if memory runs out.
     unsafe fn allocated(&self, room: usize) -> *mut T {
         if room == 0 || room > isize::MAX as usize / size_of::<T>() {
             return ptr::null_mut();

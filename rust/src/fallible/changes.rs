@@ -14,7 +14,7 @@ impl<T: Ord, A: Array<Item = T>> RangeSet<A> {
     ///
     /// # Errors
     ///
-    /// If memory is refused. The set is then as it was. Memory is asked for only where the set grows and has no room.
+    /// If memory runs out. The set is then as it was. Memory is asked for only if the set grows and has no room.
     ///
     /// # Examples
     ///
@@ -36,7 +36,7 @@ impl<T: Ord, A: Array<Item = T>> RangeSet<A> {
     ///
     /// # Errors
     ///
-    /// If memory is refused. The set is then as it was.
+    /// If memory runs out. The set is then as it was.
     ///
     /// # Examples
     ///
@@ -59,7 +59,7 @@ impl<T: Ord, A: Array<Item = T>> RangeSet<A> {
     ///
     /// # Errors
     ///
-    /// If memory is refused. The set is then as it was. Memory is asked for only where the set grows and has no room.
+    /// If memory runs out. The set is then as it was. Memory is asked for only if the set grows and has no room.
     ///
     /// # Examples
     ///
@@ -80,7 +80,7 @@ impl<T: Ord, A: Array<Item = T>> RangeSet<A> {
     ///
     /// # Errors
     ///
-    /// If memory is refused. The set is then as it was.
+    /// If memory runs out. The set is then as it was.
     ///
     /// # Examples
     ///
@@ -103,7 +103,7 @@ impl<T: Ord, A: Array<Item = T>> RangeSet<A> {
     ///
     /// # Errors
     ///
-    /// If memory is refused. None of the ranges is then added.
+    /// If memory runs out. None of the ranges is then added.
     ///
     /// # Examples
     ///
@@ -140,7 +140,7 @@ with_views! {
     ///
     /// # Errors
     ///
-    /// If memory or a copy of a boundary is refused. The set is then as it was.
+    /// If memory runs out or a copy of a boundary fails. The set is then as it was.
     ///
     /// # Examples
     ///
@@ -158,7 +158,7 @@ with_views! {
     ///
     /// # Errors
     ///
-    /// If memory or a copy of a boundary is refused. The set is then as it was.
+    /// If memory runs out or a copy of a boundary fails. The set is then as it was.
     ///
     /// # Examples
     ///
@@ -176,7 +176,7 @@ with_views! {
     ///
     /// # Errors
     ///
-    /// If memory or a copy of a boundary is refused. The set is then as it was.
+    /// If memory runs out or a copy of a boundary fails. The set is then as it was.
     ///
     /// # Examples
     ///
@@ -194,7 +194,7 @@ with_views! {
     ///
     /// # Errors
     ///
-    /// If memory or a copy of a boundary is refused. The set is then as it was.
+    /// If memory runs out or a copy of a boundary fails. The set is then as it was.
     ///
     /// # Examples
     ///
@@ -227,7 +227,7 @@ with_sets! {
     ///
     /// # Errors
     ///
-    /// If memory is refused. The set is then as it was, and the other one comes back as it was.
+    /// If memory runs out. The set is then as it was, and the other one comes back as it was.
     ///
     /// # Examples
     ///
@@ -243,7 +243,7 @@ with_sets! {
     ///
     /// # Errors
     ///
-    /// If memory is refused. The set is then as it was, and the other one comes back as it was.
+    /// If memory runs out. The set is then as it was, and the other one comes back as it was.
     ///
     /// # Examples
     ///
@@ -259,7 +259,7 @@ with_sets! {
     ///
     /// # Errors
     ///
-    /// If memory is refused. The set is then as it was, and the other one comes back as it was.
+    /// If memory runs out. The set is then as it was, and the other one comes back as it was.
     ///
     /// # Examples
     ///
@@ -275,7 +275,7 @@ with_sets! {
     ///
     /// # Errors
     ///
-    /// If memory is refused. The set is then as it was, and the other one comes back as it was.
+    /// If memory runs out. The set is then as it was, and the other one comes back as it was.
     ///
     /// # Examples
     ///

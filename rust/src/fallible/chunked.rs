@@ -1,4 +1,4 @@
-//! A set in chunks whose calls return an error where memory is refused.
+//! A set in chunks whose calls return an error if memory runs out.
 
 use crate::any_range::AnyRange;
 use crate::array::Array;
@@ -9,7 +9,7 @@ use crate::range_set::RangeSetRef;
 use core::fmt;
 use core::ops::Deref;
 
-/// A set that is changed one range at a time, and whose calls return an error where memory is refused.
+/// A set that is changed one range at a time, and whose calls return an error if memory runs out.
 ///
 /// It dereferences to [`crate::ChunkedRangeSet`] for the questions, none of which takes memory, and a set goes either
 /// way by `into` without a copy.
@@ -47,7 +47,7 @@ impl<T: Ord> ChunkedRangeSet<T> {
     ///
     /// # Errors
     ///
-    /// If memory is refused.
+    /// If memory runs out.
     ///
     /// # Examples
     ///
@@ -71,7 +71,7 @@ impl<T: Ord> ChunkedRangeSet<T> {
     ///
     /// # Errors
     ///
-    /// If memory is refused, which is asked for only where the set grows. The set is then as it was.
+    /// If memory runs out, which is asked for only if the set grows. The set is then as it was.
     ///
     /// # Examples
     ///
@@ -92,7 +92,7 @@ impl<T: Ord> ChunkedRangeSet<T> {
     ///
     /// # Errors
     ///
-    /// If memory is refused, which is asked for only where the set grows. The set is then as it was.
+    /// If memory runs out, which is asked for only if the set grows. The set is then as it was.
     ///
     /// # Examples
     ///
@@ -130,7 +130,7 @@ impl<T: Ord> ChunkedRangeSet<T> {
     ///
     /// # Errors
     ///
-    /// If memory is refused. The set then has the ranges before the one that was refused.
+    /// If memory runs out. The set then has the ranges before the one that failed.
     ///
     /// # Examples
     ///
@@ -155,7 +155,7 @@ impl<T: Ord> ChunkedRangeSet<T> {
     ///
     /// # Errors
     ///
-    /// If memory or a copy of a boundary is refused.
+    /// If memory runs out or a copy of a boundary fails.
     ///
     /// # Examples
     ///
@@ -178,7 +178,7 @@ impl<T: Ord> ChunkedRangeSet<T> {
     ///
     /// # Errors
     ///
-    /// If memory is refused. This set then comes back as it was.
+    /// If memory runs out. This set then comes back as it was.
     ///
     /// # Examples
     ///
@@ -205,7 +205,7 @@ impl<T: EntryClone> ChunkedRangeSet<T> {
     ///
     /// # Errors
     ///
-    /// If memory is refused. The set is then as it was.
+    /// If memory runs out. The set is then as it was.
     ///
     /// # Examples
     ///
@@ -227,7 +227,7 @@ impl<T: EntryClone> ChunkedRangeSet<T> {
     ///
     /// # Errors
     ///
-    /// If memory is refused. The set is then as it was.
+    /// If memory runs out. The set is then as it was.
     ///
     /// # Examples
     ///
@@ -249,7 +249,7 @@ impl<T: EntryClone> ChunkedRangeSet<T> {
     ///
     /// # Errors
     ///
-    /// If memory is refused. The set is then as it was.
+    /// If memory runs out. The set is then as it was.
     ///
     /// # Examples
     ///
@@ -271,7 +271,7 @@ impl<T: EntryClone> ChunkedRangeSet<T> {
     ///
     /// # Errors
     ///
-    /// If memory is refused. The set is then as it was.
+    /// If memory runs out. The set is then as it was.
     ///
     /// # Examples
     ///
@@ -290,7 +290,7 @@ impl<T: EntryClone> ChunkedRangeSet<T> {
     }
 }
 
-/// The set with the boundaries of a `RangeSet`, which are moved. If memory is refused, they are dropped.
+/// The set with the boundaries of a `RangeSet`, which are moved. If memory runs out, they are dropped.
 impl<T: Ord, A: Array<Item = T>> TryFrom<RangeSet<A>> for ChunkedRangeSet<T> {
     type Error = AllocError;
 
@@ -315,14 +315,14 @@ impl<T: Ord> Deref for ChunkedRangeSet<T> {
     }
 }
 
-/// The same set: its calls end the process where memory is refused.
+/// The same set: its calls end the process if memory runs out.
 impl<T: Ord> From<ChunkedRangeSet<T>> for chunked::ChunkedRangeSet<T> {
     fn from(set: ChunkedRangeSet<T>) -> Self {
         set.0
     }
 }
 
-/// The same set: its calls return an error where memory is refused.
+/// The same set: its calls return an error if memory runs out.
 impl<T: Ord> From<chunked::ChunkedRangeSet<T>> for ChunkedRangeSet<T> {
     fn from(set: chunked::ChunkedRangeSet<T>) -> Self {
         ChunkedRangeSet(set)

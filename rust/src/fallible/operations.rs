@@ -9,13 +9,13 @@ use crate::operation::Connective;
 use crate::range_set;
 use crate::view::RangeSetRef;
 
-/// An error says that memory was refused, or a copy of a boundary.
+/// An error says that memory ran out, or that a copy of a boundary failed.
 impl<T: EntryClone, A: Array<Item = T>> RangeSet<A> {
     /// Returns a copy of the set.
     ///
     /// # Errors
     ///
-    /// If memory or a copy is refused.
+    /// If memory runs out or a copy fails.
     ///
     /// # Examples
     ///
@@ -34,7 +34,7 @@ impl<T: EntryClone, A: Array<Item = T>> RangeSet<A> {
     ///
     /// # Errors
     ///
-    /// If memory or a copy is refused.
+    /// If memory runs out or a copy fails.
     ///
     /// # Examples
     ///
@@ -57,7 +57,7 @@ impl<T: EntryClone, A: Array<Item = T>> RangeSet<A> {
     ///
     /// # Errors
     ///
-    /// If memory or a copy is refused.
+    /// If memory runs out or a copy fails.
     ///
     /// # Examples
     ///
@@ -80,7 +80,7 @@ impl<T: EntryClone, A: Array<Item = T>> RangeSet<A> {
     ///
     /// # Errors
     ///
-    /// If memory or a copy is refused.
+    /// If memory runs out or a copy fails.
     ///
     /// # Examples
     ///
@@ -103,7 +103,7 @@ impl<T: EntryClone, A: Array<Item = T>> RangeSet<A> {
     ///
     /// # Errors
     ///
-    /// If memory or a copy is refused.
+    /// If memory runs out or a copy fails.
     ///
     /// # Examples
     ///
@@ -126,7 +126,7 @@ impl<T: EntryClone, A: Array<Item = T>> RangeSet<A> {
     ///
     /// # Errors
     ///
-    /// If memory or a copy is refused.
+    /// If memory runs out or a copy fails.
     ///
     /// # Examples
     ///
@@ -157,7 +157,7 @@ impl<T: RangeSetEntry, A: Array<Item = T>> RangeSet<A> {
     ///
     /// # Errors
     ///
-    /// If memory is refused. The set is then dropped; [`combine`](Self::combine) leaves it.
+    /// If memory runs out. The set is then dropped; [`combine`](Self::combine) leaves it.
     ///
     /// # Examples
     ///

@@ -22,7 +22,7 @@ use serde::de::{Deserialize, Deserializer, Error};
 ///
 /// # Errors
 ///
-/// Those of the format, one if an end is below its start, and one if memory is refused.
+/// Those of the format, one if an end is below its start, and one if memory runs out.
 pub fn deserialize<'de, T, A, D>(deserializer: D) -> Result<RangeSet<A>, D::Error>
 where
     T: Deserialize<'de> + Ord,

@@ -8,7 +8,7 @@ impl<T: EntryClone> RangeSetRange<&T> {
     ///
     /// # Errors
     ///
-    /// If a copy is refused.
+    /// If a copy fails.
     ///
     /// # Examples
     ///

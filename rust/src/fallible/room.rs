@@ -8,7 +8,7 @@ impl<T, A: Array<Item = T>> RangeSet<A> {
     ///
     /// # Errors
     ///
-    /// If memory is refused.
+    /// If memory runs out.
     ///
     /// # Examples
     ///
@@ -41,7 +41,7 @@ impl<T, A: Array<Item = T>> RangeSet<A> {
     ///
     /// # Errors
     ///
-    /// If memory is refused. The set is then as it was.
+    /// If memory runs out. The set is then as it was.
     ///
     /// # Examples
     ///
@@ -57,7 +57,7 @@ impl<T, A: Array<Item = T>> RangeSet<A> {
         self.0.list_mut().reserve(boundaries)
     }
 
-    /// Gives back the room that the boundaries don't need. Where the allocator refuses a smaller one, it stays.
+    /// Gives back the room that the boundaries don't need. If the allocator refuses a smaller one, it stays.
     ///
     /// # Examples
     ///

@@ -75,7 +75,7 @@ impl<T: Ord, A: Array<Item = T>> RangeSet<A> {
     ///
     /// # Errors
     ///
-    /// If memory or a copy of a boundary is refused. The set is then as it was.
+    /// If memory runs out or a copy of a boundary fails. The set is then as it was.
     ///
     /// # Examples
     ///
@@ -102,7 +102,7 @@ impl<T: Ord, A: Array<Item = T>> RangeSet<A> {
     ///
     /// # Errors
     ///
-    /// If memory is refused. Both sets are then as they were.
+    /// If memory runs out. Both sets are then as they were.
     ///
     /// # Examples
     ///

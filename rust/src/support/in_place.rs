@@ -22,7 +22,7 @@ pub struct InPlaceMergeStateRef<K, P, const N: usize>(PhantomData<(K, P)>);
 impl<K, const N: usize> InPlaceMergeState<K, N> {
     /// Leaves in `a` the items at which the connective of `op` changes between two strictly sorted lists. Of two equal items it is the one of `a` that stays.
     ///
-    /// It asks for room in `a` for the items of `b` before it changes anything. Where that is refused, `a` is as it was and `b` comes back.
+    /// It asks for room in `a` for the items of `b` before it changes anything. If that fails, `a` is as it was and `b` comes back.
     pub fn merge<O: MergeOperation, C: Compare<K>>(
         a: &mut SmallVec<K, N>,
         mut b: SmallVec<K, N>,
@@ -42,7 +42,7 @@ impl<K, const N: usize> InPlaceMergeState<K, N> {
 impl<K, P: Copier<K>, const N: usize> InPlaceMergeStateRef<K, P, N> {
     /// Leaves in `a` the items at which the connective of `op` changes between two strictly sorted lists: its own, and copies of those of `b`. Of two equal items it is the one of `a` that stays.
     ///
-    /// It asks for room in `a` for the items of `b`, and, unless the copier never refuses, for a copy of each item of `b`, before it changes anything. Where one is refused, `a` is as it was.
+    /// It asks for room in `a` for the items of `b`, and, unless copies never fail, for a copy of each item of `b`, before it changes anything. Where one is refused, `a` is as it was.
     pub fn merge<O: MergeOperation, C: Compare<K>>(
         a: &mut SmallVec<K, N>,
         b: &[K],

@@ -11,7 +11,7 @@ const FEW: usize = 20;
 pub trait SortIn {
     /// Sorts the items. Equal ones stay in the order in which they stood.
     ///
-    /// Up to 20 items take no memory; more take room for as many indices. Where that is refused, the items are as they were.
+    /// Up to 20 items take no memory; more take room for as many indices. If that fails, the items are as they were.
     fn sort_in(&mut self, alloc: Global) -> Result<(), AllocError>;
 }
 

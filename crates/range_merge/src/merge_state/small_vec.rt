@@ -99,7 +99,15 @@ impl<'a, K: MadeWith<Global> + Drop, P: Copier<K>, const M: usize> SmallVecMerge
         let alloc = *r.allocator();
         // `capacity` is called for its clause that it is at least M, which the proof cites.
         let _inline = r.capacity();
-        let mut state = SliceMergeState::over(a, b, &mut r, Copying { copier, at_first: 0 });
+        let mut state = SliceMergeState::over(
+            a,
+            b,
+            &mut r,
+            Copying {
+                copier,
+                at_first: 0,
+            },
+        );
         let _went_through = merging::merge(&mut state, op, cmp)?;
         Ok(mem::replace(state.result(), SmallVec::new(alloc)))
     }
@@ -127,7 +135,15 @@ impl<'a, K: MadeWith<Global> + Drop, P: Copier<K>, const M: usize> SmallVecMerge
         let mut list = r.into_vec()?;
         // Where there is no room for both at once, the list grows run by run.
         let _asked = list.reserve(a.len().saturating_add(b.len()));
-        let mut state = SliceMergeState::over(a, b, &mut list, Copying { copier, at_first: 0 });
+        let mut state = SliceMergeState::over(
+            a,
+            b,
+            &mut list,
+            Copying {
+                copier,
+                at_first: 0,
+            },
+        );
         let _went_through = merging::merge(&mut state, op, cmp)?;
         Ok(inline_if_few(mem::replace(state.result(), Vec::new(alloc))))
     }
