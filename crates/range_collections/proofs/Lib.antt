@@ -43,6 +43,7 @@ pub mod Previous
 pub mod Ranked
 pub mod Rows
 pub mod Multiples
+pub mod FirstGap
 pub mod MembersOf
 pub mod Ends
 pub mod Highest

@@ -1,10 +1,13 @@
 -- The list of the members among values in a row: by its first value, by its last, and where none is
 -- a member.
-use Rattle.std.proofs.Common.{◌≡◌, refl, sym, ap, ap₂, ◌∙◌, ℕ, zero, suc, ◌<◌, ◌≤◌, ◌+◌, Bool, true, false, cond, List, [], ◌∷◌, ◌++◌, arith}
+use Rattle.std.proofs.Common.{◌≡◌, refl, sym, ap, ap₂, ◌∙◌, subst, ℕ, zero, suc, ◌<◌, ◌≤◌, ◌+◌, Bool, true, false, cond, All, List, [], ◌∷◌, ◌++◌, length, length-append, arith}
+use Rattle.std.proofs.lemmas.List.Elements.{All-nil, All-cons}
 use Rattle.std.specs.declared.cmp.Ordering.{Ordering}
 use Rattle.range_merge.specs.Boundaries.{member}
 use Rattle.range_merge.proofs.Members.{member-nil}
+use Rattle.range_collections.specs.Covered.{members_below}
 use Rattle.range_collections.specs.Members.{members_of}
+use Rattle.range_collections.proofs.Counted.{bit, members_below-zero, members_below-suc}
 
 module _ {K : Type 0} (order : K → K → Ordering) (value : ℕ → K) where
   pub members_of-zero : (items : List K) (p : ℕ) → members_of order value items p 0 ≡ []
@@ -72,3 +75,33 @@ module _ {K : Type 0} (order : K → K → Ordering) (value : ℕ → K) where
   -- no boundaries, no members
   pub members_of-nil : (p n : ℕ) → members_of order value [] p n ≡ []
   members_of-nil p n = members_of-none [] p n (λ i a b. member-nil order (value i))
+
+  -- as many as are counted
+  pub length-members_of : (items : List K) (n : ℕ) → length (members_of order value items 0 n) ≡ members_below order value items n
+  length-members_of items zero = ap length (members_of-zero items 0) ∙ sym (members_below-zero order value items)
+  length-members_of items (suc n) =
+      let more : suc n ≡ n + 1 = omega arith in
+      omega (
+        arith,
+        ap (λ m. length (members_of order value items 0 m)) more ∙ ap length (members_of-append items 0 n 1 n (omega arith)),
+        length-append (members_of order value items 0 n) (members_of order value items n 1),
+        length-members_of items n,
+        members_below-suc order value items n,
+        one_more (member order items (value n)) refl,
+      )
+    where
+      one_more : (t : Bool) → member order items (value n) ≡ t → length (members_of order value items n 1) ≡ bit (member order items (value n))
+      one_more true m = ap length (members_of-in items n 0 m ∙ ap (λ l. value n ∷ l) (members_of-zero items (n + 1))) ∙ ap bit (sym m)
+      one_more false m = ap length (members_of-out items n 0 m ∙ members_of-zero items (n + 1)) ∙ ap bit (sym m)
+
+  -- members alone
+  pub All-members_of : (items : List K) (p n : ℕ) → All (λ x. member order items x ≡ true) (members_of order value items p n)
+  All-members_of items p zero = subst (All (λ x. member order items x ≡ true)) (sym (members_of-zero items p)) (All-nil (λ x. member order items x ≡ true))
+  All-members_of items p (suc n) = by_test (All-members_of items (p + 1) n) (member order items (value p)) refl
+    where
+      by_test : All (λ x. member order items x ≡ true) (members_of order value items (p + 1) n) → (t : Bool) → member order items (value p) ≡ t →
+          All (λ x. member order items x ≡ true) (members_of order value items p (suc n))
+      by_test rest true m =
+          subst (All (λ x. member order items x ≡ true)) (sym (members_of-in items p n m))
+          (All-cons (λ x. member order items x ≡ true) (value p) (members_of order value items (p + 1) n) m rest)
+      by_test rest false m = subst (All (λ x. member order items x ≡ true)) (sym (members_of-out items p n m)) rest

@@ -305,3 +305,35 @@ fn lists_in_any_order_are_sorted(rt: HostRuntime) {
     let found = sorted(alloc, &items).ok();
     assert!(rt; matches!(&found, Some(set) if letters_are(set.boundaries(), &want)));
 }
+
+// Values in any order, and the boundaries of their set.
+const VALUES: [(&[i8], &[i8]); 8] = [
+    (&[], &[]),
+    (&[5], &[5, 6]),
+    (&[5, 5, 5], &[5, 6]),
+    (&[7, 3, 5, 4, 3], &[3, 6, 7, 8]),
+    (&[127], &[127]),
+    (&[127, 126], &[126]),
+    (&[127, -128], &[-128, -127, 127]),
+    (
+        &[
+            38, 36, 34, 32, 30, 28, 26, 24, 22, 20, 18, 16, 14, 12, 10, 8, 6, 4, 2, 0, 37, 36,
+        ],
+        &[
+            0, 1, 2, 3, 4, 5, 6, 7, 8, 9, 10, 11, 12, 13, 14, 15, 16, 17, 18, 19, 20, 21, 22, 23,
+            24, 25, 26, 27, 28, 29, 30, 31, 32, 33, 34, 35, 36, 39,
+        ],
+    ),
+];
+
+#[test]
+fn values_make_a_set(rt: HostRuntime) {
+    let alloc = rt.alloc();
+    for (values, want) in VALUES {
+        assert!(rt; gives(RangeSet::from_values(alloc, values), want), "{values:?}");
+    }
+    let around = ['\u{E000}', '\u{D7FF}'];
+    assert!(rt; gives(RangeSet::from_values(alloc, &around), &['\u{D7FF}', '\u{E001}']));
+    assert!(rt; gives(RangeSet::from_values(alloc, &['\u{10FFFF}']), &['\u{10FFFF}']));
+    assert!(rt; gives(RangeSet::from_values(alloc, &[u128::MAX]), &[u128::MAX]));
+}

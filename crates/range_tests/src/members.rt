@@ -1,5 +1,5 @@
 //! The members of a set one by one.
-use range_collections::{Countable, FromPlace, RangeSet2};
+use range_collections::{Countable, FromPlace, Members, RangeSet2, RangeSetRef};
 use range_tests_kit::lists::own;
 
 // Boundaries, a value, the member before it or there, and the value before it or there that is
@@ -70,7 +70,8 @@ fn a_value_comes_after_a_member_and_after_a_gap(rt: HostRuntime) {
 
 // Whether these are the least and the greatest value, and `count` is the place after them.
 fn stand_in_a_row<T: FromPlace>(least: T, greatest: T, count: u128) -> bool {
-    T::from_place(0) == Some(least)
+    T::greatest() == greatest
+        && T::from_place(0) == Some(least)
         && T::from_place(count.saturating_sub(1)) == Some(greatest)
         && T::from_place(count).is_none()
         && T::from_place(u128::MAX).is_none()
@@ -89,6 +90,7 @@ fn a_value_is_made_from_its_place(rt: HostRuntime) {
     assert!(rt; stand_in_a_row(i64::MIN, i64::MAX, 1 << 64));
     assert!(rt; stand_in_a_row(isize::MIN, isize::MAX, 1 << 64));
     assert!(rt; stand_in_a_row('\0', '\u{10FFFF}', 0x10F800));
+    assert!(rt; u128::greatest() == u128::MAX && i128::greatest() == i128::MAX);
     assert!(rt; u128::from_place(u128::MAX) == Some(u128::MAX));
     assert!(rt; i128::from_place(u128::MAX) == Some(i128::MAX));
     assert!(rt; i128::from_place(0) == Some(i128::MIN));
@@ -179,4 +181,68 @@ fn members_are_found_by_how_many_are_below(rt: HostRuntime) {
     assert!(rt; has_nth(own(alloc, &[0_u128]), u128::MAX, Some(u128::MAX)));
     assert!(rt; has_nth(own(alloc, &[5_u128]), u128::MAX - 5, Some(u128::MAX)));
     assert!(rt; has_nth(own(alloc, &[5_u128]), u128::MAX, None));
+}
+
+// Boundaries, and the members in order.
+const LISTED: [(&[i8], &[i8]); 9] = [
+    (&[], &[]),
+    (&[3, 5], &[3, 4]),
+    (&[3, 4], &[3]),
+    (&[127], &[127]),
+    (&[125], &[125, 126, 127]),
+    (&[-128, -126], &[-128, -127]),
+    (&[-128, -127, 126], &[-128, 126, 127]),
+    (&[3, 5, 9, 10, 12, 13], &[3, 4, 9, 12]),
+    (&[-1, 0, 1, 2, 3, 6], &[-1, 1, 3, 4, 5]),
+];
+
+// Whether these are the members of the set and of its view, so many taken from the front and then
+// the others from the back.
+fn are_members<T: FromPlace>(set: Option<RangeSet2<T>>, ahead: usize, want: &[T]) -> Option<bool> {
+    let set = set?;
+    let (front, back) = want.split_at_checked(ahead)?;
+    Some(are_listed(set.members(), front, back) && are_listed(set.as_ref().members(), front, back))
+}
+
+// Whether the members begin like that, and end like that, with none between.
+fn are_listed<T: FromPlace>(members: Members<T>, front: &[T], back: &[T]) -> bool {
+    let mut members = members;
+    let mut right = true;
+    for member in front {
+        right = members.next() == Some(*member) && right;
+    }
+    for member in back.iter().rev() {
+        right = members.next_back() == Some(*member) && right;
+    }
+    right && members.next().is_none() && members.next_back().is_none()
+}
+
+#[test]
+fn members_come_one_by_one(rt: HostRuntime) {
+    let alloc = rt.alloc();
+    for (boundaries, want) in LISTED {
+        for ahead in 0..=want.len() {
+            let right = are_members(own(alloc, boundaries), ahead, want);
+            assert!(rt; right == Some(true), "{boundaries:?}, {ahead} from the front");
+        }
+    }
+    let around = ['\u{D7FE}', '\u{D7FF}', '\u{E000}'];
+    let last = ['\u{10FFFE}', '\u{10FFFF}'];
+    for ahead in 0..4 {
+        let right = are_members(own(alloc, &['\u{D7FE}', '\u{E001}']), ahead, &around);
+        assert!(rt; right == Some(true), "{ahead} from the front");
+    }
+    assert!(rt; are_members(own(alloc, &['\u{10FFFE}']), 1, &last) == Some(true));
+    assert!(rt; are_members(own(alloc, &[u128::MAX - 1]), 1, &[u128::MAX - 1, u128::MAX]) == Some(true));
+    assert!(rt; are_members(own(alloc, &[i128::MAX]), 0, &[i128::MAX]) == Some(true));
+}
+
+#[test]
+fn every_value_is_a_member_of_the_whole(rt: HostRuntime) {
+    let whole = RangeSetRef::new(&[0_u128]).unwrap_or_default();
+    let mut members = whole.members();
+    assert!(rt; members.next() == Some(0) && members.next_back() == Some(u128::MAX));
+    assert!(rt; members.next() == Some(1) && members.next_back() == Some(u128::MAX - 1));
+    let bytes = RangeSetRef::new(&[0_u8]).unwrap_or_default();
+    assert!(rt; bytes.members().count() == 256);
 }

@@ -1,7 +1,11 @@
-//! The members of a set one by one.
-ghost use Rattle.std.specs.Prelude.{◌≡◌, Bool, List};
-ghost use Rattle.std.specs.declared.cmp.Ordering.TheVariants.{Equal};
-ghost use Rattle.range_collections.specs.Members.{IsPrevious};
+//! The members of a set one by one, and values in a row.
+ghost use Rattle.std.specs.Prelude.{◌≡◌, ◌<◌, ◌≤◌, ℕ, Bool, true, false, All, List, Some, length};
+ghost use Rattle.std.specs.Ordering.{is_le};
+ghost use Rattle.std.specs.declared.cmp.Ordering.TheVariants.{Less, Equal};
+ghost use Rattle.range_merge.specs.Boundaries.{member};
+ghost use Rattle.range_collections.specs.Covered.{members_below};
+ghost use Rattle.range_collections.specs.Fits.{IsRow, IsFirstFit};
+ghost use Rattle.range_collections.specs.Members.{IsPrevious, members_of};
 
 use crate::countable::Countable;
 
@@ -11,4 +15,26 @@ pub fn the_previous_value_is_pinned<T: Countable>()
     ensures pinned { (inside : Bool) (items : List T) (from previous other : T) →
         IsPrevious T.cmp T.is_value inside items from previous →
         IsPrevious T.cmp T.is_value inside items from other → T.cmp previous other ≡ Equal }
+{}
+
+/// The list of the members has members alone, as many as are counted.
+pub fn the_members_are_listed<T: Countable>()
+    ensures members { (items : List T) → All (λ x. member T.cmp items x ≡ true)
+        (members_of T.cmp T.value items 0 T.count) }
+    ensures count { (items : List T) → length (members_of T.cmp T.value items 0 T.count) ≡
+        members_below T.cmp T.value items T.count }
+{}
+
+/// Values in a row start between the ends, and the first of them is a member, or none is.
+pub fn values_in_a_row_lie_between_the_ends<T: Countable>()
+    ensures { (inside : Bool) (items : List T) (start end count at : ℕ) →
+        IsRow T.cmp T.value inside items start end count at → 0 < count →
+        (start ≤ at) × (at < end) × (member T.cmp items (T.value at) ≡ inside) }
+{}
+
+/// The first gap with room for so many values lies between the ends, and its start is no member.
+pub fn what_fits_starts_in_a_gap<T: Countable>()
+    ensures { (items : List T) (start end x : T) (count : ℕ) →
+        IsFirstFit T.cmp T.place items start end count (Some x) →
+        (is_le (T.cmp start x) ≡ true) × (T.cmp x end ≡ Less) × (member T.cmp items x ≡ false) }
 {}
