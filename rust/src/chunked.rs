@@ -466,6 +466,10 @@ impl<T: Ord> ChunkedRangeSet<T> {
         }
     }
 
+    pub(crate) fn of_proved(set: proved::ChunkedRangeSet<T>) -> Self {
+        ChunkedRangeSet(set)
+    }
+
     /// The proved set, for an operation with a view.
     pub(crate) fn proved_mut(&mut self) -> &mut proved::ChunkedRangeSet<T> {
         &mut self.0

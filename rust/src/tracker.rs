@@ -4,6 +4,10 @@
 //! missing, and never keeps more boundaries than its limit, so that a peer who sends pieces far apart can't make it
 //! grow. A refusal is an error, and leaves the tracker as it was.
 
+mod chunked;
+
+pub use chunked::ChunkedTracker;
+
 use crate::any_range::{AnyRange, Within};
 use crate::generated::range_tracker;
 use crate::iter::Iter;

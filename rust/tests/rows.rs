@@ -1,7 +1,7 @@
 //! Rows worked out by hand.
 
 use range_sets::range_set::{RangeSetEntry, RangeSetRange};
-use range_sets::tracker::{TrackError, Tracker};
+use range_sets::tracker::{ChunkedTracker, TrackError, Tracker};
 use range_sets::{fallible, RangeSet, RangeSet2, RangeSetRef};
 use smallvec::smallvec;
 use std::num::NonZeroU8;
@@ -368,4 +368,7 @@ fn a_tracker_under_a_limit() {
 fn a_tracker_refuses_what_its_page_says() {
     assert!(std::panic::catch_unwind(|| Tracker::new(usize::MAX - 1)).is_err());
     assert!(std::panic::catch_unwind(|| Tracker::new(4).run(&[], &mut [Ok(())])).is_err());
+    assert!(std::panic::catch_unwind(|| ChunkedTracker::new(usize::MAX - 1)).is_err());
+    let mut chunked = ChunkedTracker::new(4).unwrap();
+    assert!(std::panic::catch_unwind(move || chunked.run(&[], &mut [Ok(())])).is_err());
 }

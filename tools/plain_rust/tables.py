@@ -132,6 +132,7 @@ IMPLS_LEFT_OUT = {"MadeWith", "Model", "RangeSetEntry"}
 SHOWN = {
     "range_merge/merge_state/in_place_ref": {"over"},
     "range_chunks/set": {"chunks"},
+    "range_chunks/tracker": {"chunks", "len", "limit"},
     "range_tracker/tracker": {"set", "limit"},
 }
 # Structs that are cloned in Rust whatever their elements are, by their file: their fields are references.

@@ -1,4 +1,5 @@
 //! What answers the lines that ask something of a tracker, and which limit the arguments ask for.
+use range_chunks::ChunkedTracker;
 use range_track_answers::{Status, limit_asked, serve};
 use std::alloc::{AllocError, Global};
 
@@ -33,8 +34,11 @@ const INPUTS: [Answered; 9] = [
 
 /// Whether the input is answered by this text.
 fn is_answered(alloc: Global, input: &[u8], text: &str) -> bool {
+    let Ok(mut tracker) = ChunkedTracker::new(alloc, 4) else {
+        return false;
+    };
     let mut out = Vec::new(alloc);
-    match serve(alloc, 4, input, &mut out) {
+    match serve(&mut tracker, input, &mut out) {
         Ok(()) => out.as_slice() == text.as_bytes(),
         Err(_) => false,
     }

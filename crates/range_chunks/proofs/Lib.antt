@@ -15,3 +15,5 @@ pub mod Around
 pub mod Between
 pub mod Pairs
 pub mod Parts
+pub mod Measured
+pub mod SetWithin

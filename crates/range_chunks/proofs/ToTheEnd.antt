@@ -1,6 +1,6 @@
 -- A range without an end set in a list: what is left of it behind the cut around the start is the
 -- start, if that is put.
-use Rattle.std.proofs.Common.{◌≡◌, ◌≢◌, refl, sym, ap, ◌∙◌, subst, ℕ, suc, inl, inr, ◌+◌, ◌≤◌, ◌⊎◌, Option, Some, None, Bool, true, false, not, cond, ◌&&◌, ◌||◌, List, [], ◌∷◌, ◌++◌, length, take, drop, get_or, arith, All, Contains, true≢false, Result, Ok, OnOk, OnErr, IsOk, ⊎_elim, length-append, append-nil}
+use Rattle.std.proofs.Common.{◌≡◌, ◌≢◌, refl, sym, ap, ◌∙◌, subst, ℕ, inl, inr, ◌+◌, ◌≤◌, Option, Some, None, Bool, true, false, not, cond, ◌&&◌, ◌||◌, List, [], ◌∷◌, ◌++◌, length, take, drop, get_or, arith, All, Contains, true≢false, Result, Ok, OnOk, OnErr, IsOk, ⊎_elim, length-append, append-nil}
 use Rattle.std.specs.Option.{option_to_list}
 use Rattle.std.proofs.lemmas.List.{length-take-le}
 use Rattle.std.proofs.lemmas.List.Elements.{All-nil, All-cons, All-head, All-tail, All-append, All-take, All-weaker, All-contains_itself, length_all_zip}

@@ -19,9 +19,12 @@ mod searching;
 mod set;
 mod splicing;
 mod to_the_end;
+mod tracker;
+mod tracking;
 mod values;
 mod within;
 
 pub use iter::Iter;
 pub use set::ChunkedRangeSet;
+pub use tracker::ChunkedTracker;
 pub use within::{Gaps, RangesWithin};

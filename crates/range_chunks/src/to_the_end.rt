@@ -89,9 +89,9 @@ fn replace_from<T: Drop>(
     }
 }
 
-// Removes the boundaries from a place on. In Rust a drop may panic, so the list is empty until what
-// is left of it is whole.
-fn truncate<T: Drop>(chunks: &mut Vec<Chunk<T>>, at: Place)
+/// Removes the boundaries from a place on. In Rust a drop may panic, so the list is empty until what
+/// is left of it is whole.
+pub fn truncate<T: Drop>(chunks: &mut Vec<Chunk<T>>, at: Place)
     requires chunks { AreChunks chunks.old.items }
     requires place { IsPlace chunks.old.items at }
     ensures items { flat chunks.new.items ≡
@@ -105,9 +105,9 @@ fn truncate<T: Drop>(chunks: &mut Vec<Chunk<T>>, at: Place)
     *chunks = taken;
 }
 
-// Puts a boundary behind all others, in a chunk of its own if the last one is full. If memory runs
-// out, the boundaries are as they were.
-fn push<T: Drop>(chunks: &mut Vec<Chunk<T>>, item: T) -> Result<(), AllocError>
+/// Puts a boundary behind all others, in a chunk of its own if the last one is full. If memory runs
+/// out, the boundaries are as they were.
+pub fn push<T: Drop>(chunks: &mut Vec<Chunk<T>>, item: T) -> Result<(), AllocError>
     requires chunks { AreChunks chunks.old.items }
     ensures items { OnOk result (flat chunks.new.items ≡ flat chunks.old.items ++ item ∷ []) }
     ensures unchanged { OnErr result (flat chunks.new.items ≡ flat chunks.old.items) }

@@ -1,5 +1,5 @@
 //! The parts of a range that are in a set in chunks, and those that the set leaves out.
-ghost use Rattle.std.specs.Prelude.{◌≡◌, ◌<◌, ◌+◌, ◌*◌, ◌^◌, ◌∷◌, [], cond, false, length};
+ghost use Rattle.std.specs.Prelude.{◌≡◌, ◌<◌, ◌+◌, ◌*◌, ◌^◌, ◌∷◌, [], cond, false, length, IfOk};
 ghost use Rattle.std.specs.Iterator.{YieldsFirstBy, item_count};
 ghost use Rattle.range_merge.specs.Boundaries.{IsAscending, is_odd};
 ghost use Rattle.range_merge.specs.Counting.{AddsAtMost};
@@ -12,8 +12,10 @@ use crate::chunk::Chunk;
 use crate::cutting::is_inside;
 use crate::iter::Unread;
 use crate::questions::{place_below, place_up_to};
+use crate::to_the_end::push;
 use range_collections::Comparisons;
 use range_merge::Compare;
+use std::alloc::{AllocError, Global};
 use std::iter::FusedIterator;
 use std::marker::Model;
 use std::ops::Range;
@@ -108,6 +110,19 @@ pub fn parts_within<'a, T: Ord>(
     let first = (is_inside(chunks, from) == inside).then_some(within.start);
     let last = (is_inside(chunks, to) == inside).then_some(within.end);
     RangesWithin::new(first, Unread::between(chunks, from, to), last)
+}
+
+/// The boundaries of the parts, in full chunks and a last one.
+pub fn copies_of(alloc: Global, parts: RangesWithin<'_, u64>) -> Result<Vec<Chunk<u64>>, AllocError>
+    ensures items { IfOk result (λ chunks. flat chunks.items ≡ parts.entry) }
+    ensures chunks { IfOk result (λ chunks. AreChunks chunks.items) }
+{
+    let mut chunks = Vec::new(alloc);
+    let mut unread = parts.unread;
+    while let Some(boundary) = unread.take_first() {
+        push(&mut chunks, *boundary)?;
+    }
+    Ok(chunks)
 }
 
 // The whole range, or none of it.

@@ -16,3 +16,5 @@ mod making;
 mod refused;
 #[cfg(test)]
 mod rows;
+#[cfg(test)]
+mod tracking;

@@ -4,6 +4,7 @@
 //! next. Its one argument is the most boundaries that there may be.
 #![tactic(auto)]
 
+use range_chunks::ChunkedTracker;
 use range_track_answers::{Status, limit_asked, serve};
 use std::env;
 use std::io::{self, BufReader, BufWriter, ErrorKind};
@@ -33,7 +34,8 @@ fn run(rt: &(impl Env + Input + Print + AllocGlobal)) -> io::Result<Status> {
     };
     let reader = BufReader::new(rt.alloc(), rt.reader())?;
     let mut writer = BufWriter::new(rt.alloc(), out)?;
-    match serve(rt.alloc(), limit, reader, &mut writer) {
+    let mut tracker = ChunkedTracker::new(rt.alloc(), limit)?;
+    match serve(&mut tracker, reader, &mut writer) {
         Ok(()) => Ok(Status::Ended),
         // The input or the output failed, whatever the kind of its error.
         Err(_) => Ok(Status::Failed),

@@ -4,3 +4,4 @@ pub mod Written
 pub mod ReadLemmas
 pub mod LinesLemmas
 pub mod Served
+pub mod Ends

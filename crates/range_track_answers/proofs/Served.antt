@@ -1,5 +1,5 @@
 -- An input of which some lines are answered.
-use Rattle.std.proofs.Common.{◌≡◌, refl, sym, ap, ◌∙◌, subst, ℕ, false, List, [], ◌∷◌, ◌++◌, append_assoc, take}
+use Rattle.std.proofs.Common.{◌≡◌, refl, sym, ap, ◌∙◌, subst, ℕ, List, [], ◌∷◌, ◌++◌, append_assoc, take}
 use Rattle.std.specs.Prelude.{Option, Some, None, IfSome, map}
 use Rattle.std.proofs.Math.Path.{fun_ext}
 use Rattle.std.specs.Io.KnownBytes.{Appends}
@@ -12,32 +12,26 @@ use Rattle.range_track_answers.specs.Requests.{request_of}
 use Rattle.range_track_answers.specs.declared.line.Ending.TheVariants.{Newline}
 use Rattle.range_track_answers.proofs.LinesLemmas.{lines_of-newline, request_of-kept, requests-kept}
 use Rattle.range_track_answers.proofs.Written.{Appends-nothing, Appends-then}
-use Rattle.range_merge.proofs.Members.{member-nil}
-use Rattle.std.specs.Ordering.{nat_cmp}
-use Rattle.range_merge.specs.Boundaries.{member}
 
 -- the answers of the lines before the rest were written, and with those of the rest they are those
 -- of the text
-pub record Served (limit : ℕ) (text rest : List ℕ) (had : Offsets) (before after : Option (List ℕ)) : Type 0 where
+pub record Served (limit : ℕ) (first : Offsets) (text rest : List ℕ) (had : Offsets) (before after : Option (List ℕ)) : Type 0 where
   pub given : List Answer
   pub written : Appends before after (answers_text given)
   pub goes_on : (more : List Answer) → AreAnswers limit had (map request_of (lines_of rest)) more →
-      AreAnswers limit (λ _. false) (map request_of (lines_of text)) (given ++ more)
+      AreAnswers limit first (map request_of (lines_of text)) (given ++ more)
 
-pub Served-start : (limit : ℕ) (text boundaries : List ℕ) (known : Option (List ℕ)) → boundaries ≡ [] →
-    Served limit text text (member nat_cmp boundaries) known known
-Served-start limit text boundaries known none = record {
+pub Served-start : (limit : ℕ) (first : Offsets) (text : List ℕ) (known : Option (List ℕ)) → Served limit first text text first known known
+Served-start limit first text known = record {
   given = [];
   written = Appends-nothing known;
-  goes_on = λ more are.
-      let nothing : member nat_cmp boundaries ≡ (λ _. false) = fun_ext (λ n. ap (λ items. member nat_cmp items n) none ∙ member-nil nat_cmp n) in
-      subst (λ (had : Offsets). AreAnswers limit had (map request_of (lines_of text)) more) nothing are;
+  goes_on = λ more are. are;
 }
 
-pub Served-more : (limit : ℕ) (text rest line next kept : List ℕ) (had new : Offsets) (before mid after : Option (List ℕ)) →
-    Served limit text rest had before mid → IsLine line → rest ≡ line ++ 10 ∷ next → kept ≡ take 65 line →
-    IsAnswered limit had new (request_of kept) mid after → Served limit text next new before after
-Served-more limit text rest line next kept had new before mid after served is cut keep answered =
+pub Served-more : (limit : ℕ) (first : Offsets) (text rest line next kept : List ℕ) (had new : Offsets) (before mid after : Option (List ℕ)) →
+    Served limit first text rest had before mid → IsLine line → rest ≡ line ++ 10 ∷ next → kept ≡ take 65 line →
+    IsAnswered limit had new (request_of kept) mid after → Served limit first text next new before after
+Served-more limit first text rest line next kept had new before mid after served is cut keep answered =
     let a = answered.answer in
     let asked : request_of kept ≡ request_of line = ap (λ l. request_of l) keep ∙ request_of-kept line in
     record {
@@ -51,11 +45,11 @@ Served-more limit text rest line next kept had new before mid after served is cu
           (answered.may, subst (λ (s : Offsets). AreAnswers limit s (map request_of (lines_of next)) more) (fun_ext answered.offsets) are)));
     }
 
-pub Served-end : (limit : ℕ) (text rest kept : List ℕ) (had : Offsets) (before mid after : Option (List ℕ)) →
-    Served limit text rest had before mid → IsLine rest → kept ≡ take 65 rest →
+pub Served-end : (limit : ℕ) (first : Offsets) (text rest kept : List ℕ) (had : Offsets) (before mid after : Option (List ℕ)) →
+    Served limit first text rest had before mid → IsLine rest → kept ≡ take 65 rest →
     (answers : List Answer) × AreAnswers limit had (map request_of (lines_of kept)) answers × Appends mid after (answers_text answers) →
-    (answers : List Answer) × AreAnswers limit (λ _. false) (map request_of (lines_of text)) answers × Appends before after (answers_text answers)
-Served-end limit text rest kept had before mid after served is keep last =
+    (answers : List Answer) × AreAnswers limit first (map request_of (lines_of text)) answers × Appends before after (answers_text answers)
+Served-end limit first text rest kept had before mid after served is keep last =
     let asked : map request_of (lines_of kept) ≡ map request_of (lines_of rest) = ap (λ l. map request_of (lines_of l)) keep ∙ requests-kept rest is in (
       served.given ++ last.0,
       served.goes_on last.0 (rw asked at last.1),

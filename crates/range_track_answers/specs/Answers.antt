@@ -9,7 +9,7 @@ use Rattle.std.specs.List.{join_by}
 use Rattle.std.specs.Io.KnownBytes.{Appends}
 use Rattle.range_collections.specs.Ranges.{ranges_of}
 use Rattle.range_collections.specs.Text.{ranges_text}
-use Rattle.range_tracker.specs.Offsets.{Offsets, is_within, IsListOf, HasBoundaries}
+use Rattle.range_tracker.specs.Offsets.{Offsets, is_within, IsListOf}
 use Rattle.range_tracker.specs.Commands.{Reply, MayAnswer, after_reply}
 use Rattle.range_tracker.specs.declared.track_error.TrackError.TheVariants.{TooMany, OutOfMemory}
 use Rattle.range_track_answers.specs.declared.request.Request.{Request}
@@ -23,8 +23,6 @@ pub data Answer : Type 0 where
   truth : Bool → Answer
   -- the boundaries of what is missing
   list : List ℕ → Answer
-  -- memory ran out for them
-  no_memory : Answer
   -- the boundaries of what is there
   ranges : List ℕ → Answer
   -- the line asks nothing
@@ -37,7 +35,6 @@ MayBeAnswered limit had (Some (Has range)) (truth b) =
     IsTrue b ↔ ((n : ℕ) → is_within range n ≡ true → had n ≡ true)
 MayBeAnswered limit had (Some (Missing len)) (list items) =
     IsListOf items (λ n. nat_lt n len && not (had n))
-MayBeAnswered limit had (Some (Missing len)) no_memory = HasBoundaries had 0 → ⊥
 MayBeAnswered limit had (Some Ranges) (ranges items) = IsListOf items had
 MayBeAnswered limit had None bad_line = Unit {0}
 MayBeAnswered limit had request answer = ⊥
@@ -81,7 +78,6 @@ abbrev pub answer_text : Answer → List ℕ
 answer_text (replied reply) = reply_text reply
 answer_text (truth b) = truth_text b
 answer_text (list items) = list_text items
-answer_text no_memory = codes "out of memory"
 answer_text (ranges items) = ranges_line items
 answer_text bad_line = codes "bad line"
 

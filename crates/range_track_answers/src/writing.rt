@@ -5,7 +5,8 @@ ghost use Rattle.range_collections.specs.Ranges.{range_now};
 ghost use Rattle.range_collections.specs.Text.{range_text};
 ghost use Rattle.range_track_answers.specs.Answers.{reply_text, truth_text, list_text, ranges_line};
 
-use range_collections::{Iter, RangeSetRange};
+use range_chunks::{Gaps, Iter};
+use range_collections::RangeSetRange;
 use range_tracker::TrackError;
 use std::io::{self, Write};
 
@@ -33,17 +34,17 @@ pub fn write_truth<W: Write>(out: &mut W, truth: bool) -> io::Result<()>
     }
 }
 
-/// A list of boundaries as one word.
-pub fn write_list<W: Write>(out: &mut W, items: &[u64]) -> io::Result<()>
+/// The ends of the gaps as one word.
+pub fn write_gaps<W: Write>(out: &mut W, mut gaps: Gaps<'_, u64>) -> io::Result<()>
     ensures { OnOk result (Appends (W.contents out.old) (W.contents out.new)
-        (list_text items.now ++ 10 ∷ [])) }
+        (list_text gaps.entry ++ 10 ∷ [])) }
 {
-    let Some((first, rest)) = items.split_first() else {
+    let Some(first) = gaps.next() else {
         return out.write_all(b"-\n");
     };
-    write!(out, "{first}")?;
-    for n in rest {
-        write!(out, ",{n}")?;
+    write!(out, "{},{}", first.start, first.end)?;
+    for gap in gaps {
+        write!(out, ",{},{}", gap.start, gap.end)?;
     }
     out.write_all(b"\n")
 }

@@ -26,7 +26,7 @@ pub struct Iter<'a, T>(proved::Iter<'a, T>);
 
 impl<'a, T> Iter<'a, T> {
     #[inline(always)]
-    pub(super) fn new(ranges: proved::Iter<'a, T>) -> Self {
+    pub(crate) fn new(ranges: proved::Iter<'a, T>) -> Self {
         Iter(ranges)
     }
 }

@@ -2,9 +2,11 @@
 ghost use Rattle.std.specs.Prelude.{◌≡◌, ◌↔◌, IsTrue, IfOk, IfErr};
 ghost use Rattle.std.specs.Cmp.Lexicographic.{pointwise, lists_per, lists_equiv};
 ghost use Rattle.std.specs.List.{AllZip};
-ghost use Rattle.range_merge.specs.Boundaries.{IsSameSet};
+ghost use Rattle.range_merge.specs.Boundaries.{IsAscending, IsSameSet};
 ghost use Rattle.range_collections.specs.Sets.{AreEqual};
+ghost use Rattle.range_chunks.specs.Chunks.{flat, AreChunks};
 
+use crate::chunk::Chunk;
 use crate::copying::{clones, clones_of};
 use crate::iter::are_equal;
 use crate::moving::{cut_up, join_up, room_for};
@@ -33,6 +35,18 @@ impl<T: EntryClone + Drop> ChunkedRangeSet<T> {
         Ok(ChunkedRangeSet {
             chunks: clones(*self.chunks.allocator(), self.chunks.as_slice())?,
         })
+    }
+}
+
+impl<T: Ord> ChunkedRangeSet<T> {
+    // The set of the boundaries in these chunks.
+    #[inline]
+    pub(crate) fn of_chunks(chunks: Vec<Chunk<T>>) -> Self
+        requires sorted { IsAscending T.cmp (flat chunks.items) }
+        requires chunks { AreChunks chunks.items }
+        ensures { result ≡ flat chunks.items }
+    {
+        ChunkedRangeSet { chunks }
     }
 }
 

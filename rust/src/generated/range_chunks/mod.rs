@@ -19,9 +19,12 @@ pub(crate) mod searching;
 pub(crate) mod set;
 pub(crate) mod splicing;
 pub(crate) mod to_the_end;
+pub(crate) mod tracker;
+pub(crate) mod tracking;
 pub(crate) mod values;
 pub(crate) mod within;
 
 pub use iter::Iter;
 pub use set::ChunkedRangeSet;
+pub use tracker::ChunkedTracker;
 pub use within::{Gaps, RangesWithin};

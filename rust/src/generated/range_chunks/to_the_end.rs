@@ -70,9 +70,19 @@ fn replace_from<T>(
     }
 }
 
-// Removes the boundaries from a place on. In Rust a drop may panic, so the list is empty until what
-// is left of it is whole.
-fn truncate<T>(chunks: &mut Vec<Chunk<T>>, at: Place) {
+/// Removes the boundaries from a place on. In Rust a drop may panic, so the list is empty until what
+/// is left of it is whole.
+///
+/// # Contract
+///
+/// ```text
+/// requires chunks: AreChunks chunks.old.items
+/// requires place: IsPlace chunks.old.items at
+/// ensures items: flat chunks.new.items ≡ take (place_in chunks.old.items at) (flat
+///     chunks.old.items)
+/// ensures chunks: AreChunks chunks.new.items
+/// ```
+pub(crate) fn truncate<T>(chunks: &mut Vec<Chunk<T>>, at: Place) {
     let empty = Vec::new(*chunks.allocator());
     let mut taken = mem::replace(chunks, empty);
     let len = cut_behind(&mut taken, at);
@@ -80,9 +90,18 @@ fn truncate<T>(chunks: &mut Vec<Chunk<T>>, at: Place) {
     *chunks = taken;
 }
 
-// Puts a boundary behind all others, in a chunk of its own if the last one is full. If memory runs
-// out, the boundaries are as they were.
-fn push<T>(chunks: &mut Vec<Chunk<T>>, item: T) -> Result<(), AllocError> {
+/// Puts a boundary behind all others, in a chunk of its own if the last one is full. If memory runs
+/// out, the boundaries are as they were.
+///
+/// # Contract
+///
+/// ```text
+/// requires chunks: AreChunks chunks.old.items
+/// ensures items: OnOk result (flat chunks.new.items ≡ flat chunks.old.items ++ item ∷ [])
+/// ensures unchanged: OnErr result (flat chunks.new.items ≡ flat chunks.old.items)
+/// ensures chunks: AreChunks chunks.new.items
+/// ```
+pub(crate) fn push<T>(chunks: &mut Vec<Chunk<T>>, item: T) -> Result<(), AllocError> {
     if chunks.is_empty() {
         return push_chunk(chunks, item);
     }

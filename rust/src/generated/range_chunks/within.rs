@@ -5,8 +5,10 @@ use crate::generated::range_chunks::chunk::Chunk;
 use crate::generated::range_chunks::cutting::is_inside;
 use crate::generated::range_chunks::iter::Unread;
 use crate::generated::range_chunks::questions::{place_below, place_up_to};
+use crate::generated::range_chunks::to_the_end::push;
 use crate::generated::range_collections::Comparisons;
 use crate::generated::range_merge::Compare;
+use crate::support::{AllocError, Global, Vec};
 use core::iter::FusedIterator;
 use core::ops::Range;
 
@@ -83,6 +85,26 @@ pub(crate) fn parts_within<'a, T: Ord>(
     let first = (is_inside(chunks, from) == inside).then_some(within.start);
     let last = (is_inside(chunks, to) == inside).then_some(within.end);
     RangesWithin::new(first, Unread::between(chunks, from, to), last)
+}
+
+/// The boundaries of the parts, in full chunks and a last one.
+///
+/// # Contract
+///
+/// ```text
+/// ensures items: IfOk result (λ chunks. flat chunks.items ≡ parts.entry)
+/// ensures chunks: IfOk result (λ chunks. AreChunks chunks.items)
+/// ```
+pub fn copies_of(
+    alloc: Global,
+    parts: RangesWithin<'_, u64>,
+) -> Result<Vec<Chunk<u64>>, AllocError> {
+    let mut chunks = Vec::new(alloc);
+    let mut unread = parts.unread;
+    while let Some(boundary) = unread.take_first() {
+        push(&mut chunks, *boundary)?;
+    }
+    Ok(chunks)
 }
 
 // The whole range, or none of it.

@@ -7,12 +7,12 @@ use Rattle.range_track_answers.proofs.answering.write_answer.Goals as goal
 
 pub returns-in-Some-Do-clause-answered : goal.returns-in-Some-Do-clause-answered
 returns-in-Some-Do-clause-answered g c =
-    let told = c.reply_to.ensures in
+    let told = c.apply.ensures in
     rw (sym c.in-Some-Do.ensures, c.in-Some-Do.field-0-is) (on_ok_weaker c.write_reply.result
     (λ written. record {
-      answer = replied c.reply_to.result;
+      answer = replied c.apply.result;
       may = told.answer;
-      offsets = offsets_after_reply c.in-Some-Do.command c.reply_to.result c.args.tracker.now c.reply_to.new.tracker told.ok told.unchanged;
+      offsets = offsets_after_reply c.in-Some-Do.command c.apply.result c.args.tracker.now c.apply.new.self told.ok told.unchanged;
       written = written;
     })
     c.write_reply.ensures)

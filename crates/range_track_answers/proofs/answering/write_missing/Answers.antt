@@ -1,26 +1,22 @@
-use Rattle.std.proofs.Common.{refl, sym, true≢false}
+use Rattle.std.proofs.Common.{refl, ap, ◌∙◌, ◌&&◌, not}
 use Rattle.std.proofs.lemmas.Result.{on_ok_weaker}
-use Rattle.range_track_answers.specs.Answers.{list, no_memory}
+use Rattle.std.specs.Ordering.{nat_cmp}
+use Rattle.range_merge.specs.Boundaries.{member}
+use Rattle.range_tracker.proofs.OffsetsLemmas.{offsets_of-below}
+use Rattle.range_track_answers.specs.Answers.{list}
 use Rattle.range_track_answers.proofs.answering.write_missing.Goals as goal
 
-pub returns-in-Ok : goal.returns-in-Ok
-returns-in-Ok g c =
-    on_ok_weaker c.write_list.result
+pub returns : goal.returns
+returns g c =
+    let means = c.gaps.ensures in
+    on_ok_weaker c.write_gaps.result
     (λ written. record {
-      answer = list c.in-Ok.missing;
-      may = c.in-Ok.ensures.missing;
-      offsets = λ n. refl;
-      written = rw c.boundaries.ensures.same at written;
-    })
-    c.write_list.ensures
-
-pub returns-in-Err : goal.returns-in-Err
-returns-in-Err g c =
-    on_ok_weaker c.write_all.result
-    (λ written. record {
-      answer = no_memory;
-      may = λ none. true≢false (sym (c.in-Err.ensures.succeeds none));
+      answer = list c.gaps.result;
+      may = record {
+        sorted = means.sorted;
+        offsets = λ n. means.members n ∙ ap (λ b. b && not (member nat_cmp c.args.tracker.now.boundaries n)) (offsets_of-below c.args.len n);
+      };
       offsets = λ n. refl;
       written = written;
     })
-    c.write_all.ensures.bytes
+    c.write_gaps.ensures

@@ -1,4 +1,6 @@
-use Rattle.std.proofs.Common.{◌∙◌}
+use Rattle.std.proofs.Common.{refl, ◌∙◌}
+use Rattle.std.specs.Ordering.{nat_cmp}
+use Rattle.range_merge.specs.Boundaries.{member}
 use Rattle.std.proofs.lemmas.Option.{IfSome_then}
 use Rattle.std.proofs.lemmas.Result.{on_ok_weaker}
 use Rattle.range_track_answers.proofs.Served.{Served-start, Served-more, Served-end, newline_read, IfSome-from}
@@ -6,12 +8,12 @@ use Rattle.range_track_answers.proofs.serving.serve.Goals as goal
 
 pub loop-init : goal.loop-init
 loop-init g c = record {
-  limit = c.new-tracker.ensures.limit;
+  limit = refl;
   served = IfSome-from (g.R.Read.remaining c.args.reader) _
       (λ text is. (
         text,
         c.bytes-bytes.ensures ∙ is,
-        Served-start c.args.limit text c.new-tracker.result.boundaries (g.W.Write.contents c.args.out.now) c.new-tracker.ensures.boundaries,
+        Served-start c.args.tracker.now.limit (member nat_cmp c.args.tracker.now.boundaries) text (g.W.Write.contents c.args.out.now),
       ));
 }
 
@@ -27,7 +29,7 @@ loop-preserved g c =
           let cut = newline_read _ left.0 _ read in (
             cut.0,
             cut.1,
-            Served-more c.args.limit text left.0 cut.2.0 cut.0 _ _ _ _ _ _ left.2 cut.2.1 cut.2.2 cut.2.3 answered,
+            Served-more c.args.tracker.now.limit (member nat_cmp c.args.tracker.now.boundaries) text left.0 cut.2.0 cut.0 _ _ _ _ _ _ left.2 cut.2.1 cut.2.2 cut.2.3 answered,
           ));
     }
 
@@ -39,6 +41,6 @@ returns-in-Input g c =
           (λ last. IfSome_then (g.R.Read.remaining c.args.reader) held.served
           (λ text left.
           let read = rw (left.1, c.in-Input.is) at c.in_ok-read_line.ensures.read in
-          Served-end c.args.limit text left.0 _ _ _ _ _ left.2 read.0 read.1 (rw (c.as_slice-in-Input.ensures.value, held.limit) at last)))
+          Served-end c.args.tracker.now.limit (member nat_cmp c.args.tracker.now.boundaries) text left.0 _ _ _ _ _ left.2 read.0 read.1 (rw (c.as_slice-in-Input.ensures.value, held.limit) at last)))
           c.answer_last.ensures;
     }

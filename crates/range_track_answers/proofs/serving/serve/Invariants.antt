@@ -8,8 +8,8 @@ use Rattle.range_track_answers.proofs.serving.serve.Given as goal
 
 abbrev pub invariant-loop : goal.invariant-loop
 invariant-loop g l = record {
-  limit : l.tracker.limit ≡ l.fn.limit;
+  limit : l.tracker.limit ≡ l.fn.tracker.limit;
   served : IfSome (g.R.Read.remaining l.fn.reader) (λ text. (rest : List ℕ)
       × (bytes_remaining g.R.Read.remaining l.bytes ≡ Some rest)
-      × Served l.fn.limit text rest (member nat_cmp l.tracker.boundaries) (g.W.Write.contents l.fn.out) (g.W.Write.contents l.out));
+      × Served l.fn.tracker.limit (member nat_cmp l.fn.tracker.boundaries) text rest (member nat_cmp l.tracker.boundaries) (g.W.Write.contents l.fn.out) (g.W.Write.contents l.out));
 }
