@@ -1,11 +1,10 @@
 -- Members one by one: what is left above the lowest and below the highest.
-use Rattle.std.proofs.Common.{◌≡◌, refl, sym, ap, ap₂, ◌∙◌, subst, ℕ, suc, inl, inr, ◌<◌, ◌≤◌, ◌+◌, ◌-◌, ◌%◌, ◌==◌, Bool, true, false, List, [], ◌∷◌, ◌++◌, length, get_or, arith, length-append}
+use Rattle.std.proofs.Common.{◌≡◌, refl, sym, ap, ◌∙◌, subst, ℕ, suc, inl, inr, ◌<◌, ◌≤◌, ◌+◌, ◌-◌, ◌%◌, ◌==◌, true, false, List, [], ◌∷◌, ◌++◌, length, get_or, arith, length-append}
 use Rattle.std.proofs.lemmas.List.{get_or-append-add, get_or_append_left, append-nil}
 use Rattle.std.specs.Cmp.{IsTotalOrder}
 use Rattle.std.specs.Ordering.{is_le, nat_cmp}
-use Rattle.std.specs.List.{All}
 use Rattle.std.specs.declared.cmp.Ordering.{Ordering}
-use Rattle.std.specs.declared.cmp.Ordering.TheVariants.{Less, Equal, Greater}
+use Rattle.std.specs.declared.cmp.Ordering.TheVariants.{Less, Greater}
 use Rattle.std.proofs.lemmas.Bool.{cases_lt, true≢false}
 use Rattle.range_merge.specs.Boundaries.{IsAscending, count_up_to, member, is_odd}
 use Rattle.range_merge.proofs.Members.{count_up_to-nil}
@@ -14,8 +13,7 @@ use Rattle.range_collections.specs.Members.{members_of, AreEnds}
 use Rattle.range_collections.proofs.CountUpTo.{count_up_to-cons_in, count_up_to-cons_out}
 use Rattle.range_collections.proofs.Counted.{le-value, Greater-value, place-less}
 use Rattle.range_collections.proofs.MembersOf.{members_of-zero, members_of-in, members_of-skip, members_of-none, members_of-same, members_of-append}
-use Rattle.range_collections.proofs.Points.{is_odd-at_one, is_odd-at_zero}
-use Rattle.range_collections.proofs.Previous.{count-below}
+use Rattle.range_collections.proofs.Points.{is_odd-at_zero}
 use Rattle.range_collections.proofs.Rows.{up_to-value}
 use Rattle.range_collections.proofs.Shortest.{is_le-cases, count_up_to-append, count_up_to-all, count_up_to-none, count_up_to-le_length, Less-from_le, Less-then_le, le-trans}
 

@@ -1,16 +1,16 @@
 -- Members one by one: what is left below the highest.
-use Rattle.std.proofs.Common.{◌≡◌, refl, sym, ap, ap₂, ◌∙◌, subst, ℕ, suc, inl, inr, ◌<◌, ◌≤◌, ◌+◌, ◌-◌, ◌%◌, Bool, true, false, List, [], ◌∷◌, ◌++◌, length, get_or, arith, length-append}
+use Rattle.std.proofs.Common.{◌≡◌, refl, sym, ap, ap₂, ◌∙◌, subst, ℕ, suc, inl, inr, ◌<◌, ◌≤◌, ◌+◌, ◌-◌, ◌%◌, true, false, List, [], ◌∷◌, ◌++◌, length, get_or, arith, length-append}
 use Rattle.std.proofs.lemmas.List.{append-nil, get_or-append-add, get_or_append_left}
 use Rattle.std.specs.Cmp.{IsTotalOrder}
 use Rattle.std.specs.Ordering.{is_le, nat_cmp}
 use Rattle.std.specs.declared.cmp.Ordering.{Ordering}
-use Rattle.std.specs.declared.cmp.Ordering.TheVariants.{Less, Greater}
-use Rattle.std.proofs.lemmas.Bool.{cases_lt, true≢false}
+use Rattle.std.specs.declared.cmp.Ordering.TheVariants.{Less}
+use Rattle.std.proofs.lemmas.Bool.{cases_lt}
 use Rattle.range_merge.specs.Boundaries.{IsAscending, count_up_to, member, is_odd}
 use Rattle.range_merge.proofs.Members.{count_up_to-nil}
 use Rattle.range_merge.proofs.Orders.{Less-from_greater}
 use Rattle.range_collections.specs.Members.{members_of, AreEnds}
-use Rattle.range_collections.proofs.CountUpTo.{count_up_to-cons_in, count_up_to-cons_out}
+use Rattle.range_collections.proofs.CountUpTo.{count_up_to-cons_in}
 use Rattle.range_collections.proofs.Counted.{le-value, Greater-value, place-less}
 use Rattle.range_collections.proofs.Ends.{not_odd, count-above_head, front_ascends, back_ascends, front_below, front_counts, up_to_place, first_member}
 use Rattle.range_collections.proofs.MembersOf.{members_of-zero, members_of-in, members_of-none, members_of-same, members_of-append}

@@ -6,7 +6,7 @@ use Rattle.std.specs.declared.alloc.AllocError.{AllocError}
 use Rattle.std.specs.declared.cmp.Ordering.{Ordering}
 use Rattle.std.proofs.lemmas.Grind.{flat_map-append}
 use Rattle.std.proofs.lemmas.List.Folds.{list_all-append}
-use Rattle.range_merge.specs.Boundaries.{IsAscending, member}
+use Rattle.range_merge.specs.Boundaries.{member}
 use Rattle.range_merge.specs.Connective.{Means, intersection_table}
 use Rattle.range_collections.specs.Intersections.{GivesIntersection}
 use Rattle.range_collections.specs.Unions.{GivesUnion}

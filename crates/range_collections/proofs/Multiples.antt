@@ -1,5 +1,5 @@
 -- The least multiple of a number that is another or more.
-use Rattle.std.proofs.Common.{◌≡◌, sym, ap, ◌∙◌, ℕ, suc, inl, inr, ◌<◌, ◌≤◌, ◌+◌, ◌-◌, ◌*◌, ◌/◌, ◌%◌, arith}
+use Rattle.std.proofs.Common.{◌≡◌, ap, ◌∙◌, ℕ, suc, inl, inr, ◌<◌, ◌≤◌, ◌+◌, ◌-◌, ◌*◌, ◌/◌, ◌%◌, arith}
 use Rattle.std.proofs.Math.Nat.{mod_self, mod-lt, mod-eq_of_lt, mul-mod_left, mul-le-mul_right, sub-zero, div-add-mod'}
 use Rattle.std.proofs.lemmas.Bool.{cases_lt}
 use Rattle.std.specs.Int.{next_multiple_of}

@@ -1,10 +1,10 @@
 -- Values in a row that are all members of a list of ranges: they lie in one of its ranges.
-use Rattle.std.proofs.Common.{◌≡◌, refl, sym, ap, ap₂, ◌∙◌, subst, ℕ, suc, inl, inr, ◌<◌, ◌≤◌, ◌+◌, ◌-◌, ◌%◌, Bool, true, false, not, ◌&&◌, Option, Some, None, IfSome, IfNone, List, [], ◌∷◌, filter, slice_get, cond, nat_le, length, get_or, arith}
+use Rattle.std.proofs.Common.{◌≡◌, refl, sym, ap, ap₂, ◌∙◌, subst, ℕ, suc, inl, inr, ◌<◌, ◌≤◌, ◌+◌, ◌-◌, ◌%◌, Bool, true, false, not, ◌&&◌, Option, Some, None, IfSome, IfNone, List, [], ◌∷◌, filter, slice_get, cond, nat_le, get_or, arith}
 use Rattle.std.specs.Option.{option_map}
 use Rattle.std.specs.Cmp.{IsTotalOrder, ranks}
 use Rattle.std.specs.Ordering.{is_le, is_lt, nat_cmp}
 use Rattle.std.specs.declared.cmp.Ordering.{Ordering}
-use Rattle.std.specs.declared.cmp.Ordering.TheVariants.{Less, Equal, Greater}
+use Rattle.std.specs.declared.cmp.Ordering.TheVariants.{Less}
 use Rattle.std.proofs.lemmas.Bool.{cases_lt, true≢false}
 use Rattle.std.proofs.lemmas.Bool.Decides.{nat_tests}
 use Rattle.std.proofs.lemmas.Cmp.{by_ranked}
@@ -15,7 +15,7 @@ use Rattle.range_merge.proofs.Members.{member-cons, member-nil}
 use Rattle.range_merge.proofs.Orders.{Greater-from_less, Less-from_greater}
 use Rattle.range_collections.specs.Fits.{Fits, IsRow, has_values}
 use Rattle.range_collections.specs.Ranges.{range_start, ranges_of}
-use Rattle.range_collections.specs.declared.range_set_range.RangeSetRange.TheVariants.{Range, RangeFrom}
+use Rattle.range_collections.specs.declared.range_set_range.RangeSetRange.TheVariants.{Range}
 use Rattle.range_collections.proofs.Ascending.{Less-from_is_lt}
 use Rattle.range_collections.proofs.Counted.{le-value, Greater-value, place-less}
 use Rattle.range_collections.proofs.Ranked.{place-le}

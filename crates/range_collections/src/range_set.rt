@@ -65,7 +65,7 @@ use std::marker::Model;
 /// | `contains_range`, `gaps`, `ranges_within` | `2 d(n) + 1` | |
 /// | `intersects_range` | `d(n) + 2` | |
 /// | `first_fit`, `first_fit_count`, `first_fit_aligned`, `first_run` | `2 d(n) + 1`, then two numbers a boundary | |
-/// | `iter`, `first`, `last`, `span`, `ranges_len`, `covered`, `select`, `is_empty`, `as_ref`, `boundaries` | none | |
+/// | `iter`, `members`, `first`, `last`, `span`, `ranges_len`, `covered`, `select`, `is_empty`, `as_ref`, `boundaries` | none | |
 /// | `is_all` | one `is_min_value` | |
 /// | `==`, `eq_ref`, `new` | one a boundary | |
 /// | `intersects`, `is_disjoint`, `is_subset`, `is_superset`, `merge_test`, `merge_len` | `2 w` | |
@@ -76,7 +76,7 @@ use std::marker::Model;
 /// | `merge_into` a slice | `2 w` | |
 /// | `!` | one `is_min_value` | one boundary; of a reference the result |
 /// | `from_range` | 1 | beyond `N` |
-/// | `from_ranges`, `union_all`, `intersection_all` of k parts with l boundaries | `2 l d(k - 1)`, and two a range | the result |
+/// | `from_ranges`, `from_values`, `union_all`, `intersection_all` of k parts with l boundaries | `2 l d(k - 1)`, and two a range | the result |
 /// | `from_unsorted`, `from_json` | a sort's | a sort's buffer |
 /// | `clone`, `to_json` | none | the result |
 ///

@@ -1,9 +1,8 @@
-use Rattle.std.proofs.Common.{◌≡◌, sym, ap, ◌∙◌, subst, ◌∷◌, ◌+◌, length, suc, ◌-◌, arith}
+use Rattle.std.proofs.Common.{◌≡◌, sym, ap, ◌∙◌, subst, ◌∷◌, ◌+◌, suc, ◌-◌, arith}
 use Rattle.std.proofs.lemmas.List.{nil_from_length}
 use Rattle.range_merge.specs.Boundaries.{count_up_to}
 use Rattle.range_collections.specs.Members.{members_of, AreEnds}
 use Rattle.range_collections.proofs.Ends.{one_left, some_items, AreEnds-next, others-next, free-end, free-none, no_rest, AreEnds-jump, others-jump}
-use Rattle.range_collections.proofs.Previous.{IfNone-always}
 use Rattle.range_collections.proofs.members.above.Goals as goal
 use Rattle.range_collections.proofs.members.above.Goals.{in-Some+else-place-first, in_default}
 

@@ -1,4 +1,4 @@
-use Rattle.std.proofs.Common.{◌-◌, ◌∙◌, ap, sym, length, arith}
+use Rattle.std.proofs.Common.{◌-◌, length, arith}
 use Rattle.range_collections.proofs.Highest.{past_first, fits-below_end, member-below_end, count-below_end, none-from_end, member-greatest, count-greatest}
 use Rattle.range_collections.proofs.Points.{odd-from_test, even-from_test}
 use Rattle.range_collections.proofs.members.last_place.Goals as goal

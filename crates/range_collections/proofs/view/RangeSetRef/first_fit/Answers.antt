@@ -1,5 +1,3 @@
-use Rattle.std.proofs.Common.{false, subst}
-use Rattle.range_collections.specs.Fits.{IsRow}
 use Rattle.range_collections.proofs.Rows.{IfSome-map, IfSome-least, IfNone-fits, row-Fits}
 use Rattle.range_collections.proofs.view.RangeSetRef.first_fit.Goals as goal
 

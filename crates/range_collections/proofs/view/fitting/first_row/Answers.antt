@@ -1,4 +1,4 @@
-use Rattle.std.proofs.Common.{◌≡◌, ◌<◌, ◌∷◌, ◌%◌, ◌∙◌, sym, ap, subst, true, length, arith}
+use Rattle.std.proofs.Common.{◌≡◌, ◌%◌, ◌∙◌, sym, ap, subst, true, arith}
 use Rattle.std.proofs.Math.Nat.{mod-one}
 use Rattle.range_merge.specs.Boundaries.{IsAscending}
 use Rattle.range_collections.specs.Fits.{IsRow}
