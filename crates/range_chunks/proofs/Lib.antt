@@ -17,3 +17,4 @@ pub mod Pairs
 pub mod Parts
 pub mod Measured
 pub mod SetWithin
+pub mod Counted

@@ -10,15 +10,14 @@ ghost use Rattle.range_collections.specs.Ranges.{range_items};
 
 mod asking;
 mod combining;
+mod counted;
 mod fitting;
 mod making;
 mod many_ranges;
 
 use crate::chunk::Chunk;
-use crate::cutting::set_range;
 use crate::iter::Iter;
-use crate::questions::{has_all, has_some, is_member, next_at};
-use crate::to_the_end::set_from;
+use crate::questions::{has_some, next_at};
 use range_collections::Comparisons;
 use std::alloc::{AllocError, Global};
 use std::marker::Model;
@@ -43,9 +42,10 @@ use std::ops::{Range, RangeFrom};
 /// boundaries the set's own stays. If memory runs out, the set has the boundaries that it had.
 /// Nothing is copied but by `from_view`, `clone` and operations with a view.
 ///
-/// Among `c` chunks a search makes at most `d(c) + 10` comparisons, where `d` counts binary digits
-/// (seen by reading). `contains`, `range_at`, `next_member`, `next_gap` and calls with a range
-/// without an end search once, those with a range at most twice, after one comparison of its ends.
+/// Among `c` chunks a search makes at most `d(c) + 10` comparisons, where `d` counts binary digits.
+/// `contains`, `range_at`, `next_member`, `next_gap` and calls with a range without an end search
+/// once, those with a range at most twice, after one comparison of its ends. Calls with a counter,
+/// as `insert_counted`, promise it of the number of boundaries in the place of `c`.
 pub struct ChunkedRangeSet<T: Ord> {
     chunks: Vec<Chunk<T>>,
 }
@@ -91,7 +91,7 @@ impl<T: Ord> ChunkedRangeSet<T> {
     pub fn contains(&self, value: &T) -> bool
         ensures { result ≡ member T.cmp self.now value.now }
     {
-        is_member(self.chunks.as_slice(), value, &mut Comparisons::new())
+        self.contains_counted(value, &mut Comparisons::new())
     }
 
     /// The least member at or above `from`, or `None` if there is none: `from` itself, or else the
@@ -139,7 +139,7 @@ impl<T: Ord + Drop> ChunkedRangeSet<T> {
     pub fn contains_range(&self, range: Range<T>) -> bool
         ensures { IsTrue result ↔ HasAllWithin T.cmp self.now range.start range.end }
     {
-        has_all(self.chunks.as_slice(), range, &mut Comparisons::new())
+        self.contains_range_counted(range, &mut Comparisons::new())
     }
 
     /// Whether some member lies in the range. It is `false` for an empty or reversed range.
@@ -161,7 +161,7 @@ impl<T: Ord + Drop> ChunkedRangeSet<T> {
         ensures members { OnOk result ((x : T) → member T.cmp self.new x ≡
             (member T.cmp self.old x || (is_le (T.cmp range.start x) && is_lt (T.cmp x range.end)))) }
     {
-        set_range(&mut self.chunks, range, true, &mut Comparisons::new())
+        self.insert_counted(range, &mut Comparisons::new())
     }
 
     /// Removes the elements of the range. An empty or reversed range changes nothing. Of two equal
@@ -175,7 +175,7 @@ impl<T: Ord + Drop> ChunkedRangeSet<T> {
         ensures members { OnOk result ((x : T) → member T.cmp self.new x ≡
             (member T.cmp self.old x && not (is_le (T.cmp range.start x) && is_lt (T.cmp x range.end)))) }
     {
-        set_range(&mut self.chunks, range, false, &mut Comparisons::new())
+        self.remove_counted(range, &mut Comparisons::new())
     }
 
     /// Adds the elements from the start on. Of two equal boundaries, this set's own stays.
@@ -188,7 +188,7 @@ impl<T: Ord + Drop> ChunkedRangeSet<T> {
         ensures members { OnOk result ((x : T) → member T.cmp self.new x ≡
             (member T.cmp self.old x || is_le (T.cmp range.start x))) }
     {
-        set_from(&mut self.chunks, range.start, true, &mut Comparisons::new())
+        self.insert_from_counted(range, &mut Comparisons::new())
     }
 
     /// Removes the elements from the start on. Of two equal boundaries, this set's own stays.
@@ -202,12 +202,7 @@ impl<T: Ord + Drop> ChunkedRangeSet<T> {
         ensures members { OnOk result ((x : T) → member T.cmp self.new x ≡
             (member T.cmp self.old x && not (is_le (T.cmp range.start x)))) }
     {
-        set_from(
-            &mut self.chunks,
-            range.start,
-            false,
-            &mut Comparisons::new(),
-        )
+        self.remove_from_counted(range, &mut Comparisons::new())
     }
 
     /// Removes all elements. It keeps the room for the list of chunks.

@@ -7,6 +7,8 @@ mod asking;
 #[cfg(test)]
 mod combining;
 #[cfg(test)]
+mod comparisons;
+#[cfg(test)]
 mod fitting;
 #[cfg(test)]
 mod made_up;

@@ -3,15 +3,14 @@
 
 pub(crate) mod asking;
 pub(crate) mod combining;
+pub(crate) mod counted;
 pub(crate) mod fitting;
 pub(crate) mod making;
 pub(crate) mod many_ranges;
 
 use crate::generated::range_chunks::chunk::Chunk;
-use crate::generated::range_chunks::cutting::set_range;
 use crate::generated::range_chunks::iter::Iter;
-use crate::generated::range_chunks::questions::{has_all, has_some, is_member, next_at};
-use crate::generated::range_chunks::to_the_end::set_from;
+use crate::generated::range_chunks::questions::{has_some, next_at};
 use crate::generated::range_collections::Comparisons;
 use crate::support::{AllocError, Global, Vec};
 use core::ops::{Range, RangeFrom};
@@ -35,9 +34,10 @@ use core::ops::{Range, RangeFrom};
 /// boundaries the set's own stays. If memory runs out, the set has the boundaries that it had.
 /// Nothing is copied but by `from_view`, `clone` and operations with a view.
 ///
-/// Among `c` chunks a search makes at most `d(c) + 10` comparisons, where `d` counts binary digits
-/// (seen by reading). `contains`, `range_at`, `next_member`, `next_gap` and calls with a range
-/// without an end search once, those with a range at most twice, after one comparison of its ends.
+/// Among `c` chunks a search makes at most `d(c) + 10` comparisons, where `d` counts binary digits.
+/// `contains`, `range_at`, `next_member`, `next_gap` and calls with a range without an end search
+/// once, those with a range at most twice, after one comparison of its ends. Calls with a counter,
+/// as `insert_counted`, promise it of the number of boundaries in the place of `c`.
 pub struct ChunkedRangeSet<T: Ord> {
     pub(crate) chunks: Vec<Chunk<T>>,
 }
@@ -67,7 +67,7 @@ impl<T: Ord> ChunkedRangeSet<T> {
     /// ```
     #[inline]
     pub fn contains(&self, value: &T) -> bool {
-        is_member(self.chunks.as_slice(), value, &mut Comparisons::new())
+        self.contains_counted(value, &mut Comparisons::new())
     }
 
     /// The least member at or above `from`, or `None` if there is none: `from` itself, or else the
@@ -135,7 +135,7 @@ impl<T: Ord> ChunkedRangeSet<T> {
     /// ```
     #[inline]
     pub fn contains_range(&self, range: Range<T>) -> bool {
-        has_all(self.chunks.as_slice(), range, &mut Comparisons::new())
+        self.contains_range_counted(range, &mut Comparisons::new())
     }
 
     /// Whether some member lies in the range. It is `false` for an empty or reversed range.
@@ -165,7 +165,7 @@ impl<T: Ord> ChunkedRangeSet<T> {
     ///     || (is_le (T.cmp range.start x) && is_lt (T.cmp x range.end))))
     /// ```
     pub fn insert(&mut self, range: Range<T>) -> Result<(), AllocError> {
-        set_range(&mut self.chunks, range, true, &mut Comparisons::new())
+        self.insert_counted(range, &mut Comparisons::new())
     }
 
     /// Removes the elements of the range. An empty or reversed range changes nothing. Of two equal
@@ -183,7 +183,7 @@ impl<T: Ord> ChunkedRangeSet<T> {
     ///     && not (is_le (T.cmp range.start x) && is_lt (T.cmp x range.end))))
     /// ```
     pub fn remove(&mut self, range: Range<T>) -> Result<(), AllocError> {
-        set_range(&mut self.chunks, range, false, &mut Comparisons::new())
+        self.remove_counted(range, &mut Comparisons::new())
     }
 
     /// Adds the elements from the start on. Of two equal boundaries, this set's own stays.
@@ -200,7 +200,7 @@ impl<T: Ord> ChunkedRangeSet<T> {
     ///     || is_le (T.cmp range.start x)))
     /// ```
     pub fn insert_from(&mut self, range: RangeFrom<T>) -> Result<(), AllocError> {
-        set_from(&mut self.chunks, range.start, true, &mut Comparisons::new())
+        self.insert_from_counted(range, &mut Comparisons::new())
     }
 
     /// Removes the elements from the start on. Of two equal boundaries, this set's own stays.
@@ -218,12 +218,7 @@ impl<T: Ord> ChunkedRangeSet<T> {
     ///     && not (is_le (T.cmp range.start x))))
     /// ```
     pub fn remove_from(&mut self, range: RangeFrom<T>) -> Result<(), AllocError> {
-        set_from(
-            &mut self.chunks,
-            range.start,
-            false,
-            &mut Comparisons::new(),
-        )
+        self.remove_from_counted(range, &mut Comparisons::new())
     }
 
     /// Removes all elements. It keeps the room for the list of chunks.

@@ -5,7 +5,8 @@ use Rattle.range_collections.specs.Splicing.{range_table}
 use Rattle.range_collections.proofs.Insertion.{Means-alike, union-alike}
 use Rattle.range_collections.proofs.RangeMembers.{members-put}
 use Rattle.range_chunks.specs.Chunks.{flat}
-use Rattle.range_chunks.proofs.set.ChunkedRangeSet.insert.Goals as goal
+use Rattle.range_chunks.proofs.Counted.{counted-twice}
+use Rattle.range_chunks.proofs.set.ChunkedRangeSet.insert_counted.Goals as goal
 
 pub returns-clause-changed : goal.returns-clause-changed
 returns-clause-changed g c =
@@ -22,3 +23,6 @@ pub returns-clause-members : goal.returns-clause-members
 returns-clause-members g c =
     rw (← c.self.view_is)
     (on_ok_weaker c.set_range.result (members-put g.met.T.Ord.total c.args.range.start c.args.range.end (flat c.set_range.new.chunks.items) (flat c.self.inside.chunks.items)) c.set_range.ensures.changed.means)
+
+pub returns-clause-comparisons : goal.returns-clause-comparisons
+returns-clause-comparisons g c = rw (← c.self.view_is) (counted-twice c.self.inside.chunks.items c.args.count.now c.set_range.new.count c.set_range.ensures.comparisons)

@@ -5,7 +5,8 @@ use Rattle.range_collections.specs.Splicing.{range_table}
 use Rattle.range_collections.proofs.Insertion.{Means-alike, union-alike}
 use Rattle.range_chunks.specs.Chunks.{flat}
 use Rattle.range_chunks.proofs.ToTheEnd.{members-put_from}
-use Rattle.range_chunks.proofs.set.ChunkedRangeSet.insert_from.Goals as goal
+use Rattle.range_chunks.proofs.Counted.{counted-once}
+use Rattle.range_chunks.proofs.set.ChunkedRangeSet.insert_from_counted.Goals as goal
 
 pub returns-clause-changed : goal.returns-clause-changed
 returns-clause-changed g c =
@@ -22,3 +23,6 @@ pub returns-clause-members : goal.returns-clause-members
 returns-clause-members g c =
     rw (← c.self.view_is)
     (on_ok_weaker c.set_from.result (members-put_from g.met.T.Ord.total c.args.range.start (flat c.set_from.new.chunks.items) (flat c.self.inside.chunks.items)) c.set_from.ensures.changed.means)
+
+pub returns-clause-comparisons : goal.returns-clause-comparisons
+returns-clause-comparisons g c = rw (← c.self.view_is) (counted-once c.self.inside.chunks.items c.args.count.now c.set_from.new.count c.set_from.ensures.comparisons)
