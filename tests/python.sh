@@ -7,7 +7,7 @@
 #
 # The interpreter is PYTHON, or else the first of python3 and /usr/bin/python3 that has numpy and hypothesis, or else python3.
 # Interpreters with locks of their own, and a Python without the lock, are tested by another Python if one is at hand.
-# Its last line is 'N passed, M failed, K skipped'. It ends with 77 where a tool is missing.
+# Its last line is 'N passed, M failed, K skipped'. It ends with 77 if a tool is missing.
 set -u
 cd "$(dirname "$0")/../python" || exit 1
 . ../tests/steps.sh

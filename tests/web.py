@@ -6,7 +6,7 @@
     tests/web.py --shots FOLDER      keeps a picture of each view there; else they lie in a folder that is removed
 
 What is expected is worked out here value by value, by membership, and never by the library. The last line is 'N passed,
-M failed, K skipped', and the status is 77 where Chromium, its driver or Selenium is missing.
+M failed, K skipped', and the status is 77 if Chromium, its driver or Selenium is missing.
 """
 
 import argparse
@@ -104,7 +104,7 @@ def main(words):
     arguments = argparse.ArgumentParser()
     arguments.add_argument("--page", type=Path, default=ROOT / "web")
     arguments.add_argument("--shots", type=Path)
-    arguments.add_argument("groups", nargs="*", help="the names of the functions to run, where not all of them")
+    arguments.add_argument("groups", nargs="*", help="the names of the functions to run, if not all of them")
     chosen = arguments.parse_args(words)
     check, driver = Counted(), browser()
     try:

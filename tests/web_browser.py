@@ -136,7 +136,7 @@ class Page:
         return round((value - start) / (end - start) * wide - wide / 2)
 
     def drag(self, row, start, end, y=-10):
-        """Drags from a value to another, or past the edge of the line where the second is None."""
+        """Drags from a value to another, or past the edge of the line if the second is None."""
         line = self.line(row)
         last = line.size["width"] // 2 - 1 if end is None else self.x(row, end)
         steps = ActionChains(self.driver, duration=20).move_to_element_with_offset(line, self.x(row, start), y).click_and_hold()

@@ -3,7 +3,7 @@
 
 They are read from Debian's package unicode-data.
 
-    web/unicode_table.py [FOLDER]      the folder is /usr/share/unicode where none is named
+    web/unicode_table.py [FOLDER]      the folder is /usr/share/unicode if none is named
 
 A class is the text of its ranges, as the library reads it, or a list of other classes that it is made up of.
 """

@@ -6,7 +6,7 @@
     const MOST = 48;
 
     /**
-     * Options: `name`, `format`, `onLink(value or null)`, `onProbe(value)`, and where they can be
+     * Options: `name`, `format`, `onLink(value or null)`, `onProbe(value)`, and if they can be
      * moved `onMove(from, to)`.
      */
     class BoundaryList {

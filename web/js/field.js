@@ -6,7 +6,7 @@
     const { element } = Daleribbon.tools;
     const canvas = document.createElement("canvas").getContext("2d");
 
-    /** How wide a text is in the letters of a field, where those of ASCII have one width. */
+    /** How wide a text is in the letters of a field, if those of ASCII have one width. */
     function widthOf(text, node) {
         canvas.font = getComputedStyle(node).font;
         const isPlain = /^[ -~]*$/.test(text);
@@ -52,7 +52,7 @@
             this.place();
         }
 
-        /** Puts the mark below its character, and hides it where that is scrolled away. */
+        /** Puts the mark below its character, and hides it if that is scrolled away. */
         place() {
             if (this.at === null) {
                 return;

@@ -127,7 +127,7 @@
             return this.calls.ranges_len(this.place);
         }
 
-        /** How many values are members, or null where the set has no end. */
+        /** How many values are members, or null if the set has no end. */
         covered() {
             const length = this.calls.covered(this.place);
             return length === 0 ? null : BigInt(this.memory.text(length));
@@ -141,7 +141,7 @@
             return this.calls.boundaries_len(this.place);
         }
 
-        /** The lowest and the highest boundary, or null where there is none. */
+        /** The lowest and the highest boundary, or null if there is none. */
         ends() {
             const [lowest, highest] = this.memory.numbers(this.calls.ends(this.place));
             return lowest === undefined ? null : [lowest, highest];
@@ -157,7 +157,7 @@
         }
 
         /**
-         * The range that has a value as [start, end], with an end of null where there is none; or
+         * The range that has a value as [start, end], with an end of null if there is none; or
          * null.
          */
         rangeAt(value) {

@@ -1,7 +1,7 @@
 "use strict";
 
 // A set drawn on a number line: a ribbon where values are members, a filled dot where a range
-// starts, an open one where it ends, an arrow where it has no end.
+// starts, an open one where it ends, an arrow if it has no end.
 {
     const { shape, counted } = Daleribbon.tools;
     const { MARGIN } = Daleribbon;
@@ -28,8 +28,8 @@
     /**
      * Options: `set`, `scale`, `name` for screen readers, `format` of values, `tickFormat` of those
      * at the axis, `endless` whether a range without an end can be drawn. Callbacks:
-     * `onProbe(value)`, `onLink(value or null)`, `onWindow(what)`; where the set can be changed
-     * `onPaint(start, end, inside, done)`, and where its boundaries can be moved `onMove(from, to,
+     * `onProbe(value)`, `onLink(value or null)`, `onWindow(what)`; if the set can be changed
+     * `onPaint(start, end, inside, done)`, and if its boundaries can be moved `onMove(from, to,
      * done)`.
      */
     class NumberLine {
@@ -130,7 +130,7 @@
             ];
         }
 
-        /** The whole numbers themselves, where there is room: filled where they are members. */
+        /** The whole numbers themselves, if there is room: filled if they are members. */
         beadRow() {
             const wide = this.scale.stepWidth(this.width);
             if (wide < 9) {
@@ -205,7 +205,7 @@
         }
 
         /**
-         * Lets the dots of boundaries that are gone fade, where some are gone and not merely moved.
+         * Lets the dots of boundaries that are gone fade, if some are gone and not merely moved.
          */
         fadeOut(part) {
             const now = new Set(part);
@@ -340,7 +340,7 @@
             return keys;
         }
 
-        /** Moves the probe by a distance; where that selects, the selection grows with it. */
+        /** Moves the probe by a distance; if that selects, the selection grows with it. */
         step(distance, selects) {
             const to = this.probe + distance;
             const value = to < 0n ? 0n : to;

@@ -153,7 +153,7 @@
         document.documentElement.dataset.ready = "true";
     }
 
-    // The library ends where it has no memory, and then answers nothing more.
+    // The library ends if it has no memory, and then answers nothing more.
     addEventListener("error", ({ message }) => fail(`The page has stopped, perhaps out of memory: ${message}. Reload it.`));
     start().catch((error) => fail(`The page could not start: ${error.message}`));
 }

@@ -113,7 +113,7 @@
             return this.takes(NEITHER) !== this.takes(RIGHT) || this.takes(LEFT) !== this.takes(BOTH);
         }
 
-        /** The operation as a sign, where it has one. */
+        /** The operation as a sign, if it has one. */
         get sign() {
             return NAMED.find((it) => it.answers === this.answers)?.sign ?? "A ∘ B";
         }

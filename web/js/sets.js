@@ -229,7 +229,7 @@
             this.showStale();
         }
 
-        /** Dims the result where it depends on a set whose text has a fault. */
+        /** Dims the result if it depends on a set whose text has a fault. */
         showStale() {
             const { a, b, result, operation } = this;
             result.stale = (a.stale && operation.dependsOnA) || (b.stale && operation.dependsOnB);

@@ -1,12 +1,12 @@
 """The low level: functions over buffers of boundaries.
 
 A list of boundaries is any object with the buffer protocol whose items are 64-bit whole numbers, signed or unsigned, such as an
-`array.array('q')` or a numpy array of int64. A number is a member where an odd number of boundaries is at or below it. Buffers
+`array.array('q')` or a numpy array of int64. A number is a member if an odd number of boundaries is at or below it. Buffers
 are borrowed, also those that can't be written to; only numbers that don't lie at multiples of 8 bytes are copied.
 
 An operation gives a new `array`, or with `out` it writes into that buffer and gives the length. A call that goes over whole
 lists checks first that they are strictly sorted. Those that search, `contains`, `contains_range`, `range_at` and `split`, and
-`is_empty` don't, and mean nothing where a list isn't sorted.
+`is_empty` don't, and mean nothing if a list isn't sorted.
 """
 
 from __future__ import annotations
@@ -218,7 +218,7 @@ def from_unsorted(items: Buffer) -> array[int]:
 
 
 def ranges(a: Buffer) -> Iterator[tuple[int, int | None]]:
-    """The ranges of the set in order, each as its start and its end; the end is None where the range has none.
+    """The ranges of the set in order, each as its start and its end; the end is None if the range has none.
 
     >>> list(ranges(array("q", [0, 10, 20])))
     [(0, 10), (20, None)]
@@ -274,7 +274,7 @@ def contains_range(a: Buffer, start: SupportsIndex, end: SupportsIndex) -> bool:
 
 
 def range_at(a: Buffer, value: SupportsIndex) -> tuple[int, int | None] | None:
-    """The range that holds the number, or None where it is no member.
+    """The range that holds the number, or None if it is no member.
 
     >>> range_at(array("q", [0, 10, 20]), 25)
     (20, None)
@@ -283,7 +283,7 @@ def range_at(a: Buffer, value: SupportsIndex) -> tuple[int, int | None] | None:
 
 
 def covered(a: Buffer) -> int | None:
-    """How many numbers are members, or None where the set has no end.
+    """How many numbers are members, or None if the set has no end.
 
     >>> covered(array("q", [0, 10, 20, 25]))
     15
@@ -337,7 +337,7 @@ def equal(a: Buffer, b: Buffer) -> bool:
 
 
 def split(a: Buffer, at: SupportsIndex) -> tuple[int, int]:
-    """Cuts the list at a number: how many boundaries tell the members below `at`, and from which index on they tell the others.
+    """Cuts the list at a number: how many boundaries are those of the members below `at`, and from which index on they are those of the others.
 
     Below `at` the first list is the set, and from `at` on the second is. A range that goes over `at` has a boundary in both.
 

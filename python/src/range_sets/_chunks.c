@@ -15,13 +15,13 @@ typedef struct {
     PyObject *kind;
     /* The boundaries as a list that nothing changes, and the kind; or NULL since a change. */
     PyObject *now;
-    /* The boundaries in chunks, or none yet. The set is empty where there is no list either. */
+    /* The boundaries in chunks, or none yet. The set is empty if there is no list either. */
     Handle handle;
     bool is_signed;
     uint64_t changes;
 } Chunks;
 
-/* The numbers from a start on, up to below an end where there is one. */
+/* The numbers from a start on, up to below an end if there is one. */
 typedef struct {
     uint64_t start, end;
     bool has_end;
@@ -42,7 +42,7 @@ static void free_handle(Handle *handle, bool is_signed)
 
 /* ---- What the set is ---- */
 
-/* Makes the chunks of the list, or empty ones where there is none of such numbers. */
+/* Makes the chunks of the list, or empty ones if there is none of such numbers. */
 static bool make_handle(Chunks *self, bool is_signed, Handle *made)
 {
     List list = {.len = 0};
@@ -164,7 +164,7 @@ static bool read_range(PyObject *start, PyObject *end, bool is_signed, Range *ra
            && (end == Py_None || read_number(end, is_signed, &range->end));
 }
 
-/* Is given a start, an end, the kind that the set was seen to have and the one that it takes. False where it has another
+/* Is given a start, an end, the kind that the set was seen to have and the one that it takes. False if it has another
  * by now. */
 static PyObject *change_range(Chunks *self, PyObject *const *args, Py_ssize_t n, bool inserts)
 {
@@ -230,7 +230,7 @@ static bool is_range(const List *list, Range *range)
     return list->len <= 2;
 }
 
-/* Is given another set's list, the kind that the set was seen to have and the one that it takes. False where it has another
+/* Is given another set's list, the kind that the set was seen to have and the one that it takes. False if it has another
  * by now. Goes over both sets, but for one range that is put in or taken out. */
 static PyObject *combine(Chunks *self, PyObject *const *args, Py_ssize_t n, unsigned keep)
 {

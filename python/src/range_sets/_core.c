@@ -48,7 +48,7 @@ static bool read_arguments(Arguments *given, PyObject *const *args, Py_ssize_t n
 
 typedef range_set_status Operation(const Arguments *given, void *out, size_t room, size_t *written);
 
-/* Sees that each list is sorted. */
+/* Checks that each list is sorted. */
 static range_set_status check_sorted(const Arguments *given)
 {
     range_set_status status = RANGE_SET_DONE;

@@ -1,7 +1,7 @@
 /* Sets in other forms: as texts of ranges, and in few bytes. */
 #include "_lists.h"
 
-/* Reads a text of ranges in UTF-8 as a list, or finds the byte at which it stops being one, or None where a number of it is out
+/* Reads a text of ranges in UTF-8 as a list, or finds the byte at which it stops being one, or None if a number of it is out
  * of range. */
 PyObject *core_parse(PyObject *module, PyObject *const *args, Py_ssize_t n)
 {
@@ -103,7 +103,7 @@ static size_t count_distances(const unsigned char *at, const unsigned char *end)
 }
 
 /* Reads so many distances, unless one has more than 64 bits or bytes are left. Whether the list is
- * sorted is seen afterwards. */
+ * sorted is checked afterwards. */
 static bool read_distances(const unsigned char *at, const unsigned char *end, List *list, size_t count)
 {
     uint64_t *numbers = list->items, number = least_of(list->is_signed);

@@ -116,7 +116,7 @@ def _pairs(boundaries: memoryview, kind: Kind) -> str:
 
 
 def _kind_of(boundaries: memoryview) -> Kind:
-    """The kind of elements of a pickle that tells none."""
+    """The kind of elements of a pickle that names none."""
     return UNSIGNED if boundaries.format == "Q" else SIGNED if boundaries else UNTOLD
 
 

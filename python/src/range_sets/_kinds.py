@@ -53,7 +53,7 @@ class Kind:
         self.is_whole = isinstance(self, Whole)
 
     def code(self, value: Any) -> int:
-        """The number of an element, which may lie outside of the kind's; a TypeError where it is no element of the kind."""
+        """The number of an element, which may lie outside of the kind's; a TypeError if it is no element of the kind."""
         raise NotImplementedError
 
     def value(self, code: int) -> Any:
@@ -76,7 +76,7 @@ class Kind:
         return self.within(self.code(value))
 
     def start(self, value: Any) -> int:
-        """The number of a start, which is the least where the start is None. It may lie outside of the kind's."""
+        """The number of a start, which is the least if the start is None. It may lie outside of the kind's."""
         return self.least if value is None else self.code(value)
 
     def end(self, value: Any) -> int | None:
@@ -101,7 +101,7 @@ class Kind:
         return range_list(self.least, None, self.unsigned)
 
     def covered(self, boundaries: memoryview) -> Any:
-        """How much a set covers, or None where it has no end."""
+        """How much a set covers, or None if it has no end."""
         count = _core.covered(boundaries)
         return None if count is None else self.length(count)
 
@@ -324,7 +324,7 @@ class Addresses(Kind):
 
 
 SIGNED, UNSIGNED = Whole("int", False), Whole("unsigned", True)
-# That of an empty set which nothing tells the kind of. Until it meets a set or an element of another kind it is one of signed numbers.
+# That of an empty set whose kind isn't known yet. Until it meets a set or an element of another kind it is one of signed numbers.
 UNTOLD = Whole("int", False)
 FLOAT, DATE, DELTA, ADDRESS = Float(), Dates(), Deltas(), Addresses()
 NAIVE = Times("datetime", "a datetime without a time zone", None)
@@ -339,7 +339,7 @@ Now = tuple[memoryview, Kind]
 
 
 def of_dtype(dtype: Any) -> Kind:
-    """The kind of numpy's times of a unit: one for each, also where two threads ask for it at once."""
+    """The kind of numpy's times of a unit: one for each, also if two threads ask for it at once."""
     if dtype.kind != "M" or "[" not in dtype.name:
         raise TypeError(f"numpy's datetime64 of a unit is wanted, not {dtype.name}")
     return _OF_UNITS.get(dtype.name) or _OF_UNITS.setdefault(dtype.name, Numpys(dtype.newbyteorder("=")))
@@ -351,7 +351,7 @@ def told(kind: Any, unsigned: bool | None = None) -> Kind | None:
     if unsigned is None or (found is not None and found.unsigned == unsigned):
         return found
     if found is not None and (unsigned or found is UNSIGNED):
-        raise TypeError(f"the kind {found.name} is told, and unsigned={unsigned}")
+        raise TypeError(f"kind={found.name!r} and unsigned={unsigned} don't agree")
     return found or whole(unsigned)
 
 
@@ -377,7 +377,7 @@ def whole(unsigned: bool) -> Whole:
 
 
 def of(value: Any) -> Kind | None:
-    """The kind of an element, or None where it is none."""
+    """The kind of an element, or None if it is none."""
     if type(value) is int:
         return SIGNED
     if isinstance(value, datetime):
@@ -408,7 +408,7 @@ def of_some(values: Iterable[Any]) -> Kind | None:
 
 
 def agreed(left: Now, right: Now) -> tuple[memoryview, memoryview, Kind]:
-    """The boundaries of two sets and the one kind of both. A set of nothing whose kind isn't told takes that of the other."""
+    """The boundaries of two sets and the one kind of both. A set of nothing whose kind isn't known takes that of the other."""
     (a, kind), (b, other) = left, right
     if kind is other:
         return a, b, kind

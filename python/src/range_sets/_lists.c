@@ -9,7 +9,7 @@ bool refuse(PyObject *error, const char *text)
     return false;
 }
 
-/* Tells the type of the numbers by the format: one letter, before which the order of the bytes may stand. */
+/* Reads the type of the numbers from the format: one letter, before which the order of the bytes may stand. */
 static bool read_format(List *list)
 {
     const char *format = list->view.format ? list->view.format : "B";

@@ -9,7 +9,7 @@
 #include <Python.h>
 #include "range_set.h"
 
-/* Numbers that are borrowed from a buffer, or a copy of them where they don't lie at multiples of 8 bytes. */
+/* Numbers that are borrowed from a buffer, or a copy of them if they don't lie at multiples of 8 bytes. */
 typedef struct {
     Py_buffer view;
     void *items, *copy;
@@ -17,7 +17,7 @@ typedef struct {
     bool is_signed;
 } List;
 
-/* A list as a set. Operations and questions of two lists see first that they are sorted; searches
+/* A list as a set. Operations and questions of two lists check first that they are sorted; searches
  * don't, and stay within any list. */
 #define SET(type, list) ((range_set_##type){(list).items, (list).len})
 
@@ -37,10 +37,10 @@ range_set_status check_list(const List *list);
 /* The first numbers of some bytes, which it takes over, as a list. */
 PyObject *list_over(PyObject *bytes, size_t len, bool is_signed);
 
-/* Raises what a call for C answers, with the length that it tells. */
+/* Raises what a call for C answers, with the length that it returns. */
 PyObject *raise_status(range_set_status status, size_t needed);
 
-/* Lets other threads run where there are many boundaries to go over. */
+/* Lets other threads run if there are many boundaries to go over. */
 PyThreadState *let_others_run(size_t len);
 void go_on(PyThreadState *thread);
 

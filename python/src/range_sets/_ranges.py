@@ -82,7 +82,7 @@ class AnyRangeSet(Operators):
 
     @classmethod
     def union_all(cls, sets: Iterable[Source], *, unsigned: bool | None = None, kind: Told = None) -> Self:
-        """The elements in some set of many. Where there are none, `unsigned` or `kind` says of which kind the empty set is.
+        """The elements in some set of many. If there are none, `unsigned` or `kind` says of which kind the empty set is.
 
         >>> RangeSet.union_all(RangeSet([(n, n + 2)]) for n in range(5))
         RangeSet([(0, 6)])
@@ -91,7 +91,7 @@ class AnyRangeSet(Operators):
 
     @classmethod
     def intersection_all(cls, sets: Iterable[Source], *, unsigned: bool | None = None, kind: Told = None) -> Self:
-        """The elements in each set of many. Where there are none, these are all, and `unsigned` or `kind` says of which kind.
+        """The elements in each set of many. If there are none, these are all, and `unsigned` or `kind` says of which kind.
 
         >>> RangeSet.intersection_all([RangeSet([(n, n + 9)]) for n in range(5)])
         RangeSet([(4, 9)])
@@ -129,7 +129,7 @@ class AnyRangeSet(Operators):
 
     @property
     def boundaries(self) -> memoryview:
-        """The boundaries as a buffer that can't be written to. They are whole numbers also where elements aren't.
+        """The boundaries as a buffer that can't be written to. They are whole numbers even if the elements aren't.
 
         Nothing is copied, but for a `MutableRangeSet` that has changed: it is gone over.
 
@@ -192,7 +192,7 @@ class AnyRangeSet(Operators):
         return _core.contains_range(boundaries, first, last)
 
     def range_at(self, value: Element) -> tuple[Any, Any] | None:
-        """The range that has the element, or None where it is no member.
+        """The range that has the element, or None if it is no member.
 
         >>> s = RangeSet([(0, 10), (20, None)])
         >>> s.range_at(5), s.range_at(15), s.range_at(20)
@@ -231,7 +231,7 @@ class AnyRangeSet(Operators):
         return self._over(items[begins : ends + ends % 2], kind)
 
     def covered(self) -> Any:
-        """How many numbers, dates or addresses are members, or None where the set has no end. Of times and dates it is a `timedelta`, and
+        """How many numbers, dates or addresses are members, or None if the set has no end. Of times and dates it is a `timedelta`, and
         of floats the sum of the lengths of the ranges.
 
         >>> RangeSet([(0, 10), (20, 25)]).covered()
@@ -253,7 +253,7 @@ class AnyRangeSet(Operators):
         return _core.covered(below) or 0
 
     def select(self, k: SupportsIndex) -> Any:
-        """The member that so many others are below, or None where no more than `k` are members. Floats can't be counted.
+        """The member that so many others are below, or None if no more than `k` are members. Floats can't be counted.
 
         >>> s = RangeSet([(0, 10), (20, None)])
         >>> s.select(0), s.select(12), RangeSet([(0, 10)]).select(10)
@@ -269,7 +269,7 @@ class AnyRangeSet(Operators):
         return None if found is None or found > kind.most else kind.value(found)
 
     def span(self) -> tuple[Any, Any] | None:
-        """From the start of the first range to the end of the last one, or None where the set is empty.
+        """From the start of the first range to the end of the last one, or None if the set is empty.
 
         >>> RangeSet([(0, 10), (20, 25)]).span()
         (0, 25)
@@ -278,7 +278,7 @@ class AnyRangeSet(Operators):
         return (kind.value(items[0]), None if len(items) % 2 else kind.value(items[-1])) if items else None
 
     def first_fit(self, length: Any, start: Element | None = None, end: Element | None = None) -> Any:
-        """The first element from `start` on where so many before `end` are no members, or None where there is none. For times and dates
+        """The first element from `start` on where so many before `end` are no members, or None if there is none. For times and dates
         the length is a `timedelta`.
 
         >>> RangeSet([(0, 10), (12, 20)]).first_fit(3, 0)
@@ -313,7 +313,7 @@ class AnyRangeSet(Operators):
         return zip_longest(items, items)
 
     def bounded(self) -> Iterator[tuple[Any, Any]]:
-        """The ranges, each with an end, where the set has one; else a ValueError.
+        """The ranges, each with an end. A set without an end raises a ValueError.
 
         >>> sum(end - start for start, end in RangeSet([(0, 10), (20, 25)]).bounded())
         15
@@ -325,7 +325,7 @@ class AnyRangeSet(Operators):
         return zip(items, items)
 
     def members(self) -> Iterator[Any]:
-        """The elements in order, one by one, up to the greatest where the set has no end. Floats can't be told one by one.
+        """The elements in order, one by one, up to the greatest if the set has no end. Floats can't be listed.
 
         >>> list(RangeSet([(0, 3), (7, 9)]).members())
         [0, 1, 2, 7, 8]

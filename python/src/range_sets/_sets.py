@@ -30,8 +30,8 @@ class RangeSet(AnyRangeSet):
     is that of the list of ranges, over which the set iterates as pairs.
 
     The numbers are those from -2**63 to 2**63 - 1, or with `unsigned=True` those from 0 to 2**64 - 1. Elements may also be floats,
-    times with or without a time zone, dates, `timedelta`, IPv4 addresses, or numpy's datetime64 of one unit. The first element tells
-    the kind of a set, or `kind=` does. Two kinds don't mix, and are never equal.
+    times with or without a time zone, dates, `timedelta`, IPv4 addresses, or numpy's datetime64 of one unit. The first element
+    or `kind=` decides the kind of a set. Two kinds don't mix, and are never equal.
 
     >>> list(RangeSet([(0, 10), (20, None)], unsigned=True))
     [(0, 10), (20, None)]
@@ -111,7 +111,7 @@ class MutableRangeSet(AnyRangeSet):
     MutableRangeSet([(0, 10), (20, 100), (150, 200)])
 
     An operator gives a set of the kind of its left side. `RangeSet(s)` is a set that doesn't change with `s`; neither does an
-    array made of it. Where a change raises an error, the set is as it was.
+    array made of it. If a change raises an error, the set is as it was.
 
     `add`, `discard`, `in`, `covers`, `len` and `bool` take some microseconds also of a million ranges, but for the first
     on a set that is new, which goes over all. So do each change by another set, unless it puts in or takes out one range,
@@ -164,7 +164,7 @@ class MutableRangeSet(AnyRangeSet):
         return bool(self._chunks)
 
     def _change(self, call: Callable[[Chunks, memoryview, Kind, Kind], bool], other: Now) -> Self:
-        """Makes the set what a call gives of it and another. Tried anew where another thread told its kind meanwhile."""
+        """Makes the set what a call gives of it and another. Tried anew if another thread decided its kind meanwhile."""
         chunks, done = self._chunks, False
         while not done:
             seen = chunks.kind
@@ -211,7 +211,7 @@ class MutableRangeSet(AnyRangeSet):
         MutableRangeSet([(0, 15), (20, 21)])
         """
         chunks = self._chunks
-        # Else another thread has told the kind meanwhile.
+        # Else another thread has decided the kind meanwhile.
         while not chunks.insert(*bounds_of(start, end, chunks.kind)):
             pass
 

@@ -113,7 +113,7 @@ def intersection_of(sets: list[Now], kind: Kind | None = None) -> Now:
 
 
 def _of_one_kind(sets: list[Now], kind: Kind | None) -> tuple[list[memoryview], Kind]:
-    """The lists of sets of one kind, which a set of nothing takes if its own isn't told."""
+    """The lists of sets of one kind, which a set of nothing takes if its own isn't known."""
     if kind is None:
         kind = next((it for _, it in sets if it is not UNTOLD), UNTOLD)
     return [_of_kind(it, kind)[0] for it in sets], kind
@@ -167,7 +167,7 @@ def _numbers_of(items: Any, kind: Kind | None) -> tuple[Any, Kind]:
 
 def _side_by_side(items: Any, kind: Kind | None) -> tuple[Any, Kind]:
     """The numbers of a buffer one after the other and of 64 bits, and the kind of its elements. Smaller whole numbers stay signed or
-    unsigned unless a kind is told."""
+    unsigned unless a kind is given."""
     if getattr(items, "mask", None) is not None:
         raise TypeError("an array without a mask is wanted, as its compressed() gives one")
     if _has_times(items):
@@ -191,7 +191,7 @@ def _side_by_side(items: Any, kind: Kind | None) -> tuple[Any, Kind]:
 
 
 def _numbers_of_floats(floats: Any, kind: Kind | None) -> tuple[Any, Kind]:
-    """The numbers of floats. Without a float they tell no kind: numpy has an empty list as an array of floats."""
+    """The numbers of floats. Without a float they have no kind: numpy has an empty list as an array of floats."""
     if not floats:
         return array(code_of(kind is UNSIGNED)), kind or UNTOLD
     if not (kind is None or kind is UNTOLD or kind is FLOAT):
@@ -289,7 +289,7 @@ def _items_of(source: Any) -> list[Any]:
 
 
 def _plain_pairs(items: list[Any] | tuple[Any, ...], kind: Kind | None) -> memoryview | None:
-    """The numbers of pairs, where all are pairs of whole numbers of the kind. No loop in Python looks at them."""
+    """The numbers of pairs, if all are pairs of whole numbers of the kind. No loop in Python looks at them."""
     if not (kind is None or kind.is_whole) or not (set(map(type, items)) <= {tuple, list} and set(map(len, items)) <= {2}):
         return None
     code = code_of(kind is UNSIGNED)

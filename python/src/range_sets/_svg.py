@@ -1,6 +1,6 @@
 """A picture of a set for notebooks: a number line, with a filled dot at each start and an open one at each end.
 
-Where there is no end, or where the start is the least element and that isn't zero, there is an arrow. Words and the line have the
+If there is no end, or if the start is the least element and that isn't zero, there is an arrow. Words and the line have the
 colour of the text around the picture.
 """
 

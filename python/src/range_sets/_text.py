@@ -20,7 +20,7 @@ def read(text: str, unsigned: bool) -> memoryview:
 
 
 def _read(text: str, unsigned: bool) -> memoryview | int | None:
-    """The boundaries; or the position at which the text stops being one of ranges; or None where only a number is out of range."""
+    """The boundaries; or the position at which the text stops being one of ranges; or None if only a number is out of range."""
     if not isinstance(text, str):
         raise TypeError(f"a text is wanted, not {type(text).__name__}")
     # A lone surrogate has no bytes. A question mark is wrong in the same places.

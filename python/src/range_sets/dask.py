@@ -50,7 +50,7 @@ def union_all(parts: Bag | Iterable[Delayed], split_every: int = 8, cuts: Sequen
 def covered_by_key(pairs: Bag | Iterable[Delayed], split_every: int = 8, cuts: Sequence[Any] = ()) -> Delayed:
     """How many numbers the sets of each key have together, of a bag of pairs of a key and a set: a delayed dict.
 
-    The count is None where a set has no end. A delayed part is a list of pairs or a dict. With `cuts`, keys in ascending order,
+    The count is None if a set has no end. A delayed part is a list of pairs or a dict. With `cuts`, keys in ascending order,
     only counts are moved to the last task.
 
     >>> import dask.bag

@@ -121,7 +121,7 @@ pub extern "C" fn boundaries_len(place: usize) -> usize {
     with_page(|page| page.sets[place].boundaries().len())
 }
 
-/// Writes how many values are members, as a text, and returns its length: 0 where the set has no
+/// Writes how many values are members, as a text, and returns its length: 0 if the set has no
 /// end.
 #[no_mangle]
 pub extern "C" fn covered(place: usize) -> usize {
