@@ -11,8 +11,8 @@ mod values;
 
 pub use answers::{
     a_change_gives_its_members, a_negation_turns_one_boundary, a_refused_change_changes_nothing,
-    a_union_keeps_the_first_of_equal_boundaries, enough_room_is_infallible,
-    only_arrays_are_read, the_longest_front_is_pinned, what_is_written_is_pinned,
+    a_union_keeps_the_first_of_equal_boundaries, enough_room_is_infallible, only_arrays_are_read,
+    the_longest_front_is_pinned, what_is_written_is_pinned,
 };
 pub use headline::{every_form_gives_one_list, the_headline_is_what_the_clauses_say};
 pub use kept::{
