@@ -1,5 +1,5 @@
 //! The members of a set one by one, as its view tells them.
-ghost use Rattle.std.specs.Prelude.{◌≡◌, ◌≤◌, IfSome, IfNone, true, false};
+ghost use Rattle.std.specs.Prelude.{◌≡◌, ◌<◌, ◌≤◌, IfSome, IfNone, true, false};
 ghost use Rattle.std.specs.Ordering.{is_le};
 ghost use Rattle.range_merge.specs.Boundaries.{member};
 ghost use Rattle.range_collections.specs.Covered.{members_below};
@@ -14,7 +14,8 @@ impl<T: Countable, const N: usize> RangeSet<T, N> {
     ///
     /// It looks at each boundary below `at` once, and takes no memory.
     pub fn rank(&self, at: &T) -> u128
-        ensures { result ≡ members_below T.cmp T.value self.now (T.place at.now) }
+        ensures fits { result < T.count }
+        ensures value { result ≡ members_below T.cmp T.value self.now (T.place at.now) }
     {
         self.as_ref().rank(at)
     }

@@ -19,7 +19,8 @@ impl<'a, T: Countable> RangeSetRef<'a, T> {
     ///
     /// It looks at each boundary below `at` once, and takes no memory.
     pub fn rank(&self, at: &T) -> u128
-        ensures { result ≡
+        ensures fits { result < T.count }
+        ensures value { result ≡
             members_below T.cmp T.value self.now.boundaries.now (T.place at.now) }
     {
         let before = count_up_to(self.boundaries, at, &mut Comparisons::new());

@@ -6,8 +6,8 @@ use Rattle.range_collections.proofs.Ranked.{rank-front, rank-odd, odd-parity, me
 use Rattle.range_collections.proofs.Shortest.{le-from_greater}
 use Rattle.range_collections.proofs.view.RangeSetRef.rank.Goals as goal
 
-pub returns-then-not-is_odd : goal.returns-then-not-is_odd
-returns-then-not-is_odd g c =
+pub returns-then-not-is_odd-clause-value : goal.returns-then-not-is_odd-clause-value
+returns-then-not-is_odd-clause-value g c =
     let law = g.met.T.Countable in
     c.count_members.ensures.value
     ∙ sym (rank-front g.met.T.Ord.total g.T.RangeSetEntry.is_value g.T.Countable.value g.T.Countable.place g.T.Countable.count
@@ -27,8 +27,8 @@ one_less n l odd within = omega arith
 even_less : (n : ℕ) → n % 2 ≡ 1 → (n - 1) % 2 ≡ 0
 even_less n odd = omega arith
 
-pub returns : goal.returns
-returns g c =
+pub returns-clause-value : goal.returns-clause-value
+returns-clause-value g c =
     let law = g.met.T.Countable in
     let odd = odd-parity c.is_odd.result c.count_up_to-before.result c.is_odd.ensures c.if-not-is_odd.false in
     let within = one_less c.count_up_to-before.result (length c.args.self.now.boundaries.now) odd c.count_up_to-before.ensures.within in
@@ -69,4 +69,22 @@ overflow_add-result g c =
       members_below-le g.T.Ord.cmp g.T.Countable.value c.args.self.now.boundaries.now (g.T.Countable.place c.args.at.now),
       law.place_fits c.args.at.now c.known.ensures,
       law.count_fits,
+    )
+
+pub returns-then-not-is_odd-clause-fits : goal.returns-then-not-is_odd-clause-fits
+returns-then-not-is_odd-clause-fits g c =
+    omega (
+      arith,
+      returns-then-not-is_odd-clause-value g c,
+      members_below-le g.T.Ord.cmp g.T.Countable.value c.args.self.now.boundaries.now (g.T.Countable.place c.args.at.now),
+      g.met.T.Countable.place_fits c.args.at.now c.known.ensures,
+    )
+
+pub returns-clause-fits : goal.returns-clause-fits
+returns-clause-fits g c =
+    omega (
+      arith,
+      returns-clause-value g c,
+      members_below-le g.T.Ord.cmp g.T.Countable.value c.args.self.now.boundaries.now (g.T.Countable.place c.args.at.now),
+      g.met.T.Countable.place_fits c.args.at.now c.known.ensures,
     )
