@@ -24,6 +24,7 @@ bool PROVED(next_gap)(const NUMBER *a, size_t a_len, NUMBER from, NUMBER *next);
 bool PROVED(prev_member)(const NUMBER *a, size_t a_len, NUMBER from, NUMBER *previous);
 bool PROVED(prev_gap)(const NUMBER *a, size_t a_len, NUMBER from, NUMBER *previous);
 bool PROVED(select)(const NUMBER *a, size_t a_len, uint64_t k, NUMBER *at);
+uint64_t PROVED(rank)(const NUMBER *a, size_t a_len, NUMBER at);
 bool PROVED(range)(const NUMBER *a, size_t a_len, size_t index, NUMBER *start, NUMBER *end, bool *has_end);
 bool PROVED(first)(const NUMBER *a, size_t a_len, NUMBER *start, NUMBER *end, bool *has_end);
 bool PROVED(last)(const NUMBER *a, size_t a_len, NUMBER *start, NUMBER *end, bool *has_end);
@@ -38,6 +39,8 @@ size_t PROVED(insert)(NUMBER *buffer, size_t room, size_t len, NUMBER start, NUM
 size_t PROVED(remove)(NUMBER *buffer, size_t room, size_t len, NUMBER start, NUMBER end);
 size_t PROVED(combine_within)(NUMBER *buffer, size_t room, size_t len, const NUMBER *other, size_t other_len, uint32_t keep);
 bool PROVED(first_fit)(const NUMBER *a, size_t a_len, NUMBER start, NUMBER end, COUNT count, NUMBER *first);
+bool PROVED(first_fit_aligned)(const NUMBER *a, size_t a_len, NUMBER start, NUMBER end, COUNT count, COUNT align, NUMBER *first);
+bool PROVED(first_run)(const NUMBER *a, size_t a_len, NUMBER start, NUMBER end, COUNT count, NUMBER *first);
 size_t PROVED(print)(const NUMBER *a, size_t a_len, char *text, size_t room);
 uint32_t PROVED(check_text)(const char *text, size_t text_len, size_t *told);
 size_t PROVED(parse)(const char *text, size_t text_len, NUMBER *ranges, size_t count, bool *is_open, NUMBER *open);
@@ -224,6 +227,11 @@ bool NAME(select)(SET set, uint64_t k, NUMBER *at)
     return NAME(put)(found, it, at);
 }
 
+uint64_t NAME(rank)(SET set, NUMBER at)
+{
+    return PROVED(rank)(LIST(set), at);
+}
+
 bool NAME(get)(SET set, size_t index, RANGE *range)
 {
     RANGE it = {0, 0, false};
@@ -258,6 +266,20 @@ bool NAME(first_fit)(SET set, NUMBER start, NUMBER end, COUNT count, NUMBER *fir
     NUMBER at = 0;
     bool fits = PROVED(first_fit)(LIST(set), start, end, count, &at);
     return NAME(put)(fits, at, first);
+}
+
+bool NAME(first_fit_aligned)(SET set, NUMBER start, NUMBER end, COUNT count, COUNT align, NUMBER *first)
+{
+    NUMBER at = 0;
+    bool fits = PROVED(first_fit_aligned)(LIST(set), start, end, count, align, &at);
+    return NAME(put)(fits, at, first);
+}
+
+bool NAME(first_run)(SET set, NUMBER start, NUMBER end, COUNT count, NUMBER *first)
+{
+    NUMBER at = 0;
+    bool found = PROVED(first_run)(LIST(set), start, end, count, &at);
+    return NAME(put)(found, at, first);
 }
 
 void NAME(split)(SET set, NUMBER at, SET *below, SET *from)

@@ -178,6 +178,9 @@ bool range_set_i32_prev_gap(range_set_i32 set, int32_t from, int32_t *previous);
  * Looks at each boundary up to the answer once. */
 bool range_set_i32_select(range_set_i32 set, uint64_t k, int32_t *at);
 
+/* How many members are below `at`. Looks at each boundary below `at` once. */
+uint64_t range_set_i32_rank(range_set_i32 set, int32_t at);
+
 /* Whether the set has a range with `index` others before it, and then that range. A loop over all of them:
  *
  *     for (size_t i = 0; range_set_i32_get(set, i, &range); i++) ..
@@ -316,6 +319,15 @@ RANGE_SET_STATUS range_set_i32_parse(const char *text, size_t text_len, int32_t 
  * the least one: the first place where so many fit. Where there is none `first` is as it was. It may be null. A count of 0 fits
  * at `start`, if end >= start. Looks at each boundary from `start` on, up to the answer. */
 bool range_set_i32_first_fit(range_set_i32 set, int32_t start, int32_t end, uint32_t count, int32_t *first);
+
+/* The same, but only where as many numbers of the type are below the first as a multiple of `align`: for a type without a sign, where
+ * the number is one. An `align` of 0 fits nowhere. */
+bool range_set_i32_first_fit_aligned(range_set_i32 set, int32_t start, int32_t end, uint32_t count, uint32_t align,
+                                          int32_t *first);
+
+/* Whether `count` members in a row lie in `start` to below `end`, and then the least number that such begin with. Else, and with a
+ * count of 0, as `first_fit`. Looks at each boundary from `start` on, up to the answer. */
+bool range_set_i32_first_run(range_set_i32 set, int32_t start, int32_t end, uint32_t count, int32_t *first);
 
 /* ---- Sets of int32_t that change in their buffer ---- */
 
@@ -519,6 +531,9 @@ bool range_set_u32_prev_gap(range_set_u32 set, uint32_t from, uint32_t *previous
  * Looks at each boundary up to the answer once. */
 bool range_set_u32_select(range_set_u32 set, uint64_t k, uint32_t *at);
 
+/* How many members are below `at`. Looks at each boundary below `at` once. */
+uint64_t range_set_u32_rank(range_set_u32 set, uint32_t at);
+
 /* Whether the set has a range with `index` others before it, and then that range. A loop over all of them:
  *
  *     for (size_t i = 0; range_set_u32_get(set, i, &range); i++) ..
@@ -657,6 +672,15 @@ RANGE_SET_STATUS range_set_u32_parse(const char *text, size_t text_len, uint32_t
  * the least one: the first place where so many fit. Where there is none `first` is as it was. It may be null. A count of 0 fits
  * at `start`, if end >= start. Looks at each boundary from `start` on, up to the answer. */
 bool range_set_u32_first_fit(range_set_u32 set, uint32_t start, uint32_t end, uint32_t count, uint32_t *first);
+
+/* The same, but only where as many numbers of the type are below the first as a multiple of `align`: for a type without a sign, where
+ * the number is one. An `align` of 0 fits nowhere. */
+bool range_set_u32_first_fit_aligned(range_set_u32 set, uint32_t start, uint32_t end, uint32_t count, uint32_t align,
+                                          uint32_t *first);
+
+/* Whether `count` members in a row lie in `start` to below `end`, and then the least number that such begin with. Else, and with a
+ * count of 0, as `first_fit`. Looks at each boundary from `start` on, up to the answer. */
+bool range_set_u32_first_run(range_set_u32 set, uint32_t start, uint32_t end, uint32_t count, uint32_t *first);
 
 /* ---- Sets of uint32_t that change in their buffer ---- */
 
@@ -860,6 +884,9 @@ bool range_set_i64_prev_gap(range_set_i64 set, int64_t from, int64_t *previous);
  * Looks at each boundary up to the answer once. */
 bool range_set_i64_select(range_set_i64 set, uint64_t k, int64_t *at);
 
+/* How many members are below `at`. Looks at each boundary below `at` once. */
+uint64_t range_set_i64_rank(range_set_i64 set, int64_t at);
+
 /* Whether the set has a range with `index` others before it, and then that range. A loop over all of them:
  *
  *     for (size_t i = 0; range_set_i64_get(set, i, &range); i++) ..
@@ -998,6 +1025,15 @@ RANGE_SET_STATUS range_set_i64_parse(const char *text, size_t text_len, int64_t 
  * the least one: the first place where so many fit. Where there is none `first` is as it was. It may be null. A count of 0 fits
  * at `start`, if end >= start. Looks at each boundary from `start` on, up to the answer. */
 bool range_set_i64_first_fit(range_set_i64 set, int64_t start, int64_t end, uint64_t count, int64_t *first);
+
+/* The same, but only where as many numbers of the type are below the first as a multiple of `align`: for a type without a sign, where
+ * the number is one. An `align` of 0 fits nowhere. */
+bool range_set_i64_first_fit_aligned(range_set_i64 set, int64_t start, int64_t end, uint64_t count, uint64_t align,
+                                          int64_t *first);
+
+/* Whether `count` members in a row lie in `start` to below `end`, and then the least number that such begin with. Else, and with a
+ * count of 0, as `first_fit`. Looks at each boundary from `start` on, up to the answer. */
+bool range_set_i64_first_run(range_set_i64 set, int64_t start, int64_t end, uint64_t count, int64_t *first);
 
 /* ---- Sets of int64_t that change in their buffer ---- */
 
@@ -1201,6 +1237,9 @@ bool range_set_u64_prev_gap(range_set_u64 set, uint64_t from, uint64_t *previous
  * Looks at each boundary up to the answer once. */
 bool range_set_u64_select(range_set_u64 set, uint64_t k, uint64_t *at);
 
+/* How many members are below `at`. Looks at each boundary below `at` once. */
+uint64_t range_set_u64_rank(range_set_u64 set, uint64_t at);
+
 /* Whether the set has a range with `index` others before it, and then that range. A loop over all of them:
  *
  *     for (size_t i = 0; range_set_u64_get(set, i, &range); i++) ..
@@ -1339,6 +1378,15 @@ RANGE_SET_STATUS range_set_u64_parse(const char *text, size_t text_len, uint64_t
  * the least one: the first place where so many fit. Where there is none `first` is as it was. It may be null. A count of 0 fits
  * at `start`, if end >= start. Looks at each boundary from `start` on, up to the answer. */
 bool range_set_u64_first_fit(range_set_u64 set, uint64_t start, uint64_t end, uint64_t count, uint64_t *first);
+
+/* The same, but only where as many numbers of the type are below the first as a multiple of `align`: for a type without a sign, where
+ * the number is one. An `align` of 0 fits nowhere. */
+bool range_set_u64_first_fit_aligned(range_set_u64 set, uint64_t start, uint64_t end, uint64_t count, uint64_t align,
+                                          uint64_t *first);
+
+/* Whether `count` members in a row lie in `start` to below `end`, and then the least number that such begin with. Else, and with a
+ * count of 0, as `first_fit`. Looks at each boundary from `start` on, up to the answer. */
+bool range_set_u64_first_run(range_set_u64 set, uint64_t start, uint64_t end, uint64_t count, uint64_t *first);
 
 /* ---- Sets of uint64_t that change in their buffer ---- */
 

@@ -205,6 +205,11 @@ impl FromPlace for Ipv4Addr {
     fn from_place(place: u128) -> Option<Self> {
         u32::from_place(place).map(Self::from)
     }
+
+    #[inline]
+    fn greatest() -> Self {
+        Ipv4Addr::BROADCAST
+    }
 }
 
 #[cfg(feature = "std")]
@@ -212,6 +217,11 @@ impl FromPlace for Ipv6Addr {
     #[inline]
     fn from_place(place: u128) -> Option<Self> {
         Some(Self::from(place))
+    }
+
+    #[inline]
+    fn greatest() -> Self {
+        u128::MAX.into()
     }
 }
 

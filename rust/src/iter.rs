@@ -1,7 +1,7 @@
 //! The ranges of a set, one by one.
 
 use crate::array::Array;
-use crate::generated::range_collections as proved;
+use crate::generated::range_collections::{self as proved, FromPlace};
 use crate::range::RangeSetRange;
 use core::fmt;
 use core::iter::FusedIterator;
@@ -22,6 +22,21 @@ use smallvec::SmallVec;
 /// assert_eq!(free.next(), None);
 /// ```
 pub use crate::generated::range_collections::Gaps;
+/// [`RangeSetRef::members`] makes it.
+///
+/// [`RangeSetRef::members`]: crate::RangeSetRef::members
+///
+/// # Examples
+///
+/// ```
+/// use range_sets::{Members, RangeSetRef};
+///
+/// let free = RangeSetRef::new(&[3u8, 5, 9, 10]).unwrap();
+/// let mut seats: Members<u8> = free.members();
+/// assert_eq!((seats.next(), seats.next_back()), (Some(3), Some(9)));
+/// assert_eq!(format!("{seats:?}"), "[4]");
+/// ```
+pub use crate::generated::range_collections::Members;
 /// [`RangeSetRef::ranges_within`] makes it, and [`RangeSetRef::gaps`].
 ///
 /// [`RangeSetRef::gaps`]: crate::RangeSetRef::gaps
@@ -41,6 +56,13 @@ pub use crate::generated::range_collections::RangesWithin;
 
 /// The parts that are left.
 impl<T: fmt::Debug> fmt::Debug for RangesWithin<'_, T> {
+    fn fmt(&self, f: &mut fmt::Formatter<'_>) -> fmt::Result {
+        f.debug_list().entries(self.clone()).finish()
+    }
+}
+
+/// The members that are left.
+impl<T: FromPlace + fmt::Debug> fmt::Debug for Members<'_, T> {
     fn fmt(&self, f: &mut fmt::Formatter<'_>) -> fmt::Result {
         f.debug_list().entries(self.clone()).finish()
     }

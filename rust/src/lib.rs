@@ -100,7 +100,7 @@ pub use generated::range_collections::Unsigned;
 /// assert_eq!(u8::read("700"), None);
 /// ```
 pub use generated::range_collections::WholeNumber;
-pub use iter::{Gaps, IntoIter, Iter, RangesWithin};
+pub use iter::{Gaps, IntoIter, Iter, Members, RangesWithin};
 pub use operation::{Connective, NoRoom};
 pub use range::RangeSetRange;
 pub use range_set::{RangeSet, RangeSet2};

@@ -1,5 +1,6 @@
 //! A borrowed set: its boundaries as a slice.
 
+mod fitting;
 mod operations;
 mod operators;
 mod parts;

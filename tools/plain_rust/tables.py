@@ -30,11 +30,13 @@ PRELUDE = ("Vec",)
 #   Iterator::collect(self, alloc: Global) -> Result<Vec<Self::Item>, AllocError>
 #   usize::div_ceil(self, by: usize) -> usize, since 1.73
 #   usize::ilog2(self) -> u32, since 1.67
+#   u128::checked_next_multiple_of(self, by: u128) -> Option<u128>, since 1.73
 RENAMED = {
     "sort": ("sort_in", "SortIn"),
     "collect": ("collect_in", "CollectIn"),
     "div_ceil": ("div_up", "DivUp"),
     "ilog2": ("log2_down", "Log2Down"),
+    "checked_next_multiple_of": ("next_multiple_up", "NextMultipleUp"),
 }
 
 # Methods of std and of smallvec that are the same in Rust, or that support's lists have.
@@ -118,6 +120,7 @@ UNCALLED = {
         "RangeSet::split_counted", "RangeSet::gaps_counted", "RangeSet::ranges_within_counted", "RangeSet::merge_into",
     },
     "range_collections/range_set/operations": {"RangeSet::merge_new", "RangeSet::combine"},
+    "range_collections/range_set/values": {"RangeSet::from_values"},
     "range_collections/view": {"RangeSetRef::single"},
     "range_collections/view/operations": {"RangeSetRef::merge_new"},
     "range_tracker/tracker": {"Tracker::gaps"},
@@ -131,9 +134,10 @@ IMPLS_LEFT_OUT = {"MadeWith", "Model", "RangeSetEntry"}
 # Private fields and functions that support and the layer use, by their file.
 SHOWN = {
     "range_merge/merge_state/in_place_ref": {"over"},
+    "range_collections/range_set/values": {"range_of"},
     "range_chunks/set": {"chunks"},
     "range_chunks/tracker": {"chunks", "len", "limit"},
     "range_tracker/tracker": {"set", "limit"},
 }
 # Structs that are cloned in Rust whatever their elements are, by their file: their fields are references.
-CLONED = {"range_collections/iter": {"Iter", "RangesWithin", "Unread"}}
+CLONED = {"range_collections/iter": {"Iter", "RangesWithin", "Unread"}, "range_collections/members": {"Members"}}

@@ -7,7 +7,6 @@ pub mod Meant
 pub mod FromLeast
 pub mod Put
 pub mod Read
-pub mod Fitted
 pub mod BoxedI32
 pub mod BoxedU32
 pub mod BoxedI64

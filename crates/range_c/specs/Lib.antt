@@ -6,6 +6,5 @@ pub mod Ranges
 pub mod Joining
 pub mod Text
 pub mod Reading
-pub mod Fitting
 pub mod Boxed
 pub mod Chunked

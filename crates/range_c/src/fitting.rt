@@ -1,49 +1,54 @@
-//! The first place where so many numbers fit, also numbers with a sign: the start of the first gap
-//! that has as many.
-ghost use Rattle.std.specs.Prelude.{◌≡◌, ◌-◌, ◌<◌, cond, None, Some};
-ghost use Rattle.std.specs.Ordering.{is_le};
+//! Where a stretch of numbers fits from a multiple on, and where members are in a row.
+ghost use Rattle.std.specs.Prelude.{◌≡◌, ◌<◌, ◌≤◌, ◌%◌, ℕ, true, false, IsTrue};
 ghost use Rattle.range_collections.specs.Boundaries.{IsAscending};
-ghost use Rattle.range_c.specs.Fitting.{IsFirstFit};
+ghost use Rattle.range_collections.specs.Fits.{IsRow};
 
-use range_collections::{Countable, RangeSetRef};
+use crate::parts::put;
+use range_collections::{Countable, FromPlace, RangeSetRef};
 use std::ops::Range;
 
-// The least number from which on `count` numbers lie between `start` and `end` and none is a
-// member, if there is one. No number fits at `start`.
-pub(crate) fn first_place<T: Countable + Copy>(a: &[T], start: T, end: T, count: u128) -> Option<T>
+// Tells the least number whose place is a multiple of `align` and from which on `count` numbers lie
+// in the range and none is a member, where there is one.
+pub(crate) fn first_fit_aligned<T: FromPlace>(
+    a: &[T],
+    within: Range<T>,
+    count: u128,
+    align: u128,
+    at: &mut T,
+) -> bool
     requires { IsAscending T.cmp a.now }
-    ensures first { 0 < count → IsFirstFit T.cmp T.place a.now start end count result }
-    ensures nothing { count ≡ 0 → result ≡ cond (is_le (T.cmp start end)) (Some start) None }
+    ensures fits { IsTrue result → IsRow T.cmp T.value false a.now
+        (T.place within.start) (T.place within.end) count (T.place at.new) }
+    ensures aligned { IsTrue result → T.place at.new % align ≡ 0 }
+    ensures least { IsTrue result → (n : ℕ) → n % align ≡ 0 → IsRow T.cmp T.value false a.now
+        (T.place within.start) (T.place within.end) count n → T.place at.new ≤ n }
+    ensures none { result ≡ false → 0 < align → (n : ℕ) → n % align ≡ 0 →
+        ¬ (IsRow T.cmp T.value false a.now
+        (T.place within.start) (T.place within.end) count n) }
+    ensures unchanged { result ≡ false → at.new ≡ at.old }
 {
-    if count > 0 {
-        return first_gap(a, &start, &end, count);
-    }
-    if start.cmp(&end).is_le() {
-        Some(start)
-    } else {
-        None
-    }
+    put(
+        RangeSetRef::new_unchecked(a).first_fit_aligned(within, count, align),
+        at,
+    )
 }
 
-// The start of the first gap between `start` and `end` with at least `count` values, if there is
+// Tells the least number from which on `count` members in a row lie in the range, where there is
 // one.
-fn first_gap<T: Countable + Copy>(a: &[T], start: &T, end: &T, count: u128) -> Option<T>
+pub(crate) fn first_run<T: Countable + Copy>(
+    a: &[T],
+    within: Range<T>,
+    count: u128,
+    at: &mut T,
+) -> bool
     requires { IsAscending T.cmp a.now }
-    ensures { IsFirstFit T.cmp T.place a.now start.now end.now count result }
+    ensures fits { IsTrue result → IsRow T.cmp T.value true a.now
+        (T.place within.start) (T.place within.end) count (T.place at.new) }
+    ensures least { IsTrue result → (n : ℕ) → IsRow T.cmp T.value true a.now
+        (T.place within.start) (T.place within.end) count n → T.place at.new ≤ n }
+    ensures none { result ≡ false → (n : ℕ) → ¬ (IsRow T.cmp T.value true a.now
+        (T.place within.start) (T.place within.end) count n) }
+    ensures unchanged { result ≡ false → at.new ≡ at.old }
 {
-    // A view that need not live longer than the ends.
-    let set = RangeSetRef::new_unchecked(a);
-    for gap in set.gaps(start..end) {
-        if values_in(&gap) >= count {
-            return Some(*gap.start);
-        }
-    }
-    None
-}
-
-// How many values a range has.
-fn values_in<T: Countable>(range: &Range<&T>) -> u128
-    ensures { result ≡ T.place range.now.end.now - T.place range.now.start.now }
-{
-    range.end.place().saturating_sub(range.start.place())
+    put(RangeSetRef::new_unchecked(a).first_run(within, count), at)
 }

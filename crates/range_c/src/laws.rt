@@ -3,14 +3,12 @@
 ghost use Rattle.std.specs.Prelude.{◌≡◌, ◌<◌, ◌≤◌, ℕ, Bool, true, false, IsTrue, List, Option, Some, None, length, take, drop, slice_get};
 ghost use Rattle.std.specs.Ordering.{is_le};
 ghost use Rattle.std.specs.Str.{IsUtf8};
-ghost use Rattle.std.specs.declared.cmp.Ordering.TheVariants.{Less};
 ghost use Rattle.std.specs.declared.ops.Bound.TheVariants.{Unbounded};
 ghost use Rattle.range_collections.specs.Boundaries.{member};
 ghost use Rattle.range_collections.specs.Connective.{Table, Means};
 ghost use Rattle.range_collections.specs.Ranges.{range_end};
 ghost use Rattle.range_collections.specs.Reading.{is_ranges};
 ghost use Rattle.range_c.specs.Answers.{AreAscending, AnswersList};
-ghost use Rattle.range_c.specs.Fitting.{IsFirstFit};
 ghost use Rattle.range_c.specs.FromLeast.{MeansFrom, AnswersFrom};
 ghost use Rattle.range_c.specs.InPlace.{ChangesList, ChangesWithin};
 ghost use Rattle.range_c.specs.Parts.{TellsRange, range_told};
@@ -121,11 +119,4 @@ pub fn a_text_of_ranges_is_told_as_one<T>()
     ensures { (number : List ℕ → Option T) (text : List ℕ) (status told : ℕ) →
         TellsText number text status told → IsUtf8 text → is_ranges number text ≡ true →
         (status ≡ 0) × (told ≡ numbers_in number text) }
-{}
-
-/// The first place where so many values fit lies between the ends, and is no member.
-pub fn what_fits_starts_in_a_gap<T: Ord>()
-    ensures { (place : T → ℕ) (items : List T) (start end x : T) (count : ℕ) →
-        IsFirstFit T.cmp place items start end count (Some x) →
-        (is_le (T.cmp start x) ≡ true) × (T.cmp x end ≡ Less) × (member T.cmp items x ≡ false) }
 {}

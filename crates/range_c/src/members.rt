@@ -1,12 +1,12 @@
-//! Members one by one: the one before, and which has so many others below it.
-ghost use Rattle.std.specs.Prelude.{◌≡◌, ◌≤◌, true, false, IsTrue};
+//! Members one by one: the one before, which has so many others below it, and how many one has.
+ghost use Rattle.std.specs.Prelude.{◌≡◌, ◌≤◌, ◌^◌, true, false, IsTrue};
 ghost use Rattle.std.specs.Ordering.{is_le};
 ghost use Rattle.range_collections.specs.Boundaries.{IsAscending, member};
 ghost use Rattle.range_collections.specs.Covered.{members_below};
 ghost use Rattle.range_collections.specs.Members.{IsPrevious};
 
 use crate::parts::put;
-use range_collections::{FromPlace, RangeSetRef};
+use range_collections::{Countable, FromPlace, RangeSetRef};
 
 // Tells the greatest member at or below `from`, where there is one.
 pub(crate) fn prev_member<T: FromPlace>(a: &[T], from: &T, previous: &mut T) -> bool
@@ -41,4 +41,13 @@ pub(crate) fn select<T: FromPlace>(a: &[T], k: u64, at: &mut T) -> bool
     ensures unchanged { result ≡ false → at.new ≡ at.old }
 {
     put(RangeSetRef::new_unchecked(a).select(u128::from(k)), at)
+}
+
+// How many members are below `at`.
+pub(crate) fn rank<T: Countable>(a: &[T], at: &T) -> u64
+    requires few { T.count ≤ 2 ^ 64 }
+    requires sorted { IsAscending T.cmp a.now }
+    ensures { result ≡ members_below T.cmp T.value a.now (T.place at.now) }
+{
+    RangeSetRef::new_unchecked(a).rank(at) as u64
 }

@@ -202,6 +202,11 @@ macro_rules! calls {
                 unsafe { number_told(at, |it| proved_select(list, k, it)) }
             }
 
+            #[export_name = concat!("range_set_", $name, "_rank")]
+            unsafe extern "C" fn rank(set: Numbers, at: $number) -> u64 {
+                proved_rank(unsafe { set.list() }, at)
+            }
+
             #[export_name = concat!("range_set_", $name, "_get")]
             unsafe extern "C" fn get(
                 set: Numbers,
@@ -274,6 +279,35 @@ macro_rules! calls {
             ) -> bool {
                 let list = unsafe { set.list() };
                 unsafe { number_told(first, |at| proved_first_fit(list, start, end, count, at)) }
+            }
+
+            #[export_name = concat!("range_set_", $name, "_first_fit_aligned")]
+            unsafe extern "C" fn first_fit_aligned(
+                set: Numbers,
+                start: $number,
+                end: $number,
+                count: $count,
+                align: $count,
+                first: *mut $number,
+            ) -> bool {
+                let list = unsafe { set.list() };
+                unsafe {
+                    number_told(first, |at| {
+                        proved_first_fit_aligned(list, start, end, count, align, at)
+                    })
+                }
+            }
+
+            #[export_name = concat!("range_set_", $name, "_first_run")]
+            unsafe extern "C" fn first_run(
+                set: Numbers,
+                start: $number,
+                end: $number,
+                count: $count,
+                first: *mut $number,
+            ) -> bool {
+                let list = unsafe { set.list() };
+                unsafe { number_told(first, |at| proved_first_run(list, start, end, count, at)) }
             }
 
             // ---- Operations ----

@@ -38,6 +38,22 @@ impl Log2Down for usize {
     }
 }
 
+/// `checked_next_multiple_of`, since 1.73.
+pub trait NextMultipleUp: Sized {
+    /// The least multiple of `by` that is this number or more, or `None` if that is too large or `by` is 0.
+    fn next_multiple_up(self, by: Self) -> Option<Self>;
+}
+
+impl NextMultipleUp for u128 {
+    #[inline(always)]
+    fn next_multiple_up(self, by: u128) -> Option<u128> {
+        match self.checked_rem(by)? {
+            0 => Some(self),
+            past => self.checked_add(by - past),
+        }
+    }
+}
+
 /// `std::hint::select_unpredictable`, since 1.88: the one or the other, by no branch if the compiler sees it so.
 #[inline(always)]
 pub fn select_unpredictable<T>(first: bool, one: T, other: T) -> T {

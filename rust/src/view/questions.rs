@@ -2,12 +2,12 @@
 
 use crate::any_range::AnyRange;
 use crate::entry::RangeSetEntry;
-use crate::generated::range_collections::{Comparisons, Countable, FromPlace, Unsigned};
+use crate::generated::range_collections::{Comparisons, Countable, FromPlace};
+use crate::iter::Members;
 use crate::generated::range_merge::NoRoom;
 use crate::operation::Connective;
 use crate::range::RangeSetRange;
 use crate::view::RangeSetRef;
-use core::ops::Range;
 
 impl<T> RangeSetRef<T> {
     /// Returns `true` if the set has no member.
@@ -244,27 +244,22 @@ impl<T: Ord> RangeSetRef<T> {
         self.proved().select(k)
     }
 
-    /// Returns the least number of the range from which on `len` numbers of it are free, that is, not members.
-    ///
-    /// It is `None` if there is no such stretch. It takes time for each boundary up to the answer.
+    /// Returns the members one by one, from the lowest on or from the highest down.
     ///
     /// # Examples
-    ///
-    /// Room for 20 bytes beside those that are in use:
     ///
     /// ```
     /// use range_sets::RangeSetRef;
     ///
-    /// let used = RangeSetRef::new(&[0u64, 64, 80, 128]).unwrap();
-    /// assert_eq!(used.first_fit(0..4096, 16), Some(64));
-    /// assert_eq!(used.first_fit(0..4096, 20), Some(128));
-    /// assert_eq!(used.first_fit(0..140, 20), None);
+    /// let set = RangeSetRef::new(&[3u8, 5, 254]).unwrap();
+    /// assert!(set.members().eq([3, 4, 254, 255]));
+    /// assert!(set.members().rev().take(3).eq([255, 254, 4]));
     /// ```
-    pub fn first_fit(&self, within: Range<T>, len: T) -> Option<T>
+    pub fn members(&self) -> Members<'_, T>
     where
-        T: Unsigned,
+        T: FromPlace,
     {
-        self.proved().first_fit(within, len)
+        self.proved().members()
     }
 
     /// Returns `true` if the result of an operation has a member. It stops at the first one.

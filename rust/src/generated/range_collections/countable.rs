@@ -26,3 +26,8 @@ pub trait Countable: RangeSetEntry {
 
 /// A whole number without a sign: its place is the number itself, and contracts read both as one.
 pub trait Unsigned: Countable + Copy {}
+
+// A caller learns that the last item, where there is one, is a value.
+pub(crate) fn know_last<T: RangeSetEntry>(items: &[T]) {
+    if let Some(last) = items.last() {}
+}

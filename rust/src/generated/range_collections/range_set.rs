@@ -7,6 +7,7 @@
 pub(crate) mod by_view;
 pub(crate) mod constructors;
 pub(crate) mod endless;
+pub(crate) mod fitting;
 pub(crate) mod in_place;
 pub(crate) mod insertion;
 pub(crate) mod joining;
@@ -16,6 +17,7 @@ pub(crate) mod members;
 pub(crate) mod operations;
 pub(crate) mod operators;
 pub(crate) mod splicing;
+pub(crate) mod values;
 
 use crate::generated::range_collections::iter::Iter;
 use crate::generated::range_collections::lists::is_ascending;
@@ -55,8 +57,8 @@ use crate::support::{AllocError, Global, SmallVec, Vec};
 /// | `contains`, `range_at`, `split`, `next_member`, `next_gap`, `prev_member`, `prev_gap`, `rank` | `d(n)` | |
 /// | `contains_range`, `gaps`, `ranges_within` | `2 d(n) + 1` | |
 /// | `intersects_range` | `d(n) + 2` | |
-/// | `first_fit` | `2 d(n) + 1`, then two numbers a boundary | |
-/// | `iter`, `first`, `last`, `span`, `ranges_len`, `covered`, `select`, `is_empty`, `as_ref`, `boundaries` | none | |
+/// | `first_fit`, `first_fit_count`, `first_fit_aligned`, `first_run` | `2 d(n) + 1`, then two numbers a boundary | |
+/// | `iter`, `members`, `first`, `last`, `span`, `ranges_len`, `covered`, `select`, `is_empty`, `as_ref`, `boundaries` | none | |
 /// | `is_all` | one `is_min_value` | |
 /// | `==`, `eq_ref`, `new` | one a boundary | |
 /// | `intersects`, `is_disjoint`, `is_subset`, `is_superset`, `merge_test`, `merge_len` | `2 w` | |
@@ -67,7 +69,7 @@ use crate::support::{AllocError, Global, SmallVec, Vec};
 /// | `merge_into` a slice | `2 w` | |
 /// | `!` | one `is_min_value` | one boundary; of a reference the result |
 /// | `from_range` | 1 | beyond `N` |
-/// | `from_ranges`, `union_all`, `intersection_all` of k parts with l boundaries | `2 l d(k - 1)`, and two a range | the result |
+/// | `from_ranges`, `from_values`, `union_all`, `intersection_all` of k parts with l boundaries | `2 l d(k - 1)`, and two a range | the result |
 /// | `from_unsorted`, `from_json` | a sort's | a sort's buffer |
 /// | `clone`, `to_json` | none | the result |
 ///

@@ -4,6 +4,7 @@
 pub(crate) mod counting;
 pub(crate) mod endless;
 pub(crate) mod equality;
+pub(crate) mod fitting;
 pub(crate) mod members;
 pub(crate) mod operations;
 pub(crate) mod parts;

@@ -4,10 +4,10 @@
 use crate::generated::range_c::calls::{combine, merge, range_of, split};
 use crate::generated::range_c::combining::combine_within;
 use crate::generated::range_c::ends::Ends;
-use crate::generated::range_c::fitting::first_place;
+use crate::generated::range_c::fitting::{first_fit_aligned, first_run};
 use crate::generated::range_c::from_least::combine_from;
 use crate::generated::range_c::in_place::{insert, remove};
-use crate::generated::range_c::members::{prev_gap, prev_member, select};
+use crate::generated::range_c::members::{prev_gap, prev_member, rank, select};
 use crate::generated::range_c::parts::{
     covered, first, last, next_gap, next_member, put, range, range_at, range_from,
 };
@@ -390,6 +390,19 @@ pub(crate) fn proved_select(a: &[i32], k: u64, at: &mut i32) -> bool {
     select(a, k, at)
 }
 
+/// How many members are below `at`.
+///
+/// # Contract
+///
+/// ```text
+/// requires IsAscending int_cmp a.now
+/// ensures result ≡ members_below int_cmp (signed_value (2 ^ 31)) a.now (signed_place (2 ^ 31)
+///     at)
+/// ```
+pub(crate) fn proved_rank(a: &[i32], at: i32) -> u64 {
+    rank(a, &at)
+}
+
 /// How many ranges the set has.
 ///
 /// # Contract
@@ -476,7 +489,58 @@ pub(crate) fn proved_covered(a: &[i32], count: &mut u64) -> bool {
 /// ensures unchanged: result ≡ false → at.new ≡ at.old
 /// ```
 pub(crate) fn proved_first_fit(a: &[i32], start: i32, end: i32, count: u32, at: &mut i32) -> bool {
-    put(first_place(a, start, end, u128::from(count)), at)
+    put(
+        RangeSetRef::new_unchecked(a).first_fit_count(start..end, u128::from(count)),
+        at,
+    )
+}
+
+/// Whether there is a number from which on `count` numbers lie between `start` and `end`, none of them a member, and whose place is a multiple of `align`, and then writes the least one.
+///
+/// # Contract
+///
+/// ```text
+/// requires IsAscending int_cmp a.now
+/// ensures fits: IsTrue result → IsRow int_cmp (signed_value (2 ^ 31)) false a.now
+///     (signed_place (2 ^ 31) start) (signed_place (2 ^ 31) end) count (signed_place (2 ^ 31)
+///     at.new)
+/// ensures aligned: IsTrue result → (signed_place (2 ^ 31) at.new) % align ≡ 0
+/// ensures least: IsTrue result → (n : ℕ) → n % align ≡ 0 → IsRow int_cmp (signed_value (2 ^
+///     31)) false a.now (signed_place (2 ^ 31) start) (signed_place (2 ^ 31) end) count n →
+///     signed_place (2 ^ 31) at.new ≤ n
+/// ensures none: result ≡ false → 0 < align → (n : ℕ) → n % align ≡ 0 → ¬ (IsRow int_cmp
+///     (signed_value (2 ^ 31)) false a.now (signed_place (2 ^ 31) start) (signed_place (2 ^ 31)
+///     end) count n)
+/// ensures unchanged: result ≡ false → at.new ≡ at.old
+/// ```
+pub(crate) fn proved_first_fit_aligned(
+    a: &[i32],
+    start: i32,
+    end: i32,
+    count: u32,
+    align: u32,
+    at: &mut i32,
+) -> bool {
+    first_fit_aligned(a, start..end, u128::from(count), u128::from(align), at)
+}
+
+/// Whether there is a number from which on `count` members in a row lie between `start` and `end`, and then writes the least one.
+///
+/// # Contract
+///
+/// ```text
+/// requires IsAscending int_cmp a.now
+/// ensures fits: IsTrue result → IsRow int_cmp (signed_value (2 ^ 31)) true a.now (signed_place
+///     (2 ^ 31) start) (signed_place (2 ^ 31) end) count (signed_place (2 ^ 31) at.new)
+/// ensures least: IsTrue result → (n : ℕ) → IsRow int_cmp (signed_value (2 ^ 31)) true a.now
+///     (signed_place (2 ^ 31) start) (signed_place (2 ^ 31) end) count n → signed_place (2 ^
+///     31) at.new ≤ n
+/// ensures none: result ≡ false → (n : ℕ) → ¬ (IsRow int_cmp (signed_value (2 ^ 31)) true a.now
+///     (signed_place (2 ^ 31) start) (signed_place (2 ^ 31) end) count n)
+/// ensures unchanged: result ≡ false → at.new ≡ at.old
+/// ```
+pub(crate) fn proved_first_run(a: &[i32], start: i32, end: i32, count: u32, at: &mut i32) -> bool {
+    first_run(a, start..end, u128::from(count), at)
 }
 
 /// Sorts the numbers, in any order, and moves the distinct ones to the front, as many as it answers.

@@ -4,9 +4,10 @@
 use crate::generated::range_c::calls::{combine, merge, range_of, split};
 use crate::generated::range_c::combining::combine_within;
 use crate::generated::range_c::ends::Ends;
+use crate::generated::range_c::fitting::{first_fit_aligned, first_run};
 use crate::generated::range_c::from_least::combine_from;
 use crate::generated::range_c::in_place::{insert, remove};
-use crate::generated::range_c::members::{prev_gap, prev_member, select};
+use crate::generated::range_c::members::{prev_gap, prev_member, rank, select};
 use crate::generated::range_c::parts::{
     covered, first, first_fit, last, next_gap, next_member, range, range_at, range_from,
 };
@@ -386,6 +387,18 @@ pub(crate) fn proved_select(a: &[u32], k: u64, at: &mut u32) -> bool {
     select(a, k, at)
 }
 
+/// How many members are below `at`.
+///
+/// # Contract
+///
+/// ```text
+/// requires IsAscending nat_cmp a.now
+/// ensures result ≡ members_below nat_cmp (λ n. n) a.now (at)
+/// ```
+pub(crate) fn proved_rank(a: &[u32], at: u32) -> u64 {
+    rank(a, &at)
+}
+
 /// How many ranges the set has.
 ///
 /// # Contract
@@ -471,6 +484,48 @@ pub(crate) fn proved_covered(a: &[u32], count: &mut u64) -> bool {
 /// ```
 pub(crate) fn proved_first_fit(a: &[u32], start: u32, end: u32, len: u32, at: &mut u32) -> bool {
     first_fit(a, start, end, len, at)
+}
+
+/// Whether there is a number from which on `count` numbers lie between `start` and `end`, none of them a member, and whose place is a multiple of `align`, and then writes the least one.
+///
+/// # Contract
+///
+/// ```text
+/// requires IsAscending nat_cmp a.now
+/// ensures fits: IsTrue result → IsRow nat_cmp (λ n. n) false a.now start end count (at.new)
+/// ensures aligned: IsTrue result → (at.new) % align ≡ 0
+/// ensures least: IsTrue result → (n : ℕ) → n % align ≡ 0 → IsRow nat_cmp (λ n. n) false a.now
+///     start end count n → at.new ≤ n
+/// ensures none: result ≡ false → 0 < align → (n : ℕ) → n % align ≡ 0 → ¬ (IsRow nat_cmp (λ n.
+///     n) false a.now start end count n)
+/// ensures unchanged: result ≡ false → at.new ≡ at.old
+/// ```
+pub(crate) fn proved_first_fit_aligned(
+    a: &[u32],
+    start: u32,
+    end: u32,
+    count: u32,
+    align: u32,
+    at: &mut u32,
+) -> bool {
+    first_fit_aligned(a, start..end, u128::from(count), u128::from(align), at)
+}
+
+/// Whether there is a number from which on `count` members in a row lie between `start` and `end`, and then writes the least one.
+///
+/// # Contract
+///
+/// ```text
+/// requires IsAscending nat_cmp a.now
+/// ensures fits: IsTrue result → IsRow nat_cmp (λ n. n) true a.now start end count (at.new)
+/// ensures least: IsTrue result → (n : ℕ) → IsRow nat_cmp (λ n. n) true a.now start end count n
+///     → at.new ≤ n
+/// ensures none: result ≡ false → (n : ℕ) → ¬ (IsRow nat_cmp (λ n. n) true a.now start end
+///     count n)
+/// ensures unchanged: result ≡ false → at.new ≡ at.old
+/// ```
+pub(crate) fn proved_first_run(a: &[u32], start: u32, end: u32, count: u32, at: &mut u32) -> bool {
+    first_run(a, start..end, u128::from(count), at)
 }
 
 /// Sorts the numbers, in any order, and moves the distinct ones to the front, as many as it answers.

@@ -14,11 +14,25 @@ pub trait FromPlace: Countable + Copy {
     /// ensures SomeIff result (place < Self.count) (Self.value place)
     /// ```
     fn from_place(place: u128) -> Option<Self>;
+
+    /// The greatest value.
+    ///
+    /// # Contract
+    ///
+    /// ```text
+    /// ensures value: Self.is_value result
+    /// ensures place: Self.place result + 1 ≡ Self.count
+    /// ```
+    fn greatest() -> Self;
 }
 
 impl FromPlace for u8 {
     fn from_place(place: u128) -> Option<u8> {
         u8::try_from(place).ok()
+    }
+
+    fn greatest() -> u8 {
+        u8::MAX
     }
 }
 
@@ -26,11 +40,19 @@ impl FromPlace for u16 {
     fn from_place(place: u128) -> Option<u16> {
         u16::try_from(place).ok()
     }
+
+    fn greatest() -> u16 {
+        u16::MAX
+    }
 }
 
 impl FromPlace for u32 {
     fn from_place(place: u128) -> Option<u32> {
         u32::try_from(place).ok()
+    }
+
+    fn greatest() -> u32 {
+        u32::MAX
     }
 }
 
@@ -38,11 +60,19 @@ impl FromPlace for u64 {
     fn from_place(place: u128) -> Option<u64> {
         u64::try_from(place).ok()
     }
+
+    fn greatest() -> u64 {
+        u64::MAX
+    }
 }
 
 impl FromPlace for u128 {
     fn from_place(place: u128) -> Option<u128> {
         Some(place)
+    }
+
+    fn greatest() -> u128 {
+        u128::MAX
     }
 }
 
@@ -50,11 +80,19 @@ impl FromPlace for usize {
     fn from_place(place: u128) -> Option<usize> {
         usize::try_from(place).ok()
     }
+
+    fn greatest() -> usize {
+        usize::MAX
+    }
 }
 
 impl FromPlace for i8 {
     fn from_place(place: u128) -> Option<i8> {
         i8::try_from(i128::try_from(place).ok()? + i8::MIN as i128).ok()
+    }
+
+    fn greatest() -> i8 {
+        i8::MAX
     }
 }
 
@@ -62,17 +100,29 @@ impl FromPlace for i16 {
     fn from_place(place: u128) -> Option<i16> {
         i16::try_from(i128::try_from(place).ok()? + i16::MIN as i128).ok()
     }
+
+    fn greatest() -> i16 {
+        i16::MAX
+    }
 }
 
 impl FromPlace for i32 {
     fn from_place(place: u128) -> Option<i32> {
         i32::try_from(i128::try_from(place).ok()? + i32::MIN as i128).ok()
     }
+
+    fn greatest() -> i32 {
+        i32::MAX
+    }
 }
 
 impl FromPlace for i64 {
     fn from_place(place: u128) -> Option<i64> {
         i64::try_from(i128::try_from(place).ok()? + i64::MIN as i128).ok()
+    }
+
+    fn greatest() -> i64 {
+        i64::MAX
     }
 }
 
@@ -83,11 +133,19 @@ impl FromPlace for i128 {
             Err(_) => i128::try_from(place - (1 << 127)).ok(),
         }
     }
+
+    fn greatest() -> i128 {
+        i128::MAX
+    }
 }
 
 impl FromPlace for isize {
     fn from_place(place: u128) -> Option<isize> {
         isize::try_from(i128::try_from(place).ok()? + isize::MIN as i128).ok()
+    }
+
+    fn greatest() -> isize {
+        isize::MAX
     }
 }
 
@@ -98,5 +156,9 @@ impl FromPlace for char {
             return char::from_u32(code);
         }
         char::from_u32(code.checked_add(0x800)?)
+    }
+
+    fn greatest() -> char {
+        char::MAX
     }
 }

@@ -2,7 +2,7 @@
 //! What the set's view answers, in the order of the view's calls.
 
 use crate::generated::range_collections::comparisons::Comparisons;
-use crate::generated::range_collections::countable::{Countable, Unsigned};
+use crate::generated::range_collections::countable::Countable;
 use crate::generated::range_collections::iter::{Gaps, Iter, RangesWithin};
 use crate::generated::range_collections::range_set::RangeSet;
 use crate::generated::range_collections::range_set_range::RangeSetRange;
@@ -319,28 +319,5 @@ impl<T: Countable, const N: usize> RangeSet<T, N> {
     /// ```
     pub fn covered(&self) -> Option<u128> {
         self.as_ref().covered()
-    }
-}
-
-impl<T: Unsigned, const N: usize> RangeSet<T, N> {
-    /// The least number from which `len` numbers lie in the range, none of them a member, or `None`
-    /// if there is no such number. If `len` is 0, it is the start of the range, unless that is
-    /// reversed.
-    ///
-    /// It looks at each gap from the start up to the answer, and takes no memory.
-    ///
-    /// # Contract
-    ///
-    /// ```text
-    /// ensures fits: IfSome result (Fits T.cmp T.place self.now within.start within.end len)
-    /// ensures free: IfSome result (λ at. (x : T) → T.place at ≤ T.place x → T.place x < T.place at
-    ///     + T.place len → member T.cmp self.now x ≡ false)
-    /// ensures least: IfSome result (λ x. (y : T) → Fits T.cmp T.place self.now within.start
-    ///     within.end len y → T.place x ≤ T.place y)
-    /// ensures none: IfNone result ((x : T) → ¬ (Fits T.cmp T.place self.now within.start
-    ///     within.end len x))
-    /// ```
-    pub fn first_fit(&self, within: Range<T>, len: T) -> Option<T> {
-        self.as_ref().first_fit(within, len)
     }
 }

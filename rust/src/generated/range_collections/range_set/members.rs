@@ -2,6 +2,7 @@
 //! The members of a set one by one, as its view tells them.
 
 use crate::generated::range_collections::countable::{Countable, FromPlace};
+use crate::generated::range_collections::members::Members;
 use crate::generated::range_collections::range_set::RangeSet;
 
 impl<T: Countable, const N: usize> RangeSet<T, N> {
@@ -12,7 +13,8 @@ impl<T: Countable, const N: usize> RangeSet<T, N> {
     /// # Contract
     ///
     /// ```text
-    /// ensures result ≡ members_below T.cmp T.value self.now (T.place at.now)
+    /// ensures fits: result < T.count
+    /// ensures value: result ≡ members_below T.cmp T.value self.now (T.place at.now)
     /// ```
     pub fn rank(&self, at: &T) -> u128 {
         self.as_ref().rank(at)
@@ -70,5 +72,18 @@ impl<T: FromPlace, const N: usize> RangeSet<T, N> {
     /// ```
     pub fn select(&self, k: u128) -> Option<T> {
         self.as_ref().select(k)
+    }
+
+    /// The members one by one, from the lowest on or from the highest down.
+    ///
+    /// It takes no memory, and makes no comparison.
+    ///
+    /// # Contract
+    ///
+    /// ```text
+    /// ensures result ≡ members_of T.cmp T.value self.now 0 T.count
+    /// ```
+    pub fn members(&self) -> Members<'_, T> {
+        self.as_ref().members()
     }
 }

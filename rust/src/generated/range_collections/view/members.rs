@@ -2,11 +2,11 @@
 //! The members of a view one by one, of values that stand in a row.
 
 use crate::generated::range_collections::comparisons::Comparisons;
-use crate::generated::range_collections::countable::{Countable, FromPlace};
+use crate::generated::range_collections::countable::{know_last, Countable, FromPlace};
 use crate::generated::range_collections::lists::is_odd;
+use crate::generated::range_collections::members::Members;
 use crate::generated::range_collections::view::counting::{between, count_members};
 use crate::generated::range_collections::view::RangeSetRef;
-use crate::generated::range_entry::RangeSetEntry;
 use crate::generated::range_merge::count_up_to;
 
 impl<'a, T: Countable> RangeSetRef<'a, T> {
@@ -17,7 +17,8 @@ impl<'a, T: Countable> RangeSetRef<'a, T> {
     /// # Contract
     ///
     /// ```text
-    /// ensures result ≡ members_below T.cmp T.value self.now.boundaries.now (T.place at.now)
+    /// ensures fits: result < T.count
+    /// ensures value: result ≡ members_below T.cmp T.value self.now.boundaries.now (T.place at.now)
     /// ```
     pub fn rank(&self, at: &T) -> u128 {
         let before = count_up_to(self.boundaries, at, &mut Comparisons::new());
@@ -84,6 +85,19 @@ impl<'a, T: FromPlace> RangeSetRef<'a, T> {
         nth_member(self.boundaries, k)
     }
 
+    /// The members one by one, from the lowest on or from the highest down.
+    ///
+    /// It takes no memory, and makes no comparison.
+    ///
+    /// # Contract
+    ///
+    /// ```text
+    /// ensures result ≡ members_of T.cmp T.value self.now.boundaries.now 0 T.count
+    /// ```
+    pub fn members(&self) -> Members<'a, T> {
+        Members::new(self.boundaries)
+    }
+
     // The greatest value at or below `from` that is a member, where `inside` is true, or else that
     // is none.
     fn prev_at(&self, from: &T, inside: bool) -> Option<T> {
@@ -117,9 +131,4 @@ fn value_below<T: FromPlace>(items: &[T]) -> Option<T> {
     let (last, rest) = items.split_last()?;
     know_last(rest);
     T::from_place(last.place().checked_sub(1)?)
-}
-
-// A caller learns that the last item, where there is one, is a value.
-fn know_last<T: RangeSetEntry>(items: &[T]) {
-    if let Some(last) = items.last() {}
 }
