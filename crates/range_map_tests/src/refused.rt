@@ -7,19 +7,27 @@ use std::alloc::{AllocError, Global};
 
 // How many ranges of 10 the map has, one in each 20, with values 1 and 2 by turns; the range that
 // is changed, and the value that it is given, where 0 takes it out; and whether that takes memory.
-type Row = (u16, u16, u16, u16, bool);
+#[derive(Clone, Copy, Debug)]
+struct Row {
+    ranges: u16,
+    start: u16,
+    end: u16,
+    value: u16,
+    takes: bool,
+}
 
 // The first range, some that add steps, and some that don't.
+#[rattlefmt::skip]
 const ROWS: [Row; 9] = [
-    (0, 5, 10, 1, true),
-    (16, 12, 15, 3, true),
-    (16, 2, 5, 3, true),
-    (16, 2, 5, 0, true),
-    (16, 0, 10, 3, false),
-    (16, 2, 5, 1, false),
-    (16, 5, 300, 3, false),
-    (16, 0, 320, 0, false),
-    (16, 15, 315, 0, false),
+    Row { ranges: 0, start: 5, end: 10, value: 1, takes: true },
+    Row { ranges: 16, start: 12, end: 15, value: 3, takes: true },
+    Row { ranges: 16, start: 2, end: 5, value: 3, takes: true },
+    Row { ranges: 16, start: 2, end: 5, value: 0, takes: true },
+    Row { ranges: 16, start: 0, end: 10, value: 3, takes: false },
+    Row { ranges: 16, start: 2, end: 5, value: 1, takes: false },
+    Row { ranges: 16, start: 5, end: 300, value: 3, takes: false },
+    Row { ranges: 16, start: 0, end: 320, value: 0, takes: false },
+    Row { ranges: 16, start: 15, end: 315, value: 0, takes: false },
 ];
 
 #[derive(Drop)]
@@ -30,7 +38,7 @@ struct Attempt {
 
 // The value of a number in the ranges that a map begins with, or 0.
 fn value_before(row: Row, number: u16) -> u16 {
-    if number < row.0.saturating_mul(20) && number % 20 < 10 {
+    if number < row.ranges.saturating_mul(20) && number % 20 < 10 {
         number / 20 % 2 + 1
     } else {
         0
@@ -39,8 +47,8 @@ fn value_before(row: Row, number: u16) -> u16 {
 
 // The same once the row's range is changed.
 fn value_after(row: Row, number: u16) -> u16 {
-    if row.1 <= number && number < row.2 {
-        row.3
+    if row.start <= number && number < row.end {
+        row.value
     } else {
         value_before(row, number)
     }
@@ -75,12 +83,12 @@ impl Call for Attempt {
     type Given = RangeMap<u16, u16>;
 
     fn given(&self) -> Option<RangeMap<u16, u16>> {
-        spread(self.alloc, self.row.0)
+        spread(self.alloc, self.row.ranges)
     }
 
     fn answer(&self, mut map: RangeMap<u16, u16>) -> Answer {
-        let range = self.row.1..self.row.2;
-        let made = match self.row.3 {
+        let range = self.row.start..self.row.end;
+        let made = match self.row.value {
             0 => map.remove(range),
             value => map.insert(range, value),
         };
@@ -97,7 +105,7 @@ fn changes_are_refused_where_the_map_grows(rt: HostRuntime) -> Result<(), AllocE
     for row in ROWS {
         let mut starved = Starved::new(alloc)?;
         let attempt = Attempt { alloc, row };
-        assert!(rt; starved.agrees(&attempt, row.4), "{row:?}");
+        assert!(rt; starved.agrees(&attempt, row.takes), "{row:?}");
     }
     Ok(())
 }

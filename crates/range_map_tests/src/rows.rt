@@ -7,7 +7,12 @@ type Change = (u64, u64, Option<char>);
 
 // Changes, the values of the first twelve numbers after them, where a dot is none, and how many
 // ranges there are.
-type Row<'a> = (&'a [Change], &'a str, usize);
+#[derive(Clone, Copy, Debug)]
+struct Row<'a> {
+    changes: &'a [Change],
+    values: &'a str,
+    len: usize,
+}
 
 const A: Option<char> = Some('a');
 
@@ -17,33 +22,30 @@ const NONE: Option<char> = None;
 
 // Ranges beside others, within and across them, with their values and with others, at the ends of
 // the type, and of nothing.
+#[rattlefmt::skip]
 const ROWS: [Row; 22] = [
-    (&[], "............", 0),
-    (&[(2, 5, A)], "..aaa.......", 1),
-    (&[(5, 5, A), (7, 3, A)], "............", 0),
-    (&[(2, 5, NONE)], "............", 0),
-    (&[(2, 5, A), (5, 8, A)], "..aaaaaa....", 1),
-    (&[(5, 8, A), (2, 5, A)], "..aaaaaa....", 1),
-    (&[(2, 5, A), (5, 8, B)], "..aaabbb....", 2),
-    (&[(2, 5, A), (6, 8, A)], "..aaa.aa....", 2),
-    (&[(2, 5, A), (7, 9, A), (5, 7, A)], "..aaaaaaa...", 1),
-    (&[(2, 5, A), (7, 9, A), (5, 7, B)], "..aaabbaa...", 3),
-    (&[(2, 8, A), (4, 6, B)], "..aabbaa....", 3),
-    (&[(2, 8, A), (4, 6, A)], "..aaaaaa....", 1),
-    (&[(2, 8, A), (4, 6, NONE)], "..aa..aa....", 2),
-    (&[(2, 8, A), (4, 6, B), (4, 6, A)], "..aaaaaa....", 1),
-    (&[(2, 5, A), (2, 5, B)], "..bbb.......", 1),
-    (&[(2, 5, A), (4, 7, B)], "..aabbb.....", 2),
-    (&[(4, 7, B), (2, 5, A)], "..aaabb.....", 2),
-    (&[(2, 4, A), (5, 7, B), (1, 9, B)], ".bbbbbbbb...", 1),
-    (&[(2, 4, A), (5, 7, B), (1, 9, NONE)], "............", 0),
-    (&[(2, 4, A), (5, 7, B), (3, 6, NONE)], "..a...b.....", 2),
-    (&[(0, u64::MAX, A), (3, 5, NONE)], "aaa..aaaaaaa", 2),
-    (
-        &[(0, 3, A), (3, 6, B), (6, 9, A), (3, 6, A)],
-        "aaaaaaaaa...",
-        1,
-    ),
+    Row { changes: &[], values: "............", len: 0 },
+    Row { changes: &[(2, 5, A)], values: "..aaa.......", len: 1 },
+    Row { changes: &[(5, 5, A), (7, 3, A)], values: "............", len: 0 },
+    Row { changes: &[(2, 5, NONE)], values: "............", len: 0 },
+    Row { changes: &[(2, 5, A), (5, 8, A)], values: "..aaaaaa....", len: 1 },
+    Row { changes: &[(5, 8, A), (2, 5, A)], values: "..aaaaaa....", len: 1 },
+    Row { changes: &[(2, 5, A), (5, 8, B)], values: "..aaabbb....", len: 2 },
+    Row { changes: &[(2, 5, A), (6, 8, A)], values: "..aaa.aa....", len: 2 },
+    Row { changes: &[(2, 5, A), (7, 9, A), (5, 7, A)], values: "..aaaaaaa...", len: 1 },
+    Row { changes: &[(2, 5, A), (7, 9, A), (5, 7, B)], values: "..aaabbaa...", len: 3 },
+    Row { changes: &[(2, 8, A), (4, 6, B)], values: "..aabbaa....", len: 3 },
+    Row { changes: &[(2, 8, A), (4, 6, A)], values: "..aaaaaa....", len: 1 },
+    Row { changes: &[(2, 8, A), (4, 6, NONE)], values: "..aa..aa....", len: 2 },
+    Row { changes: &[(2, 8, A), (4, 6, B), (4, 6, A)], values: "..aaaaaa....", len: 1 },
+    Row { changes: &[(2, 5, A), (2, 5, B)], values: "..bbb.......", len: 1 },
+    Row { changes: &[(2, 5, A), (4, 7, B)], values: "..aabbb.....", len: 2 },
+    Row { changes: &[(4, 7, B), (2, 5, A)], values: "..aaabb.....", len: 2 },
+    Row { changes: &[(2, 4, A), (5, 7, B), (1, 9, B)], values: ".bbbbbbbb...", len: 1 },
+    Row { changes: &[(2, 4, A), (5, 7, B), (1, 9, NONE)], values: "............", len: 0 },
+    Row { changes: &[(2, 4, A), (5, 7, B), (3, 6, NONE)], values: "..a...b.....", len: 2 },
+    Row { changes: &[(0, u64::MAX, A), (3, 5, NONE)], values: "aaa..aaaaaaa", len: 2 },
+    Row { changes: &[(0, 3, A), (3, 6, B), (6, 9, A), (3, 6, A)], values: "aaaaaaaaa...", len: 1 },
 ];
 
 // The map after these changes.
@@ -74,10 +76,10 @@ fn has(map: &RangeMap<u64, char>, values: &str) -> bool {
 #[test]
 fn ranges_are_put_in_and_taken_out(rt: HostRuntime) -> Result<(), AllocError> {
     for row in &ROWS {
-        let map = map_of(rt.alloc(), row.0)?;
-        assert!(rt; has(&map, row.1), "{row:?}");
+        let map = map_of(rt.alloc(), row.changes)?;
+        assert!(rt; has(&map, row.values), "{row:?}");
         assert!(rt;
-            map.len() == row.2 && map.is_empty() == (row.2 == 0),
+            map.len() == row.len && map.is_empty() == (row.len == 0),
             "{row:?}"
         );
     }
