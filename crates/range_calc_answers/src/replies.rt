@@ -42,19 +42,10 @@ fn set_reply(alloc: Global, command: OneList, set: RangeSet2<i64>) -> Result<Str
     ensures { IfOk result (IsReplyText (of_list command set)) }
 {
     match command {
-        OneList::Not => negation_reply(alloc, set),
+        OneList::Not => set_line(alloc, (!set)?),
         OneList::Show => debug_line(alloc, &set),
         OneList::ToJson => array_line(alloc, &set),
     }
-}
-
-/// The line of the numbers that are no members.
-fn negation_reply(alloc: Global, set: RangeSet2<i64>) -> Result<String, AllocError>
-    requires { All (FitsSigned w64) set }
-    ensures { IfOk result (IsReplyText (of_list OneList.Not set)) }
-{
-    let negated = (!set)?;
-    set_line(alloc, negated)
 }
 
 /// The line of a command with two lists.
