@@ -57,8 +57,10 @@ bool PROVED(chunked_insert)(CHUNKED *set, NUMBER start, NUMBER end);
 bool PROVED(chunked_insert_from)(CHUNKED *set, NUMBER start);
 bool PROVED(chunked_remove)(CHUNKED *set, NUMBER start, NUMBER end);
 bool PROVED(chunked_remove_from)(CHUNKED *set, NUMBER start);
+void PROVED(chunked_clear)(CHUNKED *set);
 bool PROVED(chunked_contains)(CHUNKED *set, NUMBER value);
 bool PROVED(chunked_contains_range)(CHUNKED *set, NUMBER start, NUMBER end);
+bool PROVED(chunked_intersects_range)(CHUNKED *set, NUMBER start, NUMBER end);
 bool PROVED(chunked_next_member)(CHUNKED *set, NUMBER from, NUMBER *next);
 bool PROVED(chunked_next_gap)(CHUNKED *set, NUMBER from, NUMBER *next);
 size_t PROVED(chunked_ranges_len)(CHUNKED *set);
@@ -633,6 +635,11 @@ range_set_status NAME(chunked_remove_from)(CHUNKED *set, NUMBER start)
     return PROVED(chunked_remove_from)(set, start) ? RANGE_SET_DONE : RANGE_SET_NO_MEMORY;
 }
 
+void NAME(chunked_clear)(CHUNKED *set)
+{
+    if (set != NULL && set->at != NULL) PROVED(chunked_clear)(set);
+}
+
 bool NAME(chunked_contains)(CHUNKED set, NUMBER value)
 {
     return set.at != NULL && PROVED(chunked_contains)(&set, value);
@@ -641,6 +648,11 @@ bool NAME(chunked_contains)(CHUNKED set, NUMBER value)
 bool NAME(chunked_contains_range)(CHUNKED set, NUMBER start, NUMBER end)
 {
     return set.at != NULL ? PROVED(chunked_contains_range)(&set, start, end) : end <= start;
+}
+
+bool NAME(chunked_intersects_range)(CHUNKED set, NUMBER start, NUMBER end)
+{
+    return set.at != NULL && PROVED(chunked_intersects_range)(&set, start, end);
 }
 
 bool NAME(chunked_next_member)(CHUNKED set, NUMBER from, NUMBER *next)

@@ -149,6 +149,7 @@ template <class T> static void chunked()
     set.insert(9, 17).remove(11, 12).insert_from(20).insert(5, 5);
     check(text<T>(set) == "9..11 12..17 20.." && set.size() == 3 && !set.empty(), "chunked: changes");
     check(set.contains(9) && !set.contains(11) && set.contains_range(12, 17) && !set.contains_range(9, 12), "chunked: contains");
+    check(set.intersects_range(11, 13) && !set.intersects_range(11, 12) && !set.intersects_range(17, 20), "chunked: intersects_range");
     check(set.next_member(11) == T(12) && set.next_gap(12) == T(17) && !set.next_gap(20), "chunked: next");
     check(text<T>(set.set()) == "9..11 12..17 20..", "chunked: set");
     chunked_range_set<T> copy(set), moved(std::move(set)), assigned;

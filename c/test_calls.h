@@ -799,14 +799,16 @@ static void TEST(chunked)(void)
         TEST(has_boundaries)(set, wanted, len);
         for (p = 0; p < POINTS; p++) {
             size_t after;
-            bool all = true;
+            bool all = true, some = false;
             check(
                 CALL(chunked_contains)(set, points[p]) == on[p] && CALL(chunked_contains)(set, points[p] + 1) == on[p], "chunked_contains");
             for (after = p; after < POINTS; after++) {
                 check(CALL(chunked_contains_range)(set, points[p], points[after]) == all, "chunked_contains_range");
-                all = all && on[after];
+                check(CALL(chunked_intersects_range)(set, points[p], points[after]) == some, "chunked_intersects_range");
+                all = all && on[after], some = some || on[after];
             }
             check(CALL(chunked_contains_range)(set, points[p], LEAST), "chunked_contains_range: no number");
+            check(!CALL(chunked_intersects_range)(set, points[p], LEAST), "chunked_intersects_range: no number");
             for (after = p; after < POINTS && !on[after]; after++) {
             }
             check(CALL(chunked_next_member)(set, points[p], &next) == (after < POINTS) && (after == POINTS || next == points[after]),
@@ -820,6 +822,10 @@ static void TEST(chunked)(void)
         TEST(has_boundaries)(copy, wanted, len);
         CALL(chunked_free)(&copy);
     }
+    CALL(chunked_clear)(&set);
+    TEST(has_boundaries)(set, NULL, 0);
+    check(CALL(chunked_insert)(&set, points[0], points[1]) == RANGE_SET_DONE, "chunked: a set used again");
+    TEST(has_boundaries)(set, points, 2);
     CALL(chunked_free)(&set);
     check(set.at == NULL, "chunked_free leaves an address");
 }
@@ -856,6 +862,10 @@ static void TEST(chunked_none)(void)
     TEST(has_boundaries)(none, NULL, 0);
     check(!CALL(chunked_contains)(none, 5) && CALL(chunked_contains_range)(none, 5, 5) && !CALL(chunked_contains_range)(none, 5, 6),
         "no set: contains");
+    check(!CALL(chunked_intersects_range)(none, 5, 6), "no set: intersects_range");
+    CALL(chunked_clear)(&none);
+    CALL(chunked_clear)(NULL);
+    check(none.at == NULL, "no set: clear");
     check(!CALL(chunked_next_member)(none, 5, &next) && next == 77, "no set: next_member");
     check(CALL(chunked_next_gap)(none, 5, &next) && next == 5 && CALL(chunked_next_gap)(none, 5, NULL), "no set: next_gap");
     check(CALL(chunked_insert)(&none, 5, 6) == RANGE_SET_BAD_ARGUMENT && CALL(chunked_insert)(NULL, 5, 6) == RANGE_SET_BAD_ARGUMENT,

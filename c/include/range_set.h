@@ -434,9 +434,13 @@ RANGE_SET_STATUS range_set_i32_chunked_remove(range_set_i32_chunked *set, int32_
 RANGE_SET_STATUS range_set_i32_chunked_insert_from(range_set_i32_chunked *set, int32_t start);
 RANGE_SET_STATUS range_set_i32_chunked_remove_from(range_set_i32_chunked *set, int32_t start);
 
-/* As `contains` and `contains_range`. */
+/* Takes all numbers out. Does nothing where `set` is null or no set. */
+void range_set_i32_chunked_clear(range_set_i32_chunked *set);
+
+/* As `contains`, `contains_range` and `intersects_range`. */
 bool range_set_i32_chunked_contains(range_set_i32_chunked set, int32_t value);
 bool range_set_i32_chunked_contains_range(range_set_i32_chunked set, int32_t start, int32_t end);
+bool range_set_i32_chunked_intersects_range(range_set_i32_chunked set, int32_t start, int32_t end);
 
 /* Whether there is a member at or above `from`, a number that is none, and then the least one. `next` may be null. */
 bool range_set_i32_chunked_next_member(range_set_i32_chunked set, int32_t from, int32_t *next);
@@ -787,9 +791,13 @@ RANGE_SET_STATUS range_set_u32_chunked_remove(range_set_u32_chunked *set, uint32
 RANGE_SET_STATUS range_set_u32_chunked_insert_from(range_set_u32_chunked *set, uint32_t start);
 RANGE_SET_STATUS range_set_u32_chunked_remove_from(range_set_u32_chunked *set, uint32_t start);
 
-/* As `contains` and `contains_range`. */
+/* Takes all numbers out. Does nothing where `set` is null or no set. */
+void range_set_u32_chunked_clear(range_set_u32_chunked *set);
+
+/* As `contains`, `contains_range` and `intersects_range`. */
 bool range_set_u32_chunked_contains(range_set_u32_chunked set, uint32_t value);
 bool range_set_u32_chunked_contains_range(range_set_u32_chunked set, uint32_t start, uint32_t end);
+bool range_set_u32_chunked_intersects_range(range_set_u32_chunked set, uint32_t start, uint32_t end);
 
 /* Whether there is a member at or above `from`, a number that is none, and then the least one. `next` may be null. */
 bool range_set_u32_chunked_next_member(range_set_u32_chunked set, uint32_t from, uint32_t *next);
@@ -1140,9 +1148,13 @@ RANGE_SET_STATUS range_set_i64_chunked_remove(range_set_i64_chunked *set, int64_
 RANGE_SET_STATUS range_set_i64_chunked_insert_from(range_set_i64_chunked *set, int64_t start);
 RANGE_SET_STATUS range_set_i64_chunked_remove_from(range_set_i64_chunked *set, int64_t start);
 
-/* As `contains` and `contains_range`. */
+/* Takes all numbers out. Does nothing where `set` is null or no set. */
+void range_set_i64_chunked_clear(range_set_i64_chunked *set);
+
+/* As `contains`, `contains_range` and `intersects_range`. */
 bool range_set_i64_chunked_contains(range_set_i64_chunked set, int64_t value);
 bool range_set_i64_chunked_contains_range(range_set_i64_chunked set, int64_t start, int64_t end);
+bool range_set_i64_chunked_intersects_range(range_set_i64_chunked set, int64_t start, int64_t end);
 
 /* Whether there is a member at or above `from`, a number that is none, and then the least one. `next` may be null. */
 bool range_set_i64_chunked_next_member(range_set_i64_chunked set, int64_t from, int64_t *next);
@@ -1493,9 +1505,13 @@ RANGE_SET_STATUS range_set_u64_chunked_remove(range_set_u64_chunked *set, uint64
 RANGE_SET_STATUS range_set_u64_chunked_insert_from(range_set_u64_chunked *set, uint64_t start);
 RANGE_SET_STATUS range_set_u64_chunked_remove_from(range_set_u64_chunked *set, uint64_t start);
 
-/* As `contains` and `contains_range`. */
+/* Takes all numbers out. Does nothing where `set` is null or no set. */
+void range_set_u64_chunked_clear(range_set_u64_chunked *set);
+
+/* As `contains`, `contains_range` and `intersects_range`. */
 bool range_set_u64_chunked_contains(range_set_u64_chunked set, uint64_t value);
 bool range_set_u64_chunked_contains_range(range_set_u64_chunked set, uint64_t start, uint64_t end);
+bool range_set_u64_chunked_intersects_range(range_set_u64_chunked set, uint64_t start, uint64_t end);
 
 /* Whether there is a member at or above `from`, a number that is none, and then the least one. `next` may be null. */
 bool range_set_u64_chunked_next_member(range_set_u64_chunked set, uint64_t from, uint64_t *next);

@@ -113,6 +113,7 @@ template <class T> struct calls_of;
         static constexpr auto chunked_remove_from = range_set_##number##_chunked_remove_from; \
         static constexpr auto chunked_contains = range_set_##number##_chunked_contains; \
         static constexpr auto chunked_contains_range = range_set_##number##_chunked_contains_range; \
+        static constexpr auto chunked_intersects_range = range_set_##number##_chunked_intersects_range; \
         static constexpr auto chunked_next_member = range_set_##number##_chunked_next_member; \
         static constexpr auto chunked_next_gap = range_set_##number##_chunked_next_gap; \
         static constexpr auto chunked_next = range_set_##number##_chunked_next; \
@@ -652,6 +653,7 @@ public:
 
     bool contains(T value) const noexcept { return calls::chunked_contains(set_, value); }
     bool contains_range(T start, T end) const noexcept { return calls::chunked_contains_range(set_, start, end); }
+    bool intersects_range(T start, T end) const noexcept { return calls::chunked_intersects_range(set_, start, end); }
     bool empty() const noexcept { return calls::chunked_boundaries_len(set_) == 0; }
     // The least member at or above a number, the least number that is none, or nothing.
     std::optional<T> next_member(T from) const noexcept { return next(calls::chunked_next_member, from); }

@@ -611,6 +611,16 @@ macro_rules! calls {
                 unsafe { Chunks::change(set, |set| chunked::remove_from(set, start)) }
             }
 
+            #[export_name = concat!("range_set_", $name, "_chunked_clear")]
+            unsafe extern "C" fn chunked_clear(set: Option<&mut Chunks>) {
+                unsafe {
+                    Chunks::change(set, |set| {
+                        set.clear();
+                        true
+                    })
+                };
+            }
+
             #[export_name = concat!("range_set_", $name, "_chunked_contains")]
             unsafe extern "C" fn chunked_contains(set: Chunks, value: $number) -> bool {
                 match unsafe { set.set() } {
@@ -628,6 +638,18 @@ macro_rules! calls {
                 match unsafe { set.set() } {
                     Some(set) => set.contains_range(start..end),
                     None => end <= start,
+                }
+            }
+
+            #[export_name = concat!("range_set_", $name, "_chunked_intersects_range")]
+            unsafe extern "C" fn chunked_intersects_range(
+                set: Chunks,
+                start: $number,
+                end: $number,
+            ) -> bool {
+                match unsafe { set.set() } {
+                    Some(set) => set.intersects_range(start..end),
+                    None => false,
                 }
             }
 

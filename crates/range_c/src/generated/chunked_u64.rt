@@ -6,6 +6,7 @@ ghost use Rattle.range_collections.specs.Boundaries.{IsAscending, member};
 ghost use Rattle.range_collections.specs.Connective.{union_table, difference_table};
 ghost use Rattle.range_collections.specs.Extent.{HasAllWithin};
 ghost use Rattle.range_collections.specs.Insertion.{IsChangedByRange};
+ghost use Rattle.range_collections.specs.Intersects.{HasMemberWithin};
 ghost use Rattle.range_collections.specs.Ranges.{range_items, ranges_of};
 ghost use Rattle.range_collections.specs.Sets.{AreEqual};
 ghost use Rattle.range_c.specs.Chunked.{held, outcome, CopiesTo, TellsNext};
@@ -227,6 +228,17 @@ pub extern "C" fn proved_range_set_u64_chunked_remove_from(
     done
 }
 
+/// Takes all numbers out.
+#[unsafe(no_mangle)]
+pub extern "C" fn proved_range_set_u64_chunked_clear(set: &mut ChunkedU64, alloc: Global)
+    requires { IsSome set.old.set }
+    ensures { set.new.set ≡ Some [] }
+{
+    let mut taken = set.take(alloc);
+    taken.set.clear();
+    set.put(taken);
+}
+
 /// Whether the number is a member.
 #[unsafe(no_mangle)]
 pub extern "C" fn proved_range_set_u64_chunked_contains(
@@ -258,6 +270,24 @@ pub extern "C" fn proved_range_set_u64_chunked_contains_range(
 {
     let taken = set.take(alloc);
     let answer = taken.set.contains_range(start..end);
+    set.put(taken);
+    answer
+}
+
+/// Whether a number from `start` to below `end` is a member.
+#[unsafe(no_mangle)]
+pub extern "C" fn proved_range_set_u64_chunked_intersects_range(
+    set: &mut ChunkedU64,
+    alloc: Global,
+    start: u64,
+    end: u64,
+) -> bool
+    requires { IsSome set.old.set }
+    ensures members { IsTrue result ↔ HasMemberWithin nat_cmp (held set.old.set) start end }
+    ensures unchanged { set.new.set ≡ set.old.set }
+{
+    let taken = set.take(alloc);
+    let answer = taken.set.intersects_range(start..end);
     set.put(taken);
     answer
 }
