@@ -6,7 +6,6 @@ ghost use Rattle.std.specs.Ordering.{nat_cmp};
 ghost use Rattle.std.specs.declared.cmp.Ordering.TheVariants.{Less};
 ghost use Rattle.range_merge.specs.Boundaries.{IsAscending, is_odd as odd};
 ghost use Rattle.range_collections.specs.Splicing.{spliced};
-ghost use Rattle.range_tracker.specs.declared.track_error.TrackError.TheVariants.{TooMany};
 ghost use Rattle.range_chunks.specs.Chunks.{flat, AreShort, AreChunks};
 ghost use Rattle.range_chunks.specs.Places.{place_in, IsPlace};
 ghost use Rattle.range_chunks.specs.Tracking.{IsTracking, IsSetWithin};
@@ -19,7 +18,7 @@ use crate::place::Place;
 use crate::splicing::splice;
 use crate::to_the_end::truncate;
 use range_collections::Comparisons;
-use range_tracker::TrackError;
+use range_tracker::{TrackError, within_limit};
 use std::ops::Range;
 
 /// Sets the range among the first `len` boundaries, and returns how many there are then. Where that
@@ -67,7 +66,7 @@ fn set_first(
     if !inside {
         return Ok(0);
     }
-    admit(2, limit)?;
+    within_limit(2, limit)?;
     keep_range(chunks, range);
     Ok(2)
 }
@@ -97,25 +96,13 @@ fn set_between(
     let (from, start) = cut_at(chunks.as_slice(), range.start, inside, count);
     let (to, end) = cut_at(chunks.as_slice(), range.end, inside, count);
     let boundaries = len_spliced(chunks.as_slice(), len, from, to, start, end);
-    admit(boundaries, limit)?;
+    within_limit(boundaries, limit)?;
     if boundaries == 0 {
         keep_range(chunks, range);
     } else {
         splice(chunks, from, to, start, end)?;
     }
     Ok(boundaries)
-}
-
-// Refuses more boundaries than the limit.
-fn admit(boundaries: usize, limit: usize) -> Result<(), TrackError>
-    ensures within { OnOk result (boundaries ≤ limit) }
-    ensures too_many { IfErr result (λ error. (error ≡ TooMany boundaries) × (limit < boundaries)) }
-{
-    if boundaries > limit {
-        Err(TrackError::TooMany { boundaries })
-    } else {
-        Ok(())
-    }
 }
 
 // How many boundaries there are once those between two places are replaced.

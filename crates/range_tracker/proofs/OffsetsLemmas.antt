@@ -18,7 +18,10 @@ use Rattle.range_collections.specs.Ranges.{range_items}
 use Rattle.range_collections.proofs.Values.{IsAscending-two, member-two, nothing_between}
 use Rattle.range_collections.proofs.Ascending.{IsAscending-nil}
 use Rattle.range_collections.proofs.Covered.{even-result}
+use Rattle.std.specs.Prelude.{Result, Ok, Err, OnOk, IfErr, ◌≢◌}
 use Rattle.range_tracker.specs.Offsets.{Offsets, is_within, IsListOf, HasBoundaries}
+use Rattle.range_tracker.specs.declared.track_error.TrackError.{TrackError}
+use Rattle.range_tracker.specs.declared.track_error.TrackError.TheVariants.{TooMany, OutOfMemory}
 
 -- the order of numbers
 
@@ -167,3 +170,19 @@ length-within had items limit l none =
       | inl more ↦ absurd (none (length items) ((items, l, refl), more))
       | inr few ↦ few
     ]
+
+-- a refusal of more boundaries than the limit
+
+pub TooMany-from : (r : Result (Unit {0}) TrackError) (b limit n : ℕ) → OnOk r (b ≤ limit) → IfErr r (λ error. (error ≡ TooMany b) × (limit < b)) →
+    b ≡ n → limit < n → r ≡ Err (TooMany n)
+TooMany-from (Ok done) b limit n ok err is many = absurd (omega (arith, ok, is, many))
+TooMany-from (Err why) b limit n ok err is many = ap Err (err.0 ∙ ap TooMany is)
+
+pub told-too_many : (r : Result (Unit {0}) TrackError) (b limit n : ℕ) → IfErr r (λ error. (error ≡ TooMany b) × (limit < b)) →
+    r ≡ Err (TooMany n) → (b ≡ n) × (limit < b)
+told-too_many (Ok done) b limit n err same = cc
+told-too_many (Err why) b limit n err same = let e : b ≡ n = cc in (e, err.1)
+
+pub not_memory : (r : Result (Unit {0}) TrackError) (b limit : ℕ) → IfErr r (λ error. (error ≡ TooMany b) × (limit < b)) → r ≢ Err OutOfMemory
+not_memory (Ok done) b limit err same = cc
+not_memory (Err why) b limit err same = cc

@@ -4,9 +4,11 @@
 
 mod command;
 pub mod laws;
+mod limit;
 mod track_error;
 mod tracker;
 
 pub use command::Command;
+pub use limit::within_limit;
 pub use track_error::TrackError;
 pub use tracker::Tracker;

@@ -14,6 +14,7 @@ ghost use Rattle.range_tracker.specs.Commands.{MayAnswer, AreReplies, after_comm
 ghost use Rattle.range_tracker.specs.Tracked.{recorded};
 
 use crate::command::Command;
+use crate::limit::within_limit;
 use crate::track_error::TrackError;
 use range_collections::laws::changes_mean_the_connective;
 use range_collections::{
@@ -183,11 +184,7 @@ impl Tracker {
         let ends = [range.start, range.end];
         let count = &mut Comparisons::new();
         let boundaries = self.set.merge_len(offsets_between(&ends), op, count);
-        if boundaries > self.limit {
-            Err(TrackError::TooMany { boundaries })
-        } else {
-            Ok(())
-        }
+        within_limit(boundaries, self.limit)
     }
 }
 

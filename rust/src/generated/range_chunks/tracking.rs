@@ -10,7 +10,7 @@ use crate::generated::range_chunks::place::Place;
 use crate::generated::range_chunks::splicing::splice;
 use crate::generated::range_chunks::to_the_end::truncate;
 use crate::generated::range_collections::Comparisons;
-use crate::generated::range_tracker::TrackError;
+use crate::generated::range_tracker::{within_limit, TrackError};
 use crate::support::Vec;
 use core::ops::Range;
 
@@ -54,7 +54,7 @@ fn set_first(
     if !inside {
         return Ok(0);
     }
-    admit(2, limit)?;
+    within_limit(2, limit)?;
     keep_range(chunks, range);
     Ok(2)
 }
@@ -71,22 +71,13 @@ fn set_between(
     let (from, start) = cut_at(chunks.as_slice(), range.start, inside, count);
     let (to, end) = cut_at(chunks.as_slice(), range.end, inside, count);
     let boundaries = len_spliced(chunks.as_slice(), len, from, to, start, end);
-    admit(boundaries, limit)?;
+    within_limit(boundaries, limit)?;
     if boundaries == 0 {
         keep_range(chunks, range);
     } else {
         splice(chunks, from, to, start, end)?;
     }
     Ok(boundaries)
-}
-
-// Refuses more boundaries than the limit.
-fn admit(boundaries: usize, limit: usize) -> Result<(), TrackError> {
-    if boundaries > limit {
-        Err(TrackError::TooMany { boundaries })
-    } else {
-        Ok(())
-    }
 }
 
 // How many boundaries there are once those between two places are replaced.

@@ -3,9 +3,11 @@
 //! missing, and no more boundaries than a limit.
 
 pub(crate) mod command;
+pub(crate) mod limit;
 pub(crate) mod track_error;
 pub(crate) mod tracker;
 
 pub use command::Command;
+pub use limit::within_limit;
 pub use track_error::TrackError;
 pub use tracker::Tracker;

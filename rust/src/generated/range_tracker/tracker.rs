@@ -9,6 +9,7 @@ use crate::generated::range_collections::{
     Comparisons, DiffOp, Iter, MergeOperation, RangeSet2, RangeSetRef, UnionOp,
 };
 use crate::generated::range_tracker::command::Command;
+use crate::generated::range_tracker::limit::within_limit;
 use crate::generated::range_tracker::track_error::TrackError;
 use crate::support::{AllocError, Global};
 use core::ops::Range;
@@ -170,11 +171,7 @@ impl Tracker {
         let ends = [range.start, range.end];
         let count = &mut Comparisons::new();
         let boundaries = self.set.merge_len(offsets_between(&ends), op, count);
-        if boundaries > self.limit {
-            Err(TrackError::TooMany { boundaries })
-        } else {
-            Ok(())
-        }
+        within_limit(boundaries, self.limit)
     }
 }
 

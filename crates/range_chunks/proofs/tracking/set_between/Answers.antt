@@ -29,14 +29,14 @@ splice-requires-clause-ordered c =
     let q : IsCut nat_cmp c.args.inside (flat xs) c.args.range.end (place_in xs c.cut_at-end.result.0) c.cut_at-end.result.1 = rw c.as_slice-2.ensures.value at c.cut_at-end.ensures.cut in
     cuts_ordered nat_cmp_total c.args.inside (flat xs) c.args.range.start c.args.range.end _ _ _ _ c.requires.sorted c.requires.less p q
 
-pub returns-in_err-admit-clause-set : goal.returns-in_err-admit-clause-set
-returns-in_err-admit-clause-set c =
+pub returns-in_err-within_limit-clause-set : goal.returns-in_err-within_limit-clause-set
+returns-in_err-within_limit-clause-set c =
     let xs = c.args.chunks.now.items in
     let p : IsCut nat_cmp c.args.inside (flat xs) c.args.range.start (place_in xs c.cut_at-start.result.0) c.cut_at-start.result.1 = rw c.as_slice.ensures.value at c.cut_at-start.ensures.cut in
     let q : IsCut nat_cmp c.args.inside (flat xs) c.args.range.end (place_in xs c.cut_at-end.result.0) c.cut_at-end.result.1 = rw c.as_slice-2.ensures.value at c.cut_at-end.ensures.cut in
     let count = rw c.as_slice-3.ensures.value at c.len_spliced-boundaries.ensures in
     let why = err_from_is_err_and c.from_residual.result c.from_residual.ensures.1 in
-    let told = c.in_err-admit.ensures.too_many in
+    let told = c.in_err-within_limit.ensures.too_many in
     spliced-refused c.args.inside c.args.limit (flat xs) c.args.range _ _ _ _ c.requires.sorted c.requires.less p q
     (flat xs) c.len_spliced-boundaries.result c.from_residual.result count told.1 (why.1 ∙ ap Err (why.2 ∙ told.0))
 
@@ -48,7 +48,7 @@ returns-in_err-splice-clause-set c =
     let count = rw c.as_slice-3.ensures.value at c.len_spliced-boundaries.ensures in
     let why = err_from_is_err_and c.from_residual-in_err-splice.result c.from_residual-in_err-splice.ensures.1 in
     spliced-no_memory c.args.inside c.args.limit (flat xs) c.args.range _ _ _ _ c.requires.sorted c.requires.less p q
-    (flat c.splice.new.chunks.items) c.len_spliced-boundaries.result c.from_residual-in_err-splice.result count c.in_ok-admit.ensures.within
+    (flat c.splice.new.chunks.items) c.len_spliced-boundaries.result c.from_residual-in_err-splice.result count c.in_ok-within_limit.ensures.within
     (λ few. true≢false (sym (c.in_err-splice.ensures.succeeds few))) (omega (arith, c.requires.room)) (why.1 ∙ ap Err why.2)
 
 pub returns-then-boundaries-eq0-clause-set : goal.returns-then-boundaries-eq0-clause-set
@@ -67,7 +67,7 @@ returns-in_ok-splice-clause-set c =
     let q : IsCut nat_cmp c.args.inside (flat xs) c.args.range.end (place_in xs c.cut_at-end.result.0) c.cut_at-end.result.1 = rw c.as_slice-2.ensures.value at c.cut_at-end.ensures.cut in
     let count = rw c.as_slice-3.ensures.value at c.len_spliced-boundaries.ensures in
     spliced-done c.args.inside c.args.limit (flat xs) c.args.range _ _ _ _ c.requires.sorted c.requires.less p q
-    (flat c.splice.new.chunks.items) c.len_spliced-boundaries.result count c.in_ok-admit.ensures.within (omega (arith, c.if-boundaries-eq0.false)) c.requires.ended c.in_ok-splice.ensures.items
+    (flat c.splice.new.chunks.items) c.len_spliced-boundaries.result count c.in_ok-within_limit.ensures.within (omega (arith, c.if-boundaries-eq0.false)) c.requires.ended c.in_ok-splice.ensures.items
 
 pub returns-in_ok-splice-clause-sorted : goal.returns-in_ok-splice-clause-sorted
 returns-in_ok-splice-clause-sorted c =
