@@ -6,3 +6,8 @@ pub mod UpToEnd
 pub mod Spliced
 pub mod Replaced
 pub mod NoValues
+pub mod EntriesLemmas
+pub mod Stretched
+pub mod Compared
+pub mod FreeRanges
+pub mod LastAt

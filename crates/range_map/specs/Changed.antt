@@ -1,8 +1,9 @@
 -- What a change makes of a map, by the option at each element.
+--     IsFree order start end a           no key of the range has a value
 --     is_in_range order start end x      x is at or above the start, and below the end if there is one
 --     IsSetTo order E start end p a r    r has p in the range, and elsewhere what a has
 --     FitsAfter order E start end p a    some such map has no more steps than a
-use Rattle.std.specs.Prelude.{◌≤◌, Bool, true, cond, ◌&&◌, length, Option, Some, None}
+use Rattle.std.specs.Prelude.{◌≡◌, ◌≤◌, Bool, true, cond, ◌&&◌, length, Option, Some, None}
 use Rattle.std.specs.Ordering.{is_le, is_lt}
 use Rattle.std.specs.declared.cmp.Ordering.{Ordering}
 use Rattle.range_map.specs.Steps.{Steps, value_at, AreAlike, IsCanonical}
@@ -16,6 +17,11 @@ module _ {K : Type 0} (order : K → K → Ordering) where
   -- at or above the start, and below the end if there is one
   abbrev pub is_in_range : K → Option K → K → Bool
   is_in_range start end x = is_le (order start x) && is_before_end end x
+
+  -- no key of the range has a value
+  abbrev pub IsFree : {V : Type 0} → K → K → Steps K V → Type 0
+  IsFree start end a =
+      (x : K) → is_in_range start (Some end) x ≡ true → value_at order a x ≡ None
 
   module _ {V : Type 0} (E : V → V → Bool) where
     -- p in the range, and elsewhere the option as it was

@@ -2,11 +2,16 @@
 //! up to the next one, or none.
 #![tactic(auto)]
 
+mod free;
+mod insert_error;
+mod iter;
 mod map;
 mod places;
 mod replacing;
 mod splicing;
 mod value;
 
-pub use map::RangeMap;
+pub use insert_error::InsertError;
+pub use iter::Iter;
+pub use map::{RangeMap, Stretch};
 pub use value::MapValue;

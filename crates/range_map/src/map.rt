@@ -5,10 +5,19 @@ ghost use Rattle.std.specs.Ordering.{is_lt};
 ghost use Rattle.range_map.specs.Steps.{value_at, ranges_len};
 ghost use Rattle.range_map.specs.Changed.{IsSetTo, FitsAfter};
 
+mod booking;
+mod building;
+mod copying;
+mod equality;
+mod ranges;
+mod text;
+
+use crate::places::option_before;
 use crate::replacing::set_range;
 use crate::value::MapValue;
 use range_collections::Comparisons;
 use range_merge::count_up_to;
+pub use ranges::Stretch;
 use std::alloc::{AllocError, Global};
 use std::marker::Model;
 use std::ops::{Range, RangeFrom};
@@ -69,10 +78,7 @@ impl<K: Ord, V: Eq> RangeMap<K, V> {
         ensures { option_copied result ≡ value_at K.cmp self.now key.now }
     {
         let n = count_up_to(self.keys.as_slice(), key, &mut Comparisons::new());
-        if n == 0 {
-            return None;
-        }
-        self.options[n - 1].as_ref()
+        option_before(self.options.as_slice(), n)
     }
 
     /// Whether `key` has a value.
@@ -95,6 +101,17 @@ impl<K: Ord, V: Eq> RangeMap<K, V> {
         ensures { result ≡ ranges_len self.now }
     {
         some_len(self.options.as_slice())
+    }
+}
+
+impl<K: Ord + Drop, V: Eq + Drop> RangeMap<K, V> {
+    /// Takes all ranges out. The room that they had stays.
+    pub fn clear(&mut self)
+        ensures steps { (self.new.keys ≡ []) × (self.new.options ≡ []) }
+        ensures values { (x : K) → value_at K.cmp self.new x ≡ None }
+    {
+        self.keys.clear();
+        self.options.clear();
     }
 }
 

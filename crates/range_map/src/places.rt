@@ -1,5 +1,5 @@
 //! Where a range lies among the steps of a map.
-ghost use Rattle.std.specs.Prelude.{◌≡◌, ◌≤◌, ◌-◌, ◌+◌, ◌∷◌, option_copied, None, Some, length, true, not, get_or, OnOk, OnErr, IsOk};
+ghost use Rattle.std.specs.Prelude.{◌≡◌, ◌<◌, ◌≤◌, ◌-◌, ◌+◌, ◌∷◌, option_copied, MatchOption, None, Some, length, true, not, get_or, OnOk, OnErr, IsOk};
 ghost use Rattle.std.specs.List.{AllWithin};
 ghost use Rattle.std.specs.Option.{option_eq};
 ghost use Rattle.std.specs.Ordering.{is_le};
@@ -102,4 +102,48 @@ pub fn make_room<T>(list: &mut Vec<T>, places: Places) -> Result<(), AllocError>
     ensures succeeds { put_len places ≤ places.to - places.from → IsOk result }
 {
     list.reserve(places.put_len().saturating_sub(places.to - places.from))
+}
+
+/// The option before a place; none stands before the first.
+pub fn option_before<V>(options: &[Option<V>], place: usize) -> Option<&V>
+    requires { place ≤ length options.now }
+    ensures { option_copied result ≡ get_or (None ∷ options.now) place None }
+{
+    if place == 0 {
+        None
+    } else {
+        options[place - 1].as_ref()
+    }
+}
+
+/// The key before a place, or `None` at the first.
+pub fn key_before<K>(keys: &[K], place: usize) -> Option<&K>
+    requires { place ≤ length keys.now }
+    ensures { MatchOption result (place ≡ 0) (λ key.
+        (0 < place) × (get_or keys.now (place - 1) key.now ≡ key.now)) }
+{
+    if place == 0 {
+        None
+    } else {
+        Some(&keys[place - 1])
+    }
+}
+
+/// Makes room in both lists for the steps that are put, beyond those that give way.
+pub fn make_both_rooms<K, V>(
+    keys: &mut Vec<K>,
+    options: &mut Vec<Option<V>>,
+    places: Places,
+) -> Result<(), AllocError>
+    requires { places.from ≤ places.to }
+    ensures keys { keys.new.items ≡ keys.old.items }
+    ensures options { options.new.items ≡ options.old.items }
+    ensures keys_room { OnOk result (length keys.new.items + put_len places ≤
+        vec_capacity keys.new + (places.to - places.from)) }
+    ensures options_room { OnOk result (length options.new.items + put_len places ≤
+        vec_capacity options.new + (places.to - places.from)) }
+    ensures succeeds { put_len places ≤ places.to - places.from → IsOk result }
+{
+    make_room(keys, places)?;
+    make_room(options, places)
 }

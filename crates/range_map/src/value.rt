@@ -1,5 +1,6 @@
 //! The values of a map.
-ghost use Rattle.std.specs.Prelude.{◌≡◌, true, IsOk, IfOk};
+ghost use Rattle.std.specs.Prelude.{◌≡◌, true, IsOk, IfOk, None};
+ghost use Rattle.range_map.specs.Steps.{AreAlike};
 
 use std::alloc::AllocError;
 
@@ -21,5 +22,16 @@ impl<T: Eq + Copy + Drop> MapValue for T {
     #[inline(always)]
     fn copy_value(&self) -> Result<Self, AllocError> {
         Ok(*self)
+    }
+}
+
+/// A copy of an option: of its value, if it has one.
+pub fn copy_option<V: MapValue>(option: &Option<V>) -> Result<Option<V>, AllocError>
+    ensures same { IfOk result (λ copied. AreAlike V.eq option.now copied) }
+    ensures none { option.now ≡ None → IsOk result }
+{
+    match option {
+        None => Ok(None),
+        Some(value) => Ok(Some(value.copy_value()?)),
     }
 }

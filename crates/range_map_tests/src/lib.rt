@@ -5,6 +5,8 @@
 #[cfg(test)]
 mod made_up;
 #[cfg(test)]
+mod questions;
+#[cfg(test)]
 mod refused;
 #[cfg(test)]
 mod rows;

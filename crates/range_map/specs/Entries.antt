@@ -1,0 +1,39 @@
+-- The ranges of a map that have a value, each with it.
+--     range_until k end    from k up to the end, if there is one
+--     first_or keys end    the first key, or else the end
+--     entries m            the ranges with their values, from the lowest on
+--     entry_now e          the range and the value that references point to
+use Rattle.std.specs.Prelude.{List, [], ◌∷◌, Option, Some, None}
+use Rattle.std.specs.Borrow.{Bor}
+use Rattle.range_collections.specs.Ranges.{range_now}
+use Rattle.range_collections.specs.declared.range_set_range.RangeSetRange.{RangeSetRange}
+use Rattle.range_collections.specs.declared.range_set_range.RangeSetRange.TheVariants.{Range, RangeFrom}
+use Rattle.range_map.specs.Steps.{Steps}
+
+module _ {K : Type 0} where
+  -- from k up to the end, if there is one
+  abbrev pub range_until : K → Option K → RangeSetRange K
+  range_until k None = RangeFrom (record { start = k })
+  range_until k (Some end) = Range (record { start = k; end = end })
+
+  -- the first key, or else the end
+  abbrev pub first_or : List K → Option K → Option K
+  first_or [] end = end
+  first_or (k ∷ ks) end = Some k
+
+module _ {K V : Type 0} where
+  -- the ranges of the steps up to an end, if there is one
+  abbrev pub entries_until : List K → List (Option V) → Option K → List (RangeSetRange K × V)
+  entries_until [] ps end = []
+  entries_until (k ∷ ks) [] end = []
+  entries_until (k ∷ ks) (None ∷ ps) end = entries_until ks ps end
+  entries_until (k ∷ ks) (Some v ∷ ps) end =
+      (range_until k (first_or ks end), v) ∷ entries_until ks ps end
+
+  -- the ranges of a map with their values, from the lowest on
+  abbrev pub entries : Steps K V → List (RangeSetRange K × V)
+  entries m = entries_until m.keys m.options None
+
+  -- the range and the value that references point to
+  abbrev pub entry_now : RangeSetRange (Bor K) × Bor V → RangeSetRange K × V
+  entry_now e = (range_now e.0, e.1.now)
