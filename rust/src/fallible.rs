@@ -35,6 +35,7 @@
 mod changes;
 mod chunked;
 mod conversions;
+mod map;
 mod operations;
 #[cfg(feature = "serde")]
 #[cfg_attr(docsrs, doc(cfg(feature = "serde")))]
@@ -53,6 +54,7 @@ use crate::view::RangeSetRef;
 use smallvec::SmallVec;
 
 pub use chunked::ChunkedRangeSet;
+pub use map::{ByMapValue, MapValue, RangeMap};
 
 /// It is implemented for numbers, `char`, references to texts and slices, `String`, `Vec` and `Option`.
 ///

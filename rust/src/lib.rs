@@ -44,6 +44,7 @@ mod generated;
 mod iter;
 #[cfg(feature = "serde")]
 mod json;
+pub mod map;
 mod memory;
 mod operation;
 #[cfg(feature = "serde")]
@@ -101,6 +102,7 @@ pub use generated::range_collections::Unsigned;
 /// ```
 pub use generated::range_collections::WholeNumber;
 pub use iter::{Gaps, IntoIter, Iter, Members, RangesWithin};
+pub use map::RangeMap;
 pub use operation::{Connective, NoRoom};
 pub use range::RangeSetRange;
 pub use range_set::{RangeSet, RangeSet2};

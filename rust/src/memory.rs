@@ -21,8 +21,8 @@ fn out_of_memory<T>() -> ! {
     handle_alloc_error(Layout::new::<T>())
 }
 
-/// Copies elements by their own `Clone`, which answers no error.
-pub(crate) struct ByClone;
+/// Elements and values are copied by their own `Clone`, which answers no error.
+pub struct ByClone;
 
 impl<T: Clone> Copier<T> for ByClone {
     #[inline(always)]

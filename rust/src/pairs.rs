@@ -62,10 +62,7 @@ where
     S: Serializer,
 {
     let ranges = set.as_ref().iter();
-    serializer.collect_seq(ranges.map(|range| match range {
-        RangeSetRange::Range(range) => (range.start, Some(range.end)),
-        RangeSetRange::RangeFrom(range) => (range.start, None),
-    }))
+    serializer.collect_seq(ranges.map(RangeSetRange::into_ends))
 }
 
 /// Reads a sequence of pairs, in any order.
@@ -108,6 +105,14 @@ where
     deserializer.deserialize_seq(Pairs::<A>(PhantomData))
 }
 
+/// The range between both ends. One whose end is below its start is an error.
+pub(crate) fn range_of<T: Ord, E: Error>(start: T, end: Option<T>) -> Result<RangeSetRange<T>, E> {
+    if end.as_ref().map_or(false, |end| *end < start) {
+        return Err(E::custom("a range whose end is below its start"));
+    }
+    Ok(RangeSetRange::of_ends(start, end))
+}
+
 struct Pairs<A>(PhantomData<A>);
 
 impl<'de, T: Deserialize<'de> + Ord, A: Array<Item = T>> Visitor<'de> for Pairs<A> {
@@ -120,10 +125,7 @@ impl<'de, T: Deserialize<'de> + Ord, A: Array<Item = T>> Visitor<'de> for Pairs<
     fn visit_seq<S: SeqAccess<'de>>(self, mut pairs: S) -> Result<Self::Value, S::Error> {
         let mut joining = Joining::new();
         while let Some((start, end)) = pairs.next_element::<(T, Option<T>)>()? {
-            if end.as_ref().map_or(false, |end| *end < start) {
-                return Err(S::Error::custom("a range whose end is below its start"));
-            }
-            if let Err(refused) = joining.add_range(RangeSetRange::of_ends(start, end)) {
+            if let Err(refused) = joining.add_range(range_of(start, end)?) {
                 return Ok(Err(refused));
             }
         }

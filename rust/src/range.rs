@@ -114,6 +114,16 @@ impl<T> RangeSetRange<T> {
         }
     }
 
+    /// The start, and the end if there is one.
+    #[cfg(feature = "serde")]
+    #[inline(always)]
+    pub(crate) fn into_ends(self) -> (T, Option<T>) {
+        match self {
+            Self::Range(range) => (range.start, Some(range.end)),
+            Self::RangeFrom(range) => (range.start, None),
+        }
+    }
+
     #[inline(always)]
     pub(crate) fn from_proved(range: proved::RangeSetRange<T>) -> Self {
         match range {

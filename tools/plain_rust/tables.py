@@ -3,7 +3,7 @@
 import re
 
 # The crates that are written, each as a module, and where.
-CRATES = ("range_merge", "range_entry", "range_collections", "range_chunks", "range_tracker", "range_c")
+CRATES = ("range_merge", "range_entry", "range_collections", "range_chunks", "range_map", "range_tracker", "range_c")
 ROOT = ("crate", "generated")
 SUPPORT = ("crate", "support")
 # Crates that are compiled with a feature alone.
@@ -44,13 +44,13 @@ SAME = set(
     """
     abs_diff all allocator as_array as_bytes as_mut_slice as_ref as_slice bitand bitor bitxor capacity char_indices
     checked_add checked_sub chunks chunks_exact clear cmp contains copied copy_from_slice copy_within dedup drain
-    enumerate eq expect extend_from_slice filter_map first fmt format from get insert into_iter into_vec is_ascii_digit
-    is_empty is_eq is_err is_ge is_gt is_le is_lt is_ne is_none is_ok is_some is_whitespace iter iter_mut last
-    leading_zeros len map max min next next_back not ok parse pop position push_reserved remove reserve rev reverse
-    rotate_left rotate_right saturating_add saturating_mul saturating_sub shrink_to_fit size_hint sort_unstable
-    sort_unstable_by_key split split_at split_at_mut split_first split_last split_off split_once strip_prefix sub swap
-    swap_with_slice take then_some trailing_zeros trim truncate unwrap_or valid_up_to windows with_capacity wrapping_sub
-    write_str zip
+    enumerate eq expect extend_from_slice filter filter_map first fmt format from get insert into_iter into_vec
+    is_ascii_digit is_empty is_eq is_err is_ge is_gt is_le is_lt is_ne is_none is_ok is_some is_whitespace iter
+    iter_mut last leading_zeros len map max min next next_back not ok parse pop position push_reserved remove
+    reserve rev reverse rotate_left rotate_right saturating_add saturating_mul saturating_sub shrink_to_fit
+    size_hint sort_unstable sort_unstable_by_key split split_at split_at_mut split_first split_last split_off
+    split_once strip_prefix sub swap swap_with_slice take then_some trailing_zeros trim truncate unwrap_or
+    valid_up_to windows with_capacity wrapping_sub write_str zip
     """.split()
 )
 # Macros, attributes and derives that are the same in Rust.
@@ -105,6 +105,8 @@ ITEMS_LEFT_OUT = {
     # Rust drops a set's list by itself.
     "range_collections/range_set": {"impl Drop for RangeSet"},
     "range_chunks/set": {"impl Drop for ChunkedRangeSet"},
+    # Values that aren't plain numbers have one by their `EntryClone`, in support.
+    "range_map/value": {"impl MapValue for T"},
 }
 # What nothing in Rust calls, by its file: an item by its kind and name, a member by the name of its impl or trait.
 UNCALLED = {
@@ -137,6 +139,7 @@ SHOWN = {
     "range_collections/range_set/values": {"range_of"},
     "range_chunks/set": {"chunks"},
     "range_chunks/tracker": {"chunks", "len", "limit"},
+    "range_map/map": {"keys", "options"},
     "range_tracker/tracker": {"set", "limit"},
 }
 # Structs that are cloned in Rust whatever their elements are, by their file: their fields are references.

@@ -14,5 +14,6 @@ pub mod range_c;
 pub mod range_chunks;
 pub mod range_collections;
 pub mod range_entry;
+pub mod range_map;
 pub mod range_merge;
 pub mod range_tracker;

@@ -2,6 +2,7 @@
 
 use super::AllocError;
 use crate::generated::range_entry::EntryClone;
+use crate::generated::range_map::MapValue;
 use alloc::string::String;
 use alloc::vec::Vec;
 use core::num::{
@@ -31,6 +32,14 @@ impl<T: EntryClone> EntryClone for Vec<T> {
             copied.push(item.entry_clone()?);
         }
         Ok(copied)
+    }
+}
+
+/// The copy that it has as an element.
+impl<T: EntryClone> MapValue for T {
+    #[inline(always)]
+    fn copy_value(&self) -> Result<Self, AllocError> {
+        self.entry_clone()
     }
 }
 

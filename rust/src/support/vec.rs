@@ -34,6 +34,12 @@ impl<T> Vec<T> {
         &self.0
     }
 
+    /// The items, to change them.
+    #[inline(always)]
+    pub fn as_mut_slice(&mut self) -> &mut [T] {
+        &mut self.0
+    }
+
     /// Makes room for `n` more items.
     #[inline]
     pub fn reserve(&mut self, n: usize) -> Result<(), AllocError> {

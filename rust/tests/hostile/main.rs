@@ -8,6 +8,7 @@ mod chunked;
 #[path = "../common/mod.rs"]
 mod common;
 mod element;
+mod map;
 
 use calls::{calls, Call};
 use changes::{changes, fallible_changes, members, CallOn, Changes};

@@ -3,6 +3,7 @@
 mod chunked;
 #[path = "../common/mod.rs"]
 mod common;
+mod map;
 mod refusing;
 
 use range_sets::fallible::{AllocError, EntryClone, RangeSet, RangeSet2};

@@ -1,0 +1,258 @@
+//! Maps from ranges to values.
+//!
+//! [`Map`] is one type with two names: [`RangeMap`](crate::RangeMap), whose calls end the process if memory runs out, and
+//! [`fallible::RangeMap`](crate::fallible::RangeMap), whose calls return an error.
+
+mod iter;
+#[cfg(feature = "serde")]
+mod json;
+mod kept;
+mod traits;
+
+pub use iter::{IntoIter, Iter};
+pub use kept::ByClone;
+pub(crate) use kept::{Copies, Kept};
+
+use crate::any_range::AnyRange;
+use crate::generated::range_map as proved;
+use crate::memory::{expect_memory, AllocError};
+use crate::range::RangeSetRange;
+use crate::support::Global;
+use core::mem;
+
+/// A map from ranges to values, which is changed range by range.
+///
+/// Each key has the value of the last range that was put around it, or none. Ranges that touch and have equal values are
+/// one, so two maps are equal exactly if each key has equal values in both.
+///
+/// # Examples
+///
+/// ```
+/// use range_sets::RangeMap;
+///
+/// let mut bookings = RangeMap::new();
+/// bookings.insert(9..12, "Ada");
+/// bookings.insert(11..14, "Bob");
+/// assert_eq!(bookings.get(&10), Some(&"Ada"));
+/// assert_eq!(bookings[&11], "Bob");
+///
+/// bookings.remove(13..);
+/// let ranges: Vec<_> = bookings.iter().map(|(range, who)| format!("{range:?} {who}")).collect();
+/// assert_eq!(ranges, ["9..11 Ada", "11..13 Bob"]);
+/// ```
+///
+/// # Time
+///
+/// Among *n* ranges a search makes *O*(log *n*) comparisons. [`get`](map::Map::get) is one search, a change is two. The
+/// ranges lie in one list, so a change moves all that come after it: a map grows to 10,000 ranges in random order in a
+/// few milliseconds, and to a million in minutes. Collect many ranges with [`from_iter`](FromIterator::from_iter).
+///
+/// # Memory
+///
+/// A value is cloned only if a range becomes two. A call that is refused memory ends the process, as std's collections do.
+/// [`fallible::RangeMap`](crate::fallible::RangeMap) returns an error instead.
+///
+/// # Panics in keys and values
+///
+/// If a comparison, a clone or a drop panics, the map is as it was, changed as asked, or empty.
+///
+/// [`map::Map::get`]: Map::get
+pub type RangeMap<K, V> = Map<K, V, ByClone>;
+
+/// A map from ranges to values. Its names are [`RangeMap`] and [`fallible::RangeMap`](crate::fallible::RangeMap), which
+/// say how values are copied: by `Clone`, or by a copy that may fail.
+pub struct Map<K: Ord, V: Eq, C>(proved::RangeMap<K, Kept<V, C>>);
+
+/// What both kinds of maps have.
+impl<K: Ord, V: Eq, C> Map<K, V, C> {
+    /// Returns the empty map. It takes no memory.
+    ///
+    /// # Examples
+    ///
+    /// ```
+    /// use range_sets::RangeMap;
+    ///
+    /// assert!(RangeMap::<u64, char>::new().is_empty());
+    /// ```
+    #[must_use]
+    pub fn new() -> Self {
+        Map(proved::RangeMap::new(Global))
+    }
+
+    /// Returns the value of `key`, or `None` if it has none.
+    ///
+    /// # Examples
+    ///
+    /// ```
+    /// use range_sets::RangeMap;
+    ///
+    /// let bookings = RangeMap::from_iter([(9..12, "Ada")]);
+    /// assert_eq!(bookings.get(&11), Some(&"Ada"));
+    /// assert_eq!(bookings.get(&12), None);
+    /// ```
+    #[inline]
+    pub fn get(&self, key: &K) -> Option<&V> {
+        self.0.get(key).map(|kept| &kept.value)
+    }
+
+    /// Returns `true` if `key` has a value.
+    ///
+    /// # Examples
+    ///
+    /// ```
+    /// use range_sets::RangeMap;
+    ///
+    /// let bookings = RangeMap::from_iter([(9..12, "Ada")]);
+    /// assert!(bookings.contains_key(&9) && !bookings.contains_key(&8));
+    /// ```
+    pub fn contains_key(&self, key: &K) -> bool {
+        self.0.contains_key(key)
+    }
+
+    /// Returns how many ranges have a value, where those that touch and have equal values are one. It looks at each.
+    ///
+    /// # Examples
+    ///
+    /// ```
+    /// use range_sets::RangeMap;
+    ///
+    /// let bookings = RangeMap::from_iter([(9..12, "Ada"), (12..13, "Ada"), (13..14, "Bob")]);
+    /// assert_eq!(bookings.len(), 2);
+    /// ```
+    pub fn len(&self) -> usize {
+        self.0.len()
+    }
+
+    /// Returns `true` if no key has a value.
+    ///
+    /// # Examples
+    ///
+    /// ```
+    /// use range_sets::RangeMap;
+    ///
+    /// assert!(RangeMap::from_iter([(9..9, "nobody")]).is_empty());
+    /// ```
+    pub fn is_empty(&self) -> bool {
+        self.0.is_empty()
+    }
+
+    /// Returns an iterator over the ranges that have a value, from the lowest on, each with its value. It also runs from
+    /// the highest range down.
+    ///
+    /// # Examples
+    ///
+    /// ```
+    /// use range_sets::RangeMap;
+    ///
+    /// let bookings = RangeMap::from_iter([(11..14, "Bob"), (9..11, "Ada")]);
+    /// let starts: Vec<_> = bookings.iter().map(|(range, who)| (**range.start(), *who)).collect();
+    /// assert_eq!(starts, [(9, "Ada"), (11, "Bob")]);
+    /// ```
+    pub fn iter(&self) -> Iter<'_, K, V, C> {
+        Iter::new(&self.0.keys, &self.0.options)
+    }
+
+    /// Takes the value of each key away.
+    ///
+    /// # Examples
+    ///
+    /// ```
+    /// use range_sets::RangeMap;
+    ///
+    /// let mut bookings = RangeMap::from_iter([(9..12, "Ada")]);
+    /// bookings.clear();
+    /// assert!(bookings.is_empty());
+    /// ```
+    pub fn clear(&mut self) {
+        drop(self.taken());
+    }
+
+    /// The same map, whose values are copied in another way. They lie where they were.
+    pub(crate) fn copied_by<D>(self) -> Map<K, V, D> {
+        let options = self.0.options.into_iter();
+        let options = options.map(|option| option.map(|kept| Kept::new(kept.value)));
+        Map(proved::RangeMap {
+            keys: self.0.keys,
+            options: options.collect::<alloc::vec::Vec<_>>().into(),
+        })
+    }
+
+    /// The map, which leaves an empty one in its place.
+    fn taken(&mut self) -> proved::RangeMap<K, Kept<V, C>> {
+        mem::replace(&mut self.0, proved::RangeMap::new(Global))
+    }
+
+    /// Changes the map, which is taken out meanwhile: the keys change before the values do. If something panics between,
+    /// both are dropped, and the map is empty.
+    #[inline(always)]
+    fn changed<R>(&mut self, change: impl FnOnce(&mut proved::RangeMap<K, Kept<V, C>>) -> R) -> R {
+        let mut taken = self.taken();
+        let result = change(&mut taken);
+        self.0 = taken;
+        result
+    }
+}
+
+impl<K: Ord, V: Eq, C: Copies<V>> Map<K, V, C> {
+    #[inline(always)]
+    pub(crate) fn try_insert(
+        &mut self,
+        range: RangeSetRange<K>,
+        value: V,
+    ) -> Result<(), AllocError> {
+        let value = Kept::new(value);
+        self.changed(|map| match range {
+            RangeSetRange::Range(range) => map.insert(range, value),
+            RangeSetRange::RangeFrom(range) => map.insert_from(range, value),
+        })
+    }
+
+    #[inline(always)]
+    pub(crate) fn try_remove(&mut self, range: RangeSetRange<K>) -> Result<(), AllocError> {
+        self.changed(|map| match range {
+            RangeSetRange::Range(range) => map.remove(range),
+            RangeSetRange::RangeFrom(range) => map.remove_from(range),
+        })
+    }
+}
+
+/// The calls of [`RangeMap`](crate::RangeMap), which end the process if memory runs out.
+impl<K: Ord, V: Eq + Clone> RangeMap<K, V> {
+    /// Gives each key of a range [of any kind](AnyRange) the value, in place of the one that it had. An empty or a
+    /// reversed range changes nothing.
+    ///
+    /// A value is cloned only if the range lies within another one, which becomes two.
+    ///
+    /// # Examples
+    ///
+    /// ```
+    /// use range_sets::RangeMap;
+    ///
+    /// let mut bookings = RangeMap::new();
+    /// bookings.insert(9..17, "Ada");
+    /// bookings.insert(12..=13, "Bob");
+    /// bookings.insert(20.., "Eve");
+    /// assert_eq!(format!("{bookings:?}"), r#"{9..12: "Ada", 12..14: "Bob", 14..17: "Ada", 20..: "Eve"}"#);
+    /// ```
+    pub fn insert(&mut self, range: impl AnyRange<K>, value: V) {
+        expect_memory::<K, _, _>(self.try_insert(range.into(), value));
+    }
+
+    /// Takes the value of each key of a range [of any kind](AnyRange) away. An empty or a reversed range changes nothing.
+    ///
+    /// It takes memory, and clones a value, only if the range lies within another one, which becomes two.
+    ///
+    /// # Examples
+    ///
+    /// ```
+    /// use range_sets::RangeMap;
+    ///
+    /// let mut bookings = RangeMap::from_iter([(9..17, "Ada")]);
+    /// bookings.remove(12..13);
+    /// bookings.remove(16..);
+    /// assert_eq!(format!("{bookings:?}"), r#"{9..12: "Ada", 13..16: "Ada"}"#);
+    /// ```
+    pub fn remove(&mut self, range: impl AnyRange<K>) {
+        expect_memory::<K, _, _>(self.try_remove(range.into()));
+    }
+}

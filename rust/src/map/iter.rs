@@ -1,0 +1,128 @@
+//! The ranges of a map with their values, one by one.
+
+use super::{Kept, Map};
+use crate::range::RangeSetRange;
+use alloc::vec;
+use core::fmt;
+use core::iter::{FusedIterator, Peekable};
+
+/// An iterator over the ranges of a map that have a value, each with it, from the lowest on and from the highest down.
+/// [`Map::iter`] makes it.
+///
+/// # Examples
+///
+/// ```
+/// use range_sets::RangeMap;
+///
+/// let bookings = RangeMap::from_iter([(9..11, "Ada"), (11..14, "Bob")]);
+/// let mut ranges = bookings.iter();
+/// assert_eq!(ranges.next_back(), Some(((&11..&14).into(), &"Bob")));
+/// assert_eq!(ranges.next(), Some(((&9..&11).into(), &"Ada")));
+/// assert_eq!(ranges.next(), None);
+/// ```
+#[must_use = "iterators are lazy and do nothing unless consumed"]
+pub struct Iter<'a, K, V, C> {
+    keys: &'a [K],
+    options: &'a [Option<Kept<V, C>>],
+    /// The key after those.
+    after: Option<&'a K>,
+}
+
+impl<'a, K, V, C> Iter<'a, K, V, C> {
+    pub(super) fn new(keys: &'a [K], options: &'a [Option<Kept<V, C>>]) -> Self {
+        Iter {
+            keys,
+            options,
+            after: None,
+        }
+    }
+}
+
+impl<'a, K, V, C> Iterator for Iter<'a, K, V, C> {
+    type Item = (RangeSetRange<&'a K>, &'a V);
+
+    fn next(&mut self) -> Option<Self::Item> {
+        loop {
+            let (start, keys) = self.keys.split_first()?;
+            let (option, options) = self.options.split_first()?;
+            (self.keys, self.options) = (keys, options);
+            if let Some(kept) = option {
+                let end = keys.first().or(self.after);
+                return Some((RangeSetRange::of_ends(start, end), &kept.value));
+            }
+        }
+    }
+}
+
+impl<K, V, C> DoubleEndedIterator for Iter<'_, K, V, C> {
+    fn next_back(&mut self) -> Option<Self::Item> {
+        loop {
+            let (start, keys) = self.keys.split_last()?;
+            let (option, options) = self.options.split_last()?;
+            (self.keys, self.options) = (keys, options);
+            let end = self.after.replace(start);
+            if let Some(kept) = option {
+                return Some((RangeSetRange::of_ends(start, end), &kept.value));
+            }
+        }
+    }
+}
+
+impl<K, V, C> FusedIterator for Iter<'_, K, V, C> {}
+
+impl<K, V, C> Clone for Iter<'_, K, V, C> {
+    fn clone(&self) -> Self {
+        Iter { ..*self }
+    }
+}
+
+/// The ranges that are left.
+impl<K: fmt::Debug, V: fmt::Debug, C> fmt::Debug for Iter<'_, K, V, C> {
+    fn fmt(&self, f: &mut fmt::Formatter<'_>) -> fmt::Result {
+        f.debug_list().entries(self.clone()).finish()
+    }
+}
+
+/// An iterator over the ranges of a map that was taken by value, each with its value. `into_iter` makes it.
+///
+/// A key at which one range ends and another one starts is cloned.
+///
+/// # Examples
+///
+/// ```
+/// use range_sets::RangeMap;
+///
+/// let bookings = RangeMap::from_iter([(9..11, "Ada".to_string()), (11..14, "Bob".to_string())]);
+/// let guests: Vec<String> = bookings.into_iter().map(|(_, guest)| guest).collect();
+/// assert_eq!(guests, ["Ada", "Bob"]);
+/// ```
+#[must_use = "iterators are lazy and do nothing unless consumed"]
+pub struct IntoIter<K, V, C> {
+    keys: Peekable<vec::IntoIter<K>>,
+    options: vec::IntoIter<Option<Kept<V, C>>>,
+}
+
+impl<K: Ord, V: Eq, C> IntoIter<K, V, C> {
+    pub(super) fn new(map: Map<K, V, C>) -> Self {
+        IntoIter {
+            keys: map.0.keys.into_iter().peekable(),
+            options: map.0.options.into_iter(),
+        }
+    }
+}
+
+impl<K: Clone, V, C> Iterator for IntoIter<K, V, C> {
+    type Item = (RangeSetRange<K>, V);
+
+    fn next(&mut self) -> Option<Self::Item> {
+        loop {
+            let start = self.keys.next()?;
+            if let Some(kept) = self.options.next()? {
+                let end = self.keys.peek().cloned();
+                return Some((RangeSetRange::of_ends(start, end), kept.value));
+            }
+        }
+    }
+}
+
+impl<K: Clone, V, C> FusedIterator for IntoIter<K, V, C> {}

@@ -1,0 +1,352 @@
+//! Maps: rows, and made-up changes compared with an array of options.
+// Maps of one range are meant.
+#![allow(clippy::single_range_in_vec_init, clippy::reversed_empty_ranges)]
+
+mod common;
+
+use common::{one_in, Random};
+use range_sets::{fallible, RangeMap, RangeSetRange};
+use std::collections::hash_map::DefaultHasher;
+use std::collections::HashSet;
+use std::hash::{Hash, Hasher};
+use std::ops::Range;
+
+/// So many keys are looked at. The last one also stands for all above.
+const KEYS: usize = 40;
+
+/// The value of each key.
+type Cells = [Option<u8>; KEYS];
+
+/// A range below `KEYS`, now and then an empty or a reversed one, or one without an end.
+fn any_range(random: &mut Random) -> RangeSetRange<u8> {
+    let (start, end) = (
+        random.below(KEYS as u64) as u8,
+        random.below(KEYS as u64) as u8,
+    );
+    match random.below(8) {
+        0 => (start..).into(),
+        1 => (start..end).into(),
+        2 => (start..start).into(),
+        3 => (start.min(37)..=start.min(38)).into(),
+        _ => (start.min(end)..start.max(end)).into(),
+    }
+}
+
+fn has(range: &RangeSetRange<u8>, key: u8) -> bool {
+    *range.start() <= key && range.end().map_or(true, |&end| key < end)
+}
+
+/// The longest ranges of one value, by the cells alone.
+fn stretches(cells: &Cells) -> Vec<(RangeSetRange<u8>, u8)> {
+    let mut found = Vec::new();
+    let mut key = 0;
+    while key < KEYS {
+        let end = (key..KEYS).find(|&i| cells[i] != cells[key]);
+        if let Some(value) = cells[key] {
+            let range = match end {
+                Some(end) => (key as u8..end as u8).into(),
+                None => (key as u8..).into(),
+            };
+            found.push((range, value));
+        }
+        key = end.unwrap_or(KEYS);
+    }
+    found
+}
+
+fn read<C>(map: &range_sets::map::Map<u8, u8, C>) -> Vec<(RangeSetRange<u8>, u8)> {
+    map.iter()
+        .map(|(range, &value)| (range.cloned(), value))
+        .collect()
+}
+
+/// Asks a map all that the cells say.
+fn compare(map: &RangeMap<u8, u8>, cells: &Cells, what: &str) {
+    for (key, value) in cells.iter().enumerate() {
+        assert_eq!(map.get(&(key as u8)), value.as_ref(), "{what}, {key}");
+        assert_eq!(map.contains_key(&(key as u8)), value.is_some(), "{what}");
+    }
+    assert_eq!(map.get(&255), cells[KEYS - 1].as_ref(), "{what}");
+    let expected = stretches(cells);
+    assert_eq!(read(map), expected, "{what}");
+    assert!(map
+        .iter()
+        .rev()
+        .eq(map.iter().collect::<Vec<_>>().into_iter().rev()));
+    assert_eq!(map.len(), expected.len(), "{what}");
+    assert_eq!(map.is_empty(), expected.is_empty(), "{what}");
+}
+
+#[test]
+fn made_up_changes_as_of_an_array_of_options() {
+    for seed in (1..10_000u64).step_by(one_in()) {
+        let mut random = Random(seed.wrapping_mul(0x9e37_79b9_7f4a_7c15) | 1);
+        let (mut map, mut cells) = (RangeMap::new(), [None; KEYS]);
+        let mut refusing = fallible::RangeMap::new();
+        for change in 0..12 {
+            let range = any_range(&mut random);
+            let value = (random.below(3) > 0).then(|| random.below(3) as u8);
+            for key in 0..KEYS as u8 {
+                if has(&range, key) {
+                    cells[usize::from(key)] = value;
+                }
+            }
+            match value {
+                Some(value) => {
+                    map.insert(range.clone(), value);
+                    refusing.insert(range, value).unwrap();
+                }
+                None => {
+                    map.remove(range.clone());
+                    refusing.remove(range).unwrap();
+                }
+            }
+            compare(&map, &cells, &format!("seed {seed}, change {change}"));
+            assert_eq!(read(&refusing), read(&map), "seed {seed}");
+        }
+        let collected: RangeMap<u8, u8> = stretches(&cells).into_iter().rev().collect();
+        assert!(collected == map && map == map.clone(), "seed {seed}");
+        assert_eq!(RangeMap::from(refusing), map, "seed {seed}");
+        assert_eq!(map.into_iter().collect::<Vec<_>>(), stretches(&cells));
+    }
+}
+
+/// A change of a map, and what the map is after it, as text.
+struct Row {
+    what: &'static str,
+    before: &'static [(Range<u8>, char)],
+    change: fn(&mut RangeMap<u8, char>),
+    after: &'static str,
+}
+
+const ROWS: [Row; 18] = [
+    Row {
+        what: "the first range",
+        before: &[],
+        change: |map| map.insert(9..12, 'a'),
+        after: "{9..12: 'a'}",
+    },
+    Row {
+        what: "over an end",
+        before: &[(9..12, 'a')],
+        change: |map| map.insert(11..14, 'b'),
+        after: "{9..11: 'a', 11..14: 'b'}",
+    },
+    Row {
+        what: "within",
+        before: &[(9..17, 'a')],
+        change: |map| map.insert(12..13, 'b'),
+        after: "{9..12: 'a', 12..13: 'b', 13..17: 'a'}",
+    },
+    Row {
+        what: "within, the same value",
+        before: &[(9..17, 'a')],
+        change: |map| map.insert(12..13, 'a'),
+        after: "{9..17: 'a'}",
+    },
+    Row {
+        what: "between equal values",
+        before: &[(0..5, 'a'), (9..17, 'a')],
+        change: |map| map.insert(5..9, 'a'),
+        after: "{0..17: 'a'}",
+    },
+    Row {
+        what: "between other values",
+        before: &[(0..5, 'a'), (9..17, 'a')],
+        change: |map| map.insert(5..9, 'b'),
+        after: "{0..5: 'a', 5..9: 'b', 9..17: 'a'}",
+    },
+    Row {
+        what: "over all",
+        before: &[(1..3, 'a'), (4..6, 'b')],
+        change: |map| map.insert(0..9, 'c'),
+        after: "{0..9: 'c'}",
+    },
+    Row {
+        what: "an empty range",
+        before: &[(9..12, 'a')],
+        change: |map| map.insert(10..10, 'b'),
+        after: "{9..12: 'a'}",
+    },
+    Row {
+        what: "a reversed range",
+        before: &[(9..12, 'a')],
+        change: |map| map.insert(12..9, 'b'),
+        after: "{9..12: 'a'}",
+    },
+    Row {
+        what: "to a last key",
+        before: &[],
+        change: |map| map.insert(3..=5, 'a'),
+        after: "{3..6: 'a'}",
+    },
+    Row {
+        what: "to the greatest key",
+        before: &[],
+        change: |map| map.insert(3..=255, 'a'),
+        after: "{3..: 'a'}",
+    },
+    Row {
+        what: "without an end",
+        before: &[(1..3, 'a'), (4..6, 'b')],
+        change: |map| map.insert(2.., 'c'),
+        after: "{1..2: 'a', 2..: 'c'}",
+    },
+    Row {
+        what: "without a start",
+        before: &[(1..3, 'a')],
+        change: |map| map.insert(..2, 'c'),
+        after: "{0..2: 'c', 2..3: 'a'}",
+    },
+    Row {
+        what: "all keys",
+        before: &[(1..3, 'a')],
+        change: |map| map.insert(.., 'c'),
+        after: "{0..: 'c'}",
+    },
+    Row {
+        what: "taken out of the middle",
+        before: &[(9..17, 'a')],
+        change: |map| map.remove(12..13),
+        after: "{9..12: 'a', 13..17: 'a'}",
+    },
+    Row {
+        what: "taken out from a key on",
+        before: &[(1..3, 'a'), (4..6, 'b')],
+        change: |map| map.remove(2..),
+        after: "{1..2: 'a'}",
+    },
+    Row {
+        what: "taken out where nothing is",
+        before: &[(1..3, 'a')],
+        change: |map| map.remove(3..9),
+        after: "{1..3: 'a'}",
+    },
+    Row {
+        what: "cleared",
+        before: &[(1..3, 'a'), (4..6, 'b')],
+        change: |map| map.clear(),
+        after: "{}",
+    },
+];
+
+#[test]
+fn rows() {
+    for row in ROWS {
+        let mut map: RangeMap<u8, char> = row.before.iter().cloned().collect();
+        (row.change)(&mut map);
+        assert_eq!(format!("{map:?}"), row.after, "{}", row.what);
+    }
+}
+
+#[test]
+fn later_ranges_win() {
+    let ranges = [(0..9, 'a'), (3..12, 'b'), (5..6, 'a')];
+    let expected = "{0..3: 'a', 3..5: 'b', 5..6: 'a', 6..12: 'b'}";
+    let map: RangeMap<u8, char> = ranges.clone().into_iter().collect();
+    assert_eq!(format!("{map:?}"), expected);
+    let map = fallible::RangeMap::from_ranges(ranges).unwrap();
+    assert_eq!(format!("{map:?}"), expected);
+}
+
+#[test]
+fn texts() {
+    let map: RangeMap<u8, &str> = [(9..12, "Ada"), (20..24, "Eve")].into_iter().collect();
+    assert_eq!(format!("{map:?}"), r#"{9..12: "Ada", 20..24: "Eve"}"#);
+    assert_eq!(
+        format!("{map:#?}"),
+        "{\n    9..12: \"Ada\",\n    20..24: \"Eve\",\n}"
+    );
+    assert_eq!(
+        format!("{:?}", map.iter()),
+        r#"[(9..12, "Ada"), (20..24, "Eve")]"#
+    );
+    assert_eq!(format!("{:?}", RangeMap::<u8, u8>::new()), "{}");
+}
+
+// The value, whose type can go to other threads.
+fn of_any_thread<T: Send + Sync>(value: &T) -> &T {
+    value
+}
+
+#[test]
+fn values() {
+    let hash = |map: &RangeMap<u8, char>| {
+        let mut hasher = DefaultHasher::new();
+        map.hash(&mut hasher);
+        hasher.finish()
+    };
+    let map = RangeMap::from_iter([(0..5, 'a'), (5..9, 'b')]);
+    let others = [
+        RangeMap::from_iter([(0..5, 'a'), (5..9, 'a')]),
+        RangeMap::from_iter([(0..5, 'a'), (6..9, 'b')]),
+        RangeMap::from_iter([(0..5, 'a'), (5..8, 'b')]),
+        RangeMap::from_iter([(0..5, 'a')]),
+        RangeMap::new(),
+    ];
+    for other in &others {
+        assert_ne!(*other, map);
+        assert_ne!(map, *other);
+        assert_ne!(hash(other), hash(&map), "{other:?}");
+    }
+    let same = RangeMap::from_iter([(3..9, 'b'), (0..4, 'a'), (4..5, 'a')]);
+    assert!(same == map && hash(&same) == hash(&map));
+    assert_eq!(others.into_iter().collect::<HashSet<_>>().len(), 5);
+    assert_eq!(RangeMap::<u8, char>::default(), RangeMap::new());
+    assert_eq!(of_any_thread(&map)[&5], 'b');
+    let refusing: fallible::RangeMap<_, _> = map.clone().into();
+    assert_eq!(of_any_thread(&refusing).get(&4), Some(&'a'));
+}
+
+#[test]
+#[should_panic = "the key has no value"]
+fn a_key_without_a_value_panics() {
+    let _ = RangeMap::from_iter([(0..5, 'a')])[&5];
+}
+
+#[test]
+fn iterators_run_from_both_ends() {
+    let map = RangeMap::from_iter([(0..2, 'a'), (2..3, 'b'), (5..9, 'c'), (9..12, 'd')]);
+    let all: Vec<_> = map.iter().collect();
+    for ends in 0..16u32 {
+        let (mut ranges, mut front, mut back) = (map.iter(), vec![], vec![]);
+        for step in 0..4 {
+            if ends >> step & 1 == 1 {
+                front.extend(ranges.next());
+            } else {
+                back.extend(ranges.next_back());
+            }
+        }
+        assert_eq!((ranges.next(), ranges.next_back()), (None, None));
+        front.extend(back.into_iter().rev());
+        assert_eq!(front, all, "{ends:b}");
+    }
+}
+
+#[cfg(feature = "serde")]
+#[test]
+fn written_as_triples() {
+    let map: RangeMap<u8, String> = [
+        (RangeSetRange::from(20..), "Eve".to_string()),
+        ((9..12).into(), "Ada".to_string()),
+    ]
+    .into_iter()
+    .collect();
+    let json = r#"[[9,12,"Ada"],[20,null,"Eve"]]"#;
+    assert_eq!(serde_json::to_string(&map).unwrap(), json);
+    assert_eq!(
+        serde_json::from_str::<RangeMap<u8, String>>(json).unwrap(),
+        map
+    );
+    let read: fallible::RangeMap<u8, u8> =
+        serde_json::from_str("[[5,9,1],[0,6,2],[3,3,4]]").unwrap();
+    assert_eq!(serde_json::to_string(&read).unwrap(), "[[0,6,2],[6,9,1]]");
+    for (json, error) in [
+        ("[[9,2,1]]", "a range whose end is below its start"),
+        ("[[2,9]]", "invalid length 2"),
+        ("7", "invalid type"),
+    ] {
+        let found = serde_json::from_str::<RangeMap<u8, u8>>(json).unwrap_err();
+        assert!(found.to_string().starts_with(error), "{json}: {found}");
+    }
+}

@@ -1,0 +1,192 @@
+//! Memory refused at each request in turn: a change of a map answers an error, and leaves the map as it was.
+
+use crate::refusing::{each_refusal, refusing, unrefused, Refusal};
+use range_sets::fallible::{AllocError, RangeMap};
+use range_sets::RangeSetRange;
+use std::ops::Range;
+
+type Map = RangeMap<u32, String>;
+
+fn value(number: u32) -> String {
+    format!("{number:03}, and more that lies on the heap")
+}
+
+/// So many ranges, each of which takes half of ten numbers.
+fn map(ranges: u32) -> Map {
+    RangeMap::from_ranges((0..ranges).map(|i| (10 * i + 10..10 * i + 15, value(i % 3))))
+        .expect("no memory is refused")
+}
+
+fn listed(map: &Map) -> Vec<(RangeSetRange<u32>, String)> {
+    unrefused(|| {
+        map.iter()
+            .map(|(range, value)| (range.cloned(), value.clone()))
+            .collect()
+    })
+}
+
+type Change = fn(&mut Map, Range<u32>) -> Result<(), AllocError>;
+
+struct Row {
+    what: &'static str,
+    change: Change,
+    ranges: u32,
+    range: Range<u32>,
+    /// Whether it asks for memory: if there are more steps after it than there is room for, or a range becomes two.
+    asks: bool,
+}
+
+const INSERT: Change = |map, range| map.insert(range, unrefused(|| value(7)));
+const SAME: Change = |map, range| map.insert(range, unrefused(|| value(0)));
+const REMOVE: Change = |map, range| map.remove(range);
+const INSERT_FROM: Change = |map, range| map.insert(range.start.., unrefused(|| value(7)));
+const REMOVE_FROM: Change = |map, range| map.remove(range.start..);
+
+/// A map of so many ranges has two keys for each, and room for a power of two.
+const ROWS: [Row; 14] = [
+    Row {
+        what: "the first range",
+        change: INSERT,
+        ranges: 0,
+        range: 5..8,
+        asks: true,
+    },
+    Row {
+        what: "a range that is there",
+        change: INSERT,
+        ranges: 3,
+        range: 10..15,
+        asks: false,
+    },
+    Row {
+        what: "over some",
+        change: INSERT,
+        ranges: 9,
+        range: 12..43,
+        asks: false,
+    },
+    Row {
+        what: "where there is room",
+        change: INSERT,
+        ranges: 9,
+        range: 16..18,
+        asks: false,
+    },
+    Row {
+        what: "where there is none",
+        change: INSERT,
+        ranges: 8,
+        range: 16..18,
+        asks: true,
+    },
+    Row {
+        what: "within a range",
+        change: INSERT,
+        ranges: 9,
+        range: 12..13,
+        asks: true,
+    },
+    Row {
+        what: "within a range of that value",
+        change: SAME,
+        ranges: 9,
+        range: 12..13,
+        asks: false,
+    },
+    Row {
+        what: "no range",
+        change: INSERT,
+        ranges: 8,
+        range: 9..9,
+        asks: false,
+    },
+    Row {
+        what: "without an end",
+        change: INSERT_FROM,
+        ranges: 9,
+        range: 42..50,
+        asks: false,
+    },
+    Row {
+        what: "the first one without an end",
+        change: INSERT_FROM,
+        ranges: 0,
+        range: 42..50,
+        asks: true,
+    },
+    Row {
+        what: "taken out of a range",
+        change: REMOVE,
+        ranges: 9,
+        range: 12..13,
+        asks: true,
+    },
+    Row {
+        what: "the end of a range taken out",
+        change: REMOVE,
+        ranges: 8,
+        range: 12..15,
+        asks: false,
+    },
+    Row {
+        what: "all taken out",
+        change: REMOVE,
+        ranges: 9,
+        range: 0..200,
+        asks: false,
+    },
+    Row {
+        what: "taken out without an end",
+        change: REMOVE_FROM,
+        ranges: 8,
+        range: 12..20,
+        asks: false,
+    },
+];
+
+#[test]
+fn changes_are_refused_and_leave_the_map_as_it_was() {
+    for row in ROWS {
+        let requests = each_refusal(
+            row.what,
+            || map(row.ranges),
+            |map| (row.change)(map, row.range.clone()).map(|()| listed(map)),
+            |map, before| listed(map) == listed(before),
+        );
+        assert_eq!(requests > 0, row.asks, "{}: {requests} requests", row.what);
+        let mut changed = map(row.ranges);
+        let (result, _) = refusing(Refusal::From(0), || {
+            (row.change)(&mut changed, row.range.clone())
+        });
+        assert_eq!(result.is_err(), row.asks, "{}", row.what);
+    }
+}
+
+#[test]
+fn what_grows_is_refused_in_the_end() {
+    let mut map = map(0);
+    let ranges = [5..8, 10..12].map(|range| (range, value(1)));
+    let (refused, _) = refusing(Refusal::From(0), || map.extend(ranges));
+    assert_eq!((refused, map.is_empty()), (Err(AllocError), true));
+    let numbers = || (0..100_000u32).map(|i| (10 * i..10 * i + 5, i));
+    let (refused, _) = refusing(Refusal::From(20), || {
+        RangeMap::from_ranges(numbers()).map(drop)
+    });
+    assert_eq!(refused, Err(AllocError));
+    let mut numbered = RangeMap::new();
+    let (refused, _) = refusing(Refusal::From(20), || numbered.extend(numbers()));
+    assert_eq!(refused, Err(AllocError));
+    assert!(numbered[&14] == 1 && !numbered.contains_key(&999_990));
+}
+
+#[test]
+fn what_takes_no_memory_asks_for_none() {
+    let (empty, _) = refusing(Refusal::From(0), Map::new);
+    assert!(empty.is_empty());
+    let (before, mut other) = (listed(&map(40)), Some(map(40)));
+    let (turned, refused) = refusing(Refusal::From(0), || {
+        let other: range_sets::RangeMap<_, _> = other.take().expect("it is there").into();
+        Map::from(other)
+    });
+    assert_eq!((listed(&turned), refused), (before, 0));
+}
