@@ -90,6 +90,15 @@ the rest is [\u{0}-/:-@[-^`{-\u{10ffff}]
 63 of 1112064 characters; the last has place 1112063' ]
 }
 
+# Runs the table of blocks of addresses, which says in which country an address is.
+runs_the_countries() {
+    [ "$(cargo_there run --quiet --example countries)" = "100000 blocks are 62098 ranges
+8.8.8.8 is in DL, as all of 8.7.241.0..8.9.137.0
+42.7.7.7 is in QW, as all of 42.6.210.0..42.7.18.0
+77.12.0.9 is in VS, as all of 77.11.237.0..77.12.129.0
+223.0.0.1 is in no country" ]
+}
+
 # Has clippy look at all of it, with all features and without.
 lints() {
     cargo_there clippy --quiet --all-targets --all-features -- -D warnings &&
@@ -140,6 +149,7 @@ step "a download of a million pieces" runs_the_torrent
 step "an allocator of addresses" runs_the_addresses
 step "a calendar of several people" runs_the_calendar
 step "character classes" runs_the_classes
+step "the countries of addresses" runs_the_countries
 step "the documentation, without a warning" documents
 step_by cargo-clippy rust-clippy "what clippy says" lints
 step_by rustfmt rustfmt "the looks" is_formatted

@@ -178,6 +178,8 @@ impl T for u8 {
         self.assertIn("let x = match g(1) { Some(x) => x, _ => return 2 };", found)
         found = rust("fn f() -> u8 {\n    let A::B(x) = g(1)? else { h(); return 2; };\n    x\n}")
         self.assertIn("let x = match g(1)? { A::B(x) => x, _ => { h(); return 2; } };", found)
+        found = rust("fn f() -> u8 {\n    let Some((x, y)) = g(1) else { return 2; };\n    x\n}")
+        self.assertIn("let (x, y) = match g(1) { Some((x, y)) => (x, y), _ => return 2 };", found)
 
     def test_formatters(self):
         text = "impl fmt::Display for S {\n    fn fmt<W: fmt::Write>(&self, f: &mut fmt::Formatter<W>) -> fmt::Result {\n        g(self, f)\n    }\n}\nfn g<T, W: fmt::Write>(x: &T, f: &mut fmt::Formatter<W>) -> fmt::Result { h(x, f) }"
@@ -293,6 +295,7 @@ class Refusals(unittest.TestCase):
         self.refused('fn f() -> u8 {\n    println!("a")\n}', 2, "the macro println! isn't known")
         self.refused("fn f(x: &[u8]) -> u8 {\n    x.select_nth(3)\n}", 2, "the method select_nth isn't known")
         self.refused("fn f(x: u8) -> u8 {\n    let (a, b) = g(x) else { return 1; };\n    a\n}", 2, "an else of another form than let Name(name) = value else { .. };")
+        self.refused("fn f() -> u8 {\n    let Some(Some(x)) = g() else { return 1; };\n    x\n}", 2, "an else of another form than let Name(name) = value else { .. };")
         self.refused("fn f(x: u8) -> u8 {\n    let y = x.known() + 1;\n    y\n}", 2, "known as something else than a statement of its own")
         self.refused("fn f(x: u8) -> u8 {\n    // It is called for its clause, which the proof cites.\n    g(x)\n}", 3, "'which the proof cites.' before something else than let _name")
 

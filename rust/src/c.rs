@@ -8,8 +8,9 @@
 //! A new call of the header for all four types is one function in the macro of the module `calls`.
 
 mod calls;
-mod chunked;
+mod held;
 mod lists;
+mod maps;
 mod operations;
 mod owned;
 mod texts;
@@ -58,3 +59,6 @@ calls::calls!(i32s, i32, u32, "i32", sets_i32, RangeI32);
 calls::calls!(u32s, u32, u32, "u32", sets_u32, RangeU32);
 calls::calls!(i64s, i64, u64, "i64", sets_i64, RangeI64);
 calls::calls!(u64s, u64, u64, "u64", sets_u64, RangeU64);
+
+maps::maps!(i64_maps, i64, "i64");
+maps::maps!(u64_maps, u64, "u64");

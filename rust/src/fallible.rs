@@ -54,7 +54,7 @@ use crate::view::RangeSetRef;
 use smallvec::SmallVec;
 
 pub use chunked::ChunkedRangeSet;
-pub use map::{ByMapValue, MapValue, RangeMap};
+pub use map::{ByMapValue, InsertError, MapValue, RangeMap};
 
 /// It is implemented for numbers, `char`, references to texts and slices, `String`, `Vec` and `Option`.
 ///

@@ -14,11 +14,14 @@ pub use kept::ByClone;
 pub(crate) use kept::{Copies, Kept};
 
 use crate::any_range::AnyRange;
+use crate::generated::range_entry::EntryClone;
 use crate::generated::range_map as proved;
-use crate::memory::{expect_memory, AllocError};
+use crate::generated::range_map::InsertError;
+use crate::memory::{expect_memory, out_of_memory, AllocError};
 use crate::range::RangeSetRange;
 use crate::support::Global;
 use core::mem;
+use core::ops::Range;
 
 /// A map from ranges to values, which is changed range by range.
 ///
@@ -95,6 +98,23 @@ impl<K: Ord, V: Eq, C> Map<K, V, C> {
         self.0.get(key).map(|kept| &kept.value)
     }
 
+    /// Returns the longest range around `key` whose keys have its value, and that, or `None` if it has none.
+    ///
+    /// # Examples
+    ///
+    /// ```
+    /// use range_sets::RangeMap;
+    ///
+    /// let bookings = RangeMap::from_iter([(9..11, "Ada"), (11..12, "Ada"), (12..14, "Bob")]);
+    /// assert_eq!(bookings.get_key_value(&11), Some(((&9..&12).into(), &"Ada")));
+    /// assert_eq!(bookings.get_key_value(&14), None);
+    /// ```
+    pub fn get_key_value(&self, key: &K) -> Option<(RangeSetRange<&K>, &V)> {
+        let stretch = self.0.range_at(key);
+        let range = RangeSetRange::of_ends(stretch.start?, stretch.end);
+        Some((range, &stretch.value?.value))
+    }
+
     /// Returns `true` if `key` has a value.
     ///
     /// # Examples
@@ -107,6 +127,27 @@ impl<K: Ord, V: Eq, C> Map<K, V, C> {
     /// ```
     pub fn contains_key(&self, key: &K) -> bool {
         self.0.contains_key(key)
+    }
+
+    /// Returns `true` if no key of a range [of any kind](AnyRange) has a value. It is so for an empty or a reversed range.
+    ///
+    /// # Examples
+    ///
+    /// ```
+    /// use range_sets::RangeMap;
+    ///
+    /// let bookings = RangeMap::from_iter([(9..12, "Ada")]);
+    /// assert!(bookings.is_free(12..14) && !bookings.is_free(8..10));
+    /// assert!(bookings.is_free(12..));
+    /// ```
+    pub fn is_free(&self, range: impl AnyRange<K>) -> bool {
+        match range.into() {
+            RangeSetRange::Range(range) => self.0.is_free(range),
+            RangeSetRange::RangeFrom(range) => {
+                let stretch = self.0.range_at(&range.start);
+                stretch.value.is_none() && stretch.end.is_none()
+            }
+        }
     }
 
     /// Returns how many ranges have a value, where those that touch and have equal values are one. It looks at each.
@@ -149,10 +190,10 @@ impl<K: Ord, V: Eq, C> Map<K, V, C> {
     /// assert_eq!(starts, [(9, "Ada"), (11, "Bob")]);
     /// ```
     pub fn iter(&self) -> Iter<'_, K, V, C> {
-        Iter::new(&self.0.keys, &self.0.options)
+        Iter::new(self.0.iter())
     }
 
-    /// Takes the value of each key away.
+    /// Takes the value of each key away, and keeps the room.
     ///
     /// # Examples
     ///
@@ -164,7 +205,7 @@ impl<K: Ord, V: Eq, C> Map<K, V, C> {
     /// assert!(bookings.is_empty());
     /// ```
     pub fn clear(&mut self) {
-        drop(self.taken());
+        self.changed(|map| map.clear());
     }
 
     /// The same map, whose values are copied in another way. They lie where they were.
@@ -177,19 +218,29 @@ impl<K: Ord, V: Eq, C> Map<K, V, C> {
         })
     }
 
-    /// The map, which leaves an empty one in its place.
-    fn taken(&mut self) -> proved::RangeMap<K, Kept<V, C>> {
-        mem::replace(&mut self.0, proved::RangeMap::new(Global))
-    }
-
     /// Changes the map, which is taken out meanwhile: the keys change before the values do. If something panics between,
     /// both are dropped, and the map is empty.
     #[inline(always)]
     fn changed<R>(&mut self, change: impl FnOnce(&mut proved::RangeMap<K, Kept<V, C>>) -> R) -> R {
-        let mut taken = self.taken();
+        let mut taken = mem::replace(&mut self.0, proved::RangeMap::new(Global));
         let result = change(&mut taken);
         self.0 = taken;
         result
+    }
+}
+
+impl<K: Ord, V: Eq, C> Map<K, V, C> {
+    #[inline(always)]
+    pub(crate) fn try_insert_free(
+        &mut self,
+        range: Range<K>,
+        value: V,
+    ) -> Result<(), InsertError<V>> {
+        let result = self.changed(|map| map.insert_free(range, Kept::new(value)));
+        result.map_err(|refused| match refused {
+            InsertError::NotFree(kept) => InsertError::NotFree(kept.value),
+            InsertError::OutOfMemory(kept) => InsertError::OutOfMemory(kept.value),
+        })
     }
 }
 
@@ -205,6 +256,14 @@ impl<K: Ord, V: Eq, C: Copies<V>> Map<K, V, C> {
             RangeSetRange::Range(range) => map.insert(range, value),
             RangeSetRange::RangeFrom(range) => map.insert_from(range, value),
         })
+    }
+
+    /// A copy.
+    pub(crate) fn try_copied(&self) -> Result<Self, AllocError>
+    where
+        K: EntryClone,
+    {
+        self.0.try_clone().map(Map)
     }
 
     #[inline(always)]
@@ -236,6 +295,26 @@ impl<K: Ord, V: Eq + Clone> RangeMap<K, V> {
     /// ```
     pub fn insert(&mut self, range: impl AnyRange<K>, value: V) {
         expect_memory::<K, _, _>(self.try_insert(range.into(), value));
+    }
+
+    /// Gives each key of a range the value if none of them has one, and else gives the value back. It clones nothing.
+    ///
+    /// # Examples
+    ///
+    /// ```
+    /// use range_sets::RangeMap;
+    ///
+    /// let mut bookings = RangeMap::new();
+    /// assert_eq!(bookings.insert_free(9..12, "Ada"), Ok(()));
+    /// assert_eq!(bookings.insert_free(11..14, "Bob"), Err("Bob"));
+    /// assert_eq!(bookings.get(&12), None);
+    /// ```
+    pub fn insert_free(&mut self, range: Range<K>, value: V) -> Result<(), V> {
+        match self.try_insert_free(range, value) {
+            Ok(()) => Ok(()),
+            Err(InsertError::NotFree(value)) => Err(value),
+            Err(InsertError::OutOfMemory(_)) => out_of_memory::<K>(),
+        }
     }
 
     /// Takes the value of each key of a range [of any kind](AnyRange) away. An empty or a reversed range changes nothing.

@@ -17,7 +17,7 @@ pub(crate) fn expect_memory<T, R, E>(result: Result<R, E>) -> R {
 
 #[cold]
 #[inline(never)]
-fn out_of_memory<T>() -> ! {
+pub(crate) fn out_of_memory<T>() -> ! {
     handle_alloc_error(Layout::new::<T>())
 }
 

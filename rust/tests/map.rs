@@ -5,6 +5,7 @@
 mod common;
 
 use common::{one_in, Random};
+use range_sets::fallible::InsertError;
 use range_sets::{fallible, RangeMap, RangeSetRange};
 use std::collections::hash_map::DefaultHasher;
 use std::collections::HashSet;
@@ -69,6 +70,12 @@ fn compare(map: &RangeMap<u8, u8>, cells: &Cells, what: &str) {
     assert_eq!(map.get(&255), cells[KEYS - 1].as_ref(), "{what}");
     let expected = stretches(cells);
     assert_eq!(read(map), expected, "{what}");
+    for key in 0..KEYS as u8 {
+        let found = map.get_key_value(&key);
+        let found = found.map(|(range, &value)| (range.cloned(), value));
+        let around = expected.iter().find(|(range, _)| has(range, key));
+        assert_eq!(found.as_ref(), around, "{what}, {key}");
+    }
     assert!(map
         .iter()
         .rev()
@@ -102,6 +109,25 @@ fn made_up_changes_as_of_an_array_of_options() {
                 }
             }
             compare(&map, &cells, &format!("seed {seed}, change {change}"));
+            let (range, value) = (any_range(&mut random), random.below(3) as u8);
+            let free =
+                (0..KEYS as u8).all(|key| !has(&range, key) || cells[usize::from(key)].is_none());
+            assert_eq!(map.is_free(range.clone()), free, "seed {seed}, {range:?}");
+            if let RangeSetRange::Range(range) = range {
+                let refused = if free {
+                    Ok(())
+                } else {
+                    Err(InsertError::NotFree(value))
+                };
+                assert_eq!(refusing.insert_free(range.clone(), value), refused);
+                assert_eq!(map.insert_free(range.clone(), value).is_ok(), free);
+                if free {
+                    for key in range {
+                        cells[usize::from(key)] = Some(value);
+                    }
+                }
+                compare(&map, &cells, &format!("seed {seed}, booking {change}"));
+            }
             assert_eq!(read(&refusing), read(&map), "seed {seed}");
         }
         let collected: RangeMap<u8, u8> = stretches(&cells).into_iter().rev().collect();

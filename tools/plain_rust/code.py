@@ -1,5 +1,7 @@
 """What differs in the code of functions: calls, formatters, and forms that Rust 1.63 hasn't."""
 
+import re
+
 from plain_rust import tables
 from plain_rust.tokens import OPENING, Refused, closing, made, skipped, stands, text_of
 
@@ -70,7 +72,7 @@ def is_call_of_nothing(found, at, laws):
 
 
 def write_else_out(found):
-    """`let Some(x) = value else { .. };`, which Rust has since 1.65."""
+    """`let Some(x) = value else { .. };`, which Rust has since 1.65, also with names in parentheses for `x`."""
     at = 0
     while at < len(found):
         if found[at].text != "else" or stands(found, at - 1, "}"):
@@ -80,16 +82,18 @@ def write_else_out(found):
         while found[start].text not in ("let", ";", "{"):
             start -= 1
         equals = next(i for i in range(start, at + 1) if found[i].text in ("=", "else"))
-        if found[start].text != "let" or not stands(found, equals - 3, "(") or not stands(found, equals - 1, ")", "="):
+        opening = next((i for i in range(start, equals) if found[i].text == "("), equals)
+        names = text_of(found[opening + 1 : equals - 1]).strip()
+        if found[start].text != "let" or not start + 1 < opening or found[equals].text != "=" or not re.fullmatch(r"\w+|\((\w+, )+\w+\)", names):
             raise Refused(found[at].line, "an else of another form than let Name(name) = value else { .. };")
         end = closing(found, at + 1)
         if found[end + 1].text != ";":
             raise Refused(found[at].line, "an else that doesn't end its statement")
-        case, name = text_of(found[start + 1 : equals - 3]).strip(), found[equals - 2].text
+        case = text_of(found[start + 1 : opening]).strip()
         value, block = text_of(found[equals + 1 : at]).strip(), text_of(found[at + 1 : end + 1]).strip()
         if found[at + 2].text == "return" and skipped(found, at + 2, {";"}) == end - 1:
             block = text_of(found[at + 2 : end - 1]).strip()
-        text = f"let {name} = match {value} {{ {case}({name}) => {name}, _ => {block} }};"
+        text = f"let {names} = match {value} {{ {case}({names}) => {names}, _ => {block} }};"
         found[start : end + 2] = made(text, found[start].lead, found[start].line)
         at = start + 1
 

@@ -46,10 +46,10 @@ SAME = set(
     checked_add checked_sub chunks chunks_exact clear cmp contains copied copy_from_slice copy_within dedup drain
     enumerate eq expect extend_from_slice filter filter_map first fmt format from get insert into_iter into_vec
     is_ascii_digit is_empty is_eq is_err is_ge is_gt is_le is_lt is_ne is_none is_ok is_some is_whitespace iter
-    iter_mut last leading_zeros len map max min next next_back not ok parse pop position push_reserved remove
+    iter_mut last leading_zeros len map max min next next_back not ok or parse pop position push_reserved remove
     reserve rev reverse rotate_left rotate_right saturating_add saturating_mul saturating_sub shrink_to_fit
     size_hint sort_unstable sort_unstable_by_key split split_at split_at_mut split_first split_last split_off
-    split_once strip_prefix sub swap swap_with_slice take then_some trailing_zeros trim truncate unwrap_or
+    split_once strip_prefix sub swap swap_with_slice take then_some trailing_zeros trim truncate unwrap unwrap_or
     valid_up_to windows with_capacity wrapping_sub write_str zip
     """.split()
 )
@@ -72,17 +72,21 @@ NOTHING = {"known", "known_in_range", "keeps_own"}
 HINT = "which the proof cites."
 
 # Files that are left out: laws are found by their form; JSON is read and written by serde; std prints sets of
-# characters; a set of Rattle's own needs numbers other than 0 that have a default; Rust's own boxes go to C.
+# characters and maps, and collects maps; a set of Rattle's own needs numbers other than 0 that have a default; Rust's own boxes go to C.
 LEFT_OUT = {
     "range_entry/non_zero",
     "range_entry/non_zero_std",
     "range_collections/json",
     "range_collections/text/chars",
+    "range_map/map/building",
+    "range_map/map/text",
     "range_c/boxed",
     "range_c/generated/chunked_i32",
     "range_c/generated/chunked_i64",
     "range_c/generated/chunked_u32",
     "range_c/generated/chunked_u64",
+    "range_c/generated/mapped_i64",
+    "range_c/generated/mapped_u64",
 }
 # Names whose files are left out, wherever they are imported.
 LEFT_OUT_NAMES = {"JsonError", "NonZeroU8", "NonZeroU16", "NonZeroU32", "NonZeroU64", "NonZeroU128", "NonZeroUsize"}
@@ -143,4 +147,8 @@ SHOWN = {
     "range_tracker/tracker": {"set", "limit"},
 }
 # Structs that are cloned in Rust whatever their elements are, by their file: their fields are references.
-CLONED = {"range_collections/iter": {"Iter", "RangesWithin", "Unread"}, "range_collections/members": {"Members"}}
+CLONED = {
+    "range_collections/iter": {"Iter", "RangesWithin", "Unread"},
+    "range_collections/members": {"Members"},
+    "range_map/iter": {"Iter"},
+}

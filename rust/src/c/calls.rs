@@ -10,7 +10,7 @@ macro_rules! calls {
         /// Each call asks of its caller what the header says: pointers and lengths of arrays, and sets that the library made.
         mod $module {
             use super::calls::{ALL, NEITHER};
-            use super::chunked::Chunked;
+            use super::held::Held;
             use super::lists::{
                 changed, is_array, is_result, items_at, number_told, put, room_at, told, Buffer,
                 Bytes, Range, Set,
@@ -19,11 +19,12 @@ macro_rules! calls {
             use super::{operations, texts, Status};
             use crate::generated::range_c::chunked;
             use crate::generated::range_c::generated::$proved::*;
+            use crate::generated::range_chunks::ChunkedRangeSet;
             use crate::support::Global;
             use std::os::raw::c_uint;
 
             type Numbers = Set<$number>;
-            type Chunks = Chunked<$number>;
+            type Chunks = Held<ChunkedRangeSet<$number>>;
 
             // ---- Sets of lists ----
 
@@ -550,7 +551,7 @@ macro_rules! calls {
             unsafe extern "C" fn chunked_new(set: Option<&mut Chunks>) -> Status {
                 match set {
                     Some(set) => {
-                        *set = Chunks::new();
+                        *set = Chunks::of(ChunkedRangeSet::new(Global));
                         set.status()
                     }
                     None => Status::BadArgument,
@@ -623,7 +624,7 @@ macro_rules! calls {
 
             #[export_name = concat!("range_set_", $name, "_chunked_contains")]
             unsafe extern "C" fn chunked_contains(set: Chunks, value: $number) -> bool {
-                match unsafe { set.set() } {
+                match unsafe { set.get() } {
                     Some(set) => set.contains(&value),
                     None => false,
                 }
@@ -635,7 +636,7 @@ macro_rules! calls {
                 start: $number,
                 end: $number,
             ) -> bool {
-                match unsafe { set.set() } {
+                match unsafe { set.get() } {
                     Some(set) => set.contains_range(start..end),
                     None => end <= start,
                 }
@@ -647,7 +648,7 @@ macro_rules! calls {
                 start: $number,
                 end: $number,
             ) -> bool {
-                match unsafe { set.set() } {
+                match unsafe { set.get() } {
                     Some(set) => set.intersects_range(start..end),
                     None => false,
                 }
@@ -660,7 +661,7 @@ macro_rules! calls {
                 next: *mut $number,
             ) -> bool {
                 let mut at = from;
-                let found = match unsafe { set.set() } {
+                let found = match unsafe { set.get() } {
                     Some(set) => chunked::next_member(set, from, &mut at),
                     None => false,
                 };
@@ -677,7 +678,7 @@ macro_rules! calls {
                 next: *mut $number,
             ) -> bool {
                 let mut at = from;
-                let found = match unsafe { set.set() } {
+                let found = match unsafe { set.get() } {
                     Some(set) => chunked::next_gap(set, from, &mut at),
                     None => true,
                 };
@@ -704,7 +705,7 @@ macro_rules! calls {
 
             #[export_name = concat!("range_set_", $name, "_chunked_ranges_len")]
             unsafe extern "C" fn chunked_ranges_len(set: Chunks) -> usize {
-                match unsafe { set.set() } {
+                match unsafe { set.get() } {
                     Some(set) => set.ranges_len(),
                     None => 0,
                 }
@@ -712,7 +713,7 @@ macro_rules! calls {
 
             #[export_name = concat!("range_set_", $name, "_chunked_boundaries_len")]
             unsafe extern "C" fn chunked_boundaries_len(set: Chunks) -> usize {
-                match unsafe { set.set() } {
+                match unsafe { set.get() } {
                     Some(set) => set.boundaries_len(),
                     None => 0,
                 }
@@ -728,7 +729,7 @@ macro_rules! calls {
                 if !is_array(out, room) || !is_result(result, Bytes::of(out, room)) {
                     return Status::BadArgument;
                 }
-                let len = match unsafe { set.set() } {
+                let len = match unsafe { set.get() } {
                     Some(set) => chunked::copy(set, unsafe { room_at(out, room) }),
                     None => 0,
                 };

@@ -1,9 +1,21 @@
 //! A map from ranges to values whose calls return an error where memory is refused.
 
 use crate::any_range::AnyRange;
-use crate::fallible::AllocError;
+use crate::fallible::{AllocError, EntryClone};
 use crate::map::{self, Copies, Map};
+use core::fmt;
+use core::ops::Range;
 
+/// [`RangeMap::insert_free`] returns it.
+///
+/// # Examples
+///
+/// ```
+/// use range_sets::fallible::InsertError;
+///
+/// assert_eq!(InsertError::NotFree("Bob").to_string(), "a key of the range has a value");
+/// ```
+pub use crate::generated::range_map::InsertError;
 /// It is implemented for all types that have [`EntryClone`](crate::fallible::EntryClone): numbers, `char`, references to
 /// texts and slices, `String`, `Vec` and `Option`.
 ///
@@ -112,6 +124,26 @@ impl<K: Ord, V: MapValue> RangeMap<K, V> {
         self.try_insert(range.into(), value)
     }
 
+    /// Gives each key of a range the value if none of them has one. It copies nothing.
+    ///
+    /// # Errors
+    ///
+    /// If a key has a value, or memory is refused. The map is then as it was, and the error has the value.
+    ///
+    /// # Examples
+    ///
+    /// ```
+    /// use range_sets::fallible::{InsertError, RangeMap};
+    ///
+    /// let mut bookings = RangeMap::new();
+    /// bookings.insert_free(9..12, "Ada")?;
+    /// assert_eq!(bookings.insert_free(11..14, "Bob"), Err(InsertError::NotFree("Bob")));
+    /// # Ok::<(), InsertError<&str>>(())
+    /// ```
+    pub fn insert_free(&mut self, range: Range<K>, value: V) -> Result<(), InsertError<V>> {
+        self.try_insert_free(range, value)
+    }
+
     /// Takes the value of each key of a range [of any kind](AnyRange) away. An empty or a reversed range changes nothing.
     ///
     /// # Errors
@@ -131,6 +163,28 @@ impl<K: Ord, V: MapValue> RangeMap<K, V> {
     /// ```
     pub fn remove(&mut self, range: impl AnyRange<K>) -> Result<(), AllocError> {
         self.try_remove(range.into())
+    }
+
+    /// Returns a copy.
+    ///
+    /// # Errors
+    ///
+    /// If memory, or a copy of a key or of a value, is refused.
+    ///
+    /// # Examples
+    ///
+    /// ```
+    /// use range_sets::fallible::{AllocError, RangeMap};
+    ///
+    /// let bookings = RangeMap::from_ranges([(9..17, "Ada")])?;
+    /// assert_eq!(bookings.try_clone()?, bookings);
+    /// # Ok::<(), AllocError>(())
+    /// ```
+    pub fn try_clone(&self) -> Result<Self, AllocError>
+    where
+        K: EntryClone,
+    {
+        self.try_copied()
     }
 
     /// Puts the ranges in with their values, one after the other.
@@ -172,3 +226,5 @@ impl<K: Ord, V: Eq> From<map::RangeMap<K, V>> for RangeMap<K, V> {
         map.copied_by()
     }
 }
+
+impl<V: fmt::Debug> crate::support::Error for InsertError<V> {}

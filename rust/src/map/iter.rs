@@ -1,6 +1,7 @@
 //! The ranges of a map with their values, one by one.
 
 use super::{Kept, Map};
+use crate::generated::{range_collections, range_map as proved};
 use crate::range::RangeSetRange;
 use alloc::vec;
 use core::fmt;
@@ -21,58 +22,43 @@ use core::iter::{FusedIterator, Peekable};
 /// assert_eq!(ranges.next(), None);
 /// ```
 #[must_use = "iterators are lazy and do nothing unless consumed"]
-pub struct Iter<'a, K, V, C> {
-    keys: &'a [K],
-    options: &'a [Option<Kept<V, C>>],
-    /// The key after those.
-    after: Option<&'a K>,
-}
+pub struct Iter<'a, K, V, C>(proved::Iter<'a, K, Kept<V, C>>);
 
 impl<'a, K, V, C> Iter<'a, K, V, C> {
-    pub(super) fn new(keys: &'a [K], options: &'a [Option<Kept<V, C>>]) -> Self {
-        Iter {
-            keys,
-            options,
-            after: None,
-        }
+    pub(super) fn new(ranges: proved::Iter<'a, K, Kept<V, C>>) -> Self {
+        Iter(ranges)
     }
 }
 
 impl<'a, K, V, C> Iterator for Iter<'a, K, V, C> {
     type Item = (RangeSetRange<&'a K>, &'a V);
 
+    #[inline]
     fn next(&mut self) -> Option<Self::Item> {
-        loop {
-            let (start, keys) = self.keys.split_first()?;
-            let (option, options) = self.options.split_first()?;
-            (self.keys, self.options) = (keys, options);
-            if let Some(kept) = option {
-                let end = keys.first().or(self.after);
-                return Some((RangeSetRange::of_ends(start, end), &kept.value));
-            }
-        }
+        self.0.next().map(shown)
     }
 }
 
 impl<K, V, C> DoubleEndedIterator for Iter<'_, K, V, C> {
+    #[inline]
     fn next_back(&mut self) -> Option<Self::Item> {
-        loop {
-            let (start, keys) = self.keys.split_last()?;
-            let (option, options) = self.options.split_last()?;
-            (self.keys, self.options) = (keys, options);
-            let end = self.after.replace(start);
-            if let Some(kept) = option {
-                return Some((RangeSetRange::of_ends(start, end), &kept.value));
-            }
-        }
+        self.0.next_back().map(shown)
     }
+}
+
+/// A range with its value, as callers see it.
+#[inline(always)]
+fn shown<'a, K, V, C>(
+    (range, kept): (range_collections::RangeSetRange<&'a K>, &'a Kept<V, C>),
+) -> (RangeSetRange<&'a K>, &'a V) {
+    (RangeSetRange::from_proved(range), &kept.value)
 }
 
 impl<K, V, C> FusedIterator for Iter<'_, K, V, C> {}
 
 impl<K, V, C> Clone for Iter<'_, K, V, C> {
     fn clone(&self) -> Self {
-        Iter { ..*self }
+        Iter(self.0.clone())
     }
 }
 

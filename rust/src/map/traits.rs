@@ -88,7 +88,7 @@ impl<K: Ord, V: Eq, C> Index<&K> for Map<K, V, C> {
 /// Two maps are equal if each key has equal values in both.
 impl<K: Ord, V: Eq, C> PartialEq for Map<K, V, C> {
     fn eq(&self, that: &Self) -> bool {
-        self.iter().eq(that.iter())
+        self.0 == that.0
     }
 }
 

@@ -24,7 +24,7 @@ struct Change {
     asked: fn(&mut Cells, Range<u16>, u16),
 }
 
-const CHANGES: [Change; 9] = [
+const CHANGES: [Change; 10] = [
     Change {
         name: "insert",
         call: |map, range, value| map.insert(range, value),
@@ -49,6 +49,22 @@ const CHANGES: [Change; 9] = [
         name: "extend",
         call: |map, range, value| map.extend([(range, value)]),
         asked: inserted,
+    },
+    Change {
+        name: "insert_free",
+        // Rust doesn't drop what a function returns if the drop of an argument panics, so a value that comes back would leak
+        // by no fault of the map: here the call is made with a range that is free.
+        call: |map, range, value| {
+            let (start, end) = (*range.start.0, *range.end.0);
+            if map.is_free(range) {
+                let _ = map.insert_free(Hostile::of(start)..Hostile::of(end), value);
+            }
+        },
+        asked: |cells, range, value| {
+            if range.clone().all(|key| cells[usize::from(key)].is_none()) {
+                put(cells, range, Some(value));
+            }
+        },
     },
     Change {
         name: "clear",
@@ -76,9 +92,11 @@ const CHANGES: [Change; 9] = [
 const QUESTIONS: [(&str, Call); 3] = [
     ("questions of a key", |map, range, _| {
         let _ = (map.get(&range.start), map.contains_key(&range.end));
+        let _ = (map.get_key_value(&range.start), map.is_free(range));
     }),
     ("a clone, by ranges too", |map, _, _| {
         drop((map.clone(), map.clone().into_iter().count()));
+        drop(fallible::RangeMap::from(map.clone()).try_clone());
     }),
     ("a comparison of maps", |map, _, _| {
         let same = &*map;

@@ -1,7 +1,7 @@
 //! Memory refused at each request in turn: a change of a map answers an error, and leaves the map as it was.
 
 use crate::refusing::{each_refusal, refusing, unrefused, Refusal};
-use range_sets::fallible::{AllocError, RangeMap};
+use range_sets::fallible::{AllocError, InsertError, RangeMap};
 use range_sets::RangeSetRange;
 use std::ops::Range;
 
@@ -38,12 +38,43 @@ struct Row {
 
 const INSERT: Change = |map, range| map.insert(range, unrefused(|| value(7)));
 const SAME: Change = |map, range| map.insert(range, unrefused(|| value(0)));
+const BOOK: Change = |map, range| {
+    map.insert_free(range, unrefused(|| value(7)))
+        .or_else(|refused| match refused {
+            InsertError::NotFree(_) => Ok(()),
+            InsertError::OutOfMemory(back) => {
+                assert!(unrefused(|| back == value(7)));
+                Err(AllocError)
+            }
+        })
+};
 const REMOVE: Change = |map, range| map.remove(range);
 const INSERT_FROM: Change = |map, range| map.insert(range.start.., unrefused(|| value(7)));
 const REMOVE_FROM: Change = |map, range| map.remove(range.start..);
 
 /// A map of so many ranges has two keys for each, and room for a power of two.
-const ROWS: [Row; 14] = [
+const ROWS: [Row; 17] = [
+    Row {
+        what: "a free range where there is room",
+        change: BOOK,
+        ranges: 9,
+        range: 16..18,
+        asks: false,
+    },
+    Row {
+        what: "a free range where there is none",
+        change: BOOK,
+        ranges: 8,
+        range: 16..18,
+        asks: true,
+    },
+    Row {
+        what: "a range that isn't free",
+        change: BOOK,
+        ranges: 8,
+        range: 12..18,
+        asks: false,
+    },
     Row {
         what: "the first range",
         change: INSERT,
@@ -159,6 +190,21 @@ fn changes_are_refused_and_leave_the_map_as_it_was() {
             (row.change)(&mut changed, row.range.clone())
         });
         assert_eq!(result.is_err(), row.asks, "{}", row.what);
+    }
+}
+
+#[test]
+fn copies_are_refused_and_leave_the_map_as_it_was() {
+    for ranges in [0, 3, 40] {
+        let requests = each_refusal(
+            "try_clone",
+            || map(ranges),
+            |map| map.try_clone().map(|copy| listed(&copy)),
+            |map, before| listed(map) == listed(before),
+        );
+        // One for each value, and two for both lists.
+        let expected = if ranges == 0 { 0 } else { ranges as usize + 2 };
+        assert_eq!(requests, expected, "{ranges} ranges");
     }
 }
 

@@ -33,7 +33,7 @@ pub(crate) fn remove_from<T: Ord>(set: &mut ChunkedRangeSet<T>, start: T) -> boo
 
 // Whether there was memory.
 #[inline(always)]
-fn is_done(changed: Result<(), AllocError>) -> bool {
+pub(crate) fn is_done(changed: Result<(), AllocError>) -> bool {
     match changed {
         Ok(()) => true,
         Err(AllocError) => false,

@@ -17,6 +17,7 @@ pub(crate) mod fitting;
 pub(crate) mod from_least;
 pub(crate) mod generated;
 pub(crate) mod in_place;
+pub(crate) mod mapped;
 pub(crate) mod members;
 pub(crate) mod parts;
 pub(crate) mod ranges;

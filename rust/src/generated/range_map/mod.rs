@@ -2,11 +2,16 @@
 //! Maps from ranges to values: strictly sorted keys, and for each the value that holds from it on,
 //! up to the next one, or none.
 
+pub(crate) mod free;
+pub(crate) mod insert_error;
+pub(crate) mod iter;
 pub(crate) mod map;
 pub(crate) mod places;
 pub(crate) mod replacing;
 pub(crate) mod splicing;
 pub(crate) mod value;
 
-pub use map::RangeMap;
+pub use insert_error::InsertError;
+pub use iter::Iter;
+pub use map::{RangeMap, Stretch};
 pub use value::MapValue;

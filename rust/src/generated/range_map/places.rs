@@ -94,3 +94,59 @@ impl Places {
 pub(crate) fn make_room<T>(list: &mut Vec<T>, places: Places) -> Result<(), AllocError> {
     list.reserve(places.put_len().saturating_sub(places.to - places.from))
 }
+
+/// The option before a place; none stands before the first.
+///
+/// # Contract
+///
+/// ```text
+/// requires place ≤ length options.now
+/// ensures option_copied result ≡ get_or (None ∷ options.now) place None
+/// ```
+pub(crate) fn option_before<V>(options: &[Option<V>], place: usize) -> Option<&V> {
+    if place == 0 {
+        None
+    } else {
+        options[place - 1].as_ref()
+    }
+}
+
+/// The key before a place, or `None` at the first.
+///
+/// # Contract
+///
+/// ```text
+/// requires place ≤ length keys.now
+/// ensures MatchOption result (place ≡ 0) (λ key. (0 < place) × (get_or keys.now (place - 1)
+///     key.now ≡ key.now))
+/// ```
+pub(crate) fn key_before<K>(keys: &[K], place: usize) -> Option<&K> {
+    if place == 0 {
+        None
+    } else {
+        Some(&keys[place - 1])
+    }
+}
+
+/// Makes room in both lists for the steps that are put, beyond those that give way.
+///
+/// # Contract
+///
+/// ```text
+/// requires places.from ≤ places.to
+/// ensures keys: keys.new.items ≡ keys.old.items
+/// ensures options: options.new.items ≡ options.old.items
+/// ensures keys_room: OnOk result (length keys.new.items + put_len places ≤ vec_capacity
+///     keys.new + (places.to - places.from))
+/// ensures options_room: OnOk result (length options.new.items + put_len places ≤ vec_capacity
+///     options.new + (places.to - places.from))
+/// ensures succeeds: put_len places ≤ places.to - places.from → IsOk result
+/// ```
+pub(crate) fn make_both_rooms<K, V>(
+    keys: &mut Vec<K>,
+    options: &mut Vec<Option<V>>,
+    places: Places,
+) -> Result<(), AllocError> {
+    make_room(keys, places)?;
+    make_room(options, places)
+}

@@ -3,7 +3,7 @@
 
 use crate::generated::range_map::places::{find, make_room, Places};
 use crate::generated::range_map::splicing::splice;
-use crate::generated::range_map::value::MapValue;
+use crate::generated::range_map::value::{copy_option, MapValue};
 use crate::support::{AllocError, Vec};
 
 /// Gives the elements from the start up to the end, if there is one, an option. It asks for memory
@@ -42,9 +42,43 @@ pub(crate) fn set_range<K: Ord, V: MapValue>(
     make_room(keys, places)?;
     make_room(options, places)?;
     let copied = copy_before(options.as_slice(), places)?;
+    put_range(keys, options, places, start, end, option, copied);
+    Ok(())
+}
+
+/// Puts the range at its places, for which there is room. Where the range lies within one step, the
+/// copy holds from its end on.
+///
+/// # Contract
+///
+/// ```text
+/// requires canonical: IsCanonical K.cmp V.eq (record { keys = keys.old.items; options =
+///     options.old.items })
+/// requires some: (e : K) → end ≡ Some e → K.cmp start e ≡ Less
+/// requires places: ArePlaces K.cmp V.eq (record { keys = keys.old.items; options =
+///     options.old.items }) start end option places
+/// requires copied: places.from ≡ places.to → places.ends ≡ true → AreAlike V.eq copied (get_or
+///     (None ∷ options.old.items) places.to None)
+/// requires keys_room: length keys.old.items + put_len places ≤ vec_capacity keys.old +
+///     (places.to - places.from)
+/// requires options_room: length options.old.items + put_len places ≤ vec_capacity options.old
+///     + (places.to - places.from)
+/// ensures canonical: IsCanonical K.cmp V.eq (record { keys = keys.new.items; options =
+///     options.new.items })
+/// ensures values: IsSetTo K.cmp V.eq start end option (record { keys = keys.old.items; options
+///     = options.old.items }) (record { keys = keys.new.items; options = options.new.items })
+/// ```
+pub(crate) fn put_range<K: Ord, V: Eq>(
+    keys: &mut Vec<K>,
+    options: &mut Vec<Option<V>>,
+    places: Places,
+    start: K,
+    end: Option<K>,
+    option: Option<V>,
+    copied: Option<V>,
+) {
     put_keys(keys, places, start, end);
     put_options(options, places, option, copied);
-    Ok(())
 }
 
 // A copy of the option that holds at the end of a range, where the range lies within one step: then
@@ -56,10 +90,7 @@ fn copy_before<V: MapValue>(
     if places.from < places.to || !places.ends || places.to == 0 {
         return Ok(None);
     }
-    match &options[places.to - 1] {
-        None => Ok(None),
-        Some(value) => Ok(Some(value.copy_value()?)),
-    }
+    copy_option(&options[places.to - 1])
 }
 
 // Puts the start and the end in the place of the keys in the range.

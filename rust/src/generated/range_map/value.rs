@@ -16,3 +16,18 @@ pub trait MapValue: Eq + Sized {
     /// ```
     fn copy_value(&self) -> Result<Self, AllocError>;
 }
+
+/// A copy of an option: of its value, if it has one.
+///
+/// # Contract
+///
+/// ```text
+/// ensures same: IfOk result (λ copied. AreAlike V.eq option.now copied)
+/// ensures none: option.now ≡ None → IsOk result
+/// ```
+pub fn copy_option<V: MapValue>(option: &Option<V>) -> Result<Option<V>, AllocError> {
+    match option {
+        None => Ok(None),
+        Some(value) => Ok(Some(value.copy_value()?)),
+    }
+}
