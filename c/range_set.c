@@ -101,3 +101,17 @@ static void release(void *context, void *memory, size_t size)
 #define NAME(call) range_set_u64_##call
 #define PROVED(call) proved_range_set_u64_##call
 #include "range_set_calls.h"
+
+#define NUMBER int64_t
+#define MAP range_map_i64
+#define STRETCH range_map_i64_stretch
+#define NAME(call) range_map_i64_##call
+#define PROVED(call) proved_range_map_i64_##call
+#include "range_map_calls.h"
+
+#define NUMBER uint64_t
+#define MAP range_map_u64
+#define STRETCH range_map_u64_stretch
+#define NAME(call) range_map_u64_##call
+#define PROVED(call) proved_range_map_u64_##call
+#include "range_map_calls.h"

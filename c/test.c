@@ -68,6 +68,24 @@ static void give_back(void *context, void *items, size_t size)
 #define CALLS "test_calls.h"
 #include "each_type.h"
 
+#define NUMBER int64_t
+#define LEAST INT64_MIN
+#define MOST INT64_MAX
+#define MAP range_map_i64
+#define STRETCH range_map_i64_stretch
+#define CALL(call) range_map_i64_##call
+#define TEST(name) i64_maps_##name
+#include "test_maps.h"
+
+#define NUMBER uint64_t
+#define LEAST ((uint64_t)0)
+#define MOST UINT64_MAX
+#define MAP range_map_u64
+#define STRETCH range_map_u64_stretch
+#define CALL(call) range_map_u64_##call
+#define TEST(name) u64_maps_##name
+#include "test_maps.h"
+
 /* Each status has a sentence of its own, and what is no status has one. */
 static void status_texts(void)
 {
@@ -94,6 +112,8 @@ int main(int argc, char **argv)
     u32_all(cases);
     i64_all(cases);
     u64_all(cases);
+    i64_maps_all(cases / 10);
+    u64_maps_all(cases / 10);
     printf("test: %ld checks of %ld made-up cases for each type\n", checks, cases);
     return 0;
 }

@@ -1,4 +1,4 @@
-/* Tests of sets in chunks where memory is refused: each request of each call in turn. It is linked with
+/* Tests of sets in chunks and of maps where memory is refused: each request of each call in turn. It is linked with
  * -Wl,--wrap=malloc,--wrap=realloc, so that it stands before malloc. */
 #include "range_set.h"
 
@@ -95,12 +95,54 @@ REFUSED(u32, uint32_t)
 REFUSED(i64, int64_t)
 REFUSED(u64, uint64_t)
 
+/* Makes a call on a map again and again, as UNTIL_DONE. What is refused leaves it so many ranges, and the value of one key. */
+#define MAP_UNTIL_DONE(call, len, key, has) \
+    for (k = 0;; k++) { \
+        range_set_status status; \
+        left = k; \
+        status = call; \
+        left = -1; \
+        if (status == RANGE_SET_DONE) break; \
+        check(status == RANGE_SET_NO_MEMORY, "maps: what is refused: status"); \
+        check(range_map_i64_len(map) == (len) && range_map_i64_get(map, key, NULL) == (has), "maps: what is refused changes the map"); \
+    }
+
+/* A map that grows by ranges that don't touch, and by ranges that are cut in two. */
+static void refused_maps(void)
+{
+    range_map_i64 map;
+    int64_t p;
+    long k;
+    size_t requests = 0;
+    MAP_UNTIL_DONE(range_map_i64_new(&map), 0, 0, false)
+    check(k == 1, "maps: the empty map takes one request");
+    for (p = 0; p < MANY; p++) {
+        MAP_UNTIL_DONE(range_map_i64_insert(&map, 10 * p, 10 * p + 9, (uint64_t)p), (size_t)p, 10 * p, false)
+        requests += (size_t)k;
+    }
+    check(requests > 10, "maps: growth takes requests");
+    for (p = 0; p < MANY; p++)
+        MAP_UNTIL_DONE(range_map_i64_remove(&map, 10 * p + 3, 10 * p + 4), (size_t)(MANY + p), 10 * p + 3, true)
+    MAP_UNTIL_DONE(range_map_i64_insert_from(&map, 10 * MANY, 5), 2 * (size_t)MANY, 10 * MANY, false)
+    MAP_UNTIL_DONE(range_map_i64_remove_from(&map, 10 * MANY + 5), 2 * (size_t)MANY + 1, 10 * MANY + 6, true)
+    for (p = 0; p < MANY; p++) {
+        uint64_t value = 0;
+        check(range_map_i64_get(map, 10 * p + 4, &value) && value == (uint64_t)p && !range_map_i64_get(map, 10 * p + 3, NULL), "maps: the values");
+    }
+    range_map_i64_free(&map);
+    range_map_u64 other;
+    left = 0;
+    check(range_map_u64_new(&other) == RANGE_SET_NO_MEMORY && other.at == NULL, "maps: a map that is refused is none");
+    left = -1;
+}
+
 int main(void)
 {
     refused_i32();
     refused_u32();
     refused_i64();
     refused_u64();
+    refused_maps();
     printf("test_refused: %ld checks, %ld requests refused\n", checks, refused);
     return 0;
 }

@@ -37,7 +37,7 @@ looks_right() {
 # No name stands in the library for others but those of the header.
 has_only_its_names() {
     [ "$(nm -g --defined-only "$archive" | awk 'NF == 3 { print $3 }' | grep -c '^range_set_')" -gt 100 ] &&
-        ! nm -g --defined-only "$archive" | awk 'NF == 3 { print $3 }' | grep -v '^range_set_'
+        ! nm -g --defined-only "$archive" | awk 'NF == 3 { print $3 }' | grep -v '^range_\(set\|map\)_'
 }
 
 # Whether another library has the same names for others.
@@ -48,7 +48,7 @@ has_the_names_of() {
 # Takes the proved object out of dist/: there the layer's own names are hidden, and the proved ones made visible.
 takes_the_proved_object() {
     (cd "$work" && ar x "$OLDPWD/dist/librange_set.a" &&
-        objcopy -w --globalize-symbol='proved_*' --localize-symbol='range_set_*' range_set.o proved.o)
+        objcopy -w --globalize-symbol='proved_*' --localize-symbol='range_set_*' --localize-symbol='range_map_*' range_set.o proved.o)
 }
 
 # Compiles the layer as dist/make does, and makes an archive of it and the proved object, so that the tests see each edit of it.
@@ -235,7 +235,7 @@ END
 # The names of the shared library, which is found by its soname.
 is_shared() {
     nm -D --defined-only "$prefix/lib/librange_set.so" | awk '{ print $3 }' | grep -q '^range_set_i64_union\|^range_set_i64_combine$' &&
-        ! nm -D --defined-only "$prefix/lib/librange_set.so" | awk '{ print $3 }' | grep -v '^range_set_' &&
+        ! nm -D --defined-only "$prefix/lib/librange_set.so" | awk '{ print $3 }' | grep -v '^range_\(set\|map\)_' &&
         readelf -d "$prefix/lib/librange_set.so" | grep -q 'soname: \[librange_set.so.0\]'
 }
 

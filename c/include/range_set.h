@@ -32,7 +32,7 @@
  * at most as many boundaries as both sets together. A set that grows range by range, as those of a download, stands in a
  * buffer and changes there: `buffer_of`, `insert`, `remove`. An owned set has a buffer that grows.
  *
- * But for those of owned sets and sets in chunks no call takes memory. None keeps state, and all are safe to call from several threads, each of
+ * But for those of owned sets, sets in chunks and maps no call takes memory. None keeps state, and all are safe to call from several threads, each of
  * which changes sets of its own.
  *
  * There are sets of int32_t, uint32_t, int64_t and uint64_t: the calls of one type have i32, u32, i64 or u64 in their
@@ -1175,6 +1175,50 @@ size_t range_set_i64_chunked_boundaries_len(range_set_i64_chunked set);
 RANGE_SET_STATUS range_set_i64_chunked_copy(range_set_i64_chunked set, int64_t *out, size_t room,
                                                  range_set_i64 *result);
 
+/* ---- Maps from ranges of int64_t to numbers ---- */
+
+/* A map that gives ranges values. A key has the value of the last range that was put around it, or none; ranges that touch and have
+ * equal values are one. It is one list: among n ranges a search makes about log n comparisons, and a change moves all that come
+ * after it. As of a set in chunks its memory comes from malloc, the field is for the library alone, {NULL} is no map, and only one
+ * call at a time may be given a map. */
+typedef struct range_map_i64 {
+    void *at;
+} range_map_i64;
+
+/* The longest range whose keys have one value, or all have none. Without a start it has all lower keys, without an end all higher
+ * ones. */
+typedef struct range_map_i64_stretch {
+    int64_t start, end;
+    uint64_t value;
+    bool has_start, has_end, has_value;
+} range_map_i64_stretch;
+
+/* Makes a map in which no key has a value. It has to be freed. Where an allocation fails there is none. */
+RANGE_SET_STATUS range_map_i64_new(range_map_i64 *map);
+
+/* Gives the memory back, and leaves {NULL}. Does nothing where `map` is null or no map. */
+void range_map_i64_free(range_map_i64 *map);
+
+/* Gives the keys from `start` to below `end` the value, takes their values away; or those of all keys from `start` on. Where an
+ * allocation fails the map is as it was. */
+RANGE_SET_STATUS range_map_i64_insert(range_map_i64 *map, int64_t start, int64_t end, uint64_t value);
+RANGE_SET_STATUS range_map_i64_remove(range_map_i64 *map, int64_t start, int64_t end);
+RANGE_SET_STATUS range_map_i64_insert_from(range_map_i64 *map, int64_t start, uint64_t value);
+RANGE_SET_STATUS range_map_i64_remove_from(range_map_i64 *map, int64_t start);
+
+/* Whether the key has a value, and then which. `value` may be null. */
+bool range_map_i64_get(range_map_i64 map, int64_t key, uint64_t *value);
+
+/* The longest range around the key whose keys have its value, or as it none. A loop over all of them:
+ *
+ *     range_map_i64_stretch it = range_map_i64_range_at(map, INT64_MIN);
+ *     for (bool more = true; more; more = it.has_end, it = range_map_i64_range_at(map, it.end)) ..
+ */
+range_map_i64_stretch range_map_i64_range_at(range_map_i64 map, int64_t key);
+
+/* How many ranges have a value. */
+size_t range_map_i64_len(range_map_i64 map);
+
 /* ---- Sets of uint64_t ---- */
 
 /* A set. Its fields may be read, and are for the library alone to write: a set that was made otherwise, and isn't strictly
@@ -1531,6 +1575,50 @@ size_t range_set_u64_chunked_boundaries_len(range_set_u64_chunked set);
 /* Writes the set as a list, as other calls write sets. */
 RANGE_SET_STATUS range_set_u64_chunked_copy(range_set_u64_chunked set, uint64_t *out, size_t room,
                                                  range_set_u64 *result);
+
+/* ---- Maps from ranges of uint64_t to numbers ---- */
+
+/* A map that gives ranges values. A key has the value of the last range that was put around it, or none; ranges that touch and have
+ * equal values are one. It is one list: among n ranges a search makes about log n comparisons, and a change moves all that come
+ * after it. As of a set in chunks its memory comes from malloc, the field is for the library alone, {NULL} is no map, and only one
+ * call at a time may be given a map. */
+typedef struct range_map_u64 {
+    void *at;
+} range_map_u64;
+
+/* The longest range whose keys have one value, or all have none. Without a start it has all lower keys, without an end all higher
+ * ones. */
+typedef struct range_map_u64_stretch {
+    uint64_t start, end;
+    uint64_t value;
+    bool has_start, has_end, has_value;
+} range_map_u64_stretch;
+
+/* Makes a map in which no key has a value. It has to be freed. Where an allocation fails there is none. */
+RANGE_SET_STATUS range_map_u64_new(range_map_u64 *map);
+
+/* Gives the memory back, and leaves {NULL}. Does nothing where `map` is null or no map. */
+void range_map_u64_free(range_map_u64 *map);
+
+/* Gives the keys from `start` to below `end` the value, takes their values away; or those of all keys from `start` on. Where an
+ * allocation fails the map is as it was. */
+RANGE_SET_STATUS range_map_u64_insert(range_map_u64 *map, uint64_t start, uint64_t end, uint64_t value);
+RANGE_SET_STATUS range_map_u64_remove(range_map_u64 *map, uint64_t start, uint64_t end);
+RANGE_SET_STATUS range_map_u64_insert_from(range_map_u64 *map, uint64_t start, uint64_t value);
+RANGE_SET_STATUS range_map_u64_remove_from(range_map_u64 *map, uint64_t start);
+
+/* Whether the key has a value, and then which. `value` may be null. */
+bool range_map_u64_get(range_map_u64 map, uint64_t key, uint64_t *value);
+
+/* The longest range around the key whose keys have its value, or as it none. A loop over all of them:
+ *
+ *     range_map_u64_stretch it = range_map_u64_range_at(map, 0);
+ *     for (bool more = true; more; more = it.has_end, it = range_map_u64_range_at(map, it.end)) ..
+ */
+range_map_u64_stretch range_map_u64_range_at(range_map_u64 map, uint64_t key);
+
+/* How many ranges have a value. */
+size_t range_map_u64_len(range_map_u64 map);
 
 #ifdef __cplusplus
 }

@@ -11,3 +11,5 @@ pub mod BoxedI32
 pub mod BoxedU32
 pub mod BoxedI64
 pub mod BoxedU64
+pub mod BoxedMapI64
+pub mod BoxedMapU64

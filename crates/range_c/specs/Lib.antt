@@ -8,3 +8,4 @@ pub mod Text
 pub mod Reading
 pub mod Boxed
 pub mod Chunked
+pub mod Mapped

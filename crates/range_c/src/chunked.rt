@@ -56,7 +56,7 @@ pub(crate) fn remove_from<T: Ord + Drop>(set: &mut ChunkedRangeSet<T>, start: T)
 
 // Whether there was memory.
 #[inline(always)]
-fn is_done(changed: Result<(), AllocError>) -> bool
+pub(crate) fn is_done(changed: Result<(), AllocError>) -> bool
     ensures { changed ≡ outcome result }
 {
     match changed {

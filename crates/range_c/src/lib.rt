@@ -19,6 +19,7 @@ mod from_least;
 mod generated;
 mod in_place;
 pub mod laws;
+mod mapped;
 mod members;
 mod parts;
 mod ranges;
