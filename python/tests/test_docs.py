@@ -42,7 +42,7 @@ class Help(unittest.TestCase):
                 self.assertIn(">>>" if name != "AnyRangeSet" else "64 bits", given.__doc__)
 
     def test_each_method_has_an_example(self):
-        for kind in (range_sets.AnyRangeSet, range_sets.RangeSet, range_sets.MutableRangeSet):
+        for kind in (range_sets.AnyRangeSet, range_sets.RangeSet, range_sets.MutableRangeSet, range_sets.RangeMap):
             for name, it in inspect.getmembers(kind):
                 if not name.startswith("_"):
                     with self.subTest(name=f"{kind.__name__}.{name}"):
@@ -50,7 +50,7 @@ class Help(unittest.TestCase):
 
     def test_each_example_is_run(self):
         run = {test.name for test in examples()}
-        for kind in (range_sets.AnyRangeSet, range_sets.RangeSet, range_sets.MutableRangeSet):
+        for kind in (range_sets.AnyRangeSet, range_sets.RangeSet, range_sets.MutableRangeSet, range_sets.RangeMap):
             for name, it in vars(kind).items():
                 if not name.startswith("_"):
                     self.assertIn(f"{kind.__name__}.{name}", run)

@@ -6,7 +6,7 @@ from ipaddress import IPv4Address, IPv4Network
 from typing import Any, assert_type
 
 import range_sets
-from range_sets import AnyRangeSet, MutableRangeSet, RangeSet
+from range_sets import AnyRangeSet, MutableRangeSet, RangeMap, RangeSet
 from range_sets.dask import covered_by_key, union_all
 
 made = RangeSet([(0, 10), range(20, 30), RangeSet((40, None))])
@@ -39,6 +39,16 @@ received.discard(timedelta(1), None)
 received.add(IPv4Network("10.0.0.0/8"))
 made.insert(datetime.now())
 assert_type(RangeSet.from_values([5, 7]), RangeSet)
+
+bookings: RangeMap[str] = RangeMap([((9, 12), "Ada"), (range(3), "Bob")])
+bookings[11:14] = "Bob"
+bookings[IPv4Network("10.0.0.0/8")] = "Eve"
+del bookings[13:]
+assert_type(bookings[10], str)
+assert_type(bookings.find("Bob"), RangeSet)
+assert_type(bookings.gaps(8, None) | bookings.domain(), RangeSet)
+assert_type(bookings.overlapping(1, 5), list[tuple[tuple[Any, Any], str]])
+assert_type(bookings.combine(bookings.copy(), max), RangeMap[str])
 assert_type(MutableRangeSet.intersection_all([made, received]), MutableRangeSet)
 assert_type(received & made, MutableRangeSet)
 

@@ -34,6 +34,7 @@ from ._buffers import (
     union,
 )
 from ._errors import NoRoom, NotSorted, ParseError
+from ._maps import RangeMap
 from ._ranges import AnyRangeSet
 from ._sets import MutableRangeSet, RangeSet
 
@@ -45,6 +46,7 @@ __all__ = [
     "NoRoom",
     "NotSorted",
     "ParseError",
+    "RangeMap",
     "RangeSet",
     "contains",
     "contains_range",

@@ -330,7 +330,7 @@ static PyMethodDef methods[] = {
 };
 
 static struct PyModuleDef definition = {PyModuleDef_HEAD_INIT, .m_name = "range_sets._core", .m_methods = methods,
-                                        .m_slots = (PyModuleDef_Slot[]){{Py_mod_exec, add_chunks}, {0, NULL}}};
+                                        .m_slots = (PyModuleDef_Slot[]){{Py_mod_exec, add_chunks}, {Py_mod_exec, add_maps}, {0, NULL}}};
 
 PyMODINIT_FUNC PyInit__core(void)
 {

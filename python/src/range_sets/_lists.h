@@ -53,4 +53,7 @@ PyObject *core_unpack(PyObject *module, PyObject *object);
 /* Adds the type of sets in chunks to the module. */
 int add_chunks(PyObject *module);
 
+/* Adds the type of maps to numbers. */
+int add_maps(PyObject *module);
+
 #endif
