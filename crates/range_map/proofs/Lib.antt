@@ -11,3 +11,6 @@ pub mod Stretched
 pub mod Compared
 pub mod FreeRanges
 pub mod LastAt
+pub mod MadeUpTo
+pub mod RunPlaces
+pub mod Setlike

@@ -1,4 +1,5 @@
--- What a change makes of a map, by the option at each element.
+-- What a change makes of a map, and an operation of two, by the option at each element.
+--     IsCombined order E f a b r         r has f of what a and b have
 --     IsFree order start end a           no key of the range has a value
 --     is_in_range order start end x      x is at or above the start, and below the end if there is one
 --     IsSetTo order E start end p a r    r has p in the range, and elsewhere what a has
@@ -36,3 +37,9 @@ module _ {K : Type 0} (order : K → K → Ordering) where
       pub canonical : IsCanonical order E after
       pub values : IsSetTo start end p a after
       pub no_longer : length after.keys ≤ length a.keys
+
+  -- f of what both have
+  abbrev pub IsCombined : {V W U : Type 0} → (U → U → Bool) → (Option V → Option W → Option U) →
+      Steps K V → Steps K W → Steps K U → Type 0
+  IsCombined E f a b r =
+      (x : K) → AreAlike E (value_at order r x) (f (value_at order a x) (value_at order b x))

@@ -6,3 +6,5 @@ pub mod Stretches
 pub mod EqualSteps
 pub mod Refused
 pub mod Pairs
+pub mod Combining
+pub mod Units

@@ -5,13 +5,19 @@
 mod free;
 mod insert_error;
 mod iter;
+pub mod laws;
 mod map;
+mod operation;
+mod operations;
 mod places;
 mod replacing;
+mod runs;
+mod side;
 mod splicing;
 mod value;
 
 pub use insert_error::InsertError;
 pub use iter::Iter;
 pub use map::{RangeMap, Stretch};
+pub use operation::MapOperation;
 pub use value::MapValue;

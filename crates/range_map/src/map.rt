@@ -7,10 +7,13 @@ ghost use Rattle.range_map.specs.Changed.{IsSetTo, FitsAfter};
 
 mod booking;
 mod building;
+mod combining;
 mod copying;
 mod equality;
 mod ranges;
+mod sets;
 mod text;
+mod union;
 
 use crate::places::option_before;
 use crate::replacing::set_range;

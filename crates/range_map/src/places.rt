@@ -72,8 +72,8 @@ fn count_up_to_end<K: Ord>(keys: &[K], end: Option<&K>) -> usize
     }
 }
 
-// Whether the option before a place equals this one; none stands before the first.
-fn is_before<V: Eq>(options: &[Option<V>], place: usize, option: &Option<V>) -> bool
+/// Whether the option before a place equals this one; none stands before the first.
+pub fn is_before<V: Eq>(options: &[Option<V>], place: usize, option: &Option<V>) -> bool
     requires { place ≤ length options.now }
     ensures { result ≡ option_eq V.eq (get_or (None ∷ options.now) place None) option.now }
 {

@@ -1,5 +1,5 @@
 //! The values of a map.
-ghost use Rattle.std.specs.Prelude.{◌≡◌, true, IsOk, IfOk, None};
+ghost use Rattle.std.specs.Prelude.{◌≡◌, true, IsOk, IfOk, None, option_copied};
 ghost use Rattle.range_map.specs.Steps.{AreAlike};
 
 use std::alloc::AllocError;
@@ -26,9 +26,9 @@ impl<T: Eq + Copy + Drop> MapValue for T {
 }
 
 /// A copy of an option: of its value, if it has one.
-pub fn copy_option<V: MapValue>(option: &Option<V>) -> Result<Option<V>, AllocError>
-    ensures same { IfOk result (λ copied. AreAlike V.eq option.now copied) }
-    ensures none { option.now ≡ None → IsOk result }
+pub fn copy_option<V: MapValue>(option: Option<&V>) -> Result<Option<V>, AllocError>
+    ensures same { IfOk result (λ copied. AreAlike V.eq copied (option_copied option.entry)) }
+    ensures none { option_copied option.entry ≡ None → IsOk result }
 {
     match option {
         None => Ok(None),

@@ -50,7 +50,7 @@ fn copies<V: MapValue>(alloc: Global, options: &[Option<V>]) -> Result<Vec<Optio
 {
     let mut list = Vec::with_capacity(alloc, options.len())?;
     for option in options {
-        list.push(copy_option(option)?)?;
+        list.push(copy_option(option.as_ref())?)?;
     }
     Ok(list)
 }
