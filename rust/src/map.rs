@@ -9,14 +9,16 @@ mod json;
 mod kept;
 mod traits;
 
-pub use iter::{IntoIter, Iter};
+pub use iter::{Gaps, IntoIter, Iter};
 pub use kept::ByClone;
 pub(crate) use kept::{Copies, Kept};
 
 use crate::any_range::AnyRange;
+use crate::generated::range_collections::Comparisons;
 use crate::generated::range_entry::EntryClone;
 use crate::generated::range_map as proved;
 use crate::generated::range_map::InsertError;
+use crate::generated::range_merge::{count_up_to, search};
 use crate::memory::{expect_memory, out_of_memory, AllocError};
 use crate::range::RangeSetRange;
 use crate::support::Global;
@@ -191,6 +193,71 @@ impl<K: Ord, V: Eq, C> Map<K, V, C> {
     /// ```
     pub fn iter(&self) -> Iter<'_, K, V, C> {
         Iter::new(self.0.iter())
+    }
+
+    /// Returns an iterator over the ranges that share a key with a range, from the lowest on, each with its value. They
+    /// aren't cut.
+    ///
+    /// It makes *O*(log *n*) comparisons, and none for a step.
+    ///
+    /// # Examples
+    ///
+    /// ```
+    /// use range_sets::RangeMap;
+    ///
+    /// let bookings = RangeMap::from_iter([(9..11, "Ada"), (11..14, "Bob"), (15..16, "Eve")]);
+    /// let guests: Vec<_> = bookings.overlapping(&10..&12).map(|(_, guest)| *guest).collect();
+    /// assert_eq!(guests, ["Ada", "Bob"]);
+    /// ```
+    pub fn overlapping(&self, range: Range<&K>) -> Iter<'_, K, V, C> {
+        let (from, to) = self.places_of(&range);
+        // The step before the first one may go on into the range.
+        let from = if range.is_empty() {
+            to
+        } else {
+            from.saturating_sub(1)
+        };
+        Iter::new(proved::Iter::new(
+            &self.0.keys[from..to],
+            &self.0.options[from..to],
+            self.0.keys.get(to),
+        ))
+    }
+
+    /// Returns an iterator over the parts of a range whose keys have no value, from the lowest on. None of them is empty.
+    ///
+    /// It makes *O*(log *n*) comparisons, and none for a step.
+    ///
+    /// # Examples
+    ///
+    /// ```
+    /// use range_sets::RangeMap;
+    ///
+    /// let bookings = RangeMap::from_iter([(9..11, "Ada"), (11..12, "Bob"), (15..16, "Eve")]);
+    /// let free: Vec<_> = bookings.gaps(&8..&18).collect();
+    /// assert_eq!(free, [&8..&9, &12..&15, &16..&18]);
+    /// ```
+    pub fn gaps<'a>(&'a self, within: Range<&'a K>) -> Gaps<'a, K, V, C> {
+        let (from, to) = self.places_of(&within);
+        let begins = from
+            .checked_sub(1)
+            .map_or(true, |before| self.0.options[before].is_none());
+        Gaps {
+            start: (begins && !within.is_empty()).then_some(within.start),
+            keys: &self.0.keys[from..to],
+            options: &self.0.options[from..to],
+            end: within.end,
+        }
+    }
+
+    /// The places of the steps that begin within a range, above its start.
+    fn places_of(&self, range: &Range<&K>) -> (usize, usize) {
+        let (keys, count) = (self.0.keys.as_slice(), &mut Comparisons::new());
+        let from = count_up_to(keys, range.start, count);
+        let to = match search(keys, range.end, count) {
+            Ok(i) | Err(i) => i,
+        };
+        (from, to.max(from))
     }
 
     /// Takes the value of each key away, and keeps the room.

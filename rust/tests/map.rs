@@ -81,6 +81,33 @@ fn compare(map: &RangeMap<u8, u8>, cells: &Cells, what: &str) {
         .rev()
         .eq(map.iter().collect::<Vec<_>>().into_iter().rev()));
     assert_eq!(map.len(), expected.len(), "{what}");
+    let within = KEYS as u8 / 4..KEYS as u8 - 5;
+    for range in [within.clone(), 0..3, 7..7, 9..5] {
+        let met = expected
+            .iter()
+            .filter(|(it, _)| range.clone().any(|key| has(it, key)));
+        let found = map.overlapping(&range.start..&range.end);
+        let found: Vec<_> = found.map(|(it, &value)| (it.cloned(), value)).collect();
+        assert!(found.iter().eq(met), "{what}, {range:?}: {found:?}");
+        let free: Vec<u8> = range
+            .clone()
+            .filter(|&key| cells[usize::from(key)].is_none())
+            .collect();
+        let gaps: Vec<_> = map.gaps(&range.start..&range.end).collect();
+        assert!(
+            gaps.iter().all(|gap| gap.start < gap.end),
+            "{what}, {range:?}"
+        );
+        assert!(
+            gaps.windows(2).all(|two| two[0].end < two[1].start),
+            "{what}, {range:?}"
+        );
+        let keys: Vec<u8> = gaps
+            .into_iter()
+            .flat_map(|gap| *gap.start..*gap.end)
+            .collect();
+        assert_eq!(keys, free, "{what}, {range:?}");
+    }
     assert_eq!(map.is_empty(), expected.is_empty(), "{what}");
 }
 

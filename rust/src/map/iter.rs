@@ -6,6 +6,7 @@ use crate::range::RangeSetRange;
 use alloc::vec;
 use core::fmt;
 use core::iter::{FusedIterator, Peekable};
+use core::ops::Range;
 
 /// An iterator over the ranges of a map that have a value, each with it, from the lowest on and from the highest down.
 /// [`Map::iter`] makes it.
@@ -64,6 +65,63 @@ impl<K, V, C> Clone for Iter<'_, K, V, C> {
 
 /// The ranges that are left.
 impl<K: fmt::Debug, V: fmt::Debug, C> fmt::Debug for Iter<'_, K, V, C> {
+    fn fmt(&self, f: &mut fmt::Formatter<'_>) -> fmt::Result {
+        f.debug_list().entries(self.clone()).finish()
+    }
+}
+
+/// An iterator over the parts of a range whose keys have no value. [`Map::gaps`] makes it.
+///
+/// # Examples
+///
+/// ```
+/// use range_sets::RangeMap;
+///
+/// let bookings = RangeMap::from_iter([(9..11, "Ada")]);
+/// let mut free = bookings.gaps(&10..&13);
+/// assert_eq!(free.next(), Some(&11..&13));
+/// assert_eq!(free.next(), None);
+/// ```
+#[must_use = "iterators are lazy and do nothing unless consumed"]
+pub struct Gaps<'a, K, V, C> {
+    /// Where a part begins, if its end isn't found yet.
+    pub(super) start: Option<&'a K>,
+    /// The steps that are left.
+    pub(super) keys: &'a [K],
+    pub(super) options: &'a [Option<Kept<V, C>>],
+    pub(super) end: &'a K,
+}
+
+impl<'a, K, V, C> Iterator for Gaps<'a, K, V, C> {
+    type Item = Range<&'a K>;
+
+    fn next(&mut self) -> Option<Self::Item> {
+        loop {
+            let start = self.start.take();
+            let step = self.keys.split_first().zip(self.options.split_first());
+            let ((key, keys), (option, options)) = match step {
+                Some(step) => step,
+                None => return start.map(|start| start..self.end),
+            };
+            (self.keys, self.options) = (keys, options);
+            self.start = option.is_none().then_some(key);
+            if let Some(start) = start {
+                return Some(start..key);
+            }
+        }
+    }
+}
+
+impl<K, V, C> FusedIterator for Gaps<'_, K, V, C> {}
+
+impl<K, V, C> Clone for Gaps<'_, K, V, C> {
+    fn clone(&self) -> Self {
+        Gaps { ..*self }
+    }
+}
+
+/// The parts that are left.
+impl<K: fmt::Debug, V, C> fmt::Debug for Gaps<'_, K, V, C> {
     fn fmt(&self, f: &mut fmt::Formatter<'_>) -> fmt::Result {
         f.debug_list().entries(self.clone()).finish()
     }

@@ -92,6 +92,11 @@ const CHANGES: [Change; 10] = [
 const QUESTIONS: [(&str, Call); 3] = [
     ("questions of a key", |map, range, _| {
         let _ = (map.get(&range.start), map.contains_key(&range.end));
+        let ends = &range.start..&range.end;
+        let _ = (
+            map.overlapping(ends.clone()).count(),
+            map.gaps(ends).count(),
+        );
         let _ = (map.get_key_value(&range.start), map.is_free(range));
     }),
     ("a clone, by ranges too", |map, _, _| {
