@@ -121,6 +121,8 @@ impl T for u8 {
     def test_fields_beside_a_ghost_are_seen_by_the_crate_alone(self):
         found = rust("pub struct S<'a> {\n    pub items: &'a [u8],\n    pub ghost sorted: { P items } by { Prim.hlevel props },\n}")
         self.assertEqual("".join(found.split()), "pubstructS<'a>{pub(crate)items:&'a[u8],}")
+        found = rust("pub struct S<'a> {\n    pub items: &'a [u8],\n    ghost sorted: { P items },\n    ghost some: { Q items },\n}")
+        self.assertEqual(found, "pub struct S<'a> {\n    pub(crate) items: &'a [u8],\n}")
 
     def test_impls_of_models_go(self):
         self.assertEqual(rust("pub struct S;\n\n/// Seen.\nimpl<'a, T> Model for S {\n    ghost Value = { T };\n}\n"), "pub struct S;")
@@ -270,7 +272,7 @@ class Refusals(unittest.TestCase):
     def test_ghosts(self):
         self.refused("\nghost fn f() {}", 2, "a ghost that is none of use, name: and name =: fn")
         self.refused("pub ghost fn f() {}", 1, "a public ghost that is no field")
-        self.refused("struct A {\n    pub ghost b: { p },\n    pub c: u8,\n}", 2, "a public ghost before other fields")
+        self.refused("struct A {\n    pub ghost b: { p },\n    pub c: u8,\n}", 2, "a ghost before other fields")
 
     def test_attributes(self):
         self.refused("fn f() -> u8 { 1 }\n#[cfg(test)]\nmod a;", 2, "the attribute cfg isn't known")

@@ -4,6 +4,7 @@ use crate::entry::RangeSetEntry;
 use crate::generated::range_chunks::ChunkedRangeSet;
 use crate::generated::range_collections::range_set::splicing::set_range;
 use crate::generated::range_collections::{self as proved, Comparisons, WholeNumber};
+use crate::generated::range_map::RangeMap;
 use crate::generated::range_merge::{
     Copier, DiffOp, InPlaceMergeState, InPlaceMergeStateRef, MergeOperation, SmallVecMergeState,
     UnionOp,
@@ -168,6 +169,16 @@ pub trait List: Sized {
     ) -> Result<Self, (AllocError, ChunkedRangeSet<Self::Item>)>
     where
         Self::Item: Ord;
+
+    /// The boundaries of the keys of a map that have a value.
+    fn of_domain<V: Eq>(map: &RangeMap<Self::Item, V>) -> Result<Self, AllocError>
+    where
+        Self::Item: EntryClone;
+
+    /// The boundaries of the keys of a map that have this value.
+    fn of_keys<V: Eq>(map: &RangeMap<Self::Item, V>, value: &V) -> Result<Self, AllocError>
+    where
+        Self::Item: EntryClone;
 
     fn capacity(&self) -> usize;
 
@@ -340,6 +351,21 @@ impl<T, const N: usize> List for support::SmallVec<T, N> {
         T: Ord,
     {
         set.into_set().map(proved::RangeSet::<T, N>::into_inner)
+    }
+
+    fn of_domain<V: Eq>(map: &RangeMap<T, V>) -> Result<Self, AllocError>
+    where
+        T: EntryClone,
+    {
+        map.domain(Global).map(proved::RangeSet::<T, N>::into_inner)
+    }
+
+    fn of_keys<V: Eq>(map: &RangeMap<T, V>, value: &V) -> Result<Self, AllocError>
+    where
+        T: EntryClone,
+    {
+        map.where_equal(Global, value)
+            .map(proved::RangeSet::<T, N>::into_inner)
     }
 
     fn capacity(&self) -> usize {

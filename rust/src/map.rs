@@ -3,6 +3,7 @@
 //! [`Map`] is one type with two names: [`RangeMap`](crate::RangeMap), whose calls end the process if memory runs out, and
 //! [`fallible::RangeMap`](crate::fallible::RangeMap), whose calls return an error.
 
+mod combining;
 mod iter;
 #[cfg(feature = "serde")]
 mod json;

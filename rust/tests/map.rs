@@ -6,7 +6,7 @@ mod common;
 
 use common::{one_in, Random};
 use range_sets::fallible::InsertError;
-use range_sets::{fallible, RangeMap, RangeSetRange};
+use range_sets::{fallible, RangeMap, RangeSet2, RangeSetRange, RangeSetRef};
 use std::collections::hash_map::DefaultHasher;
 use std::collections::HashSet;
 use std::hash::{Hash, Hasher};
@@ -161,6 +161,78 @@ fn made_up_changes_as_of_an_array_of_options() {
         assert!(collected == map && map == map.clone(), "seed {seed}");
         assert_eq!(RangeMap::from(refusing), map, "seed {seed}");
         assert_eq!(map.into_iter().collect::<Vec<_>>(), stretches(&cells));
+    }
+}
+
+/// A map of a few ranges, and its cells.
+fn some(random: &mut Random) -> (RangeMap<u8, u8>, Cells) {
+    let (mut map, mut cells) = (RangeMap::new(), [None; KEYS]);
+    for _ in 0..random.below(7) {
+        let (range, value) = (any_range(random), random.below(3) as u8);
+        for key in (0..KEYS as u8).filter(|&key| has(&range, key)) {
+            cells[usize::from(key)] = Some(value);
+        }
+        map.insert(range, value);
+    }
+    (map, cells)
+}
+
+/// The keys of a set, which ends among the cells or has all above.
+fn keys_of(set: &RangeSetRef<u8>) -> Vec<u8> {
+    (0..KEYS as u8).filter(|key| set.contains(key)).collect()
+}
+
+#[test]
+fn operations_key_by_key() {
+    // Two values make one, none, or another one.
+    let op = |a: Option<&u8>, b: Option<&u8>| match (a, b) {
+        (None, None) => unreachable!("it isn't called without a value"),
+        (Some(2), Some(1)) => None,
+        (a, b) => Some(a.map_or(10, |a| *a) + b.map_or(20, |b| 3 * b)),
+    };
+    for seed in (1..3_000u64).step_by(one_in()) {
+        let mut random = Random(seed.wrapping_mul(0x9e37_79b9_7f4a_7c15) | 1);
+        let ((a, left), (b, right)) = (some(&mut random), some(&mut random));
+        let both = |of: &dyn Fn(Option<u8>, Option<u8>) -> Option<u8>| -> Cells {
+            std::array::from_fn(|key| of(left[key], right[key]))
+        };
+        let asked = both(&|a, b| (a.or(b)).and_then(|_| op(a.as_ref(), b.as_ref())));
+        assert_eq!(read(&a.combine(&b, op)), stretches(&asked), "seed {seed}");
+        let asked = both(&|a, b| a.or(b));
+        assert_eq!(read(&a.union_with_left(&b)), stretches(&asked));
+        let asked = both(&|a, b| b.or(a));
+        assert_eq!(read(&a.union_with_right(&b)), stretches(&asked));
+
+        let (domain, ones): (RangeSet2<u8>, RangeSet2<u8>) = (b.domain(), b.where_equal(&1));
+        let keys = |of: &dyn Fn(Option<u8>) -> bool| -> Vec<u8> {
+            (0..KEYS as u8)
+                .filter(|&key| of(right[usize::from(key)]))
+                .collect()
+        };
+        assert_eq!(keys_of(&domain), keys(&|value| value.is_some()));
+        assert_eq!(keys_of(&ones), keys(&|value| value == Some(1)));
+        let asked = both(&|a, b| b.and(a));
+        assert_eq!(read(&a.restrict(&domain)), stretches(&asked));
+        let asked = both(&|a, b| if b.is_some() { None } else { a });
+        assert_eq!(read(&a.without(&domain)), stretches(&asked));
+
+        let (x, y) = (
+            fallible::RangeMap::from(a.clone()),
+            fallible::RangeMap::from(b.clone()),
+        );
+        let refused = x.combine(&y, |_, _| Err::<Option<u8>, _>(fallible::AllocError));
+        assert_eq!(refused.is_err(), !(a.is_empty() && b.is_empty()));
+        let found = x.combine(&y, |a, b| Ok(op(a, b))).unwrap();
+        assert_eq!(read(&found), read(&a.combine(&b, op)));
+        assert_eq!(x.union_with_left(&y).unwrap(), a.union_with_left(&b).into());
+        assert_eq!(
+            x.union_with_right(&y).unwrap(),
+            a.union_with_right(&b).into()
+        );
+        assert_eq!(x.restrict(&domain).unwrap(), a.restrict(&domain).into());
+        assert_eq!(x.without(&domain).unwrap(), a.without(&domain).into());
+        assert_eq!(y.domain::<[u8; 2]>().unwrap(), domain);
+        assert_eq!(y.where_equal::<[u8; 2]>(&1).unwrap(), ones);
     }
 }
 

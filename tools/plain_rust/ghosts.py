@@ -13,6 +13,8 @@ def drop_ghosts(found):
             at += 1
         elif stands(found, at - 1, "pub"):
             at = drop_ghost_field(found, at - 1)
+        elif found[at + 2].text == ":" and found[at + 3].text in OPENING and found[closing(found, at + 3) + 1].text in (",", "}"):
+            at = drop_ghost_field(found, at)
         elif found[at + 1].text == "use" or found[at + 2].text in (":", "="):
             del found[at : skipped(found, at, {";"}) + 1]
         else:
@@ -21,7 +23,7 @@ def drop_ghosts(found):
 
 def drop_ghost_field(found, at):
     """A field of a struct. It guards the others, so those are private to the crate here."""
-    if found[at + 3].text != ":":
+    if found[at].text == "pub" and found[at + 3].text != ":":
         raise Refused(found[at].line, "a public ghost that is no field")
     opening = at
     while found[opening].text != "{":
@@ -31,8 +33,8 @@ def drop_ghost_field(found, at):
             token.text = "pub(crate)"
     line = found[at].line
     del found[at : skipped_field(found, at)]
-    if found[at].text != "}":
-        raise Refused(line, "a public ghost before other fields")
+    if found[at].text not in ("}", "ghost"):
+        raise Refused(line, "a ghost before other fields")
     return at
 
 

@@ -118,7 +118,6 @@ UNCALLED = {
     "range_merge/in_place_builder": {"InPlaceBuilder::puts_left", "InPlaceBuilder::put", "InPlaceBuilder::finish", "fn put_item"},
     "range_merge/merge_state/small_vec": {"SmallVecMergeState::new"},
     "range_merge/place": {"Place::set"},
-    "range_merge/runs": {"enum Run", "fn run_length"},
     "range_entry/lists": {"fn is_empty_list"},
     "range_collections/comparisons": {"Compare for Comparisons::made"},
     "range_collections/range_set/by_view": {

@@ -1,8 +1,10 @@
 //! A map from ranges to values whose calls return an error where memory is refused.
 
 use crate::any_range::AnyRange;
-use crate::fallible::{AllocError, EntryClone};
+use crate::array::Array;
+use crate::fallible::{AllocError, EntryClone, RangeSet};
 use crate::map::{self, Copies, Map};
+use crate::range_set::RangeSetRef;
 use core::fmt;
 use core::ops::Range;
 
@@ -210,6 +212,154 @@ impl<K: Ord, V: MapValue> RangeMap<K, V> {
         ranges
             .into_iter()
             .try_for_each(|(range, value)| self.insert(range, value))
+    }
+}
+
+/// These make new maps and sets, and copy keys by their [`EntryClone`].
+impl<K: EntryClone, V: MapValue> RangeMap<K, V> {
+    /// Returns the map that gives each key what `op` makes of its values in both maps. It isn't called if both have none.
+    ///
+    /// # Errors
+    ///
+    /// If memory or a copy of a key is refused, or `op` returns an error.
+    ///
+    /// # Examples
+    ///
+    /// ```
+    /// use range_sets::fallible::{AllocError, RangeMap};
+    ///
+    /// let nights = RangeMap::from_ranges([(1..4, 1)])?;
+    /// let more = RangeMap::from_ranges([(3..7, 1)])?;
+    /// let sum = nights.combine(&more, |a, b| Ok(Some(a.unwrap_or(&0) + b.unwrap_or(&0))))?;
+    /// assert_eq!(format!("{sum:?}"), "{1..3: 1, 3..4: 2, 4..7: 1}");
+    /// # Ok::<(), AllocError>(())
+    /// ```
+    pub fn combine<W: Eq, U: Eq>(
+        &self,
+        that: &RangeMap<K, W>,
+        op: impl Fn(Option<&V>, Option<&W>) -> Result<Option<U>, AllocError>,
+    ) -> Result<RangeMap<K, U>, AllocError> {
+        self.try_combine(that, op)
+    }
+
+    /// Returns the map with the values of both. Where both have one, this map's stays.
+    ///
+    /// # Errors
+    ///
+    /// If memory, or a copy of a key or of a value, is refused.
+    ///
+    /// # Examples
+    ///
+    /// ```
+    /// use range_sets::fallible::{AllocError, RangeMap};
+    ///
+    /// let mine = RangeMap::from_ranges([(1..4, 'a')])?;
+    /// let union = mine.union_with_left(&RangeMap::from_ranges([(3..7, 'b')])?)?;
+    /// assert_eq!(union[&3], 'a');
+    /// # Ok::<(), AllocError>(())
+    /// ```
+    pub fn union_with_left(&self, that: &Self) -> Result<Self, AllocError> {
+        self.try_union_with_left(that)
+    }
+
+    /// Returns the map with the values of both. Where both have one, that of the other map stays.
+    ///
+    /// # Errors
+    ///
+    /// If memory, or a copy of a key or of a value, is refused.
+    ///
+    /// # Examples
+    ///
+    /// ```
+    /// use range_sets::fallible::{AllocError, RangeMap};
+    ///
+    /// let mine = RangeMap::from_ranges([(1..4, 'a')])?;
+    /// let union = mine.union_with_right(&RangeMap::from_ranges([(3..7, 'b')])?)?;
+    /// assert_eq!(union[&3], 'b');
+    /// # Ok::<(), AllocError>(())
+    /// ```
+    pub fn union_with_right(&self, that: &Self) -> Result<Self, AllocError> {
+        self.try_union_with_right(that)
+    }
+
+    /// Returns the map with the values of the keys in a set alone.
+    ///
+    /// # Errors
+    ///
+    /// If memory, or a copy of a key or of a value, is refused.
+    ///
+    /// # Examples
+    ///
+    /// ```
+    /// use range_sets::fallible::{AllocError, RangeMap};
+    /// use range_sets::RangeSetRef;
+    ///
+    /// let bookings = RangeMap::from_ranges([(9..14, "Ada")])?;
+    /// assert_eq!(bookings.restrict(RangeSetRef::single(&12))?.get(&11), None);
+    /// # Ok::<(), AllocError>(())
+    /// ```
+    pub fn restrict(&self, set: &RangeSetRef<K>) -> Result<Self, AllocError> {
+        self.try_restrict(set)
+    }
+
+    /// Returns the map with the values of the keys that aren't in a set.
+    ///
+    /// # Errors
+    ///
+    /// If memory, or a copy of a key or of a value, is refused.
+    ///
+    /// # Examples
+    ///
+    /// ```
+    /// use range_sets::fallible::{AllocError, RangeMap};
+    /// use range_sets::RangeSetRef;
+    ///
+    /// let bookings = RangeMap::from_ranges([(9..14, "Ada")])?;
+    /// assert_eq!(bookings.without(RangeSetRef::single(&12))?.get(&12), None);
+    /// # Ok::<(), AllocError>(())
+    /// ```
+    pub fn without(&self, set: &RangeSetRef<K>) -> Result<Self, AllocError> {
+        self.try_without(set)
+    }
+
+    /// Returns the set of the keys that have a value.
+    ///
+    /// # Errors
+    ///
+    /// If memory or a copy of a key is refused.
+    ///
+    /// # Examples
+    ///
+    /// ```
+    /// use range_sets::fallible::{AllocError, RangeMap, RangeSet2};
+    ///
+    /// let bookings = RangeMap::from_ranges([(9..11, "Ada"), (11..14, "Bob")])?;
+    /// let taken: RangeSet2<i32> = bookings.domain()?;
+    /// assert_eq!(taken.to_string(), "9..14");
+    /// # Ok::<(), AllocError>(())
+    /// ```
+    pub fn domain<A: Array<Item = K>>(&self) -> Result<RangeSet<A>, AllocError> {
+        self.try_domain().map(RangeSet::from)
+    }
+
+    /// Returns the set of the keys that have this value.
+    ///
+    /// # Errors
+    ///
+    /// If memory, or a copy of a key or of the value, is refused.
+    ///
+    /// # Examples
+    ///
+    /// ```
+    /// use range_sets::fallible::{AllocError, RangeMap, RangeSet2};
+    ///
+    /// let bookings = RangeMap::from_ranges([(9..11, "Ada"), (11..14, "Bob")])?;
+    /// let bobs: RangeSet2<i32> = bookings.where_equal(&"Bob")?;
+    /// assert_eq!(bobs.to_string(), "11..14");
+    /// # Ok::<(), AllocError>(())
+    /// ```
+    pub fn where_equal<A: Array<Item = K>>(&self, value: &V) -> Result<RangeSet<A>, AllocError> {
+        self.try_where_equal(value).map(RangeSet::from)
     }
 }
 

@@ -89,7 +89,14 @@ const CHANGES: [Change; 10] = [
 ];
 
 /// What only compares, clones or reads.
-const QUESTIONS: [(&str, Call); 3] = [
+const QUESTIONS: [(&str, Call); 4] = [
+    ("operations with a copy", |map, range, value| {
+        let that = map.clone();
+        drop((map.union_with_left(&that), map.union_with_right(&that)));
+        drop(map.combine(&that, |a, b| a.filter(|&it| *it != value).or(b).cloned()));
+        let (domain, ones) = (map.domain::<[_; 2]>(), map.where_equal::<[_; 2]>(&value));
+        drop((map.restrict(&domain), map.without(&ones), range));
+    }),
     ("questions of a key", |map, range, _| {
         let _ = (map.get(&range.start), map.contains_key(&range.end));
         let ends = &range.start..&range.end;

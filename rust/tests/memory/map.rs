@@ -1,7 +1,7 @@
 //! Memory refused at each request in turn: a change of a map answers an error, and leaves the map as it was.
 
 use crate::refusing::{each_refusal, refusing, unrefused, Refusal};
-use range_sets::fallible::{AllocError, InsertError, RangeMap};
+use range_sets::fallible::{AllocError, InsertError, MapValue, RangeMap};
 use range_sets::RangeSetRange;
 use std::ops::Range;
 
@@ -205,6 +205,35 @@ fn copies_are_refused_and_leave_the_map_as_it_was() {
         // One for each value, and two for both lists.
         let expected = if ranges == 0 { 0 } else { ranges as usize + 2 };
         assert_eq!(requests, expected, "{ranges} ranges");
+    }
+}
+
+type Operation = fn(&Map, &Map) -> Result<Map, AllocError>;
+
+const OPERATIONS: [(&str, Operation); 5] = [
+    ("combine", |a, b| {
+        a.combine(b, |a, b| a.or(b).map(MapValue::copy_value).transpose())
+    }),
+    ("union_with_left", |a, b| a.union_with_left(b)),
+    ("union_with_right", |a, b| a.union_with_right(b)),
+    ("restrict", |a, b| a.restrict(&b.domain::<[u32; 2]>()?)),
+    ("without", |a, b| {
+        a.without(&b.where_equal::<[u32; 2]>(&unrefused(|| value(1)))?)
+    }),
+];
+
+#[test]
+fn operations_are_refused_and_leave_both_maps_as_they_were() {
+    for (name, operation) in OPERATIONS {
+        for ranges in [3, 40] {
+            let requests = each_refusal(
+                name,
+                || (map(ranges), map(ranges / 2)),
+                |(a, b)| operation(a, b).map(|made| listed(&made)),
+                |(a, b), (left, right)| listed(a) == listed(left) && listed(b) == listed(right),
+            );
+            assert!(requests as u32 > ranges / 2, "{name}: {requests} requests");
+        }
     }
 }
 

@@ -15,10 +15,10 @@ pub(crate) mod view;
 pub(crate) mod whole_number;
 
 pub use crate::generated::range_entry::{EntryClone, RangeSetEntry};
-pub(crate) use crate::generated::range_merge::{count_up_to, merge, search};
+pub(crate) use crate::generated::range_merge::{count_up_to, merge, run_length, search};
 pub use crate::generated::range_merge::{
     BoolOpMergeState, Buffer, BufferMergeState, Compare, Connective, Copier, CountMergeState,
-    DiffOp, InPlaceBuilder, IntersectionOp, MergeOperation, MergeState, MergeStateMut, NoRoom,
+    DiffOp, InPlaceBuilder, IntersectionOp, MergeOperation, MergeState, MergeStateMut, NoRoom, Run,
     SliceIterator, SmallVecMergeState, UnionOp, XorOp,
 };
 pub use crate::support::{InPlaceMergeState, InPlaceMergeStateRef};

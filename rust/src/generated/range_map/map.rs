@@ -2,9 +2,12 @@
 //! The map: strictly sorted keys, and the option that holds from each of them on.
 
 pub(crate) mod booking;
+pub(crate) mod combining;
 pub(crate) mod copying;
 pub(crate) mod equality;
 pub(crate) mod ranges;
+pub(crate) mod sets;
+pub(crate) mod union;
 
 use crate::generated::range_collections::Comparisons;
 use crate::generated::range_map::places::option_before;

@@ -6,12 +6,17 @@ pub(crate) mod free;
 pub(crate) mod insert_error;
 pub(crate) mod iter;
 pub(crate) mod map;
+pub(crate) mod operation;
+pub(crate) mod operations;
 pub(crate) mod places;
 pub(crate) mod replacing;
+pub(crate) mod runs;
+pub(crate) mod side;
 pub(crate) mod splicing;
 pub(crate) mod value;
 
 pub use insert_error::InsertError;
 pub use iter::Iter;
 pub use map::{RangeMap, Stretch};
+pub use operation::MapOperation;
 pub use value::MapValue;

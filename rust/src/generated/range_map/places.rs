@@ -58,8 +58,15 @@ fn count_up_to_end<K: Ord>(keys: &[K], end: Option<&K>) -> usize {
     }
 }
 
-// Whether the option before a place equals this one; none stands before the first.
-fn is_before<V: Eq>(options: &[Option<V>], place: usize, option: &Option<V>) -> bool {
+/// Whether the option before a place equals this one; none stands before the first.
+///
+/// # Contract
+///
+/// ```text
+/// requires place ≤ length options.now
+/// ensures result ≡ option_eq V.eq (get_or (None ∷ options.now) place None) option.now
+/// ```
+pub(crate) fn is_before<V: Eq>(options: &[Option<V>], place: usize, option: &Option<V>) -> bool {
     if place == 0 {
         option.is_none()
     } else {

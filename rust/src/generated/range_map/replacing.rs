@@ -90,7 +90,7 @@ fn copy_before<V: MapValue>(
     if places.from < places.to || !places.ends || places.to == 0 {
         return Ok(None);
     }
-    copy_option(&options[places.to - 1])
+    copy_option(options[places.to - 1].as_ref())
 }
 
 // Puts the start and the end in the place of the keys in the range.

@@ -22,10 +22,10 @@ pub trait MapValue: Eq + Sized {
 /// # Contract
 ///
 /// ```text
-/// ensures same: IfOk result (λ copied. AreAlike V.eq option.now copied)
-/// ensures none: option.now ≡ None → IsOk result
+/// ensures same: IfOk result (λ copied. AreAlike V.eq copied (option_copied option.entry))
+/// ensures none: option_copied option.entry ≡ None → IsOk result
 /// ```
-pub fn copy_option<V: MapValue>(option: &Option<V>) -> Result<Option<V>, AllocError> {
+pub fn copy_option<V: MapValue>(option: Option<&V>) -> Result<Option<V>, AllocError> {
     match option {
         None => Ok(None),
         Some(value) => Ok(Some(value.copy_value()?)),

@@ -24,5 +24,7 @@ pub use merge_state::{
 };
 pub(crate) use merging::merge;
 pub use operations::{Connective, DiffOp, IntersectionOp, MergeOperation, UnionOp, XorOp};
+pub(crate) use runs::run_length;
+pub use runs::Run;
 pub(crate) use searching::{count_up_to, search};
 pub use slice_iterator::SliceIterator;

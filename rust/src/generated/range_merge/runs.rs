@@ -2,9 +2,22 @@
 //! The first run of two lists.
 
 use crate::generated::range_merge::compare::Compare;
+use crate::generated::range_merge::galloping::gallop;
 use crate::generated::range_merge::indexed::Indexed;
 use crate::generated::range_merge::merge_state::MergeState;
 use core::cmp::Ordering;
+
+/// The first run of two strictly sorted lists: the longest stretch of items of one side that all
+/// stand before the other side's first item, or an item of each that are equal.
+#[derive(Clone, Copy, Debug, PartialEq, Eq)]
+pub enum Run {
+    /// So many items of the left list.
+    Left(usize),
+    /// So many items of the right list.
+    Right(usize),
+    /// One item of each list, equal to one another.
+    Both,
+}
 
 // The left list of a state.
 pub(crate) struct LeftOf<'a, S>(pub(crate) &'a S);
@@ -51,6 +64,35 @@ impl<S: MergeState> Indexed<S::Item> for RightOf<'_, S> {
     #[inline(always)]
     fn at(&self, i: usize) -> &S::Item {
         self.0.b_at(i)
+    }
+}
+
+/// The first run of the unread lists of `state`.
+///
+/// Both lists must be strictly sorted, with at least one item. For a run of `n` items it makes at
+/// most twice as many comparisons as `n` has binary digits.
+///
+/// # Contract
+///
+/// ```text
+/// requires left_some: 0 < length (S.left state.now)
+/// requires right_some: 0 < length (S.right state.now)
+/// requires left_ascending: IsAscending C.order (S.left state.now)
+/// requires right_ascending: IsAscending C.order (S.right state.now)
+/// requires made: C.count cmp.old < 2 ^ 127
+/// ensures first: slice_get (runs C.order (S.left state.now) (S.right state.now)) 0 ≡ Some
+///     result
+/// ensures comparisons: AddsAtMost (C.count cmp.old) (C.count cmp.new) (2 * digits (run_len
+///     result))
+/// ```
+#[inline(always)]
+pub(crate) fn run_length<S: MergeState, C: Compare<S::Item>>(state: &S, cmp: &mut C) -> Run {
+    let a = state.a_at(0);
+    let b = state.b_at(0);
+    match cmp.compare(a, b) {
+        Ordering::Less => Run::Left(gallop(&LeftOf(state), b, cmp).len),
+        Ordering::Equal => Run::Both,
+        Ordering::Greater => Run::Right(gallop(&RightOf(state), a, cmp).len),
     }
 }
 

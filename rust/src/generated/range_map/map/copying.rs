@@ -36,7 +36,7 @@ fn clones<K: EntryClone>(alloc: Global, keys: &[K]) -> Result<Vec<K>, AllocError
 fn copies<V: MapValue>(alloc: Global, options: &[Option<V>]) -> Result<Vec<Option<V>>, AllocError> {
     let mut list = Vec::with_capacity(alloc, options.len())?;
     for option in options {
-        list.push(copy_option(option)?)?;
+        list.push(copy_option(option.as_ref())?)?;
     }
     Ok(list)
 }

@@ -1,0 +1,201 @@
+//! Two maps, and maps and sets.
+
+use super::{Copies, Kept, Map, RangeMap};
+use crate::array::{Array, List};
+use crate::generated::range_collections::Comparisons;
+use crate::generated::range_entry::EntryClone;
+use crate::generated::range_map::MapOperation;
+use crate::memory::{expect_memory, AllocError};
+use crate::range_set::{RangeSet, RangeSetRef};
+use crate::support::Global;
+
+/// An operation by a closure, which isn't called if both maps have no value.
+struct ByCall<F>(F);
+
+impl<V, W, U, C, F> MapOperation<Kept<V, C>, Kept<W, C>> for ByCall<F>
+where
+    U: Eq,
+    F: Fn(Option<&V>, Option<&W>) -> Result<Option<U>, AllocError>,
+{
+    type Output = Kept<U, C>;
+
+    #[inline(always)]
+    fn apply(
+        &self,
+        left: Option<&Kept<V, C>>,
+        right: Option<&Kept<W, C>>,
+    ) -> Result<Option<Kept<U, C>>, AllocError> {
+        if left.is_none() && right.is_none() {
+            return Ok(None);
+        }
+        let made = (self.0)(left.map(|kept| &kept.value), right.map(|kept| &kept.value));
+        made.map(|option| option.map(Kept::new))
+    }
+}
+
+impl<K: Ord + EntryClone, V: Eq, C> Map<K, V, C> {
+    #[inline]
+    pub(crate) fn try_combine<W: Eq, U: Eq>(
+        &self,
+        that: &Map<K, W, C>,
+        op: impl Fn(Option<&V>, Option<&W>) -> Result<Option<U>, AllocError>,
+    ) -> Result<Map<K, U, C>, AllocError> {
+        let count = &mut Comparisons::new();
+        self.0.combine(Global, &that.0, &ByCall(op), count).map(Map)
+    }
+
+    pub(crate) fn try_domain<A: Array<Item = K>>(&self) -> Result<RangeSet<A>, AllocError> {
+        A::List::of_domain(&self.0).map(RangeSet::of_list)
+    }
+}
+
+impl<K: Ord + EntryClone, V: Eq, C: Copies<V>> Map<K, V, C> {
+    pub(crate) fn try_union_with_left(&self, that: &Self) -> Result<Self, AllocError> {
+        self.0.union_with_left(Global, &that.0).map(Map)
+    }
+
+    pub(crate) fn try_union_with_right(&self, that: &Self) -> Result<Self, AllocError> {
+        self.0.union_with_right(Global, &that.0).map(Map)
+    }
+
+    pub(crate) fn try_restrict(&self, set: &RangeSetRef<K>) -> Result<Self, AllocError> {
+        self.0.restrict(Global, set.proved()).map(Map)
+    }
+
+    pub(crate) fn try_without(&self, set: &RangeSetRef<K>) -> Result<Self, AllocError> {
+        self.0.without(Global, set.proved()).map(Map)
+    }
+
+    pub(crate) fn try_where_equal<A: Array<Item = K>>(
+        &self,
+        value: &V,
+    ) -> Result<RangeSet<A>, AllocError> {
+        let value = Kept::new(C::copied(value)?);
+        A::List::of_keys(&self.0, &value).map(RangeSet::of_list)
+    }
+}
+
+/// These make new maps and sets, and copy keys by their [`EntryClone`](crate::fallible::EntryClone).
+impl<K: EntryClone, V: Eq + Clone> RangeMap<K, V> {
+    /// Returns the map that gives each key what `op` makes of its values in both maps.
+    ///
+    /// `op` is called once for each step of either map at which one has a value, and with at least one value.
+    ///
+    /// # Examples
+    ///
+    /// ```
+    /// use range_sets::RangeMap;
+    ///
+    /// let nights = RangeMap::from_iter([(1..4, 1), (6..9, 2)]);
+    /// let more = RangeMap::from_iter([(3..7, 1)]);
+    /// let sum = nights.combine(&more, |a, b| Some(a.unwrap_or(&0) + b.unwrap_or(&0)));
+    /// assert_eq!(format!("{sum:?}"), "{1..3: 1, 3..4: 2, 4..6: 1, 6..7: 3, 7..9: 2}");
+    ///
+    /// let both = nights.combine(&more, |a, b| a.and(b).map(|_| ()));
+    /// assert_eq!(format!("{both:?}"), "{3..4: (), 6..7: ()}");
+    /// ```
+    #[must_use]
+    pub fn combine<W: Eq, U: Eq>(
+        &self,
+        that: &RangeMap<K, W>,
+        op: impl Fn(Option<&V>, Option<&W>) -> Option<U>,
+    ) -> RangeMap<K, U> {
+        expect_memory::<K, _, _>(self.try_combine(that, |a, b| Ok(op(a, b))))
+    }
+
+    /// Returns the map with the values of both. Where both have one, this map's stays.
+    ///
+    /// # Examples
+    ///
+    /// ```
+    /// use range_sets::RangeMap;
+    ///
+    /// let mine = RangeMap::from_iter([(1..4, 'a')]);
+    /// let union = mine.union_with_left(&RangeMap::from_iter([(3..7, 'b')]));
+    /// assert_eq!(format!("{union:?}"), "{1..4: 'a', 4..7: 'b'}");
+    /// ```
+    #[must_use]
+    pub fn union_with_left(&self, that: &Self) -> Self {
+        expect_memory::<K, _, _>(self.try_union_with_left(that))
+    }
+
+    /// Returns the map with the values of both. Where both have one, that of the other map stays.
+    ///
+    /// # Examples
+    ///
+    /// ```
+    /// use range_sets::RangeMap;
+    ///
+    /// let mine = RangeMap::from_iter([(1..4, 'a')]);
+    /// let union = mine.union_with_right(&RangeMap::from_iter([(3..7, 'b')]));
+    /// assert_eq!(format!("{union:?}"), "{1..3: 'a', 3..7: 'b'}");
+    /// ```
+    #[must_use]
+    pub fn union_with_right(&self, that: &Self) -> Self {
+        expect_memory::<K, _, _>(self.try_union_with_right(that))
+    }
+
+    /// Returns the map with the values of the keys in a set alone.
+    ///
+    /// # Examples
+    ///
+    /// ```
+    /// use range_sets::{RangeMap, RangeSet2};
+    ///
+    /// let bookings = RangeMap::from_iter([(9..14, "Ada")]);
+    /// let day = bookings.restrict(&RangeSet2::from(12..20));
+    /// assert_eq!(format!("{day:?}"), r#"{12..14: "Ada"}"#);
+    /// ```
+    #[must_use]
+    pub fn restrict(&self, set: &RangeSetRef<K>) -> Self {
+        expect_memory::<K, _, _>(self.try_restrict(set))
+    }
+
+    /// Returns the map with the values of the keys that aren't in a set.
+    ///
+    /// # Examples
+    ///
+    /// ```
+    /// use range_sets::{RangeMap, RangeSet2};
+    ///
+    /// let bookings = RangeMap::from_iter([(9..14, "Ada")]);
+    /// let rest = bookings.without(&RangeSet2::from(10..12));
+    /// assert_eq!(format!("{rest:?}"), r#"{9..10: "Ada", 12..14: "Ada"}"#);
+    /// ```
+    #[must_use]
+    pub fn without(&self, set: &RangeSetRef<K>) -> Self {
+        expect_memory::<K, _, _>(self.try_without(set))
+    }
+
+    /// Returns the set of the keys that have a value.
+    ///
+    /// # Examples
+    ///
+    /// ```
+    /// use range_sets::{RangeMap, RangeSet2};
+    ///
+    /// let bookings = RangeMap::from_iter([(9..11, "Ada"), (11..14, "Bob")]);
+    /// let taken: RangeSet2<i32> = bookings.domain();
+    /// assert_eq!(taken.to_string(), "9..14");
+    /// ```
+    #[must_use]
+    pub fn domain<A: Array<Item = K>>(&self) -> RangeSet<A> {
+        expect_memory::<K, _, _>(self.try_domain())
+    }
+
+    /// Returns the set of the keys that have this value.
+    ///
+    /// # Examples
+    ///
+    /// ```
+    /// use range_sets::{RangeMap, RangeSet2};
+    ///
+    /// let bookings = RangeMap::from_iter([(9..11, "Ada"), (11..14, "Bob")]);
+    /// let bobs: RangeSet2<i32> = bookings.where_equal(&"Bob");
+    /// assert_eq!(bobs.to_string(), "11..14");
+    /// ```
+    #[must_use]
+    pub fn where_equal<A: Array<Item = K>>(&self, value: &V) -> RangeSet<A> {
+        expect_memory::<K, _, _>(self.try_where_equal(value))
+    }
+}
