@@ -14,3 +14,4 @@ pub mod LastAt
 pub mod MadeUpTo
 pub mod RunPlaces
 pub mod Setlike
+pub mod Depths

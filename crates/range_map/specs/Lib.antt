@@ -8,3 +8,4 @@ pub mod Refused
 pub mod Pairs
 pub mod Combining
 pub mod Units
+pub mod Depth

@@ -9,6 +9,7 @@ mod booking;
 mod building;
 mod combining;
 mod copying;
+mod depth;
 mod equality;
 mod ranges;
 mod sets;
