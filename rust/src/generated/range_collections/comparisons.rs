@@ -61,8 +61,8 @@ impl<T: EntryClone> Copier<T> for EntryCopier {
     }
 
     #[inline(always)]
-    fn never_refuses(&self) -> bool {
-        T::never_refuses()
+    fn all_infallible(&self) -> bool {
+        T::all_infallible()
     }
 
     #[inline(always)]

@@ -25,7 +25,7 @@ pub trait EntryClone: Ord + Sized {
     /// ensures IsTrue result → (x : Self) → is_infallible x
     /// ```
     #[inline(always)]
-    fn never_refuses() -> bool {
+    fn all_infallible() -> bool {
         false
     }
 

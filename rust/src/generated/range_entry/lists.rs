@@ -12,7 +12,7 @@ impl<T: Ord> EntryClone for &[T] {
     }
 
     #[inline(always)]
-    fn never_refuses() -> bool {
+    fn all_infallible() -> bool {
         true
     }
 }

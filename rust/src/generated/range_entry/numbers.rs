@@ -19,7 +19,7 @@ impl<T: Number> EntryClone for T {
     }
 
     #[inline(always)]
-    fn never_refuses() -> bool {
+    fn all_infallible() -> bool {
         true
     }
 

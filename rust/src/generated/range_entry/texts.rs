@@ -12,7 +12,7 @@ impl EntryClone for &str {
     }
 
     #[inline(always)]
-    fn never_refuses() -> bool {
+    fn all_infallible() -> bool {
         true
     }
 }

@@ -4,6 +4,7 @@
 pub(crate) mod booking;
 pub(crate) mod combining;
 pub(crate) mod copying;
+pub(crate) mod depth;
 pub(crate) mod equality;
 pub(crate) mod ranges;
 pub(crate) mod sets;

@@ -40,7 +40,7 @@ pub trait Copier<K> {
     /// ensures IsTrue result → (x : K) → is_infallible x
     /// ```
     #[inline(always)]
-    fn never_refuses(&self) -> bool {
+    fn all_infallible(&self) -> bool {
         false
     }
 

@@ -89,9 +89,9 @@ pub trait MergeStateMut: MergeState {
     /// ensures other_on: OnOk result (right_on self.new ≡ right_on self.old)
     /// ensures output: OnOk result ((before : List (Taken Self.Item)) → output self.old before →
     ///     output self.new (before ++ taken_left take n (Self.left self.old)))
-    /// ensures began: began self.new ≡ began self.old
-    /// ensures succeeds: infallible self.old → IsOk result
-    /// ensures still_infallible: infallible self.old → OnOk result (infallible self.new)
+    /// ensures fixed: fixed self.new ≡ fixed self.old
+    /// ensures succeeds: is_infallible self.old → IsOk result
+    /// ensures still_infallible: is_infallible self.old → OnOk result (is_infallible self.new)
     /// ```
     fn advance_a(&mut self, n: usize, take: bool) -> Result<bool, AllocError>;
 
@@ -110,9 +110,9 @@ pub trait MergeStateMut: MergeState {
     /// ensures other_on: OnOk result (left_on self.new ≡ left_on self.old)
     /// ensures output: OnOk result ((before : List (Taken Self.Item)) → output self.old before →
     ///     output self.new (before ++ taken_right take n (Self.right self.old)))
-    /// ensures began: began self.new ≡ began self.old
-    /// ensures succeeds: infallible self.old → IsOk result
-    /// ensures still_infallible: infallible self.old → OnOk result (infallible self.new)
+    /// ensures fixed: fixed self.new ≡ fixed self.old
+    /// ensures succeeds: is_infallible self.old → IsOk result
+    /// ensures still_infallible: is_infallible self.old → OnOk result (is_infallible self.new)
     /// ```
     fn advance_b(&mut self, n: usize, take: bool) -> Result<bool, AllocError>;
 
@@ -133,9 +133,9 @@ pub trait MergeStateMut: MergeState {
     /// ensures right_on: OnOk result (right_on self.new ≡ not (right_on self.old))
     /// ensures output: OnOk result ((before : List (Taken Self.Item)) → output self.old before →
     ///     output self.new (before ++ taken_left take 1 (Self.left self.old)))
-    /// ensures began: began self.new ≡ began self.old
-    /// ensures succeeds: infallible self.old → IsOk result
-    /// ensures still_infallible: infallible self.old → OnOk result (infallible self.new)
+    /// ensures fixed: fixed self.new ≡ fixed self.old
+    /// ensures succeeds: is_infallible self.old → IsOk result
+    /// ensures still_infallible: is_infallible self.old → OnOk result (is_infallible self.new)
     /// ```
     fn advance_both(&mut self, take: bool) -> Result<bool, AllocError>;
 

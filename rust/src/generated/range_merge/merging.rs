@@ -44,10 +44,11 @@ use core::cmp::Ordering;
 ///     state.old)))
 /// ensures not_stopped: S.can_stop ≡ true → IfOk result (λ more. more ≡ true → changes C.order
 ///     (O.connective op.now) (S.left state.old) (S.right state.old) ≡ [])
-/// ensures began: S.began state.new ≡ S.began state.old
-/// // A state that never refuses is never refused, and stays so.
-/// ensures succeeds: S.infallible state.old → IsOk result
-/// ensures still_infallible: S.infallible state.old → OnOk result (S.infallible state.new)
+/// ensures fixed: S.fixed state.new ≡ S.fixed state.old
+/// // An infallible state doesn't fail, and stays infallible.
+/// ensures succeeds: S.is_infallible state.old → IsOk result
+/// ensures still_infallible: S.is_infallible state.old → OnOk result (S.is_infallible
+///     state.new)
 /// ensures comparisons: AddsAtMost (C.count cmp.old) (C.count cmp.new) (2 * weight C.order
 ///     (S.left state.old) (S.right state.old))
 /// ```

@@ -44,7 +44,7 @@ impl<'a, 'o, K: Copy> BufferMergeState<'a, 'o, K> {
     /// ensures right_on: result.right_on ≡ false
     /// ensures items: result.taken.items.now ≡ out.old
     /// ensures given: result.taken.given ≡ 0
-    /// ensures began: result.began ≡ out.entry.ghost_name
+    /// ensures fixed: result.fixed ≡ out.entry.ghost_name
     /// ensures borrowed: result.taken.items.ghost_name ≡ out.entry.ghost_name
     /// ```
     pub(crate) fn new(a: &'a [K], b: &'a [K], out: &'o mut [K]) -> Self {

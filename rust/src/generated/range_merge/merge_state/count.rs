@@ -54,7 +54,7 @@ impl<'a, K> CountMergeState<'a, K> {
         cmp: &mut C,
     ) -> usize {
         let mut state = Self::new(a, b);
-        // Nothing is lost: a count never stops a merge, and is never refused.
+        // Nothing is lost: a count never stops a merge, and never fails.
         let _ = merging::merge(&mut state, op, cmp);
         state.result()
     }

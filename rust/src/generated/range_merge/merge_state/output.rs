@@ -18,7 +18,7 @@ pub trait Output<K, By> {
     /// ensures output: OnOk result ((first : ℕ) (before ts : List (Taken K)) → taken_items ts ≡
     ///     items_if take items.now → may_be self.old first before → may_be self.new first (before
     ///     ++ ts))
-    /// ensures began: (means : By) → began self.new means ≡ began self.old means
+    /// ensures fixed: (means : By) → fixed self.new means ≡ fixed self.old means
     /// ensures fits: (m n : ℕ) → length items.now + m ≤ n → fits self.old n → fits self.new m
     /// ensures succeeds: (n : ℕ) → length items.now ≤ n → has_room self.old n → All is_infallible
     ///     items.now → IsOk result

@@ -36,7 +36,7 @@ impl<K, const N: usize, R: RightSide<K>, L: Place<K>> PlacingMergeState<K, N, R,
     // fits in memory.
     #[inline(always)]
     pub(crate) fn merged<O: MergeOperation, C: Compare<K>>(mut self, op: &O, cmp: &mut C) -> L {
-        // Nothing is lost: this merge never stops and is never refused.
+        // Nothing is lost: this merge never stops and never fails.
         let _ = merging::merge(&mut self, op, cmp);
         self.result()
     }
