@@ -1,5 +1,7 @@
 """What is done to the items of a file: some are left out, and others get another visibility or their contract as documentation."""
 
+import re
+
 from plain_rust import tables
 from plain_rust.contracts import with_contract
 from plain_rust.items import items
@@ -124,7 +126,8 @@ def with_clone(item):
     starts = (at for at in range(item.body + 1, item.end) if found[at - 1].text in ("{", ",") and stands(found, at + 1, ":"))
     fields = [found[at].text for at in starts]
     clones = ", ".join(f"{field}: Clone::clone(&self.{field})" for field in fields)
-    put = f"impl{of} Clone for {item.name}{of} {{ #[inline] fn clone(&self) -> Self {{ {item.name} {{ {clones} }} }} }}"
+    names = re.sub(r": [^,>]+", "", of)
+    put = f"impl{of} Clone for {item.name}{names} {{ #[inline] fn clone(&self) -> Self {{ {item.name} {{ {clones} }} }} }}"
     return [*found[item.start : item.end], *made(put, "\n\n", found[item.start].line)]
 
 

@@ -24,7 +24,7 @@ pub use error::Error;
 pub use in_place::{InPlaceMergeState, InPlaceMergeStateRef};
 // The sources need now these, now those.
 #[allow(unused_imports)]
-pub use since::{select_unpredictable, DivUp, Log2Down};
+pub use since::{select_unpredictable, DivUp, Log2Down, NextMultipleUp};
 pub use small_vec::SmallVec;
 pub use sorting::SortIn;
 pub use vec::{CollectIn, Vec};

@@ -16,7 +16,7 @@ pub struct Members<'a, T: FromPlace> {
     last: u128,
 }
 
-impl<'a, T: FromPlace> Clone for Members<'a, T: FromPlace> {
+impl<'a, T: FromPlace> Clone for Members<'a, T> {
     #[inline]
     fn clone(&self) -> Self {
         Members {
