@@ -7,58 +7,69 @@ use std::alloc::{AllocError, Global};
 
 // The boundaries of both sides, then those of the union, of what both have, of what the left side
 // has alone, and of what one side has alone.
-type Row<'a> = (
-    &'a [i64],
-    &'a [i64],
-    &'a [i64],
-    &'a [i64],
-    &'a [i64],
-    &'a [i64],
-);
+#[derive(Clone, Copy, Debug)]
+struct Row<'a> {
+    left: &'a [i64],
+    right: &'a [i64],
+    union: &'a [i64],
+    both: &'a [i64],
+    left_alone: &'a [i64],
+    one_alone: &'a [i64],
+}
 
+#[rattlefmt::skip]
 const ROWS: [Row; 9] = [
-    (&[], &[], &[], &[], &[], &[]),
-    (&[0, 10], &[], &[0, 10], &[], &[0, 10], &[0, 10]),
-    (&[], &[0, 10], &[0, 10], &[], &[], &[0, 10]),
-    (&[0, 10], &[0, 10], &[0, 10], &[0, 10], &[], &[]),
-    (
-        &[0, 10],
-        &[5, 15],
-        &[0, 15],
-        &[5, 10],
-        &[0, 5],
-        &[0, 5, 10, 15],
-    ),
-    (&[0, 10], &[10, 20], &[0, 20], &[], &[0, 10], &[0, 20]),
-    (
-        &[0, 10, 20, 30],
-        &[5],
-        &[0],
-        &[5, 10, 20, 30],
-        &[0, 5],
-        &[0, 5, 10, 20, 30],
-    ),
-    (&[0], &[5, 10], &[0], &[5, 10], &[0, 5, 10], &[0, 5, 10]),
-    (&[0], &[-5], &[-5], &[0], &[], &[-5, 0]),
+    Row { left: &[], right: &[], union: &[], both: &[], left_alone: &[], one_alone: &[] },
+    Row {
+        left: &[0, 10], right: &[], union: &[0, 10], both: &[], left_alone: &[0, 10],
+        one_alone: &[0, 10],
+    },
+    Row {
+        left: &[], right: &[0, 10], union: &[0, 10], both: &[], left_alone: &[],
+        one_alone: &[0, 10],
+    },
+    Row {
+        left: &[0, 10], right: &[0, 10], union: &[0, 10], both: &[0, 10], left_alone: &[],
+        one_alone: &[],
+    },
+    Row {
+        left: &[0, 10], right: &[5, 15], union: &[0, 15], both: &[5, 10], left_alone: &[0, 5],
+        one_alone: &[0, 5, 10, 15],
+    },
+    Row {
+        left: &[0, 10], right: &[10, 20], union: &[0, 20], both: &[], left_alone: &[0, 10],
+        one_alone: &[0, 20],
+    },
+    Row {
+        left: &[0, 10, 20, 30], right: &[5], union: &[0], both: &[5, 10, 20, 30],
+        left_alone: &[0, 5], one_alone: &[0, 5, 10, 20, 30],
+    },
+    Row {
+        left: &[0], right: &[5, 10], union: &[0], both: &[5, 10], left_alone: &[0, 5, 10],
+        one_alone: &[0, 5, 10],
+    },
+    Row {
+        left: &[0], right: &[-5], union: &[-5], both: &[0], left_alone: &[], one_alone: &[-5, 0],
+    },
 ];
 
 // Whether each operation gives the row's boundaries.
 fn are_right(alloc: Global, row: &Row) -> Result<bool, AllocError> {
-    let Some(that) = RangeSetRef::new(row.1) else {
+    let Some(that) = RangeSetRef::new(row.right) else {
         return Ok(false);
     };
-    let mut set = set_of(alloc, row.0)?;
+    let mut set = set_of(alloc, row.left)?;
     set.union_with(that)?;
-    let mut right = has(&set, row.2);
-    set = set_of(alloc, row.0)?;
+    let mut right = has(&set, row.union);
+    set = set_of(alloc, row.left)?;
     set.intersection_with(that)?;
-    right = right && has(&set, row.3);
-    set = set_of(alloc, row.0)?;
+    right = right && has(&set, row.both);
+    set = set_of(alloc, row.left)?;
     set.difference_with(that)?;
-    right = right && has(&set, row.4);
-    set = set_of(alloc, row.0)?;
+    right = right && has(&set, row.left_alone);
+    set = set_of(alloc, row.left)?;
     set.symmetric_difference_with(that)?;
-    Ok(right && has(&set, row.5))
+    Ok(right && has(&set, row.one_alone))
 }
 
 #[test]

@@ -5,37 +5,45 @@ use range_collections::RangeSetRef;
 use std::alloc::{AllocError, Global};
 
 // Boundaries, the ends of the range that is looked at, how many numbers shall fit, and where.
-type Row<'a> = (&'a [u64], u64, u64, u64, Option<u64>);
+#[derive(Clone, Copy, Debug)]
+struct Row<'a> {
+    items: &'a [u64],
+    start: u64,
+    end: u64,
+    len: u64,
+    want: Option<u64>,
+}
 
+#[rattlefmt::skip]
 const ROWS: [Row; 12] = [
-    (&[], 0, 10, 10, Some(0)),
-    (&[], 0, 10, 11, None),
-    (&[0, 5], 0, 10, 5, Some(5)),
-    (&[0, 5], 7, 10, 3, Some(7)),
-    (&[0, 5, 7, 9], 0, 20, 3, Some(9)),
-    (&[2, 5], 0, 10, 2, Some(0)),
-    (&[2, 5], 0, 10, 3, Some(5)),
-    (&[3], 0, 10, 3, Some(0)),
-    (&[3], 0, 10, 4, None),
-    (&[0, 5], 3, 3, 0, Some(3)),
-    (&[0, 5], 4, 3, 0, None),
-    (&[0, 5], 9, 3, 1, None),
+    Row { items: &[], start: 0, end: 10, len: 10, want: Some(0) },
+    Row { items: &[], start: 0, end: 10, len: 11, want: None },
+    Row { items: &[0, 5], start: 0, end: 10, len: 5, want: Some(5) },
+    Row { items: &[0, 5], start: 7, end: 10, len: 3, want: Some(7) },
+    Row { items: &[0, 5, 7, 9], start: 0, end: 20, len: 3, want: Some(9) },
+    Row { items: &[2, 5], start: 0, end: 10, len: 2, want: Some(0) },
+    Row { items: &[2, 5], start: 0, end: 10, len: 3, want: Some(5) },
+    Row { items: &[3], start: 0, end: 10, len: 3, want: Some(0) },
+    Row { items: &[3], start: 0, end: 10, len: 4, want: None },
+    Row { items: &[0, 5], start: 3, end: 3, len: 0, want: Some(3) },
+    Row { items: &[0, 5], start: 4, end: 3, len: 0, want: None },
+    Row { items: &[0, 5], start: 9, end: 3, len: 1, want: None },
 ];
 
 // Where the row's numbers fit, or `None` also if its boundaries don't ascend.
 fn fit(alloc: Global, row: &Row) -> Result<Option<u64>, AllocError> {
-    let Some(view) = RangeSetRef::new(row.0) else {
+    let Some(view) = RangeSetRef::new(row.items) else {
         return Ok(None);
     };
     let set = ChunkedRangeSet::from_view(alloc, view)?;
-    Ok(set.first_fit_unchanged(row.1..row.2, row.3))
+    Ok(set.first_fit_unchanged(row.start..row.end, row.len))
 }
 
 #[test]
 fn numbers_fit(rt: HostRuntime) -> Result<(), AllocError> {
     for row in &ROWS {
         let found = fit(rt.alloc(), row)?;
-        assert!(rt; found == row.4, "{row:?}");
+        assert!(rt; found == row.want, "{row:?}");
     }
     Ok(())
 }

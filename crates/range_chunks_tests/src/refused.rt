@@ -17,19 +17,27 @@ enum Change {
 
 // How many ranges of 10 the set has, one in each 20, what is done with the range from the one
 // number to the other, and whether it takes memory.
-type Row = (u16, Change, u16, u16, bool);
+#[derive(Clone, Copy, Debug)]
+struct Row {
+    ranges: u16,
+    change: Change,
+    start: u16,
+    end: u16,
+    takes: bool,
+}
 
 // The first range, one that splits a full chunk, one within a range of it, and ranges for which the
 // set needs no memory.
+#[rattlefmt::skip]
 const ROWS: [Row; 8] = [
-    (0, Change::Insert, 5, 10, true),
-    (256, Change::Insert, 12, 15, true),
-    (256, Change::Insert, 5_115, 5_117, true),
-    (256, Change::Remove, 2_002, 2_005, true),
-    (256, Change::Insert, 5, 5_000, false),
-    (256, Change::Insert, 10, 12, false),
-    (256, Change::Remove, 0, 5_120, false),
-    (300, Change::Remove, 15, 5_500, false),
+    Row { ranges: 0, change: Change::Insert, start: 5, end: 10, takes: true },
+    Row { ranges: 256, change: Change::Insert, start: 12, end: 15, takes: true },
+    Row { ranges: 256, change: Change::Insert, start: 5_115, end: 5_117, takes: true },
+    Row { ranges: 256, change: Change::Remove, start: 2_002, end: 2_005, takes: true },
+    Row { ranges: 256, change: Change::Insert, start: 5, end: 5_000, takes: false },
+    Row { ranges: 256, change: Change::Insert, start: 10, end: 12, takes: false },
+    Row { ranges: 256, change: Change::Remove, start: 0, end: 5_120, takes: false },
+    Row { ranges: 300, change: Change::Remove, start: 15, end: 5_500, takes: false },
 ];
 
 #[derive(Drop)]
@@ -50,13 +58,13 @@ fn spread(alloc: Global, ranges: u16) -> Option<ChunkedRangeSet<u16>> {
 
 // Whether the number is in the ranges that a set begins with.
 fn was_there(row: Row, number: u16) -> bool {
-    number < row.0.saturating_mul(20) && number % 20 < 10
+    number < row.ranges.saturating_mul(20) && number % 20 < 10
 }
 
 // Whether the number is in them once the row's range is put in or taken out.
 fn is_there(row: Row, number: u16) -> bool {
-    if row.2 <= number && number < row.3 {
-        matches!(row.1, Change::Insert | Change::UnionWith)
+    if row.start <= number && number < row.end {
+        matches!(row.change, Change::Insert | Change::UnionWith)
     } else {
         was_there(row, number)
     }
@@ -84,8 +92,8 @@ fn has_after(set: &ChunkedRangeSet<u16>, row: Row) -> bool {
 
 // Puts the row's range in or takes it out. A set of one range takes no memory.
 fn changed(set: &mut ChunkedRangeSet<u16>, alloc: Global, row: Row) -> Result<(), AllocError> {
-    let range = row.2..row.3;
-    match row.1 {
+    let range = row.start..row.end;
+    match row.change {
         Change::Insert => set.insert(range),
         Change::Remove => set.remove(range),
         Change::UnionWith => set.union_with(RangeSet2::from_range(alloc, range)?.as_ref()),
@@ -99,7 +107,7 @@ impl Call for Attempt {
     type Given = ChunkedRangeSet<u16>;
 
     fn given(&self) -> Option<ChunkedRangeSet<u16>> {
-        spread(self.alloc, self.row.0)
+        spread(self.alloc, self.row.ranges)
     }
 
     fn answer(&self, mut set: ChunkedRangeSet<u16>) -> Answer {
@@ -117,17 +125,18 @@ fn changes_are_refused_where_the_set_grows(rt: HostRuntime) -> Result<(), AllocE
     for row in ROWS {
         let mut starved = Starved::new(alloc)?;
         let attempt = Attempt { alloc, row };
-        assert!(rt; starved.agrees(&attempt, row.4), "{row:?}");
+        assert!(rt; starved.agrees(&attempt, row.takes), "{row:?}");
     }
     Ok(())
 }
 
 // Operations with a view. They make several lists, so with more room a first list may leave less for
 // the next.
+#[rattlefmt::skip]
 const COMBINED: [Row; 3] = [
-    (0, Change::UnionWith, 5, 10, true),
-    (20, Change::UnionWith, 12, 15, true),
-    (20, Change::DifferenceWith, 0, 195, true),
+    Row { ranges: 0, change: Change::UnionWith, start: 5, end: 10, takes: true },
+    Row { ranges: 20, change: Change::UnionWith, start: 12, end: 15, takes: true },
+    Row { ranges: 20, change: Change::DifferenceWith, start: 0, end: 195, takes: true },
 ];
 
 // Whether the call is refused without room, gives the answer that it has with ample memory where
@@ -162,13 +171,21 @@ enum Making {
 }
 
 // How many ranges the set has, how another is made of it, and whether that takes memory.
-const MADE: [(u16, Making, bool); 6] = [
-    (0, Making::Clone, false),
-    (20, Making::FromRanges, true),
-    (20, Making::FromView, true),
-    (1, Making::FromView, true),
-    (20, Making::Clone, true),
-    (20, Making::IntoSet, true),
+#[derive(Clone, Copy)]
+struct Source {
+    ranges: u16,
+    making: Making,
+    takes: bool,
+}
+
+#[rattlefmt::skip]
+const MADE: [Source; 6] = [
+    Source { ranges: 0, making: Making::Clone, takes: false },
+    Source { ranges: 20, making: Making::FromRanges, takes: true },
+    Source { ranges: 20, making: Making::FromView, takes: true },
+    Source { ranges: 1, making: Making::FromView, takes: true },
+    Source { ranges: 20, making: Making::Clone, takes: true },
+    Source { ranges: 20, making: Making::IntoSet, takes: true },
 ];
 
 #[derive(Drop)]
@@ -185,7 +202,7 @@ impl Made {
         match self.making {
             Making::Clone => Ok(has_before(&set.clone()?, self.row)),
             Making::IntoSet => match set.into_set::<2>() {
-                Ok(flat) => Ok(flat.ranges_len() == usize::from(self.row.0)),
+                Ok(flat) => Ok(flat.ranges_len() == usize::from(self.row.ranges)),
                 Err((error, set)) if has_before(&set, self.row) => Err(error),
                 Err(_) => Ok(false),
             },
@@ -197,7 +214,7 @@ impl Made {
     // The same, from as many ranges.
     fn from_ranges(&self) -> Result<bool, AllocError> {
         let mut list = Vec::new(self.alloc);
-        for k in 0..self.row.0 {
+        for k in 0..self.row.ranges {
             let start = k.saturating_mul(20);
             let end = start.saturating_add(10);
             list.push(RangeSetRange::Range(Range { start, end }))?;
@@ -209,7 +226,7 @@ impl Made {
     // The same, from a view of a set of as many.
     fn from_view(&self) -> Result<bool, AllocError> {
         let mut flat = RangeSet2::empty(self.alloc);
-        for k in 0..self.row.0 {
+        for k in 0..self.row.ranges {
             let start = k.saturating_mul(20);
             flat.insert(start..start.saturating_add(10))?;
         }
@@ -222,7 +239,7 @@ impl Call for Made {
     type Given = ChunkedRangeSet<u16>;
 
     fn given(&self) -> Option<ChunkedRangeSet<u16>> {
-        spread(self.alloc, self.row.0)
+        spread(self.alloc, self.row.ranges)
     }
 
     fn answer(&self, set: ChunkedRangeSet<u16>) -> Answer {
@@ -236,9 +253,19 @@ impl Call for Made {
 #[test]
 fn sets_are_refused_where_they_take_memory(rt: HostRuntime) -> Result<(), AllocError> {
     let alloc = rt.alloc();
-    for (ranges, making, takes) in MADE {
+    for Source {
+        ranges,
+        making,
+        takes,
+    } in MADE {
         let mut starved = Starved::new(alloc)?;
-        let row = (ranges, Change::Insert, 0, 0, takes);
+        let row = Row {
+            ranges,
+            change: Change::Insert,
+            start: 0,
+            end: 0,
+            takes,
+        };
         let made = Made { alloc, row, making };
         assert!(rt; starved.agrees(&made, takes), "{ranges} {making:?}");
     }
