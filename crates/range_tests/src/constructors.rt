@@ -307,33 +307,73 @@ fn lists_in_any_order_are_sorted(rt: HostRuntime) {
 }
 
 // Values in any order, and the boundaries of their set.
-const VALUES: [(&[i8], &[i8]); 8] = [
-    (&[], &[]),
-    (&[5], &[5, 6]),
-    (&[5, 5, 5], &[5, 6]),
-    (&[7, 3, 5, 4, 3], &[3, 6, 7, 8]),
-    (&[127], &[127]),
-    (&[127, 126], &[126]),
-    (&[127, -128], &[-128, -127, 127]),
-    (
-        &[
+#[derive(Clone, Copy)]
+struct Values<'a> {
+    values: &'a [i8],
+    items: &'a [i8],
+}
+
+const VALUES: [Values; 8] = [
+    Values {
+        values: &[],
+        items: &[],
+    },
+    Values {
+        values: &[5],
+        items: &[5, 6],
+    },
+    Values {
+        values: &[5, 5, 5],
+        items: &[5, 6],
+    },
+    Values {
+        values: &[7, 3, 5, 4, 3],
+        items: &[3, 6, 7, 8],
+    },
+    Values {
+        values: &[127],
+        items: &[127],
+    },
+    Values {
+        values: &[127, 126],
+        items: &[126],
+    },
+    Values {
+        values: &[127, -128],
+        items: &[-128, -127, 127],
+    },
+    Values {
+        values: &[
             38, 36, 34, 32, 30, 28, 26, 24, 22, 20, 18, 16, 14, 12, 10, 8, 6, 4, 2, 0, 37, 36,
         ],
-        &[
+        items: &[
             0, 1, 2, 3, 4, 5, 6, 7, 8, 9, 10, 11, 12, 13, 14, 15, 16, 17, 18, 19, 20, 21, 22, 23,
             24, 25, 26, 27, 28, 29, 30, 31, 32, 33, 34, 35, 36, 39,
         ],
-    ),
+    },
 ];
 
 #[test]
 fn values_make_a_set(rt: HostRuntime) {
     let alloc = rt.alloc();
-    for (values, want) in VALUES {
-        assert!(rt; gives(RangeSet::from_values(alloc, values), want), "{values:?}");
+    for Values { values, items } in VALUES {
+        assert!(rt;
+            gives(RangeSet::from_values(alloc, values), items),
+            "{values:?}"
+        );
     }
     let around = ['\u{E000}', '\u{D7FF}'];
-    assert!(rt; gives(RangeSet::from_values(alloc, &around), &['\u{D7FF}', '\u{E001}']));
-    assert!(rt; gives(RangeSet::from_values(alloc, &['\u{10FFFF}']), &['\u{10FFFF}']));
+    assert!(rt;
+        gives(
+            RangeSet::from_values(alloc, &around),
+            &['\u{D7FF}', '\u{E001}']
+        )
+    );
+    assert!(rt;
+        gives(
+            RangeSet::from_values(alloc, &['\u{10FFFF}']),
+            &['\u{10FFFF}']
+        )
+    );
     assert!(rt; gives(RangeSet::from_values(alloc, &[u128::MAX]), &[u128::MAX]));
 }

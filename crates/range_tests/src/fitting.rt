@@ -161,7 +161,10 @@ fn said<const N: usize>(set: Option<RangeSet<i8, N>>, row: &Row) -> Option<bool>
 #[test]
 fn values_in_a_row_are_found(rt: HostRuntime) {
     for row in &ROWS {
-        assert!(rt; said::<2>(own(rt.alloc(), row.boundaries), row) == Some(true), "{row:?}");
+        assert!(rt;
+            said::<2>(own(rt.alloc(), row.boundaries), row) == Some(true),
+            "{row:?}"
+        );
     }
 }
 
@@ -190,11 +193,35 @@ fn values_at_the_ends_of_wide_types_are_found(rt: HostRuntime) {
     assert!(rt; finds(wide, LAST..LAST, 0, LAST, [Some(LAST); 3]));
     assert!(rt; finds(wide, 5..LAST, LAST - 14, 1, [None, None, Some(5)]));
     let signed = RangeSetRef::new(&[i128::MIN, -1]).unwrap_or_default();
-    assert!(rt; finds(signed, i128::MIN..i128::MAX, TOP, TOP, [Some(-1), None, None]));
-    assert!(rt; finds(signed, i128::MIN..i128::MAX, TOP - 1, TOP, [Some(-1), Some(0), Some(i128::MIN)]));
+    assert!(rt;
+        finds(
+            signed,
+            i128::MIN..i128::MAX,
+            TOP,
+            TOP,
+            [Some(-1), None, None]
+        )
+    );
+    assert!(rt;
+        finds(
+            signed,
+            i128::MIN..i128::MAX,
+            TOP - 1,
+            TOP,
+            [Some(-1), Some(0), Some(i128::MIN)]
+        )
+    );
     let letters = RangeSetRef::new(&['b', '\u{D7FF}']).unwrap_or_default();
     let all = '\0'..'\u{10FFFF}';
     assert!(rt; finds(letters, all, 3, 0x100, [Some('\0'), Some('\0'), Some('b')]));
     let rest = 'a'..'\u{10FFFF}';
-    assert!(rt; finds(letters, rest, 3, 0x100, [Some('\u{D7FF}'), Some('\u{E000}'), Some('b')]));
+    assert!(rt;
+        finds(
+            letters,
+            rest,
+            3,
+            0x100,
+            [Some('\u{D7FF}'), Some('\u{E000}'), Some('b')]
+        )
+    );
 }

@@ -184,16 +184,23 @@ fn members_are_found_by_how_many_are_below(rt: HostRuntime) {
 }
 
 // Boundaries, and the members in order.
-const LISTED: [(&[i8], &[i8]); 9] = [
-    (&[], &[]),
-    (&[3, 5], &[3, 4]),
-    (&[3, 4], &[3]),
-    (&[127], &[127]),
-    (&[125], &[125, 126, 127]),
-    (&[-128, -126], &[-128, -127]),
-    (&[-128, -127, 126], &[-128, 126, 127]),
-    (&[3, 5, 9, 10, 12, 13], &[3, 4, 9, 12]),
-    (&[-1, 0, 1, 2, 3, 6], &[-1, 1, 3, 4, 5]),
+#[derive(Clone, Copy)]
+struct Listed<'a> {
+    items: &'a [i8],
+    members: &'a [i8],
+}
+
+#[rattlefmt::skip]
+const LISTED: [Listed; 9] = [
+    Listed { items: &[], members: &[] },
+    Listed { items: &[3, 5], members: &[3, 4] },
+    Listed { items: &[3, 4], members: &[3] },
+    Listed { items: &[127], members: &[127] },
+    Listed { items: &[125], members: &[125, 126, 127] },
+    Listed { items: &[-128, -126], members: &[-128, -127] },
+    Listed { items: &[-128, -127, 126], members: &[-128, 126, 127] },
+    Listed { items: &[3, 5, 9, 10, 12, 13], members: &[3, 4, 9, 12] },
+    Listed { items: &[-1, 0, 1, 2, 3, 6], members: &[-1, 1, 3, 4, 5] },
 ];
 
 // Whether these are the members of the set and of its view, so many taken from the front and then
@@ -220,10 +227,10 @@ fn are_listed<T: FromPlace>(members: Members<T>, front: &[T], back: &[T]) -> boo
 #[test]
 fn members_come_one_by_one(rt: HostRuntime) {
     let alloc = rt.alloc();
-    for (boundaries, want) in LISTED {
-        for ahead in 0..=want.len() {
-            let right = are_members(own(alloc, boundaries), ahead, want);
-            assert!(rt; right == Some(true), "{boundaries:?}, {ahead} from the front");
+    for Listed { items, members } in LISTED {
+        for ahead in 0..=members.len() {
+            let right = are_members(own(alloc, items), ahead, members);
+            assert!(rt; right == Some(true), "{items:?}, {ahead} from the front");
         }
     }
     let around = ['\u{D7FE}', '\u{D7FF}', '\u{E000}'];
@@ -233,7 +240,9 @@ fn members_come_one_by_one(rt: HostRuntime) {
         assert!(rt; right == Some(true), "{ahead} from the front");
     }
     assert!(rt; are_members(own(alloc, &['\u{10FFFE}']), 1, &last) == Some(true));
-    assert!(rt; are_members(own(alloc, &[u128::MAX - 1]), 1, &[u128::MAX - 1, u128::MAX]) == Some(true));
+    assert!(rt;
+        are_members(own(alloc, &[u128::MAX - 1]), 1, &[u128::MAX - 1, u128::MAX]) == Some(true)
+    );
     assert!(rt; are_members(own(alloc, &[i128::MAX]), 0, &[i128::MAX]) == Some(true));
 }
 
