@@ -145,6 +145,8 @@ class Sets(unittest.TestCase):
             (table > 3, f"{OF_SETS} '.'"),
             (table.astype(numpy.float16), f"{OF_SETS} 'e'"),
             (numpy.ma.array(table, mask=table > 20), "an array without a mask is wanted"),
+            (numpy.ma.array(table.astype(object), mask=table > 20), "an array without a mask is wanted"),
+            (numpy.ma.array(table.astype("M8[s]"), mask=table > 20), "an array without a mask is wanted"),
         ):
             with self.assertRaisesRegex(TypeError, text):
                 RangeSet(bad)

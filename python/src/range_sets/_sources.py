@@ -86,7 +86,7 @@ def gather(source: Any, kind: Kind | None) -> Now:
         source = (source,)
     elif not isinstance(source, (list, tuple)):
         table = _table_of(source) if _has_intervals(source) else source.to_numpy() if hasattr(source, "to_numpy") else source
-        if getattr(getattr(table, "dtype", None), "kind", "") == "O" and hasattr(table, "tolist"):
+        if getattr(getattr(table, "dtype", None), "kind", "") == "O" and hasattr(table, "tolist") and not _has_mask(table):
             table = table.tolist()
         if _is_buffer(table):
             return _ranges_of_table(table, kind)
@@ -168,7 +168,7 @@ def _numbers_of(items: Any, kind: Kind | None) -> tuple[Any, Kind]:
 def _side_by_side(items: Any, kind: Kind | None) -> tuple[Any, Kind]:
     """The numbers of a buffer one after the other and of 64 bits, and the kind of its elements. Smaller whole numbers stay signed or
     unsigned unless a kind is given."""
-    if getattr(items, "mask", None) is not None:
+    if _has_mask(items):
         raise TypeError("an array without a mask is wanted, as its compressed() gives one")
     if _has_times(items):
         return _numbers_of_times(items, kind)
@@ -197,6 +197,10 @@ def _numbers_of_floats(floats: Any, kind: Kind | None) -> tuple[Any, Kind]:
     if not (kind is None or kind is UNTOLD or kind is FLOAT):
         raise TypeError(mixed(kind, FLOAT))
     return array("q", map(FLOAT.code, floats)), FLOAT
+
+
+def _has_mask(items: Any) -> bool:
+    return getattr(items, "mask", None) is not None
 
 
 def _has_times(items: Any) -> bool:
