@@ -150,6 +150,9 @@ impl T for u8 {
         clone = "S { a: Clone::clone(&self.a), b: Clone::clone(&self.b) }"
         self.assertIn(f"impl<'a, T> Clone for S<'a, T> {{ #[inline] fn clone(&self) -> Self {{ {clone} }} }}", found)
         self.assertNotIn("for U", found)
+        with mock.patch.multiple(tables, CLONED={FILE: {"S"}}):
+            found = rust("struct S<'a, T: A> {\n    a: &'a [T],\n}")
+        self.assertIn("impl<'a, T: A> Clone for S<'a, T> {", found)
 
     def test_bounds(self):
         self.assertEqual(rust("fn f<T: A + MadeWith<Global> + Drop, U: Drop>(x: T, y: U) {}"), "fn f<T: A, U>(x: T, y: U) {}")

@@ -47,7 +47,7 @@ mod traits;
 
 use crate::array::{Array, List};
 use crate::entry::RangeSetEntry;
-use crate::generated::range_collections::EntryCopier;
+use crate::generated::range_collections::{EntryCopier, FromPlace};
 use crate::range::RangeSetRange;
 use crate::range_set::{self, intersection_of_sets, Joining};
 use crate::view::RangeSetRef;
@@ -222,6 +222,28 @@ impl<T, A: Array<Item = T>> RangeSet<A> {
         R: Into<RangeSetRange<T>>,
     {
         Joining::of_ranges(ranges).map(RangeSet)
+    }
+
+    /// Returns the set of these values, which may come in any order and more than once.
+    ///
+    /// # Errors
+    ///
+    /// If memory is refused.
+    ///
+    /// # Examples
+    ///
+    /// ```
+    /// use range_sets::fallible::{AllocError, RangeSet2};
+    ///
+    /// let set: RangeSet2<u8> = RangeSet2::from_values([7, 3, 4, 3])?;
+    /// assert_eq!(set.to_string(), "3..5, 7..8");
+    /// # Ok::<(), AllocError>(())
+    /// ```
+    pub fn from_values(values: impl IntoIterator<Item = T>) -> Result<Self, AllocError>
+    where
+        T: FromPlace,
+    {
+        Joining::of_values(values).map(RangeSet)
     }
 
     /// Returns the set of the members of one of the sets at least.

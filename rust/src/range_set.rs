@@ -10,12 +10,13 @@ mod traits;
 
 pub use crate::array::Array;
 pub use crate::entry::RangeSetEntry;
-pub use crate::iter::{Gaps, IntoIter, Iter, RangesWithin};
+pub use crate::iter::{Gaps, IntoIter, Iter, Members, RangesWithin};
 pub use crate::range::RangeSetRange;
 pub use crate::view::RangeSetRef;
 pub(crate) use joining::{intersection_of_sets, Joining};
 
 use crate::array::List;
+use crate::generated::range_collections::FromPlace;
 use crate::generated::range_merge::{Copier, MergeOperation};
 use crate::memory::{expect_memory, AllocError, ByClone};
 use crate::operation::Connective;
@@ -189,6 +190,26 @@ impl<T, A: Array<Item = T>> RangeSet<A> {
         R: Into<RangeSetRange<T>>,
     {
         expect_memory::<T, _, _>(Joining::of_ranges(ranges))
+    }
+
+    /// Returns the set of these values, which may come in any order and more than once.
+    ///
+    /// It takes as long as [`from_ranges`](Self::from_ranges) with as many ranges.
+    ///
+    /// # Examples
+    ///
+    /// ```
+    /// use range_sets::RangeSet2;
+    ///
+    /// let set: RangeSet2<u8> = RangeSet2::from_values([7, 3, 255, 4, 3]);
+    /// assert_eq!(set.to_string(), "3..5, 7..8, 255..");
+    /// ```
+    #[must_use]
+    pub fn from_values(values: impl IntoIterator<Item = T>) -> Self
+    where
+        T: FromPlace,
+    {
+        expect_memory::<T, _, _>(Joining::of_values(values))
     }
 
     /// Returns the set of the members of one of the sets at least.

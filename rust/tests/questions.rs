@@ -3,7 +3,7 @@
 mod common;
 
 use common::{bitmap, boundaries, pairs, set, Bitmap, Random};
-use range_sets::{RangeSet2, RangeSetRange, RangeSetRef};
+use range_sets::{fallible, RangeSet2, RangeSetRange, RangeSetRef};
 use std::net::{Ipv4Addr, Ipv6Addr};
 
 fn bits_of_range(start: u8, end: u8) -> Bitmap {
@@ -159,6 +159,97 @@ fn ranks_and_members_by_rank() {
             );
         }
     }
+}
+
+#[test]
+fn members_from_both_ends_and_back_to_a_set() {
+    let mut random = Random(11);
+    for (a, _) in pairs().step_by(3) {
+        let set: RangeSet2<u8> = set(a);
+        let all: Vec<u8> = (0..=255).filter(|&i| a >> i.min(63) & 1 == 1).collect();
+        assert!(set.members().eq(all.iter().copied()), "{set:?}");
+        assert!(set.members().rev().eq(all.iter().rev().copied()), "{set:?}");
+        let mut members = set.members();
+        let mut left = all.as_slice();
+        // The one end or the other, as it comes.
+        while let [first, .., last] = left {
+            if random.below(2) == 0 {
+                assert_eq!(members.next(), Some(*first));
+                left = &left[1..];
+            } else {
+                assert_eq!(members.next_back(), Some(*last));
+                left = &left[..left.len() - 1];
+            }
+            assert!(members.clone().eq(left.iter().copied()));
+        }
+        assert_eq!(members.next_back(), left.first().copied());
+        assert_eq!((members.next(), members.next_back()), (None, None));
+
+        // In another order, each twice.
+        let mut mixed: Vec<u8> = all.iter().chain(&all).copied().collect();
+        for i in (1..mixed.len()).rev() {
+            mixed.swap(i, random.below(i as u64 + 1) as usize);
+        }
+        assert_eq!(RangeSet2::from_values(mixed.iter().copied()), set);
+        assert_eq!(fallible::RangeSet2::from_values(mixed).unwrap(), set);
+    }
+    let all = RangeSetRef::new(&[i128::MIN]).unwrap();
+    let mut members = all.members();
+    assert_eq!(members.next(), Some(i128::MIN));
+    assert_eq!(members.next_back(), Some(i128::MAX));
+    let hosts = RangeSet2::from_values([2, 1].map(|host| Ipv4Addr::new(10, 0, 0, host)));
+    assert_eq!(
+        hosts.boundaries(),
+        [Ipv4Addr::new(10, 0, 0, 1), Ipv4Addr::new(10, 0, 0, 3)]
+    );
+    assert_eq!(hosts.members().last(), Some(Ipv4Addr::new(10, 0, 0, 2)));
+    let last = RangeSet2::from_values([Ipv6Addr::from(u128::MAX), Ipv6Addr::UNSPECIFIED]);
+    assert_eq!(last.members().next_back(), Some(Ipv6Addr::from(u128::MAX)));
+}
+
+#[test]
+fn values_in_a_row() {
+    let mut random = Random(12);
+    // Below 63 a bit is a value's own.
+    for (a, _) in pairs().step_by(3) {
+        let signed: Vec<i8> = boundaries(a).iter().map(|&at| at as i8 - 30).collect();
+        let set = RangeSetRef::new(&signed).unwrap();
+        let (start, end) = (random.below(63) as u8, random.below(63) as u8);
+        let (count, align) = (random.below(9) as u8, random.below(9) as u8);
+        // The place of a value is how many are below it: -30 has 98.
+        let at = |wanted: bool, align: u8| {
+            (start..=end)
+                .filter(|at| (at + 98).checked_rem(align) == Some(0))
+                .find(|&at| {
+                    let row = at..at + count;
+                    row.end <= end && { row }.all(|i| (a >> i & 1 == 1) == wanted)
+                })
+                .map(|at| at as i8 - 30)
+        };
+        let within = start as i8 - 30..end as i8 - 30;
+        let told = format!("{set:?} {within:?} {count} {align}");
+        let (count, step) = (count.into(), align.into());
+        assert_eq!(
+            set.first_fit_count(within.clone(), count),
+            at(false, 1),
+            "{told}"
+        );
+        assert_eq!(
+            set.first_fit_aligned(within.clone(), count, step),
+            at(false, align),
+            "{told}"
+        );
+        assert_eq!(set.first_run(within, count), at(true, 1), "{told}");
+    }
+    let (first, last) = (Ipv4Addr::UNSPECIFIED, Ipv4Addr::BROADCAST);
+    let used = RangeSet2::from(Ipv4Addr::new(0, 0, 0, 1)..Ipv4Addr::new(10, 0, 0, 5));
+    let block = used.first_fit_aligned(first..last, 256, 256);
+    assert_eq!(block, Some(Ipv4Addr::new(10, 0, 1, 0)));
+    assert_eq!(
+        used.first_run(first..last, 1 << 24),
+        Some(Ipv4Addr::new(0, 0, 0, 1))
+    );
+    assert_eq!(used.first_fit_count(first..last, 1 << 32), None);
 }
 
 #[test]

@@ -120,14 +120,14 @@ def needs_size(item):
 
 
 def with_clone(item):
-    """A struct with a `Clone` that asks nothing of its parameters."""
+    """A struct with a `Clone` that asks no more of its parameters than the struct does."""
     found = item.found
     of = text_of(found[item.word + 2 : closing_angle(found, item.word + 2) + 1])
     starts = (at for at in range(item.body + 1, item.end) if found[at - 1].text in ("{", ",") and stands(found, at + 1, ":"))
     fields = [found[at].text for at in starts]
     clones = ", ".join(f"{field}: Clone::clone(&self.{field})" for field in fields)
-    names = re.sub(r": [^,>]+", "", of)
-    put = f"impl{of} Clone for {item.name}{names} {{ #[inline] fn clone(&self) -> Self {{ {item.name} {{ {clones} }} }} }}"
+    parameters = re.sub(r":[^,<>]*", "", of)
+    put = f"impl{of} Clone for {item.name}{parameters} {{ #[inline] fn clone(&self) -> Self {{ {item.name} {{ {clones} }} }} }}"
     return [*found[item.start : item.end], *made(put, "\n\n", found[item.start].line)]
 
 

@@ -13,3 +13,4 @@ pub mod BoxedI64
 pub mod BoxedU64
 pub mod BoxedMapI64
 pub mod BoxedMapU64
+pub mod Told

@@ -2,6 +2,8 @@
 
 use crate::array::{Array, List};
 use crate::entry::RangeSetEntry;
+use crate::generated::range_collections::range_set::values::range_of;
+use crate::generated::range_collections::FromPlace;
 use crate::generated::range_merge::{Copier, IntersectionOp, UnionOp};
 use crate::memory::AllocError;
 use crate::range::RangeSetRange;
@@ -36,6 +38,15 @@ impl<T: Ord, A: Array<Item = T>> Joining<A> {
             joining.add_range(range.into())?;
         }
         joining.finish()
+    }
+
+    /// The set of single values.
+    pub(crate) fn of_values(values: impl IntoIterator<Item = T>) -> Result<RangeSet<A>, AllocError>
+    where
+        T: FromPlace,
+    {
+        let ranges = values.into_iter().map(|value| range_of(&value));
+        Self::of_ranges(ranges.map(RangeSetRange::from_proved))
     }
 
     /// The union of copies of sets.

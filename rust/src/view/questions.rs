@@ -3,8 +3,8 @@
 use crate::any_range::AnyRange;
 use crate::entry::RangeSetEntry;
 use crate::generated::range_collections::{Comparisons, Countable, FromPlace};
-use crate::iter::Members;
 use crate::generated::range_merge::NoRoom;
+use crate::iter::Members;
 use crate::operation::Connective;
 use crate::range::RangeSetRange;
 use crate::view::RangeSetRef;
