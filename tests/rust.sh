@@ -99,6 +99,15 @@ runs_the_countries() {
 223.0.0.1 is in no country" ]
 }
 
+# Runs the coverage of a genome by a million reads.
+runs_the_coverage() {
+    [ "$(cargo_there run --quiet --example coverage)" = "1000000 reads make 1449168 ranges of one depth
+100% of the bases are covered 1 times or more
+68% of the bases are covered 20 times or more
+31% of the bases are covered 40 times or more
+86 reads have 2229744..2229746" ]
+}
+
 # Has clippy look at all of it, with all features and without.
 lints() {
     cargo_there clippy --quiet --all-targets --all-features -- -D warnings &&
@@ -150,6 +159,7 @@ step "an allocator of addresses" runs_the_addresses
 step "a calendar of several people" runs_the_calendar
 step "character classes" runs_the_classes
 step "the countries of addresses" runs_the_countries
+step "the coverage of a genome" runs_the_coverage
 step "the documentation, without a warning" documents
 step_by cargo-clippy rust-clippy "what clippy says" lints
 step_by rustfmt rustfmt "the looks" is_formatted

@@ -276,12 +276,17 @@ impl<K: Ord, V: Eq, C> Map<K, V, C> {
         self.changed(|map| map.clear());
     }
 
-    /// The same map, whose values are copied in another way. They lie where they were.
+    /// The same map, whose values are copied in another way.
     pub(crate) fn copied_by<D>(self) -> Map<K, V, D> {
-        let options = self.0.options.into_iter();
-        let options = options.map(|option| option.map(|kept| Kept::new(kept.value)));
+        Map::of_others(self.0, |kept| Kept::new(kept.value))
+    }
+
+    /// A map whose values are made of those of another one. Where they have the same size, they lie where those were.
+    fn of_others<W: Eq>(map: proved::RangeMap<K, W>, of: impl Fn(W) -> Kept<V, C>) -> Self {
+        let options = map.options.into_iter();
+        let options = options.map(|option| option.map(&of));
         Map(proved::RangeMap {
-            keys: self.0.keys,
+            keys: map.keys,
             options: options.collect::<alloc::vec::Vec<_>>().into(),
         })
     }

@@ -183,6 +183,25 @@ fn keys_of(set: &RangeSetRef<u8>) -> Vec<u8> {
 }
 
 #[test]
+fn depths() {
+    for seed in (1..2_000u64).step_by(one_in()) {
+        let mut random = Random(seed.wrapping_mul(0x9e37_79b9_7f4a_7c15) | 1);
+        let end = |random: &mut Random| random.below(KEYS as u64 - 1) as u8;
+        let ranges: Vec<Range<u8>> = (0..random.below(30))
+            .map(|_| end(&mut random)..end(&mut random))
+            .collect();
+        let cells: Cells = std::array::from_fn(|key| {
+            let depth = ranges.iter().filter(|range| range.contains(&(key as u8)));
+            Some(depth.count() as u8).filter(|&depth| depth > 0)
+        });
+        let depth = RangeMap::depth(&ranges);
+        let found = depth.iter().map(|(range, &n)| (range.cloned(), n as u8));
+        assert_eq!(found.collect::<Vec<_>>(), stretches(&cells), "{ranges:?}");
+        assert_eq!(fallible::RangeMap::depth(&ranges).unwrap(), depth.into());
+    }
+}
+
+#[test]
 fn operations_key_by_key() {
     // Two values make one, none, or another one.
     let op = |a: Option<&u8>, b: Option<&u8>| match (a, b) {

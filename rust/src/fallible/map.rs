@@ -363,6 +363,26 @@ impl<K: EntryClone, V: MapValue> RangeMap<K, V> {
     }
 }
 
+impl<K: EntryClone> RangeMap<K, usize> {
+    /// Returns the map that gives each key the number of the ranges that have it, if some do. They may come in any order.
+    ///
+    /// # Errors
+    ///
+    /// If memory or a copy of a key is refused.
+    ///
+    /// # Examples
+    ///
+    /// ```
+    /// use range_sets::fallible::{AllocError, RangeMap};
+    ///
+    /// assert_eq!(RangeMap::depth(&[0..5, 3..9])?.get(&4), Some(&2));
+    /// # Ok::<(), AllocError>(())
+    /// ```
+    pub fn depth(ranges: &[Range<K>]) -> Result<Self, AllocError> {
+        Self::try_depth(ranges)
+    }
+}
+
 /// The same map: its calls end the process where memory is refused. Each value is moved, and none is copied.
 impl<K: Ord, V: Eq> From<RangeMap<K, V>> for map::RangeMap<K, V> {
     fn from(map: RangeMap<K, V>) -> Self {

@@ -4,10 +4,11 @@ use super::{Copies, Kept, Map, RangeMap};
 use crate::array::{Array, List};
 use crate::generated::range_collections::Comparisons;
 use crate::generated::range_entry::EntryClone;
-use crate::generated::range_map::MapOperation;
+use crate::generated::range_map::{self as proved, MapOperation};
 use crate::memory::{expect_memory, AllocError};
 use crate::range_set::{RangeSet, RangeSetRef};
 use crate::support::Global;
+use core::ops::Range;
 
 /// An operation by a closure, which isn't called if both maps have no value.
 struct ByCall<F>(F);
@@ -72,6 +73,32 @@ impl<K: Ord + EntryClone, V: Eq, C: Copies<V>> Map<K, V, C> {
     ) -> Result<RangeSet<A>, AllocError> {
         let value = Kept::new(C::copied(value)?);
         A::List::of_keys(&self.0, &value).map(RangeSet::of_list)
+    }
+}
+
+impl<K: EntryClone, C> Map<K, usize, C> {
+    pub(crate) fn try_depth(ranges: &[Range<K>]) -> Result<Self, AllocError> {
+        let depth = proved::RangeMap::depth(Global, ranges)?;
+        Ok(Map::of_others(depth, Kept::new))
+    }
+}
+
+impl<K: EntryClone> RangeMap<K, usize> {
+    /// Returns the map that gives each key the number of the ranges that have it, if some do. They may come in any order.
+    ///
+    /// It takes *O*(*n* log *n*) time, and copies keys by their [`EntryClone`](crate::fallible::EntryClone).
+    ///
+    /// # Examples
+    ///
+    /// ```
+    /// use range_sets::RangeMap;
+    ///
+    /// let depth = RangeMap::depth(&[0..5, 3..9, 4..6]);
+    /// assert_eq!(format!("{depth:?}"), "{0..3: 1, 3..4: 2, 4..5: 3, 5..6: 2, 6..9: 1}");
+    /// ```
+    #[must_use]
+    pub fn depth(ranges: &[Range<K>]) -> Self {
+        expect_memory::<K, _, _>(Self::try_depth(ranges))
     }
 }
 
