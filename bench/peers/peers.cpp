@@ -35,3 +35,14 @@ std::vector<GrowingKind> growing_kinds() {
 #endif
     return kinds;
 }
+
+std::vector<MapKind> map_kinds() {
+    std::vector<MapKind> kinds;
+#ifdef WITH_PLAIN_RUST
+    kinds = maps_in_rust();
+#endif
+#ifdef WITH_ICL
+    kinds.push_back(map_icl());
+#endif
+    return kinds;
+}

@@ -2,6 +2,7 @@
 #pragma once
 
 #include "growing.hpp"
+#include "maps.hpp"
 #include "peer.hpp"
 
 std::unique_ptr<Peer> library_peer();
@@ -18,3 +19,7 @@ std::unique_ptr<Peer> lower_bound_peer();
 std::vector<GrowingKind> growing_in_rust();
 GrowingKind growing_icl();
 GrowingKind growing_roaring();
+
+// Of maps.
+std::vector<MapKind> maps_in_rust();
+MapKind map_icl();

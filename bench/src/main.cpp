@@ -1,6 +1,7 @@
 // The benchmark's driver: it compares all contenders with a plain merge, and times them.
 #include "growing.hpp"
 #include "library.h"
+#include "maps.hpp"
 #include "peers.hpp"
 #include "plain.hpp"
 #include "shapes.hpp"
@@ -79,6 +80,7 @@ void check(const Peers& peers) {
     }
     compared += checked_lines(peers, size_job(fewest)).size();
     compared += check_growing(growing_kinds(), compared_ranges);
+    compared += check_maps(map_kinds(), compared_ranges);
     std::printf("%zu results compared with a plain merge, all right\n", compared);
 }
 
@@ -186,7 +188,7 @@ void count(const Peers& peers, const std::string& name, const std::string& shape
 
 int usage() {
     std::fprintf(stderr, "usage: driver check | times CSV | growth CSV | sizes CSV | commands CSV | "
-                         "ranges CSV | count CONTENDER SHAPE SIZE TASK\n");
+                         "ranges CSV | maps CSV | count CONTENDER SHAPE SIZE TASK\n");
     return 2;
 }
 
@@ -205,6 +207,9 @@ int run(const std::vector<std::string>& words) {
     } else if (words.size() == 2 && words[0] == "ranges") {
         check_growing(growing_kinds(), compared_ranges);
         time_growing(growing_kinds(), most_ranges, words[1]);
+    } else if (words.size() == 2 && words[0] == "maps") {
+        check_maps(map_kinds(), compared_ranges);
+        time_maps(map_kinds(), words[1]);
     } else if (words.size() == 5 && words[0] == "count") {
         count(peers, words[1], words[2], words[3], words[4]);
     } else {

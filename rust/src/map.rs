@@ -1,6 +1,6 @@
 //! Maps from ranges to values.
 //!
-//! [`Map`] is one type with two names: [`RangeMap`](crate::RangeMap), whose calls end the process if memory runs out, and
+//! [`Map`] is one type with two names: [`RangeMap`], whose calls end the process if memory runs out, and
 //! [`fallible::RangeMap`](crate::fallible::RangeMap), whose calls return an error.
 
 mod combining;
@@ -49,9 +49,10 @@ use core::ops::Range;
 ///
 /// # Time
 ///
-/// Among *n* ranges a search makes *O*(log *n*) comparisons. [`get`](map::Map::get) is one search, a change is two. The
-/// ranges lie in one list, so a change moves all that come after it: a map grows to 10,000 ranges in random order in a
-/// few milliseconds, and to a million in minutes. Collect many ranges with [`from_iter`](FromIterator::from_iter).
+/// Among *n* ranges a search makes *O*(log *n*) comparisons. [`get`](Map::get) is one search, a change is two. The ranges
+/// lie in one list, so a change moves all that come after it: 10,000 ranges in random order are put in in a tenth of a
+/// second, and each of a million would take about a millisecond. Ranges that come from the lowest on move nothing. There is
+/// no map in chunks, as [`ChunkedRangeSet`](crate::ChunkedRangeSet) is for sets.
 ///
 /// # Memory
 ///
@@ -61,8 +62,6 @@ use core::ops::Range;
 /// # Panics in keys and values
 ///
 /// If a comparison, a clone or a drop panics, the map is as it was, changed as asked, or empty.
-///
-/// [`map::Map::get`]: Map::get
 pub type RangeMap<K, V> = Map<K, V, ByClone>;
 
 /// A map from ranges to values. Its names are [`RangeMap`] and [`fallible::RangeMap`](crate::fallible::RangeMap), which
@@ -348,7 +347,7 @@ impl<K: Ord, V: Eq, C: Copies<V>> Map<K, V, C> {
     }
 }
 
-/// The calls of [`RangeMap`](crate::RangeMap), which end the process if memory runs out.
+/// The calls of [`RangeMap`], which end the process if memory runs out.
 impl<K: Ord, V: Eq + Clone> RangeMap<K, V> {
     /// Gives each key of a range [of any kind](AnyRange) the value, in place of the one that it had. An empty or a
     /// reversed range changes nothing.

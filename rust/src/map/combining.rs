@@ -86,7 +86,7 @@ impl<K: EntryClone, C> Map<K, usize, C> {
 impl<K: EntryClone> RangeMap<K, usize> {
     /// Returns the map that gives each key the number of the ranges that have it, if some do. They may come in any order.
     ///
-    /// It takes *O*(*n* log *n*) time, and copies keys by their [`EntryClone`](crate::fallible::EntryClone).
+    /// It takes *O*(*n* log *n*) time, and copies keys by their [`EntryClone`].
     ///
     /// # Examples
     ///
@@ -102,7 +102,7 @@ impl<K: EntryClone> RangeMap<K, usize> {
     }
 }
 
-/// These make new maps and sets, and copy keys by their [`EntryClone`](crate::fallible::EntryClone).
+/// These make new maps and sets, and copy keys by their [`EntryClone`].
 impl<K: EntryClone, V: Eq + Clone> RangeMap<K, V> {
     /// Returns the map that gives each key what `op` makes of its values in both maps.
     ///

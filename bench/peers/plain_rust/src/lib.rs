@@ -8,7 +8,9 @@
 #![allow(clippy::missing_safety_doc)]
 
 mod growing;
+mod maps;
 mod tree;
+mod tree_map;
 
 use range_sets::{Connective, RangeSet2, RangeSetRange, RangeSetRef};
 use std::slice::{from_raw_parts as list, from_raw_parts_mut as room};
