@@ -19,14 +19,14 @@ use Rattle.range_tracker.specs.declared.command.Command.{Command}
 use Rattle.range_tracker.proofs.OffsetsLemmas.{is_even-from_means, IsListOf-from_means, IsListOf-self, same_length}
 use Rattle.range_collections.proofs.Ascending.{IsAscending-nil}
 use Rattle.range_chunks.proofs.Changed.{cut-put, cut-none}
-use Rattle.range_chunks.specs.Tracking.{IsFront, IsTracking, IsSetWithin}
+use Rattle.range_chunks.specs.Tracking.{IsAllOrNone, IsTracking, IsSetWithin}
 
 pub two-from_even : (n : ℕ) → is_odd n ≡ false → 0 < n → 2 ≤ n
 two-from_even zero even some = absurd (omega (arith, some))
 two-from_even (suc zero) even some = absurd (true≢false even)
 two-from_even (suc (suc n)) even some = omega arith
 
-pub length-front : (n : ℕ) (items : List ℕ) → IsFront n items → n ≡ length (take n items)
+pub length-front : (n : ℕ) (items : List ℕ) → IsAllOrNone n items → n ≡ length (take n items)
 length-front n items front =
     let within : n ≤ length items = ⊎_elim (λ none. omega (arith, none)) (λ all. omega (arith, all)) front.all_or_none in
     sym (length-take-le n items within)
@@ -60,7 +60,7 @@ module _ (inside : Bool) (limit : ℕ) (old : List ℕ) (range : Range ℕ) (wan
     no_memory = λ few bad. ⊎_elim (λ le. omega (arith, le, grows)) (λ none. omega (arith, none, some)) few;
   })
 
-  pub set-done : (new : List ℕ) (n : ℕ) → n ≡ length want → n ≤ limit → take n new ≡ want → IsFront n new → IsSetWithin inside limit old range new (Ok n)
+  pub set-done : (new : List ℕ) (n : ℕ) → n ≡ length want → n ≤ limit → take n new ≡ want → IsAllOrNone n new → IsSetWithin inside limit old range new (Ok n)
   set-done new n count fits taken front = record {
     left = want;
     means = m;
@@ -186,5 +186,5 @@ module _ (inside : Bool) (f : Table) (alike : (x y : Bool) → range_table insid
         room = room;
       }
 
-pub is_even-front : (n : ℕ) (items : List ℕ) → IsFront n items → is_odd n ≡ false → is_odd (length (take n items)) ≡ false
+pub is_even-front : (n : ℕ) (items : List ℕ) → IsAllOrNone n items → is_odd n ≡ false → is_odd (length (take n items)) ≡ false
 is_even-front n items front even = ap is_odd (sym (length-front n items front)) ∙ even
