@@ -1,5 +1,6 @@
 //! Inputs that give little at once, and fail; outputs that take little at once, and fail.
 use crate::sink::Sink;
+use range_chunks::ChunkedTracker;
 use range_track_answers::{Status, serve};
 use std::alloc::Global;
 use std::io::{self, ErrorKind, Read, Write};
@@ -33,7 +34,10 @@ const TEXT: &[u8] = b"ok\ntoo many 4\n10,12\ntrue\n0..10\nbad line\n0..10\n";
 
 /// The kind of the error that ends the answers, if one does.
 fn failure<R: Read + Drop>(alloc: Global, input: R, out: &mut Sink) -> Option<ErrorKind> {
-    match serve(alloc, 2, input, out) {
+    let Ok(mut tracker) = ChunkedTracker::new(alloc, 2) else {
+        return Some(ErrorKind::OutOfMemory);
+    };
+    match serve(&mut tracker, input, out) {
         Ok(()) => None,
         Err(error) => Some(error.kind()),
     }
