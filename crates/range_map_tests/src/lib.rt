@@ -5,8 +5,12 @@
 #[cfg(test)]
 mod made_up;
 #[cfg(test)]
+mod operations;
+#[cfg(test)]
 mod questions;
 #[cfg(test)]
 mod refused;
+#[cfg(test)]
+mod refused_makers;
 #[cfg(test)]
 mod rows;

@@ -112,7 +112,7 @@ fn changes_are_refused_where_the_map_grows(rt: HostRuntime) -> Result<(), AllocE
 
 // A number of which no copy is made.
 #[derive(PartialEq, Eq, Drop)]
-struct Alone(u8);
+pub(crate) struct Alone(pub(crate) u8);
 
 impl MapValue for Alone {
     ghost is_infallible = { λ _. ⊥ };
@@ -123,7 +123,7 @@ impl MapValue for Alone {
 }
 
 // The map of 1 from 10 to 20 and 2 from 20 to 30.
-fn pair(alloc: Global) -> Result<RangeMap<u8, Alone>, AllocError> {
+pub(crate) fn pair(alloc: Global) -> Result<RangeMap<u8, Alone>, AllocError> {
     let mut map = RangeMap::new(alloc);
     map.insert(10..20, Alone(1))?;
     map.insert(20..30, Alone(2))?;
@@ -131,7 +131,7 @@ fn pair(alloc: Global) -> Result<RangeMap<u8, Alone>, AllocError> {
 }
 
 // The value of a number, or 0.
-fn value_at(map: &RangeMap<u8, Alone>, number: u8) -> u8 {
+pub(crate) fn value_at(map: &RangeMap<u8, Alone>, number: u8) -> u8 {
     match map.get(&number) {
         Some(value) => value.0,
         None => 0,

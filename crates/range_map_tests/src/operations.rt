@@ -1,0 +1,210 @@
+//! Made-up maps: operations on them have the values of arrays of options that are treated alike.
+ghost use Rattle.std.specs.Bool.{beq};
+ghost use Rattle.std.specs.Option.{is_some};
+ghost use Rattle.std.specs.Prelude.{not};
+ghost use Rattle.range_map.specs.Units.{unit_if};
+
+use crate::made_up::{KEYS, LIMIT, next_range, set};
+use range_collections::{Comparisons, RangeSet2};
+use range_map::{MapOperation, RangeMap};
+use range_tests_kit::generator::Generator;
+use std::alloc::{AllocError, Global};
+use std::ops::Range;
+
+type Map = RangeMap<u64, u64>;
+
+type Options = [Option<u64>; KEYS];
+
+// Whether exactly one side has a value.
+struct OneAlone;
+
+impl MapOperation<u64, u64> for OneAlone {
+    type Output = ();
+
+    ghost gives = { λ _ p q. unit_if (not (beq (is_some p) (is_some q))) };
+
+    fn apply(&self, left: Option<&u64>, right: Option<&u64>) -> Result<Option<()>, AllocError> {
+        if left.is_some() == right.is_some() {
+            Ok(None)
+        } else {
+            Ok(Some(()))
+        }
+    }
+}
+
+// A map after some changes, and its options.
+fn made_up(alloc: Global, generator: &mut Generator) -> Result<(Map, Options), AllocError> {
+    let mut map = RangeMap::new(alloc);
+    let mut options = [None; KEYS];
+    for _ in 0..generator.below(12) {
+        let range = next_range(generator);
+        let value = generator.below(4);
+        if value == 0 {
+            set(&mut options, &range, None);
+            map.remove(range)?;
+        } else {
+            set(&mut options, &range, Some(value));
+            map.insert(range, value)?;
+        }
+    }
+    Ok((map, options))
+}
+
+// Whether the map has these options.
+fn has(map: &Map, options: &Options) -> bool {
+    for key in 0..LIMIT {
+        if map.get(&key).copied() != options[key as usize] {
+            return false;
+        }
+    }
+    true
+}
+
+// What the arrays have, by the call.
+fn expected(call: Call, a: &Options, b: &Options) -> Options {
+    let mut made = [None; KEYS];
+    for i in 0..KEYS {
+        made[i] = match call {
+            Call::UnionLeft => a[i].or(b[i]),
+            Call::UnionRight => b[i].or(a[i]),
+            Call::Restrict => b[i].and(a[i]),
+            Call::Without => match b[i] {
+                Some(_) => None,
+                None => a[i],
+            },
+        };
+    }
+    made
+}
+
+#[derive(Clone, Copy, Debug)]
+enum Call {
+    UnionLeft,
+    UnionRight,
+    Restrict,
+    Without,
+}
+
+const CALLS: [Call; 4] = [
+    Call::UnionLeft,
+    Call::UnionRight,
+    Call::Restrict,
+    Call::Without,
+];
+
+// What the maps answer.
+fn answer(alloc: Global, call: Call, a: &Map, b: &Map) -> Result<Map, AllocError> {
+    match call {
+        Call::UnionLeft => a.union_with_left(alloc, b),
+        Call::UnionRight => a.union_with_right(alloc, b),
+        Call::Restrict => {
+            let set: RangeSet2<u64> = b.domain(alloc)?;
+            a.restrict(alloc, set.as_ref())
+        }
+        Call::Without => {
+            let set: RangeSet2<u64> = b.domain(alloc)?;
+            a.without(alloc, set.as_ref())
+        }
+    }
+}
+
+#[test]
+fn made_up_maps_are_put_together(rt: HostRuntime) -> Result<(), AllocError> {
+    let mut generator = Generator::new();
+    for sequence in 0..10_000u64 {
+        let (a, a_options) = made_up(rt.alloc(), &mut generator)?;
+        let (b, b_options) = made_up(rt.alloc(), &mut generator)?;
+        for call in CALLS {
+            let map = answer(rt.alloc(), call, &a, &b)?;
+            let alike = has(&map, &expected(call, &a_options, &b_options));
+            assert!(rt; alike, "{sequence} {call:?}");
+        }
+    }
+    Ok(())
+}
+
+// Whether each key is a member exactly if it has a value, or this one.
+fn are_members(alloc: Global, map: &Map, options: &Options) -> Result<bool, AllocError> {
+    let set: RangeSet2<u64> = map.domain(alloc)?;
+    let ones: RangeSet2<u64> = map.where_equal(alloc, &1)?;
+    for key in 0..LIMIT {
+        let option = options[key as usize];
+        if set.contains(&key) != option.is_some() || ones.contains(&key) != (option == Some(1)) {
+            return Ok(false);
+        }
+    }
+    Ok(true)
+}
+
+// Whether each key is there exactly if one of the options has a value alone.
+fn are_alone(map: &RangeMap<u64, ()>, a: &Options, b: &Options) -> bool {
+    for key in 0..LIMIT {
+        let alone = a[key as usize].is_some() != b[key as usize].is_some();
+        if map.contains_key(&key) != alone {
+            return false;
+        }
+    }
+    true
+}
+
+#[test]
+fn made_up_maps_are_asked(rt: HostRuntime) -> Result<(), AllocError> {
+    let mut generator = Generator::new();
+    for sequence in 0..10_000u64 {
+        let (a, a_options) = made_up(rt.alloc(), &mut generator)?;
+        let (b, b_options) = made_up(rt.alloc(), &mut generator)?;
+        let members = are_members(rt.alloc(), &a, &a_options)?;
+        assert!(rt; members, "{sequence}");
+        let alone = a.combine(rt.alloc(), &b, &OneAlone, &mut Comparisons::new())?;
+        assert!(rt; are_alone(&alone, &a_options, &b_options), "{sequence}");
+        let copy = a.clone()?;
+        assert!(rt;
+            copy == a && (a == b) == (a_options == b_options),
+            "{sequence}"
+        );
+    }
+    Ok(())
+}
+
+// How many of the ranges hold the key.
+fn depth_at(ranges: &[Range<u64>], key: u64) -> usize {
+    let mut depth = 0usize;
+    for range in ranges {
+        if range.start <= key && key < range.end {
+            depth = depth.saturating_add(1);
+        }
+    }
+    depth
+}
+
+// Whether the map has the depths of these ranges.
+fn has_depths(map: &RangeMap<u64, usize>, ranges: &[Range<u64>]) -> bool {
+    for key in 0..LIMIT {
+        if map.get(&key).copied().unwrap_or(0) != depth_at(ranges, key) {
+            return false;
+        }
+    }
+    true
+}
+
+#[test]
+fn made_up_ranges_are_counted_and_inserted(rt: HostRuntime) -> Result<(), AllocError> {
+    let mut generator = Generator::new();
+    for sequence in 0..10_000u64 {
+        let mut ranges = Vec::new(rt.alloc());
+        let mut pairs = Vec::new(rt.alloc());
+        let mut options = [None; KEYS];
+        for _ in 0..generator.below(12) {
+            let range = next_range(&mut generator);
+            let value = generator.below(3);
+            set(&mut options, &range, Some(value));
+            ranges.push(range.start..range.end)?;
+            pairs.push((range, value))?;
+        }
+        let depth = RangeMap::depth(rt.alloc(), ranges.as_slice())?;
+        assert!(rt; has_depths(&depth, ranges.as_slice()), "{sequence}");
+        let map = RangeMap::from_ranges(rt.alloc(), pairs)?;
+        assert!(rt; has(&map, &options), "{sequence}");
+    }
+    Ok(())
+}

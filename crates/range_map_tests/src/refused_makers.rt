@@ -1,0 +1,170 @@
+//! Out of memory where a map makes another map or a set, or a range is booked: each request is
+//! refused in turn, and the map has the values that it had. So is each copy of a value.
+use crate::refused::{Alone, pair, value_at};
+use range_collections::{RangeSet2, RangeSetRef};
+use range_map::{InsertError, RangeMap};
+use range_tests_kit::starving::{Answer, Call, Starved};
+use range_tests_kit::ways::refused_if;
+use std::alloc::{AllocError, Global};
+
+// What is asked for.
+#[derive(Clone, Copy, Debug)]
+enum Wanted {
+    Copy,
+    Ranges,
+    Booking,
+    UnionLeft,
+    UnionRight,
+    Restricted,
+    Without,
+    Domain,
+    Ones,
+    Depth,
+}
+
+const ALL: [Wanted; 10] = [
+    Wanted::Copy,
+    Wanted::Ranges,
+    Wanted::Booking,
+    Wanted::UnionLeft,
+    Wanted::UnionRight,
+    Wanted::Restricted,
+    Wanted::Without,
+    Wanted::Domain,
+    Wanted::Ones,
+    Wanted::Depth,
+];
+
+#[derive(Drop)]
+struct Attempt {
+    alloc: Global,
+    wanted: Wanted,
+}
+
+// The map of 16 ranges of 10, one in each 20, with the value 1.
+fn spread(alloc: Global) -> Option<RangeMap<u16, u16>> {
+    let mut map = RangeMap::new(alloc);
+    for k in 0..16u16 {
+        let start = k.saturating_mul(20);
+        map.insert(start..start.saturating_add(10), 1).ok()?;
+    }
+    Some(map)
+}
+
+// Whether the map has its ranges from the start up to the end, and none elsewhere.
+fn has(map: &RangeMap<u16, u16>, start: u16, end: u16) -> bool {
+    for number in 0..400u16 {
+        let inside = start <= number && number < end && number < 320 && number % 20 < 10;
+        if map.contains_key(&number) != inside {
+            return false;
+        }
+    }
+    true
+}
+
+// The map of many ranges, which are made for it.
+fn from_ranges(alloc: Global) -> Result<RangeMap<u16, u16>, AllocError> {
+    let mut ranges = Vec::new(alloc);
+    for k in 0..16u16 {
+        let start = k.saturating_mul(20);
+        ranges.push((start..start.saturating_add(10), 1))?;
+    }
+    RangeMap::from_ranges(alloc, ranges)
+}
+
+// The answer of a call that makes a map with the ranges from the start up to the end.
+fn answer_of(
+    made: Result<RangeMap<u16, u16>, AllocError>,
+    map: &RangeMap<u16, u16>,
+    start: u16,
+    end: u16,
+) -> Answer {
+    match made {
+        Ok(made) => Answer::right_if(has(&made, start, end)),
+        Err(_) => refused_if(has(map, 0, 400)),
+    }
+}
+
+// The answer of a call that makes the set of all keys with a value.
+fn set_answer(made: Result<RangeSet2<u16>, AllocError>, map: &RangeMap<u16, u16>) -> Answer {
+    match made {
+        Ok(set) => {
+            Answer::right_if(set.ranges_len() == 16 && set.contains(&309) && !set.contains(&310))
+        }
+        Err(_) => refused_if(has(map, 0, 400)),
+    }
+}
+
+// The answer of a range that is booked.
+fn book(mut map: RangeMap<u16, u16>) -> Answer {
+    match map.insert_free(12..15, 2) {
+        Ok(()) => Answer::right_if(map.get(&14) == Some(&2) && map.len() == 17),
+        Err(InsertError::OutOfMemory(2)) => refused_if(has(&map, 0, 400)),
+        Err(_) => Answer::Wrong,
+    }
+}
+
+// The answer of many ranges counted.
+fn count(alloc: Global) -> Answer {
+    let ranges = [0..10u16, 5..20, 8..30, 9..10];
+    match RangeMap::depth(alloc, &ranges) {
+        Ok(depth) => Answer::right_if(depth.get(&9) == Some(&4) && depth.get(&29) == Some(&1)),
+        Err(_) => Answer::Refused,
+    }
+}
+
+impl Call for Attempt {
+    type Given = RangeMap<u16, u16>;
+
+    fn given(&self) -> Option<RangeMap<u16, u16>> {
+        spread(self.alloc)
+    }
+
+    fn answer(&self, map: RangeMap<u16, u16>) -> Answer {
+        let alloc = self.alloc;
+        let half = RangeSetRef::new(&[0, 160]);
+        let Some(half) = half else {
+            return Answer::Wrong;
+        };
+        match self.wanted {
+            Wanted::Copy => answer_of(map.clone(), &map, 0, 400),
+            Wanted::Ranges => answer_of(from_ranges(alloc), &map, 0, 400),
+            Wanted::Booking => book(map),
+            Wanted::UnionLeft => answer_of(map.union_with_left(alloc, &map), &map, 0, 400),
+            Wanted::UnionRight => answer_of(map.union_with_right(alloc, &map), &map, 0, 400),
+            Wanted::Restricted => answer_of(map.restrict(alloc, half), &map, 0, 160),
+            Wanted::Without => answer_of(map.without(alloc, half), &map, 160, 400),
+            Wanted::Domain => set_answer(map.domain(alloc), &map),
+            Wanted::Ones => set_answer(map.where_equal(alloc, &1), &map),
+            Wanted::Depth => count(alloc),
+        }
+    }
+}
+
+#[test]
+fn what_is_made_is_refused_while_memory_is_short(rt: HostRuntime) -> Result<(), AllocError> {
+    let alloc = rt.alloc();
+    for wanted in ALL {
+        let mut starved = Starved::new(alloc)?;
+        let attempt = Attempt { alloc, wanted };
+        assert!(rt; starved.agrees(&attempt, true), "{wanted:?}");
+    }
+    Ok(())
+}
+
+#[test]
+fn a_copy_that_is_refused_is_an_error(rt: HostRuntime) -> Result<(), AllocError> {
+    let alloc = rt.alloc();
+    let mut map = pair(alloc)?;
+    let all = RangeSet2::from_range(alloc, 0..100)?;
+    assert!(rt; map.clone().is_err());
+    assert!(rt; map.union_with_left(alloc, &map).is_err());
+    assert!(rt; map.union_with_right(alloc, &map).is_err());
+    assert!(rt; map.restrict(alloc, all.as_ref()).is_err());
+    let nothing = map.without(alloc, all.as_ref())?;
+    assert!(rt; nothing.is_empty());
+    let booked = map.insert_free(30..40, Alone(2));
+    assert!(rt; booked.is_ok() && value_at(&map, 35) == 2 && map.len() == 2);
+    assert!(rt; map.insert_free(25..50, Alone(3)) == Err(InsertError::NotFree(Alone(3))));
+    Ok(())
+}
