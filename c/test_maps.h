@@ -17,9 +17,9 @@ static void TEST(is_map)(MAP map, const uint64_t *values)
     while (p < POINTS) {
         for (q = p; q < POINTS && values[q] == values[p]; q++)
             for (in = 0; in < 3; in++) {
-                STRETCH same = CALL(range_at)(map, (NUMBER)(TEST(key)(q) + in));
+                STRETCH same = CALL(range_at)(map, (NUMBER)(TEST(key)(q) + (NUMBER)in));
                 uint64_t value = 77;
-                check(CALL(get)(map, (NUMBER)(TEST(key)(q) + in), &value) == (values[p] != 0), "get");
+                check(CALL(get)(map, (NUMBER)(TEST(key)(q) + (NUMBER)in), &value) == (values[p] != 0), "get");
                 check(value == (values[p] != 0 ? values[p] : 77), "get: the value");
                 check(same.has_start == it.has_start && same.start == it.start && same.has_end == it.has_end && same.end == it.end,
                     "range_at: of each key of a stretch");
@@ -70,7 +70,8 @@ static void TEST(bad_maps)(void)
     STRETCH it = CALL(range_at)(none, MOST);
     uint64_t value = 5;
     check(CALL(new)(NULL) == RANGE_SET_BAD_ARGUMENT, "new: a null map");
-    check(CALL(insert)(NULL, 1, 2, 3) == RANGE_SET_BAD_ARGUMENT && CALL(insert)(&none, 1, 2, 3) == RANGE_SET_BAD_ARGUMENT, "insert: no map");
+    check(
+        CALL(insert)(NULL, 1, 2, 3) == RANGE_SET_BAD_ARGUMENT && CALL(insert)(&none, 1, 2, 3) == RANGE_SET_BAD_ARGUMENT, "insert: no map");
     check(CALL(remove)(NULL, 1, 2) == RANGE_SET_BAD_ARGUMENT && CALL(remove)(&none, 1, 2) == RANGE_SET_BAD_ARGUMENT, "remove: no map");
     check(CALL(insert_from)(NULL, 1, 3) == RANGE_SET_BAD_ARGUMENT && CALL(insert_from)(&none, 1, 3) == RANGE_SET_BAD_ARGUMENT,
         "insert_from: no map");

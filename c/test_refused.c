@@ -121,13 +121,13 @@ static void refused_maps(void)
         requests += (size_t)k;
     }
     check(requests > 10, "maps: growth takes requests");
-    for (p = 0; p < MANY; p++)
-        MAP_UNTIL_DONE(range_map_i64_remove(&map, 10 * p + 3, 10 * p + 4), (size_t)(MANY + p), 10 * p + 3, true)
+    for (p = 0; p < MANY; p++) MAP_UNTIL_DONE(range_map_i64_remove(&map, 10 * p + 3, 10 * p + 4), (size_t)(MANY + p), 10 * p + 3, true)
     MAP_UNTIL_DONE(range_map_i64_insert_from(&map, 10 * MANY, 5), 2 * (size_t)MANY, 10 * MANY, false)
     MAP_UNTIL_DONE(range_map_i64_remove_from(&map, 10 * MANY + 5), 2 * (size_t)MANY + 1, 10 * MANY + 6, true)
     for (p = 0; p < MANY; p++) {
         uint64_t value = 0;
-        check(range_map_i64_get(map, 10 * p + 4, &value) && value == (uint64_t)p && !range_map_i64_get(map, 10 * p + 3, NULL), "maps: the values");
+        check(range_map_i64_get(map, 10 * p + 4, &value) && value == (uint64_t)p && !range_map_i64_get(map, 10 * p + 3, NULL),
+            "maps: the values");
     }
     range_map_i64_free(&map);
     range_map_u64 other;

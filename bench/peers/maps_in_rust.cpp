@@ -64,7 +64,8 @@ template <class Exports> struct Behind {
         std::uint64_t nothing = 0;
         std::size_t len = Exports::entries(map.get(), &nowhere, &nowhere, &nothing, 0);
         Entries entries{{Boundaries(len), Boundaries(len)}, std::vector<std::uint64_t>(len)};
-        Exports::entries(map.get(), entries.ranges.starts.data(), entries.ranges.ends.data(), entries.values.data(), len);
+        Exports::entries(map.get(), entries.ranges.starts.data(), entries.ranges.ends.data(), entries.values.data(),
+                         len);
         return entries;
     }
 };

@@ -178,7 +178,7 @@ void time_maps(const std::vector<MapKind>& kinds, const std::string& csv) {
         double (*ns_of)(const MapKind&, std::size_t);
     };
     const Row rows[] = {
-        {"insert", 1000, insert_ns}, {"insert", 10000, insert_ns},       {"get", 1000, get_ns},
+        {"insert", 1000, insert_ns}, {"insert", 10000, insert_ns},      {"get", 1000, get_ns},
         {"get", 1000000, get_ns},    {"combine", combined, combine_ns},
     };
     std::ofstream file(csv);
