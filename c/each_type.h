@@ -1,7 +1,7 @@
 /* Includes CALLS, a file of functions for one type of numbers, once for each type. There NUMBER is the type, which is unsigned where
  * IS_UNSIGNED is defined; COUNT is the unsigned type of its width, LEAST its least number, MOST its greatest, TEXT_ROOM the bytes that
  * a boundary takes in a text, SET, RANGE, BUFFER, OWNED and CHUNKED the header's structs for it, CALL(call) the name of a call of the
- * header, and TEST(name) the name of a function of the file. */
+ * header, and TEST(name) the name of a function of the file. Types of 64 bits have MAP, STRETCH and MAP_CALL(call) for maps. */
 
 #define NUMBER int32_t
 #define COUNT uint32_t
@@ -26,6 +26,9 @@
 #undef BUFFER
 #undef OWNED
 #undef CHUNKED
+#undef MAP
+#undef STRETCH
+#undef MAP_CALL
 #undef CALL
 #undef TEST
 #undef IS_UNSIGNED
@@ -54,6 +57,9 @@
 #undef BUFFER
 #undef OWNED
 #undef CHUNKED
+#undef MAP
+#undef STRETCH
+#undef MAP_CALL
 #undef CALL
 #undef TEST
 #undef IS_UNSIGNED
@@ -68,6 +74,9 @@
 #define BUFFER range_set_i64_buffer
 #define OWNED range_set_i64_owned
 #define CHUNKED range_set_i64_chunked
+#define MAP range_map_i64
+#define STRETCH range_map_i64_stretch
+#define MAP_CALL(call) range_map_i64_##call
 #define CALL(call) range_set_i64_##call
 #define TEST(name) i64_##name
 #include CALLS
@@ -81,6 +90,9 @@
 #undef BUFFER
 #undef OWNED
 #undef CHUNKED
+#undef MAP
+#undef STRETCH
+#undef MAP_CALL
 #undef CALL
 #undef TEST
 #undef IS_UNSIGNED
@@ -95,6 +107,9 @@
 #define BUFFER range_set_u64_buffer
 #define OWNED range_set_u64_owned
 #define CHUNKED range_set_u64_chunked
+#define MAP range_map_u64
+#define STRETCH range_map_u64_stretch
+#define MAP_CALL(call) range_map_u64_##call
 #define CALL(call) range_set_u64_##call
 #define TEST(name) u64_##name
 #define IS_UNSIGNED
@@ -109,6 +124,9 @@
 #undef BUFFER
 #undef OWNED
 #undef CHUNKED
+#undef MAP
+#undef STRETCH
+#undef MAP_CALL
 #undef CALL
 #undef TEST
 #undef IS_UNSIGNED

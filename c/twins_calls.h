@@ -61,7 +61,10 @@ static void TEST(questions)(struct log *log, SET a, SET b, NUMBER x, NUMBER y, u
     tell(log, CALL(prev_member)(a, x, &at)), tell(log, (uint64_t)at);
     tell(log, CALL(prev_gap)(a, x, &at)), tell(log, (uint64_t)at);
     tell(log, CALL(select)(a, k, &at)), tell(log, (uint64_t)at);
+    tell(log, CALL(rank)(a, x));
     tell(log, CALL(first_fit)(a, x, y, (COUNT)k, &at)), tell(log, (uint64_t)at);
+    tell(log, CALL(first_fit_aligned)(a, x, y, (COUNT)(k / 16), (COUNT)(k % 16), &at)), tell(log, (uint64_t)at);
+    tell(log, CALL(first_run)(a, x, y, (COUNT)k, &at)), tell(log, (uint64_t)at);
     tell(log, CALL(covered)(a, &count)), tell(log, count);
     tell(log, CALL(is_disjoint)(a, b));
     tell(log, CALL(intersects)(a, b));
@@ -193,6 +196,7 @@ static void TEST(in_chunks)(struct log *log, SET a, NUMBER x, struct input *inpu
         else tell(log, call % 2 == 0 ? CALL(chunked_insert)(&set, start, end) : CALL(chunked_remove)(&set, start, end));
         tell(log, CALL(chunked_contains)(set, end));
         tell(log, CALL(chunked_contains_range)(set, start, end));
+        tell(log, CALL(chunked_intersects_range)(set, start, end));
         tell(log, CALL(chunked_next_member)(set, start, &at)), tell(log, (uint64_t)at);
         tell(log, CALL(chunked_next_gap)(set, start, &at)), tell(log, (uint64_t)at);
         const bool found = CALL(chunked_next)(set, end, &range);
@@ -203,9 +207,38 @@ static void TEST(in_chunks)(struct log *log, SET a, NUMBER x, struct input *inpu
     tell(log, CALL(chunked_boundaries_len)(set));
     tell(log, CALL(chunked_copy)(set, out, room, &result));
     TEST(tell_set)(log, result, out);
+    CALL(chunked_clear)(&set);
+    tell(log, CALL(chunked_boundaries_len)(set));
     CALL(chunked_free)(&set);
     tell(log, set.at == NULL);
 }
+
+#ifdef MAP
+/* A map that is changed as often as there are bytes, and then gone over. */
+static void TEST(mapped)(struct log *log, struct input *input)
+{
+    MAP map = {NULL};
+    uint64_t value = 7;
+    tell(log, MAP_CALL(new)(&map));
+    for (unsigned step = 0; step < 32 && input->size > 0; step++) {
+        const uint8_t call = next(input);
+        const NUMBER start = TEST(number)(input), end = TEST(number)(input);
+        if (call % 16 == 0) tell(log, MAP_CALL(insert_from)(&map, start, call / 64));
+        else if (call % 16 == 1) tell(log, MAP_CALL(remove_from)(&map, start));
+        else if (call % 4 == 2) tell(log, MAP_CALL(remove)(&map, start, end));
+        else tell(log, MAP_CALL(insert)(&map, start, end, call / 64));
+        tell(log, MAP_CALL(get)(map, end, &value)), tell(log, value);
+        tell(log, MAP_CALL(len)(map));
+    }
+    STRETCH it = MAP_CALL(range_at)(map, LEAST);
+    for (bool more = true; more; more = it.has_end, it = MAP_CALL(range_at)(map, it.end)) {
+        tell(log, it.has_start ? (uint64_t)it.start : 7), tell(log, it.has_end ? (uint64_t)it.end : 7);
+        tell(log, it.has_value ? it.value : 7);
+    }
+    MAP_CALL(free)(&map);
+    tell(log, map.at == NULL);
+}
+#endif
 
 /* Every call, on sets that the input makes. */
 static void TEST(answers)(struct log *log, struct input *input)
@@ -226,5 +259,8 @@ static void TEST(answers)(struct log *log, struct input *input)
     TEST(any_order)(log, left, 0, a, b, room);
     TEST(in_place)(log, a, b, x, y, keep, room, (long)(k % 4));
     TEST(texts)(log, a, input, room);
-    TEST(in_chunks)(log, a, x, input, room);
+    if (k % 2 == 0) TEST(in_chunks)(log, a, x, input, room);
+#ifdef MAP
+    TEST(mapped)(log, input);
+#endif
 }

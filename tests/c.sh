@@ -292,7 +292,8 @@ fuzzes() {
 
 # Whether the twins make each call of the header.
 asks_each_call() {
-    ! grep -oE '\brange_set_i64_[a-z_]+\(' c/include/range_set.h | sed 's/range_set_i64_/CALL(/; s/($/)/' | sort -u | grep -vxFf <(grep -oE 'CALL\([a-z_]+\)' c/twins_calls.h)
+    ! grep -oE '\brange_(set|map)_i64_[a-z_]+\(' c/include/range_set.h | sed 's/range_set_i64_/CALL(/; s/range_map_i64_/MAP_CALL(/; s/($/)/' |
+        sort -u | grep -vxFf <(grep -oE '(MAP_)?CALL\([a-z_]+\)' c/twins_calls.h)
 }
 
 # What twins.c answers over one library, as an object that has one name for others.
