@@ -17,8 +17,6 @@ mod making;
 #[cfg(test)]
 mod refused;
 #[cfg(test)]
-mod refused_tracker;
-#[cfg(test)]
 mod rows;
 #[cfg(test)]
 mod tracking;
