@@ -1,5 +1,5 @@
 -- What a call told of what it found, if it found something.
-use Rattle.std.proofs.Common.{◌≡◌, refl, sym, ◌∙◌, subst, Bool, true, false, Option, Some, None, IfSome, IfNone, IsTrue}
+use Rattle.std.proofs.Common.{◌≡◌, sym, ◌∙◌, subst, Bool, true, false, Option, Some, None, IfSome, IfNone, IsTrue}
 use Rattle.std.proofs.lemmas.Bool.{true≢false}
 
 module _ {K : Type 0} (found : Option K) (answer : Bool) (old new : K)
