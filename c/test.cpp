@@ -104,6 +104,15 @@ template <class T> static void rows()
     check(day.next_member(3) == 9 && day.next_gap(9) == 17 && !day.next_member(17) && day.next_gap(20) == 20, "next ones");
     check(day.prev_member(30) == 16 && day.prev_gap(12) == 8 && !day.prev_member(8) && day.prev_gap(17) == 17, "previous ones");
     check(day.select(3) == 12 && !day.select(8), "select");
+    check(day.rank(12) == 3 && day.rank(30) == 8 && nothing.rank(12) == 0, "rank");
+    const auto all = busy.members();
+    check(std::vector<T>(all.begin(), all.end()) == std::vector<T>{9, 10, 12, 13, 14}, "members");
+    std::vector<T> back;
+    for (auto it = all.end(); it != all.begin();) back.push_back(*--it);
+    check(back == std::vector<T>{14, 13, 12, 10, 9} && nothing.members().begin() == nothing.members().end(), "members, backwards");
+    auto high = open->members().end();
+    check(*--high == std::numeric_limits<T>::max() && *--high == std::numeric_limits<T>::max() - 1, "members, open");
+    check(++++high == open->members().end(), "members, past the last");
     check(day.range_from(3) == day.first() && day.range_from(16) == day.first() && !day.range_from(17), "range_from");
     check(busy.is_subset(day) && day.is_superset(busy) && !day.is_subset(busy), "subset and superset");
     check(day.intersects(busy) && nothing.is_disjoint(day) && day.is_disjoint(nothing), "disjoint");
@@ -117,6 +126,8 @@ template <class T> static void rows()
     check(text<T>(busy.gaps(8, 20)) == "8..9 11..12 15..20", "gaps");
     check(busy.first_fit(9, 17, 1) == T(11) && busy.first_fit(9, 17, 2) == T(15) && !busy.first_fit(9, 17, 3), "first_fit");
     check(open->first_fit(5, 5, 0) == T(5) && !open->first_fit(0, 30, 11) && open->first_fit(0, 30, 10) == T(10), "first_fit, open");
+    check(busy.first_fit_aligned(9, 40, 4, 8) == T(16) && !busy.first_fit_aligned(9, 40, 4, 0), "first_fit_aligned");
+    check(busy.first_run(0, 40, 3) == T(12) && !busy.first_run(0, 40, 4) && busy.first_run(5, 40, 0) == T(5), "first_run");
     check(busy.text() == "9..11, 12..15" && open->text() == "0..10, 20.." && nothing.text().empty(), "text");
     std::size_t fault = 77;
     check(range_set<T>::parse(" 12..15,9..11", &fault) == busy && range_set<T>::parse("")->empty() && fault == 77, "parse");

@@ -300,6 +300,7 @@ static void TEST(previous_ones)(SET a, const NUMBER *points, const bool *on, siz
         check(CALL(prev_gap)(a, points[p], &previous) == is_there && previous == wanted, "prev_gap");
         check(CALL(prev_gap)(a, points[p], NULL) == is_there, "prev_gap without a place");
         if (on[p]) check(CALL(select)(a, below, &at) && at == points[p] && CALL(select)(a, below, NULL), "select");
+        check(CALL(rank)(a, points[p]) == below, "rank");
         if (on[p] && p + 1 < n) below += (uint64_t)points[p + 1] - (uint64_t)points[p];
     }
     at = 77;
@@ -388,6 +389,35 @@ static void TEST(fits)(SET a, const NUMBER *points, const bool *on, size_t n)
     }
 }
 
+/* Where so many members are in a row, or so many others from a multiple on, against trying each number. */
+static void TEST(rows_of_numbers)(SET a, const NUMBER *points, size_t n)
+{
+    size_t i;
+    for (i = 0; i < 8; i++) {
+        COUNT count = (COUNT)random_below(5), align = (COUNT)random_below(9), left, k;
+        NUMBER start = points[random_below((unsigned)n)], end = points[random_below((unsigned)n)], at = 77, run = 77, x;
+        bool fits = false, runs = false, some, all;
+        if (start < points[n > 1]) start = points[n > 1];
+        left = start <= end ? (COUNT)((COUNT)end - (COUNT)start) : 0;
+        if (left > 2000) continue;
+        for (x = start; start <= end && count <= left; x++, left--) {
+            for (k = 0, some = false, all = true; k < count; k++) {
+                bool on = CALL(contains)(a, (NUMBER)((COUNT)x + k));
+                some = some || on, all = all && on;
+            }
+            if (!fits && !some && align > 0 && (COUNT)((COUNT)x - (COUNT)LEAST) % align == 0) fits = true, at = x;
+            if (!runs && all) runs = true, run = x;
+            if (left == 0) break;
+        }
+        x = 77;
+        check(CALL(first_fit_aligned)(a, start, end, count, align, &x) == fits && x == at, "first_fit_aligned");
+        check(CALL(first_fit_aligned)(a, start, end, count, align, NULL) == fits, "first_fit_aligned without a place for the number");
+        x = 77;
+        check(CALL(first_run)(a, start, end, count, &x) == runs && x == run, "first_run");
+        check(CALL(first_run)(a, start, end, count, NULL) == runs, "first_run without a place for the number");
+    }
+}
+
 /* Where many numbers fit, and numbers on both sides of zero. */
 static void TEST(fits_far)(void)
 {
@@ -403,6 +433,12 @@ static void TEST(fits_far)(void)
     check(!CALL(first_fit)(set, LEAST, MOST, (COUNT)(between + 1), NULL), "first_fit of one more than the gap has");
     check(CALL(first_fit)(set, MOST - 5, MOST, 3, &at) && at == MOST - 3, "first_fit at the end");
     check(CALL(first_fit)(set, LEAST, LEAST, 0, &at) && at == LEAST, "first_fit of no number");
+    check(CALL(first_fit_aligned)(nothing, LEAST, MOST, 1, all, &at) && at == LEAST, "first_fit_aligned at the least number");
+    check(CALL(first_fit_aligned)(set, LEAST, MOST, 3, 4, &at) && at == LEAST + 4, "first_fit_aligned");
+    check(!CALL(first_fit_aligned)(set, LEAST, MOST, 1, 0, &at) && at == LEAST + 4, "first_fit_aligned to no multiple");
+    check(CALL(first_run)(set, LEAST + 1, MOST, 2, &at) && at == MOST - 5, "first_run");
+    check(!CALL(first_run)(set, LEAST, MOST, 3, &at) && at == MOST - 5, "first_run of one too many");
+    at = LEAST;
     check(!CALL(first_fit)(set, MOST, LEAST, 0, &at) && !CALL(first_fit)(set, MOST, LEAST, 1, &at) && at == LEAST,
         "first_fit in a reversed range");
 }
@@ -621,6 +657,7 @@ static void TEST(made_up)(void)
     TEST(next_ones)(o.a, points, on_a, n);
     TEST(previous_ones)(o.a, points, on_a, n);
     TEST(fits)(o.a, points, on_a, n);
+    TEST(rows_of_numbers)(o.a, points, n);
     TEST(unions)(points, n);
     TEST(printed_by_c)(o.a);
     TEST(ranges_parsed)(points, n);
