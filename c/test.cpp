@@ -112,7 +112,8 @@ template <class T> static void rows()
     check(back == std::vector<T>{14, 13, 12, 10, 9} && nothing.members().begin() == nothing.members().end(), "members, backwards");
     auto high = open->members().end();
     check(*--high == std::numeric_limits<T>::max() && *--high == std::numeric_limits<T>::max() - 1, "members, open");
-    check(++++high == open->members().end(), "members, past the last");
+    ++high;
+    check(++high == open->members().end(), "members, past the last");
     check(day.range_from(3) == day.first() && day.range_from(16) == day.first() && !day.range_from(17), "range_from");
     check(busy.is_subset(day) && day.is_superset(busy) && !day.is_subset(busy), "subset and superset");
     check(day.intersects(busy) && nothing.is_disjoint(day) && day.is_disjoint(nothing), "disjoint");
