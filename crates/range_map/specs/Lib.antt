@@ -9,3 +9,4 @@ pub mod Pairs
 pub mod Combining
 pub mod Units
 pub mod Depth
+pub mod Updated

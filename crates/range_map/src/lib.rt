@@ -14,10 +14,12 @@ mod replacing;
 mod runs;
 mod side;
 mod splicing;
+mod update;
 mod value;
 
 pub use insert_error::InsertError;
 pub use iter::Iter;
 pub use map::{RangeMap, Stretch};
 pub use operation::MapOperation;
+pub use update::MapUpdate;
 pub use value::MapValue;

@@ -15,6 +15,7 @@ mod ranges;
 mod sets;
 mod text;
 mod union;
+mod updating;
 
 use crate::places::option_before;
 use crate::replacing::set_range;

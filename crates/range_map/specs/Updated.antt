@@ -1,0 +1,13 @@
+-- What an update makes of a map.
+--     IsUpdated order E start end f a r    r has f of the option in the range, elsewhere what a has
+use Rattle.std.specs.Prelude.{Bool, cond, Option, Some}
+use Rattle.std.specs.declared.cmp.Ordering.{Ordering}
+use Rattle.range_map.specs.Steps.{Steps, value_at, AreAlike}
+use Rattle.range_map.specs.Changed.{is_in_range}
+
+-- f of the option in the range, and elsewhere the option as it was
+abbrev pub IsUpdated : {K V : Type 0} → (K → K → Ordering) → (V → V → Bool) → K → K →
+    (Option V → Option V) → Steps K V → Steps K V → Type 0
+IsUpdated {K} order E start end f a r =
+    (x : K) → AreAlike E (value_at order r x)
+    (cond (is_in_range order start (Some end) x) (f (value_at order a x)) (value_at order a x))
