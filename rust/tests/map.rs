@@ -235,12 +235,40 @@ fn operations_key_by_key() {
         let asked = both(&|a, b| if b.is_some() { None } else { a });
         assert_eq!(read(&a.without(&domain)), stretches(&asked));
 
+        let (mut updated, start, end) = (a.clone(), random.below(40) as u8, random.below(40) as u8);
+        let more = |value: Option<&u8>| {
+            if value == Some(&2) {
+                None
+            } else {
+                Some(value.map_or(9, |n| n + 1))
+            }
+        };
+        updated.update(start..end, more);
+        let asked: Cells = std::array::from_fn(|key| {
+            let inside = (start..end).contains(&(key as u8));
+            if inside {
+                more(left[key].as_ref())
+            } else {
+                left[key]
+            }
+        });
+        assert_eq!(read(&updated), stretches(&asked), "seed {seed}");
+
         let (x, y) = (
             fallible::RangeMap::from(a.clone()),
             fallible::RangeMap::from(b.clone()),
         );
         let refused = x.combine(&y, |_, _| Err::<Option<u8>, _>(fallible::AllocError));
         assert_eq!(refused.is_err(), !(a.is_empty() && b.is_empty()));
+        let mut same = fallible::RangeMap::from(a.clone());
+        assert_eq!(
+            same.update(start..end, |_| Err(fallible::AllocError))
+                .is_err(),
+            start < end
+        );
+        assert_eq!(read(&same), read(&a));
+        same.update(start..end, |value| Ok(more(value))).unwrap();
+        assert_eq!(read(&same), read(&updated));
         let found = x.combine(&y, |a, b| Ok(op(a, b))).unwrap();
         assert_eq!(read(&found), read(&a.combine(&b, op)));
         assert_eq!(x.union_with_left(&y).unwrap(), a.union_with_left(&b).into());

@@ -242,6 +242,32 @@ impl<K: EntryClone, V: MapValue> RangeMap<K, V> {
         self.try_combine(that, op)
     }
 
+    /// Gives each key of a range what `op` makes of its value, or of none. An empty or a reversed range changes nothing.
+    ///
+    /// It makes the map anew: it takes time for each step, and copies the values outside of the range.
+    ///
+    /// # Errors
+    ///
+    /// If memory, a copy or `op` fails. The map is then as it was.
+    ///
+    /// # Examples
+    ///
+    /// ```
+    /// use range_sets::fallible::{AllocError, RangeMap};
+    ///
+    /// let mut depth = RangeMap::from_ranges([(0..5, 1)])?;
+    /// depth.update(3..9, |count| Ok(Some(count.unwrap_or(&0) + 1)))?;
+    /// assert_eq!(format!("{depth:?}"), "{0..3: 1, 3..5: 2, 5..9: 1}");
+    /// # Ok::<(), AllocError>(())
+    /// ```
+    pub fn update(
+        &mut self,
+        range: Range<K>,
+        op: impl Fn(Option<&V>) -> Result<Option<V>, AllocError>,
+    ) -> Result<(), AllocError> {
+        self.try_update(range, op)
+    }
+
     /// Returns the map with the values of both. Where both have one, this map's stays.
     ///
     /// # Errors

@@ -4,7 +4,7 @@ use super::{Copies, Kept, Map, RangeMap};
 use crate::array::{Array, List};
 use crate::generated::range_collections::Comparisons;
 use crate::generated::range_entry::EntryClone;
-use crate::generated::range_map::{self as proved, MapOperation};
+use crate::generated::range_map::{self as proved, MapOperation, MapUpdate};
 use crate::memory::{expect_memory, AllocError};
 use crate::range_set::{RangeSet, RangeSetRef};
 use crate::support::Global;
@@ -34,6 +34,18 @@ where
     }
 }
 
+impl<V, C, F> MapUpdate<Kept<V, C>> for ByCall<F>
+where
+    V: Eq,
+    F: Fn(Option<&V>) -> Result<Option<V>, AllocError>,
+{
+    #[inline(always)]
+    fn apply(&self, option: Option<&Kept<V, C>>) -> Result<Option<Kept<V, C>>, AllocError> {
+        let made = (self.0)(option.map(|kept| &kept.value));
+        made.map(|option| option.map(Kept::new))
+    }
+}
+
 impl<K: Ord + EntryClone, V: Eq, C> Map<K, V, C> {
     #[inline]
     pub(crate) fn try_combine<W: Eq, U: Eq>(
@@ -51,6 +63,15 @@ impl<K: Ord + EntryClone, V: Eq, C> Map<K, V, C> {
 }
 
 impl<K: Ord + EntryClone, V: Eq, C: Copies<V>> Map<K, V, C> {
+    /// The new map is made aside, so a panic leaves the old one.
+    pub(crate) fn try_update(
+        &mut self,
+        range: Range<K>,
+        op: impl Fn(Option<&V>) -> Result<Option<V>, AllocError>,
+    ) -> Result<(), AllocError> {
+        self.0.update(range, &ByCall(op))
+    }
+
     pub(crate) fn try_union_with_left(&self, that: &Self) -> Result<Self, AllocError> {
         self.0.union_with_left(Global, &that.0).map(Map)
     }
@@ -128,6 +149,23 @@ impl<K: EntryClone, V: Eq + Clone> RangeMap<K, V> {
         op: impl Fn(Option<&V>, Option<&W>) -> Option<U>,
     ) -> RangeMap<K, U> {
         expect_memory::<K, _, _>(self.try_combine(that, |a, b| Ok(op(a, b))))
+    }
+
+    /// Gives each key of a range what `op` makes of its value, or of none. An empty or a reversed range changes nothing.
+    ///
+    /// It makes the map anew: it takes time for each step, and clones the values outside of the range.
+    ///
+    /// # Examples
+    ///
+    /// ```
+    /// use range_sets::RangeMap;
+    ///
+    /// let mut depth = RangeMap::from_iter([(0..5, 1)]);
+    /// depth.update(3..9, |count| Some(count.unwrap_or(&0) + 1));
+    /// assert_eq!(format!("{depth:?}"), "{0..3: 1, 3..5: 2, 5..9: 1}");
+    /// ```
+    pub fn update(&mut self, range: Range<K>, op: impl Fn(Option<&V>) -> Option<V>) {
+        expect_memory::<K, _, _>(self.try_update(range, |value| Ok(op(value))));
     }
 
     /// Returns the map with the values of both. Where both have one, this map's stays.

@@ -35,6 +35,13 @@ impl<T: EntryClone> EntryClone for Vec<T> {
     }
 }
 
+impl MapValue for () {
+    #[inline(always)]
+    fn copy_value(&self) -> Result<Self, AllocError> {
+        Ok(())
+    }
+}
+
 /// The copy that it has as an element.
 impl<T: EntryClone> MapValue for T {
     #[inline(always)]

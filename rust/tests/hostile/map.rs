@@ -24,7 +24,7 @@ struct Change {
     asked: fn(&mut Cells, Range<u16>, u16),
 }
 
-const CHANGES: [Change; 10] = [
+const CHANGES: [Change; 11] = [
     Change {
         name: "insert",
         call: |map, range, value| map.insert(range, value),
@@ -79,6 +79,11 @@ const CHANGES: [Change; 10] = [
     Change {
         name: "fallible insert",
         call: |map, range, value| fallibly(map, |map| map.insert(range, value)),
+        asked: inserted,
+    },
+    Change {
+        name: "update",
+        call: |map, range, value| map.update(range, |_| Some(value.clone())),
         asked: inserted,
     },
     Change {

@@ -49,11 +49,20 @@ const BOOK: Change = |map, range| {
         })
 };
 const REMOVE: Change = |map, range| map.remove(range);
+const UPDATE: Change =
+    |map, range| map.update(range, |it| it.map(MapValue::copy_value).transpose());
 const INSERT_FROM: Change = |map, range| map.insert(range.start.., unrefused(|| value(7)));
 const REMOVE_FROM: Change = |map, range| map.remove(range.start..);
 
 /// A map of so many ranges has two keys for each, and room for a power of two.
-const ROWS: [Row; 17] = [
+const ROWS: [Row; 18] = [
+    Row {
+        what: "a range updated",
+        change: UPDATE,
+        ranges: 9,
+        range: 12..43,
+        asks: true,
+    },
     Row {
         what: "a free range where there is room",
         change: BOOK,

@@ -9,6 +9,7 @@ pub(crate) mod equality;
 pub(crate) mod ranges;
 pub(crate) mod sets;
 pub(crate) mod union;
+pub(crate) mod updating;
 
 use crate::generated::range_collections::Comparisons;
 use crate::generated::range_map::places::option_before;

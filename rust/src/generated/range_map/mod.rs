@@ -13,10 +13,12 @@ pub(crate) mod replacing;
 pub(crate) mod runs;
 pub(crate) mod side;
 pub(crate) mod splicing;
+pub(crate) mod update;
 pub(crate) mod value;
 
 pub use insert_error::InsertError;
 pub use iter::Iter;
 pub use map::{RangeMap, Stretch};
 pub use operation::MapOperation;
+pub use update::MapUpdate;
 pub use value::MapValue;
