@@ -1,12 +1,12 @@
 //! Made-up maps: operations on them have the values of arrays of options that are treated alike.
 ghost use Rattle.std.specs.Bool.{beq};
 ghost use Rattle.std.specs.Option.{is_some};
-ghost use Rattle.std.specs.Prelude.{not};
+ghost use Rattle.std.specs.Prelude.{cond, not, Some, None};
 ghost use Rattle.range_map.specs.Units.{unit_if};
 
 use crate::made_up::{KEYS, LIMIT, next_range, set};
 use range_collections::{Comparisons, RangeSet2};
-use range_map::{MapOperation, RangeMap};
+use range_map::{MapOperation, MapUpdate, RangeMap};
 use range_tests_kit::generator::Generator;
 use std::alloc::{AllocError, Global};
 use std::ops::Range;
@@ -28,6 +28,20 @@ impl MapOperation<u64, u64> for OneAlone {
             Ok(None)
         } else {
             Ok(Some(()))
+        }
+    }
+}
+
+// A value where there is none, and none where there is one.
+struct Turn;
+
+impl MapUpdate<u64> for Turn {
+    ghost gives = { λ _ p. cond (is_some p) None (Some 7) };
+
+    fn apply(&self, option: Option<&u64>) -> Result<Option<u64>, AllocError> {
+        match option {
+            Some(_) => Ok(None),
+            None => Ok(Some(7)),
         }
     }
 }
@@ -204,6 +218,33 @@ fn made_up_ranges_are_counted_and_inserted(rt: HostRuntime) -> Result<(), AllocE
         let depth = RangeMap::depth(rt.alloc(), ranges.as_slice())?;
         assert!(rt; has_depths(&depth, ranges.as_slice()), "{sequence}");
         let map = RangeMap::from_ranges(rt.alloc(), pairs)?;
+        assert!(rt; has(&map, &options), "{sequence}");
+    }
+    Ok(())
+}
+
+// Turns the options of the range.
+fn turn_options(options: &mut Options, range: &Range<u64>) {
+    for key in 0..LIMIT {
+        if range.start <= key && key < range.end {
+            options[key as usize] = match options[key as usize] {
+                Some(_) => None,
+                None => Some(7),
+            };
+        }
+    }
+}
+
+#[test]
+fn made_up_maps_are_updated(rt: HostRuntime) -> Result<(), AllocError> {
+    let mut generator = Generator::new();
+    for sequence in 0..10_000u64 {
+        let (mut map, mut options) = made_up(rt.alloc(), &mut generator)?;
+        for _ in 0..4 {
+            let range = next_range(&mut generator);
+            turn_options(&mut options, &range);
+            map.update(range, &Turn)?;
+        }
         assert!(rt; has(&map, &options), "{sequence}");
     }
     Ok(())
