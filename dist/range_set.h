@@ -32,7 +32,7 @@
  * at most as many boundaries as both sets together. A set that grows range by range, as those of a download, stands in a
  * buffer and changes there: `buffer_of`, `insert`, `remove`. An owned set has a buffer that grows.
  *
- * But for those of owned sets and sets in chunks no call takes memory. None keeps state, and all are safe to call from several threads, each of
+ * But for those of owned sets, sets in chunks and maps no call takes memory. None keeps state, and all are safe to call from several threads, each of
  * which changes sets of its own.
  *
  * There are sets of int32_t, uint32_t, int64_t and uint64_t: the calls of one type have i32, u32, i64 or u64 in their
@@ -178,6 +178,9 @@ bool range_set_i32_prev_gap(range_set_i32 set, int32_t from, int32_t *previous);
  * Looks at each boundary up to the answer once. */
 bool range_set_i32_select(range_set_i32 set, uint64_t k, int32_t *at);
 
+/* How many members are below `at`. Looks at each boundary below `at` once. */
+uint64_t range_set_i32_rank(range_set_i32 set, int32_t at);
+
 /* Whether the set has a range with `index` others before it, and then that range. A loop over all of them:
  *
  *     for (size_t i = 0; range_set_i32_get(set, i, &range); i++) ..
@@ -317,6 +320,15 @@ RANGE_SET_STATUS range_set_i32_parse(const char *text, size_t text_len, int32_t 
  * at `start`, if end >= start. Looks at each boundary from `start` on, up to the answer. */
 bool range_set_i32_first_fit(range_set_i32 set, int32_t start, int32_t end, uint32_t count, int32_t *first);
 
+/* The same, but only where as many numbers of the type are below the first as a multiple of `align`: for a type without a sign, where
+ * the number is one. An `align` of 0 fits nowhere. */
+bool range_set_i32_first_fit_aligned(range_set_i32 set, int32_t start, int32_t end, uint32_t count, uint32_t align,
+                                          int32_t *first);
+
+/* Whether `count` members in a row lie in `start` to below `end`, and then the least number that such begin with. Else, and with a
+ * count of 0, as `first_fit`. Looks at each boundary from `start` on, up to the answer. */
+bool range_set_i32_first_run(range_set_i32 set, int32_t start, int32_t end, uint32_t count, int32_t *first);
+
 /* ---- Sets of int32_t that change in their buffer ---- */
 
 /* The empty set in a buffer with room for so many numbers. */
@@ -422,9 +434,13 @@ RANGE_SET_STATUS range_set_i32_chunked_remove(range_set_i32_chunked *set, int32_
 RANGE_SET_STATUS range_set_i32_chunked_insert_from(range_set_i32_chunked *set, int32_t start);
 RANGE_SET_STATUS range_set_i32_chunked_remove_from(range_set_i32_chunked *set, int32_t start);
 
-/* As `contains` and `contains_range`. */
+/* Takes all numbers out. Does nothing where `set` is null or no set. */
+void range_set_i32_chunked_clear(range_set_i32_chunked *set);
+
+/* As `contains`, `contains_range` and `intersects_range`. */
 bool range_set_i32_chunked_contains(range_set_i32_chunked set, int32_t value);
 bool range_set_i32_chunked_contains_range(range_set_i32_chunked set, int32_t start, int32_t end);
+bool range_set_i32_chunked_intersects_range(range_set_i32_chunked set, int32_t start, int32_t end);
 
 /* Whether there is a member at or above `from`, a number that is none, and then the least one. `next` may be null. */
 bool range_set_i32_chunked_next_member(range_set_i32_chunked set, int32_t from, int32_t *next);
@@ -518,6 +534,9 @@ bool range_set_u32_prev_gap(range_set_u32 set, uint32_t from, uint32_t *previous
 /* Whether the set has more than `k` members, and then the one with `k` others below it. Else `at` is as it was. It may be null.
  * Looks at each boundary up to the answer once. */
 bool range_set_u32_select(range_set_u32 set, uint64_t k, uint32_t *at);
+
+/* How many members are below `at`. Looks at each boundary below `at` once. */
+uint64_t range_set_u32_rank(range_set_u32 set, uint32_t at);
 
 /* Whether the set has a range with `index` others before it, and then that range. A loop over all of them:
  *
@@ -658,6 +677,15 @@ RANGE_SET_STATUS range_set_u32_parse(const char *text, size_t text_len, uint32_t
  * at `start`, if end >= start. Looks at each boundary from `start` on, up to the answer. */
 bool range_set_u32_first_fit(range_set_u32 set, uint32_t start, uint32_t end, uint32_t count, uint32_t *first);
 
+/* The same, but only where as many numbers of the type are below the first as a multiple of `align`: for a type without a sign, where
+ * the number is one. An `align` of 0 fits nowhere. */
+bool range_set_u32_first_fit_aligned(range_set_u32 set, uint32_t start, uint32_t end, uint32_t count, uint32_t align,
+                                          uint32_t *first);
+
+/* Whether `count` members in a row lie in `start` to below `end`, and then the least number that such begin with. Else, and with a
+ * count of 0, as `first_fit`. Looks at each boundary from `start` on, up to the answer. */
+bool range_set_u32_first_run(range_set_u32 set, uint32_t start, uint32_t end, uint32_t count, uint32_t *first);
+
 /* ---- Sets of uint32_t that change in their buffer ---- */
 
 /* The empty set in a buffer with room for so many numbers. */
@@ -763,9 +791,13 @@ RANGE_SET_STATUS range_set_u32_chunked_remove(range_set_u32_chunked *set, uint32
 RANGE_SET_STATUS range_set_u32_chunked_insert_from(range_set_u32_chunked *set, uint32_t start);
 RANGE_SET_STATUS range_set_u32_chunked_remove_from(range_set_u32_chunked *set, uint32_t start);
 
-/* As `contains` and `contains_range`. */
+/* Takes all numbers out. Does nothing where `set` is null or no set. */
+void range_set_u32_chunked_clear(range_set_u32_chunked *set);
+
+/* As `contains`, `contains_range` and `intersects_range`. */
 bool range_set_u32_chunked_contains(range_set_u32_chunked set, uint32_t value);
 bool range_set_u32_chunked_contains_range(range_set_u32_chunked set, uint32_t start, uint32_t end);
+bool range_set_u32_chunked_intersects_range(range_set_u32_chunked set, uint32_t start, uint32_t end);
 
 /* Whether there is a member at or above `from`, a number that is none, and then the least one. `next` may be null. */
 bool range_set_u32_chunked_next_member(range_set_u32_chunked set, uint32_t from, uint32_t *next);
@@ -859,6 +891,9 @@ bool range_set_i64_prev_gap(range_set_i64 set, int64_t from, int64_t *previous);
 /* Whether the set has more than `k` members, and then the one with `k` others below it. Else `at` is as it was. It may be null.
  * Looks at each boundary up to the answer once. */
 bool range_set_i64_select(range_set_i64 set, uint64_t k, int64_t *at);
+
+/* How many members are below `at`. Looks at each boundary below `at` once. */
+uint64_t range_set_i64_rank(range_set_i64 set, int64_t at);
 
 /* Whether the set has a range with `index` others before it, and then that range. A loop over all of them:
  *
@@ -999,6 +1034,15 @@ RANGE_SET_STATUS range_set_i64_parse(const char *text, size_t text_len, int64_t 
  * at `start`, if end >= start. Looks at each boundary from `start` on, up to the answer. */
 bool range_set_i64_first_fit(range_set_i64 set, int64_t start, int64_t end, uint64_t count, int64_t *first);
 
+/* The same, but only where as many numbers of the type are below the first as a multiple of `align`: for a type without a sign, where
+ * the number is one. An `align` of 0 fits nowhere. */
+bool range_set_i64_first_fit_aligned(range_set_i64 set, int64_t start, int64_t end, uint64_t count, uint64_t align,
+                                          int64_t *first);
+
+/* Whether `count` members in a row lie in `start` to below `end`, and then the least number that such begin with. Else, and with a
+ * count of 0, as `first_fit`. Looks at each boundary from `start` on, up to the answer. */
+bool range_set_i64_first_run(range_set_i64 set, int64_t start, int64_t end, uint64_t count, int64_t *first);
+
 /* ---- Sets of int64_t that change in their buffer ---- */
 
 /* The empty set in a buffer with room for so many numbers. */
@@ -1104,9 +1148,13 @@ RANGE_SET_STATUS range_set_i64_chunked_remove(range_set_i64_chunked *set, int64_
 RANGE_SET_STATUS range_set_i64_chunked_insert_from(range_set_i64_chunked *set, int64_t start);
 RANGE_SET_STATUS range_set_i64_chunked_remove_from(range_set_i64_chunked *set, int64_t start);
 
-/* As `contains` and `contains_range`. */
+/* Takes all numbers out. Does nothing where `set` is null or no set. */
+void range_set_i64_chunked_clear(range_set_i64_chunked *set);
+
+/* As `contains`, `contains_range` and `intersects_range`. */
 bool range_set_i64_chunked_contains(range_set_i64_chunked set, int64_t value);
 bool range_set_i64_chunked_contains_range(range_set_i64_chunked set, int64_t start, int64_t end);
+bool range_set_i64_chunked_intersects_range(range_set_i64_chunked set, int64_t start, int64_t end);
 
 /* Whether there is a member at or above `from`, a number that is none, and then the least one. `next` may be null. */
 bool range_set_i64_chunked_next_member(range_set_i64_chunked set, int64_t from, int64_t *next);
@@ -1126,6 +1174,50 @@ size_t range_set_i64_chunked_boundaries_len(range_set_i64_chunked set);
 /* Writes the set as a list, as other calls write sets. */
 RANGE_SET_STATUS range_set_i64_chunked_copy(range_set_i64_chunked set, int64_t *out, size_t room,
                                                  range_set_i64 *result);
+
+/* ---- Maps from ranges of int64_t to numbers ---- */
+
+/* A map that gives ranges values. A key has the value of the last range that was put around it, or none; ranges that touch and have
+ * equal values are one. It is one list: among n ranges a search makes about log n comparisons, and a change moves all that come
+ * after it. As of a set in chunks its memory comes from malloc, the field is for the library alone, {NULL} is no map, and only one
+ * call at a time may be given a map. */
+typedef struct range_map_i64 {
+    void *at;
+} range_map_i64;
+
+/* The longest range whose keys have one value, or all have none. Without a start it has all lower keys, without an end all higher
+ * ones. */
+typedef struct range_map_i64_stretch {
+    int64_t start, end;
+    uint64_t value;
+    bool has_start, has_end, has_value;
+} range_map_i64_stretch;
+
+/* Makes a map in which no key has a value. It has to be freed. Where an allocation fails there is none. */
+RANGE_SET_STATUS range_map_i64_new(range_map_i64 *map);
+
+/* Gives the memory back, and leaves {NULL}. Does nothing where `map` is null or no map. */
+void range_map_i64_free(range_map_i64 *map);
+
+/* Gives the keys from `start` to below `end` the value, takes their values away; or those of all keys from `start` on. Where an
+ * allocation fails the map is as it was. */
+RANGE_SET_STATUS range_map_i64_insert(range_map_i64 *map, int64_t start, int64_t end, uint64_t value);
+RANGE_SET_STATUS range_map_i64_remove(range_map_i64 *map, int64_t start, int64_t end);
+RANGE_SET_STATUS range_map_i64_insert_from(range_map_i64 *map, int64_t start, uint64_t value);
+RANGE_SET_STATUS range_map_i64_remove_from(range_map_i64 *map, int64_t start);
+
+/* Whether the key has a value, and then which. `value` may be null. */
+bool range_map_i64_get(range_map_i64 map, int64_t key, uint64_t *value);
+
+/* The longest range around the key whose keys have its value, or as it none. A loop over all of them:
+ *
+ *     range_map_i64_stretch it = range_map_i64_range_at(map, INT64_MIN);
+ *     for (bool more = true; more; more = it.has_end, it = range_map_i64_range_at(map, it.end)) ..
+ */
+range_map_i64_stretch range_map_i64_range_at(range_map_i64 map, int64_t key);
+
+/* How many ranges have a value. */
+size_t range_map_i64_len(range_map_i64 map);
 
 /* ---- Sets of uint64_t ---- */
 
@@ -1200,6 +1292,9 @@ bool range_set_u64_prev_gap(range_set_u64 set, uint64_t from, uint64_t *previous
 /* Whether the set has more than `k` members, and then the one with `k` others below it. Else `at` is as it was. It may be null.
  * Looks at each boundary up to the answer once. */
 bool range_set_u64_select(range_set_u64 set, uint64_t k, uint64_t *at);
+
+/* How many members are below `at`. Looks at each boundary below `at` once. */
+uint64_t range_set_u64_rank(range_set_u64 set, uint64_t at);
 
 /* Whether the set has a range with `index` others before it, and then that range. A loop over all of them:
  *
@@ -1340,6 +1435,15 @@ RANGE_SET_STATUS range_set_u64_parse(const char *text, size_t text_len, uint64_t
  * at `start`, if end >= start. Looks at each boundary from `start` on, up to the answer. */
 bool range_set_u64_first_fit(range_set_u64 set, uint64_t start, uint64_t end, uint64_t count, uint64_t *first);
 
+/* The same, but only where as many numbers of the type are below the first as a multiple of `align`: for a type without a sign, where
+ * the number is one. An `align` of 0 fits nowhere. */
+bool range_set_u64_first_fit_aligned(range_set_u64 set, uint64_t start, uint64_t end, uint64_t count, uint64_t align,
+                                          uint64_t *first);
+
+/* Whether `count` members in a row lie in `start` to below `end`, and then the least number that such begin with. Else, and with a
+ * count of 0, as `first_fit`. Looks at each boundary from `start` on, up to the answer. */
+bool range_set_u64_first_run(range_set_u64 set, uint64_t start, uint64_t end, uint64_t count, uint64_t *first);
+
 /* ---- Sets of uint64_t that change in their buffer ---- */
 
 /* The empty set in a buffer with room for so many numbers. */
@@ -1445,9 +1549,13 @@ RANGE_SET_STATUS range_set_u64_chunked_remove(range_set_u64_chunked *set, uint64
 RANGE_SET_STATUS range_set_u64_chunked_insert_from(range_set_u64_chunked *set, uint64_t start);
 RANGE_SET_STATUS range_set_u64_chunked_remove_from(range_set_u64_chunked *set, uint64_t start);
 
-/* As `contains` and `contains_range`. */
+/* Takes all numbers out. Does nothing where `set` is null or no set. */
+void range_set_u64_chunked_clear(range_set_u64_chunked *set);
+
+/* As `contains`, `contains_range` and `intersects_range`. */
 bool range_set_u64_chunked_contains(range_set_u64_chunked set, uint64_t value);
 bool range_set_u64_chunked_contains_range(range_set_u64_chunked set, uint64_t start, uint64_t end);
+bool range_set_u64_chunked_intersects_range(range_set_u64_chunked set, uint64_t start, uint64_t end);
 
 /* Whether there is a member at or above `from`, a number that is none, and then the least one. `next` may be null. */
 bool range_set_u64_chunked_next_member(range_set_u64_chunked set, uint64_t from, uint64_t *next);
@@ -1467,6 +1575,50 @@ size_t range_set_u64_chunked_boundaries_len(range_set_u64_chunked set);
 /* Writes the set as a list, as other calls write sets. */
 RANGE_SET_STATUS range_set_u64_chunked_copy(range_set_u64_chunked set, uint64_t *out, size_t room,
                                                  range_set_u64 *result);
+
+/* ---- Maps from ranges of uint64_t to numbers ---- */
+
+/* A map that gives ranges values. A key has the value of the last range that was put around it, or none; ranges that touch and have
+ * equal values are one. It is one list: among n ranges a search makes about log n comparisons, and a change moves all that come
+ * after it. As of a set in chunks its memory comes from malloc, the field is for the library alone, {NULL} is no map, and only one
+ * call at a time may be given a map. */
+typedef struct range_map_u64 {
+    void *at;
+} range_map_u64;
+
+/* The longest range whose keys have one value, or all have none. Without a start it has all lower keys, without an end all higher
+ * ones. */
+typedef struct range_map_u64_stretch {
+    uint64_t start, end;
+    uint64_t value;
+    bool has_start, has_end, has_value;
+} range_map_u64_stretch;
+
+/* Makes a map in which no key has a value. It has to be freed. Where an allocation fails there is none. */
+RANGE_SET_STATUS range_map_u64_new(range_map_u64 *map);
+
+/* Gives the memory back, and leaves {NULL}. Does nothing where `map` is null or no map. */
+void range_map_u64_free(range_map_u64 *map);
+
+/* Gives the keys from `start` to below `end` the value, takes their values away; or those of all keys from `start` on. Where an
+ * allocation fails the map is as it was. */
+RANGE_SET_STATUS range_map_u64_insert(range_map_u64 *map, uint64_t start, uint64_t end, uint64_t value);
+RANGE_SET_STATUS range_map_u64_remove(range_map_u64 *map, uint64_t start, uint64_t end);
+RANGE_SET_STATUS range_map_u64_insert_from(range_map_u64 *map, uint64_t start, uint64_t value);
+RANGE_SET_STATUS range_map_u64_remove_from(range_map_u64 *map, uint64_t start);
+
+/* Whether the key has a value, and then which. `value` may be null. */
+bool range_map_u64_get(range_map_u64 map, uint64_t key, uint64_t *value);
+
+/* The longest range around the key whose keys have its value, or as it none. A loop over all of them:
+ *
+ *     range_map_u64_stretch it = range_map_u64_range_at(map, 0);
+ *     for (bool more = true; more; more = it.has_end, it = range_map_u64_range_at(map, it.end)) ..
+ */
+range_map_u64_stretch range_map_u64_range_at(range_map_u64 map, uint64_t key);
+
+/* How many ranges have a value. */
+size_t range_map_u64_len(range_map_u64 map);
 
 #ifdef __cplusplus
 }

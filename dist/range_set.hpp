@@ -86,6 +86,7 @@ template <class T> struct calls_of;
         static constexpr auto prev_member = range_set_##number##_prev_member; \
         static constexpr auto prev_gap = range_set_##number##_prev_gap; \
         static constexpr auto select = range_set_##number##_select; \
+        static constexpr auto rank = range_set_##number##_rank; \
         static constexpr auto get = range_set_##number##_get; \
         static constexpr auto last = range_set_##number##_last; \
         static constexpr auto ranges_len = range_set_##number##_ranges_len; \
@@ -98,6 +99,8 @@ template <class T> struct calls_of;
         static constexpr auto negation = range_set_##number##_negation; \
         static constexpr auto gaps = range_set_##number##_gaps; \
         static constexpr auto first_fit = range_set_##number##_first_fit; \
+        static constexpr auto first_fit_aligned = range_set_##number##_first_fit_aligned; \
+        static constexpr auto first_run = range_set_##number##_first_run; \
         static constexpr auto print = range_set_##number##_print; \
         static constexpr auto parse = range_set_##number##_parse; \
         static constexpr auto insert = range_set_##number##_insert; \
@@ -113,6 +116,7 @@ template <class T> struct calls_of;
         static constexpr auto chunked_remove_from = range_set_##number##_chunked_remove_from; \
         static constexpr auto chunked_contains = range_set_##number##_chunked_contains; \
         static constexpr auto chunked_contains_range = range_set_##number##_chunked_contains_range; \
+        static constexpr auto chunked_intersects_range = range_set_##number##_chunked_intersects_range; \
         static constexpr auto chunked_next_member = range_set_##number##_chunked_next_member; \
         static constexpr auto chunked_next_gap = range_set_##number##_chunked_next_gap; \
         static constexpr auto chunked_next = range_set_##number##_chunked_next; \
@@ -174,6 +178,92 @@ template <class T> struct operators {
 private:
     static range_set_view<T> viewed(operand<T> a) noexcept { return range_set_view<T>(a.set); }
     static range_set<T> combined(operand<T> a, operand<T> b, unsigned keep) { return range_set<T>::combine(a, b, keep); }
+};
+
+} // namespace detail
+
+namespace detail {
+
+// The members of a set, from the lowest on and from the highest down, until the set changes.
+template <class T> class members {
+    using calls = detail::calls<T>;
+
+public:
+    class iterator {
+    public:
+        using iterator_concept = std::bidirectional_iterator_tag;
+        using iterator_category = std::input_iterator_tag;
+        using value_type = T;
+        using difference_type = std::ptrdiff_t;
+        using reference = T;
+        using pointer = void;
+
+        iterator() noexcept = default;
+        iterator(typename calls::set set, std::size_t index) noexcept : set_(set) { enter(index); }
+
+        reference operator*() const noexcept { return value_; }
+        iterator &operator++() noexcept
+        {
+            if (value_ == last())
+                enter(index_ + 1);
+            else
+                ++value_;
+            return *this;
+        }
+        iterator &operator--() noexcept
+        {
+            if (is_there_ && value_ != static_cast<T>(part_.start)) {
+                --value_;
+            } else {
+                enter(index_ - 1);
+                value_ = last();
+            }
+            return *this;
+        }
+        iterator operator++(int) noexcept
+        {
+            const iterator before = *this;
+            ++*this;
+            return before;
+        }
+        iterator operator--(int) noexcept
+        {
+            const iterator after = *this;
+            --*this;
+            return after;
+        }
+
+        // Of two iterators of one set.
+        friend bool operator==(const iterator &a, const iterator &b) noexcept
+        {
+            return a.index_ == b.index_ && (!a.is_there_ || a.value_ == b.value_);
+        }
+        friend bool operator!=(const iterator &a, const iterator &b) noexcept { return !(a == b); }
+
+    private:
+        // Goes to the first number of a range, or past all.
+        void enter(std::size_t index) noexcept
+        {
+            index_ = index;
+            is_there_ = calls::get(set_, index, &part_);
+            if (is_there_) value_ = part_.start;
+        }
+        T last() const noexcept { return part_.has_end ? static_cast<T>(part_.end - 1) : std::numeric_limits<T>::max(); }
+
+        typename calls::set set_ = {};
+        typename calls::part part_ = {};
+        std::size_t index_ = 0;
+        bool is_there_ = false;
+        T value_ = 0;
+    };
+    using const_iterator = iterator;
+
+    explicit members(typename calls::set set) noexcept : set_(set) {}
+    iterator begin() const noexcept { return iterator(set_, 0); }
+    iterator end() const noexcept { return iterator(set_, calls::ranges_len(set_)); }
+
+private:
+    typename calls::set set_;
 };
 
 } // namespace detail
@@ -347,6 +437,9 @@ public:
         number previous = 0;
         return told(calls::prev_gap(set_, from, &previous), previous);
     }
+    // The members one by one, and how many are below a number.
+    detail::members<T> members() const noexcept { return detail::members<T>(set_); }
+    std::uint64_t rank(T at) const noexcept { return calls::rank(set_, at); }
     // The member with `k` others below it, or nothing.
     std::optional<T> select(std::uint64_t k) const noexcept
     {
@@ -359,6 +452,18 @@ public:
     {
         number first = start;
         return told(calls::first_fit(set_, start, end, count, &first), first);
+    }
+    // The same, but only where as many numbers of the type are below the first as a multiple of `align`.
+    std::optional<T> first_fit_aligned(T start, T end, std::make_unsigned_t<T> count, std::make_unsigned_t<T> align) const noexcept
+    {
+        number first = start;
+        return told(calls::first_fit_aligned(set_, start, end, count, align, &first), first);
+    }
+    // The least number from which on `count` members in a row lie in `start` to below `end`, or nothing.
+    std::optional<T> first_run(T start, T end, std::make_unsigned_t<T> count) const noexcept
+    {
+        number first = start;
+        return told(calls::first_run(set_, start, end, count, &first), first);
     }
 
     // The ranges as a text, "0..10, 20..".
@@ -500,6 +605,9 @@ public:
     std::optional<T> next_gap(T from) const noexcept { return view().next_gap(from); }
     std::optional<T> prev_member(T from) const noexcept { return view().prev_member(from); }
     std::optional<T> prev_gap(T from) const noexcept { return view().prev_gap(from); }
+    detail::members<T> members() const & noexcept { return view().members(); }
+    detail::members<T> members() const && = delete;
+    std::uint64_t rank(T at) const noexcept { return view().rank(at); }
     std::optional<T> select(std::uint64_t k) const noexcept { return view().select(k); }
     std::optional<range<T>> first() const noexcept { return view().first(); }
     std::optional<range<T>> last() const noexcept { return view().last(); }
@@ -507,6 +615,11 @@ public:
     iterator end() const noexcept { return view().end(); }
     std::size_t size() const noexcept { return view().size(); }
     std::optional<T> first_fit(T start, T end, std::make_unsigned_t<T> count) const noexcept { return view().first_fit(start, end, count); }
+    std::optional<T> first_fit_aligned(T start, T end, std::make_unsigned_t<T> count, std::make_unsigned_t<T> align) const noexcept
+    {
+        return view().first_fit_aligned(start, end, count, align);
+    }
+    std::optional<T> first_run(T start, T end, std::make_unsigned_t<T> count) const noexcept { return view().first_run(start, end, count); }
     std::string text() const { return view().text(); }
     range_set gaps(T start, T end) const { return view().gaps(start, end); }
     range_set negation() const { return view().negation(); }
@@ -652,6 +765,7 @@ public:
 
     bool contains(T value) const noexcept { return calls::chunked_contains(set_, value); }
     bool contains_range(T start, T end) const noexcept { return calls::chunked_contains_range(set_, start, end); }
+    bool intersects_range(T start, T end) const noexcept { return calls::chunked_intersects_range(set_, start, end); }
     bool empty() const noexcept { return calls::chunked_boundaries_len(set_) == 0; }
     // The least member at or above a number, the least number that is none, or nothing.
     std::optional<T> next_member(T from) const noexcept { return next(calls::chunked_next_member, from); }
