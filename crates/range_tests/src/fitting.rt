@@ -1,8 +1,6 @@
 //! Where a stretch of values fits beside the members of a set, or in them.
 use range_collections::{FromPlace, RangeSet, RangeSet2, RangeSetRef, Unsigned};
 use range_tests_kit::lists::own;
-use std::alloc::Global;
-use std::default::MadeWith;
 use std::ops::Range;
 
 // Boundaries, the start and the end of a range, a length, and where it fits.
@@ -69,11 +67,6 @@ const LONGEST: [Stretch<'static, u128>; 5] = [
 
 const LAST: u128 = u128::MAX;
 
-// Whether the stretch of the row fits there, beside the members of the set and of its view.
-fn fits<T: Unsigned + MadeWith<Global> + Drop>(alloc: Global, row: &Stretch<T>) -> bool {
-    fit(own(alloc, row.items), row.start, row.end, row.len) == Some([row.want; 2])
-}
-
 // Where the stretch fits beside the members of the set, and of its view.
 fn fit<T: Unsigned + Drop>(
     set: Option<RangeSet2<T>>,
@@ -92,13 +85,16 @@ fn fit<T: Unsigned + Drop>(
 fn stretches_fit_where_they_first_can(rt: HostRuntime) {
     let alloc = rt.alloc();
     for row in &BYTES {
-        assert!(rt; fits(alloc, row), "{row:?}");
+        let found = fit(own(alloc, row.items), row.start, row.end, row.len);
+        assert!(rt; found == Some([row.want; 2]), "{row:?}");
     }
     for row in &LONG {
-        assert!(rt; fits(alloc, row), "{row:?}");
+        let found = fit(own(alloc, row.items), row.start, row.end, row.len);
+        assert!(rt; found == Some([row.want; 2]), "{row:?}");
     }
     for row in &LONGEST {
-        assert!(rt; fits(alloc, row), "{row:?}");
+        let found = fit(own(alloc, row.items), row.start, row.end, row.len);
+        assert!(rt; found == Some([row.want; 2]), "{row:?}");
     }
     assert!(rt; fit(own(alloc, &[2, 4]), 0u16, 9, 3) == Some([Some(4); 2]));
     assert!(rt; fit(own(alloc, &[2, 4]), 0u32, 9, 2) == Some([Some(0); 2]));

@@ -253,5 +253,6 @@ fn every_value_is_a_member_of_the_whole(rt: HostRuntime) {
     assert!(rt; members.next() == Some(0) && members.next_back() == Some(u128::MAX));
     assert!(rt; members.next() == Some(1) && members.next_back() == Some(u128::MAX - 1));
     let bytes = RangeSetRef::new(&[0_u8]).unwrap_or_default();
-    assert!(rt; bytes.members().count() == 256);
+    let mut members = bytes.members();
+    assert!(rt; members.next() == Some(0) && members.next_back() == Some(255));
 }

@@ -2,8 +2,6 @@
 use range_collections::{Comparisons, RangeSet2, RangeSetRef};
 use range_tests_kit::elements::Only;
 use range_tests_kit::lists::own;
-use std::alloc::Global;
-use std::default::MadeWith;
 
 // Boundaries, a point, and the boundaries of both parts.
 #[derive(Clone, Copy, Debug)]
@@ -38,37 +36,36 @@ const SIGNED: [Cut<'static, i64>; 5] = [
     Cut { items: &[0, 10, 20], at: 10, left: &[0], right: &[20] },
 ];
 
-// Whether the parts have the boundaries of the row.
-fn are<T: Ord>(parts: (RangeSetRef<T>, RangeSetRef<T>), row: &Cut<T>) -> bool {
-    parts.0.boundaries() == row.left && parts.1.boundaries() == row.right
+// Whether the parts have these boundaries.
+fn are<T: Ord>(parts: (RangeSetRef<T>, RangeSetRef<T>), want: (&[T], &[T])) -> bool {
+    parts.0.boundaries() == want.0 && parts.1.boundaries() == want.1
 }
 
-// Whether the set of the row, and its view, are cut into its parts, plain and counted, which takes
-// at most two comparisons if there are at most three boundaries, and else three.
-fn are_cut<T: Ord + MadeWith<Global> + Copy + Drop>(alloc: Global, row: &Cut<T>) -> Option<bool> {
-    let set: RangeSet2<T> = own(alloc, row.items)?;
-    let (mut count, mut again, at) = (Comparisons::new(), Comparisons::new(), row.at);
+// Whether the set, and its view, are cut into these parts, plain and counted, which takes at most
+// two comparisons if there are at most three boundaries, and else three.
+fn are_cut<T: Ord + Copy + Drop>(
+    set: Option<RangeSet2<T>>,
+    at: T,
+    want: (&[T], &[T]),
+) -> Option<bool> {
+    let (set, mut count, mut again) = (set?, Comparisons::new(), Comparisons::new());
     let most = if set.boundaries().len() <= 3 { 2 } else { 3 };
-    let counted = are(set.split_counted(at, &mut count), row)
-        && are(set.as_ref().split_counted(at, &mut again), row)
+    let counted = are(set.split_counted(at, &mut count), want)
+        && are(set.as_ref().split_counted(at, &mut again), want)
         && count.made().max(again.made()) <= most;
-    Some(counted && are(set.split(at), row) && are(set.as_ref().split(at), row))
+    Some(counted && are(set.split(at), want) && are(set.as_ref().split(at), want))
 }
 
 #[test]
 fn sets_are_cut_into_the_shortest_parts(rt: HostRuntime) {
     let alloc = rt.alloc();
     for row in &CUTS {
-        assert!(rt; are_cut(alloc, row) == Some(true), "{row:?}");
+        let found = are_cut(own(alloc, row.items), row.at, (row.left, row.right));
+        assert!(rt; found == Some(true), "{row:?}");
     }
     for row in &SIGNED {
-        assert!(rt; are_cut(alloc, row) == Some(true), "{row:?}");
+        let found = are_cut(own(alloc, row.items), row.at, (row.left, row.right));
+        assert!(rt; found == Some(true), "{row:?}");
     }
-    let only = Cut {
-        items: &[Only],
-        at: Only,
-        left: &[],
-        right: &[Only],
-    };
-    assert!(rt; are_cut(alloc, &only) == Some(true));
+    assert!(rt; are_cut(own(alloc, &[Only]), Only, (&[], &[Only])) == Some(true));
 }
