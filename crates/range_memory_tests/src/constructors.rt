@@ -15,7 +15,6 @@ enum Constructor {
     RangeSetRange,
     RangeSetRangeFrom,
     RangeSetRangeOfNothing,
-    Values,
 }
 
 // A constructor, and the boundaries that it makes.
@@ -26,7 +25,7 @@ struct Row<'a> {
 }
 
 #[rattlefmt::skip]
-const ROWS: [Row; 10] = [
+const ROWS: [Row; 9] = [
     Row { call: Constructor::Range, want: &[1, 5] },
     Row { call: Constructor::RangeFrom, want: &[5] },
     Row { call: Constructor::RangeUntil, want: &[i64::MIN, 5] },
@@ -36,7 +35,6 @@ const ROWS: [Row; 10] = [
     Row { call: Constructor::RangeSetRange, want: &[0, 2] },
     Row { call: Constructor::RangeSetRangeFrom, want: &[4] },
     Row { call: Constructor::RangeSetRangeOfNothing, want: &[] },
-    Row { call: Constructor::Values, want: &[0, 2, 3, 5] },
 ];
 
 impl Constructor {
@@ -57,7 +55,6 @@ impl Constructor {
             Constructor::RangeSetRangeOfNothing => {
                 RangeSet::from_range_set_range(alloc, RangeSetRange::from(5..1))
             }
-            Constructor::Values => RangeSet::from_values(alloc, &[4, 0, 1, 3, 3]),
         }
     }
 }
