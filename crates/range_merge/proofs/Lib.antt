@@ -20,6 +20,7 @@ pub mod SameSet
 pub mod FirstRun
 pub mod MergeLoop
 pub mod PartsOfMerge
+pub mod EndOfMerge
 pub mod Testing
 pub mod CopiesLemmas
 pub mod Outputs

@@ -2,10 +2,11 @@
 -- back.
 use Rattle.std.proofs.Common.{◌≡◌, ℕ, ◌+◌, ◌-◌, ◌<◌, ◌≤◌, List, [], ◌∷◌, ◌++◌, length, take, drop, get_or, set, sym, ap, ◌∙◌, arith, append_assoc}
 use Rattle.std.specs.List.{swap, refill}
-use Rattle.std.proofs.lemmas.List.{take_at, take-set, take-set-le, take-take, take_more_set, drop-set, drop-set-lt, length-set, length-take-le, length-drop, take_more, drop_more, get_or-drop, get_or-take, take-append-le, drop-take, drop-drop, drop_at}
+use Rattle.std.proofs.lemmas.List.{take_at, take-append-drop, drop-append-le, take-set, take-set-le, take-take, take_more_set, drop-set, drop-set-lt, length-set, length-take-le, length-drop, take_more, drop_more, get_or-drop, get_or-take, take-append-le, drop-take, drop-drop, drop_at}
 use Rattle.std.proofs.lemmas.List.Edits.{swap_is}
+use Rattle.std.proofs.lemmas.Slice.{take-put_mid_below}
 use Rattle.std.proofs.Math.Seq.{drop-length, take-add, take-append-add, drop-append-add}
-use borrow.Rule.Slice.PartMut.{put_mid, post_of}
+use borrow.Rule.Slice.PartMut.{put_mid, post_of, same_len_mid}
 
 -- a list written whole over another of its length
 pub refill_all : {K : Type 0} (xs ys : List K) → length ys ≡ length xs → refill (length xs) xs ys ≡ ys
@@ -97,6 +98,39 @@ module _ {K : Type 0} where
             ∙ ap (λ ys. moved ∷ ys) (drop-set-lt (j + by + 1) l j (get_or l (j + by) d) (omega arith) ∙ ap (λ k. drop k l) (omega arith) ∙ after ∙ ap (λ k. drop k (take few old)) (sym next))
             ∙ ap (λ x. x ∷ drop (j + 1) (take few old)) own
             ∙ sym (drop_more (take few old) j d (omega (arith, length-take-le few old short))),
+      )
+
+  -- a block of items more moved up, the last of those that are still to be moved: it has changed
+  -- places with the last items of the part written back
+  pub move_up-block : (old l ys : List K) (by i j n : ℕ) → j + n ≡ i → n ≤ by → i + by ≤ length old → length l ≡ length old
+      → take i l ≡ take i old → drop (i + by) l ≡ drop i (take (length old - by) old)
+      → length ys ≡ length (take (j + by + n - j) (drop j l))
+      → drop (length (take (j + by + n - j) (drop j l)) - n) ys ≡ take n (take (j + by + n - j) (drop j l))
+      → (take j (put_mid j (j + by + n - j) l ys) ≡ take j old) × (drop (j + by) (put_mid j (j + by + n - j) l ys) ≡ drop j (take (length old - by) old))
+      × (length (put_mid j (j + by + n - j) l ys) ≡ length old)
+  move_up-block old l ys by i j n next short within same front after same_len last =
+      let k : ℕ = j + by + n - j in
+      let few : ℕ = length old - by in
+      let post : List K = post_of j k l in
+      let part : List K = take k (drop j l) in
+      let in_l : j ≤ length l = omega arith in
+      let part_len : length part ≡ by + n = length-take-le k (drop j l) (simp length-drop (omega arith)) ∙ omega arith in
+      let ys_len : length ys ≡ by + n = same_len ∙ part_len in
+      let before : length (take j l) ≡ j = length-take-le j l in_l in
+      let moved : drop by ys ≡ take n (drop j (take few old)) =
+      ap (λ m. drop m ys) (omega (arith, part_len)) ∙ last ∙ take-take n k (drop j l) (omega arith) ∙ sym (drop-take j n l)
+      ∙ ap (drop j) (ap (λ m. take m l) next ∙ front ∙ sym (take-take i few old (omega arith)))
+      ∙ ap (λ m. drop j (take m (take few old))) (sym next) ∙ drop-take j n (take few old) in
+      let after_k : drop k (drop j l) ≡ drop n (drop j (take few old)) =
+      drop-drop k j l ∙ ap (λ m. drop m l) (omega arith) ∙ after ∙ ap (λ m. drop m (take few old)) (sym next) ∙ sym (drop-drop n j (take few old)) in (
+        take-put_mid_below j k l ys j (omega arith) in_l ∙ sym (take-take j i l (omega arith)) ∙ ap (take j) front ∙ take-take j i old (omega arith),
+        ap (λ m. drop (m + by) (take j l ++ (ys ++ post))) (sym before)
+            ∙ drop-append-add (take j l) (ys ++ post) by
+            ∙ drop-append-le by ys post (omega (arith, ys_len))
+            ∙ ap (λ zs. zs ++ post) moved
+            ∙ ap (λ zs. take n (drop j (take few old)) ++ zs) after_k
+            ∙ take-append-drop n (drop j (take few old)),
+        same_len_mid j k l ys same_len ∙ same,
       )
 
   -- what is after as many turned items as have come to the front

@@ -10,8 +10,8 @@ ghost use Rattle.range_merge.specs.Changes.{Taken, taken_right};
 ghost use Rattle.range_merge.specs.Copies.{items_if};
 
 use crate::in_place_memory::prepared;
-use crate::merge_state::RightSide;
-use crate::place::Place;
+use crate::merge_state::Supply;
+use crate::place::GrowsByGap;
 use smallvec::SmallVec;
 use std::alloc::{AllocError, Global};
 use std::default::MadeWith;
@@ -20,7 +20,7 @@ use std::marker::{Model, PhantomData};
 /// A list with the kept items before those that are still unread. `L` is the list, by value where a
 /// caller makes the builder.
 #[derive(Drop)]
-pub struct InPlaceBuilder<K, const N: usize, L: Place<K> = SmallVec<K, N>> {
+pub struct InPlaceBuilder<K, const N: usize, L: GrowsByGap<K> = SmallVec<K, N>> {
     list: L,
     kept: usize,
     start: usize,
@@ -28,7 +28,7 @@ pub struct InPlaceBuilder<K, const N: usize, L: Place<K> = SmallVec<K, N>> {
     of: PhantomData<K>,
 }
 
-impl<K, const N: usize, L: Place<K>> Model for InPlaceBuilder<K, N, L> {
+impl<K, const N: usize, L: GrowsByGap<K>> Model for InPlaceBuilder<K, N, L> {
     ghost use Rattle.std.specs.Prelude.{take, drop};
     ghost use Rattle.range_merge.specs.Building.{IsSound};
     ghost use Rattle.range_merge.specs.States.{Building};
@@ -63,7 +63,7 @@ impl<K: MadeWith<Global> + Drop, const N: usize> InPlaceBuilder<K, N> {
     }
 }
 
-impl<K, const N: usize, L: Place<K>> InPlaceBuilder<K, N, L> {
+impl<K, const N: usize, L: GrowsByGap<K>> InPlaceBuilder<K, N, L> {
     // A builder over a list that has room for `extra` more items.
     pub(crate) fn over(list: L, extra: usize) -> Self
         requires room { length (L.items list) + extra ≤ L.room list }
@@ -168,7 +168,7 @@ impl<K, const N: usize, L: Place<K>> InPlaceBuilder<K, N, L> {
     /// give way to them, the unread items move up first, far enough for all that the right side
     /// has.
     #[inline(always)]
-    pub(crate) fn put_from<R: RightSide<K>>(&mut self, n: usize, right: &mut R)
+    pub(crate) fn put_from<R: Supply<K>>(&mut self, n: usize, right: &mut R)
         requires some { n ≤ length (R.items right.old) }
         requires puts { length (R.items right.old) ≤ self.old.puts_left }
         ensures kept { (ts : List (Taken K)) → R.may_be ts self.old.kept →
@@ -209,7 +209,13 @@ impl<K, const N: usize, L: Place<K>> InPlaceBuilder<K, N, L> {
 
 // Puts an item after the kept ones, into the gap. It returns where the unread items begin now.
 #[inline(always)]
-fn put_item<K, L: Place<K>>(list: &mut L, kept: usize, start: usize, puts: usize, value: K) -> usize
+fn put_item<K, L: GrowsByGap<K>>(
+    list: &mut L,
+    kept: usize,
+    start: usize,
+    puts: usize,
+    value: K,
+) -> usize
     requires sound { IsSound kept start puts (L.items list.old) (L.room list.old) }
     requires some { 0 < puts }
     ensures sound { IsSound (kept + 1) result (puts - 1) (L.items list.new) (L.room list.new) }
@@ -229,7 +235,7 @@ fn put_item<K, L: Place<K>>(list: &mut L, kept: usize, start: usize, puts: usize
 // Puts what the right side gives for its first `n` unread items after the kept ones, into the gap.
 // It returns where the unread items begin now.
 #[inline(always)]
-fn put_items<K, L: Place<K>, R: RightSide<K>>(
+fn put_items<K, L: GrowsByGap<K>, R: Supply<K>>(
     list: &mut L,
     kept: usize,
     start: usize,
@@ -259,7 +265,7 @@ fn put_items<K, L: Place<K>, R: RightSide<K>>(
 // Sees that the gap has room for `n` items: if it hasn't, it opens one for `wanted`. It returns
 // where the unread items begin now.
 #[inline(always)]
-fn with_gap<K, L: Place<K>>(
+fn with_gap<K, L: GrowsByGap<K>>(
     list: &mut L,
     kept: usize,
     start: usize,

@@ -8,25 +8,25 @@ ghost use Rattle.range_merge.specs.Changes.{Taken, taken_left, taken_right};
 mod bool_op;
 mod buffer;
 mod count;
+mod grows_at_end;
 mod in_place;
 mod in_place_ref;
 mod output;
 mod over_slices;
 mod placing;
-mod right_side;
-mod sink;
 mod small_vec;
+mod supply;
 mod vec;
 
 pub use bool_op::BoolOpMergeState;
 pub use buffer::{Buffer, BufferMergeState, NoRoom};
 pub use count::CountMergeState;
+pub(crate) use grows_at_end::append_copies;
 pub use in_place::InPlaceMergeState;
 pub use in_place_ref::InPlaceMergeStateRef;
-pub(crate) use right_side::RightSide;
-pub(crate) use sink::append_copies;
 pub use small_vec::SmallVecMergeState;
 use std::alloc::AllocError;
+pub(crate) use supply::Supply;
 
 /// Two lists, each with the items that are still unread.
 pub trait MergeState {

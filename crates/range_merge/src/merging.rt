@@ -63,9 +63,9 @@ pub fn merge<S: MergeStateMut, O: MergeOperation, C: Compare<S::Item>>(
     ensures comparisons { AddsAtMost (C.count cmp.old) (C.count cmp.new)
         (2 * weight C.order (S.left state.old) (S.right state.old)) }
 {
-    match take_all(state, op, cmp)? {
+    match take_runs(state, op, cmp)? {
         Went::Stopped => Ok(false),
-        Went::On(_) => Ok(true),
+        Went::On(_) => take_rest(state, op),
     }
 }
 
@@ -76,33 +76,6 @@ pub(crate) enum Went {
     Stopped,
     /// It goes on. The next two items stand so to one another, if both lists have one.
     On(Option<Ordering>),
-}
-
-// Takes runs or drops them, until both lists are used up.
-#[inline(always)]
-fn take_all<S: MergeStateMut, O: MergeOperation, C: Compare<S::Item>>(
-    state: &mut S,
-    op: &O,
-    cmp: &mut C,
-) -> Result<Went, AllocError>
-    requires left_ascending { IsAscending C.order (S.left state.old) }
-    requires right_ascending { IsAscending C.order (S.right state.old) }
-    requires made { C.count cmp.old < 2 ^ 64 }
-    ensures part { Part S.left S.right S.left_on S.right_on S.output S.fixed S.is_infallible
-        S.can_stop C.order (O.connective op.now) state.old state.new
-        0 (C.count cmp.old) (C.count cmp.new) result }
-    ensures used_up { IfOk result (IfOn (λ _.
-        (S.left state.new ≡ []) × (S.right state.new ≡ []))) }
-{
-    match take_runs(state, op, cmp)? {
-        Went::Stopped => Ok(Went::Stopped),
-        Went::On(_) => {
-            if take_rest(state, op)? {
-                return Ok(Went::On(None));
-            }
-            Ok(Went::Stopped)
-        }
-    }
 }
 
 // Takes runs or drops them, while both lists have items. The steps follow one another, so that each
@@ -278,6 +251,8 @@ fn take_rest<S: MergeStateMut, O: MergeOperation>(state: &mut S, op: &O) -> Resu
         (Right (length (S.right state.old)))) state.old state.new result }
     ensures nothing { length (S.left state.old) ≡ 0 → length (S.right state.old) ≡ 0 →
         (result ≡ Ok true) × (state.new ≡ state.old) }
+    ensures used_up { IfOk result (λ more.
+        more ≡ true → (S.left state.new ≡ []) × (S.right state.new ≡ [])) }
 {
     match (state.a_len(), state.b_len()) {
         (0, 0) => Ok(true),

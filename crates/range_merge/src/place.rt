@@ -4,7 +4,7 @@ ghost use Rattle.std.specs.Prelude.{◌≡◌, ℕ, ◌+◌, ◌-◌, ◌≤◌,
 ghost use Rattle.range_merge.specs.Changes.{Taken, taken_right};
 
 use crate::indexed::Indexed;
-use crate::merge_state::RightSide;
+use crate::merge_state::Supply;
 use smallvec::SmallVec;
 use std::alloc::Global;
 use std::default::MadeWith;
@@ -12,7 +12,7 @@ use std::mem;
 
 /// A list of items that can be moved within it, and that grows only by a gap, where there is room
 /// for that.
-pub trait Place<K>: Indexed<K> + Drop {
+pub trait GrowsByGap<K>: Indexed<K> + Drop {
     // How many items have room.
     ghost room: { Self → ℕ };
 
@@ -43,7 +43,7 @@ pub trait Place<K>: Indexed<K> + Drop {
         ensures room { room self.new ≡ room self.old };
 
     /// Replaces the `n` items at `at` by what the right side gives for its first `n` unread items.
-    fn put_from<R: RightSide<K>>(&mut self, at: usize, n: usize, right: &mut R)
+    fn put_from<R: Supply<K>>(&mut self, at: usize, n: usize, right: &mut R)
         requires within { at + n ≤ length (Self.items self.old) }
         requires some { n ≤ length (R.items right.old) }
         ensures front { take at (Self.items self.new) ≡ take at (Self.items self.old) }
@@ -62,7 +62,7 @@ pub trait Place<K>: Indexed<K> + Drop {
 }
 
 /// Items that are exchanged for others.
-pub trait Shelf<K>: Indexed<K> + Drop {
+pub trait Exchanges<K>: Indexed<K> + Drop {
     /// Exchanges the items from `at` on with `others`, as many as there are.
     fn swap_with(&mut self, at: usize, others: &mut [K])
         requires { at + length others.old ≤ length (Self.items self.old) }
@@ -86,7 +86,7 @@ impl<K: MadeWith<Global> + Drop, const N: usize> Indexed<K> for SmallVec<K, N> {
     }
 }
 
-impl<K: MadeWith<Global> + Drop, const N: usize> Place<K> for SmallVec<K, N> {
+impl<K: MadeWith<Global> + Drop, const N: usize> GrowsByGap<K> for SmallVec<K, N> {
     ghost room = { λ list. list.capacity };
 
     #[inline(always)]
@@ -105,7 +105,7 @@ impl<K: MadeWith<Global> + Drop, const N: usize> Place<K> for SmallVec<K, N> {
     }
 
     #[inline(always)]
-    fn put_from<R: RightSide<K>>(&mut self, at: usize, n: usize, right: &mut R) {
+    fn put_from<R: Supply<K>>(&mut self, at: usize, n: usize, right: &mut R) {
         put_between(self.as_mut_slice(), at, n, right);
     }
 
@@ -115,7 +115,7 @@ impl<K: MadeWith<Global> + Drop, const N: usize> Place<K> for SmallVec<K, N> {
     }
 }
 
-impl<K: MadeWith<Global> + Drop, const N: usize> Shelf<K> for SmallVec<K, N> {
+impl<K: MadeWith<Global> + Drop, const N: usize> Exchanges<K> for SmallVec<K, N> {
     #[inline(always)]
     fn swap_with(&mut self, at: usize, others: &mut [K]) {
         exchange(self.as_mut_slice(), at, others);
@@ -136,7 +136,7 @@ impl<K, L: Indexed<K>> Indexed<K> for &mut L {
     }
 }
 
-impl<K, L: Place<K>> Place<K> for &mut L {
+impl<K, L: GrowsByGap<K>> GrowsByGap<K> for &mut L {
     ghost room = { λ list. L.room list.now };
 
     #[inline(always)]
@@ -155,7 +155,7 @@ impl<K, L: Place<K>> Place<K> for &mut L {
     }
 
     #[inline(always)]
-    fn put_from<R: RightSide<K>>(&mut self, at: usize, n: usize, right: &mut R) {
+    fn put_from<R: Supply<K>>(&mut self, at: usize, n: usize, right: &mut R) {
         (**self).put_from(at, n, right);
     }
 
@@ -186,7 +186,7 @@ impl<'b, K> Indexed<K> for Slots<'b, K> {
     }
 }
 
-impl<'b, K> Shelf<K> for Slots<'b, K> {
+impl<'b, K> Exchanges<K> for Slots<'b, K> {
     #[inline(always)]
     fn swap_with(&mut self, at: usize, others: &mut [K]) {
         exchange(self.items, at, others);
@@ -195,7 +195,7 @@ impl<'b, K> Shelf<K> for Slots<'b, K> {
 
 // Replaces the `n` items at `at` by what the right side gives for its first `n` unread items.
 #[inline(always)]
-fn put_between<K, R: RightSide<K>>(items: &mut [K], at: usize, n: usize, right: &mut R)
+fn put_between<K, R: Supply<K>>(items: &mut [K], at: usize, n: usize, right: &mut R)
     requires within { at + n ≤ length items.old }
     requires some { n ≤ length (R.items right.old) }
     ensures front { take at items.new ≡ take at items.old }
@@ -284,6 +284,10 @@ const MANY: usize = 8;
 // buffer of 4 KB first, and fewer are moved one by one.
 const TURNED: usize = 64;
 
+// Fewer blocks than this, each as long as the gap, are moved up one after the other: that needs no
+// buffer.
+const BLOCKS: usize = 8;
+
 // Moves items down one by one.
 #[inline(always)]
 fn swap_few_down<K>(items: &mut [K], to: usize, from: usize, n: usize)
@@ -323,13 +327,24 @@ fn last_to_front<K>(items: &mut [K], n: usize)
 {
     let before = items.len() - n;
     if n <= before {
-        let (front, last) = items.split_at_mut(before);
-        front[..n].swap_with_slice(last);
+        exchange_ends(items, n);
     } else if n < TURNED {
         swap_few_down(items, 0, before, n);
     } else {
         items.rotate_left(before);
     }
+}
+
+// Exchanges the first `n` items with the last `n`, all at once.
+#[inline(always)]
+fn exchange_ends<K>(items: &mut [K], n: usize)
+    requires { n + n ≤ length items.old }
+    ensures front { take n items.new ≡ drop (length items.old - n) items.old }
+    ensures last { drop (length items.old - n) items.new ≡ take n items.old }
+    ensures len { length items.new ≡ length items.old }
+{
+    let (front, last) = items.split_at_mut(items.len() - n);
+    front[..n].swap_with_slice(last);
 }
 
 // Moves the last items up, those from `at` on, by `by` places. What they replace comes to lie
@@ -341,8 +356,11 @@ fn swap_up<K>(items: &mut [K], at: usize, by: usize)
     ensures after { drop (at + by) items.new ≡ drop at (take (length items.old - by) items.old) }
     ensures len { length items.new ≡ length items.old }
 {
-    if items.len() - at < TURNED {
+    let after = items.len() - at;
+    if after < TURNED {
         swap_few_up(items, at, by);
+    } else if after / by < BLOCKS {
+        swap_blocks_up(items, at, by);
     } else {
         swap_many_up(items, at, by);
     }
@@ -360,6 +378,22 @@ fn swap_few_up<K>(items: &mut [K], at: usize, by: usize)
     while at < i {
         i -= 1;
         items.swap(i, i + by);
+    }
+}
+
+// Moves items up by blocks of at most `by` items, from the last one on.
+fn swap_blocks_up<K>(items: &mut [K], at: usize, by: usize)
+    requires some { 0 < by }
+    requires within { at + by ≤ length items.old }
+    ensures front { take at items.new ≡ take at items.old }
+    ensures after { drop (at + by) items.new ≡ drop at (take (length items.old - by) items.old) }
+    ensures len { length items.new ≡ length items.old }
+{
+    let mut i = items.len() - by;
+    while i > at {
+        let n = by.min(i - at);
+        i -= n;
+        exchange_ends(&mut items[i..i + by + n], n);
     }
 }
 

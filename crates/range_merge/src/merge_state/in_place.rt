@@ -9,9 +9,9 @@ use crate::compare::Compare;
 use crate::in_place_memory::prepared;
 use crate::indexed::Indexed;
 use crate::merge_state::placing::PlacingMergeState;
-use crate::merge_state::right_side::RightSide;
+use crate::merge_state::supply::Supply;
 use crate::operations::MergeOperation;
-use crate::place::{Shelf, Slots};
+use crate::place::{Exchanges, Slots};
 use smallvec::SmallVec;
 use std::alloc::{AllocError, Global};
 use std::default::MadeWith;
@@ -94,13 +94,13 @@ impl<K: MadeWith<Global> + Drop, const N: usize> InPlaceMergeState<K, N> {
 /// A right list that is owned: its items, of which the first are done with. What was exchanged for
 /// an item lies in its place.
 #[derive(Drop)]
-pub struct OwnedRight<K, L: Shelf<K>> {
+pub struct OwnedRight<K, L: Exchanges<K>> {
     list: L,
     start: usize,
     of: PhantomData<K>,
 }
 
-impl<K, L: Shelf<K>> Model for OwnedRight<K, L> {
+impl<K, L: Exchanges<K>> Model for OwnedRight<K, L> {
     ghost use Rattle.std.specs.Prelude.{◌≤◌, List, length, drop};
 
     ghost Value = { List K };
@@ -110,7 +110,7 @@ impl<K, L: Shelf<K>> Model for OwnedRight<K, L> {
     ghost invariant = { λ s. s.start ≤ length (L.items s.list) };
 }
 
-impl<K, L: Shelf<K>> OwnedRight<K, L> {
+impl<K, L: Exchanges<K>> OwnedRight<K, L> {
     // All items of the list unread.
     pub(crate) fn over(list: L) -> Self
         ensures { result ≡ L.items list }
@@ -123,7 +123,7 @@ impl<K, L: Shelf<K>> OwnedRight<K, L> {
     }
 }
 
-impl<K, L: Shelf<K>> Indexed<K> for OwnedRight<K, L> {
+impl<K, L: Exchanges<K>> Indexed<K> for OwnedRight<K, L> {
     ghost items = { λ s. s };
 
     #[inline(always)]
@@ -139,7 +139,7 @@ impl<K, L: Shelf<K>> Indexed<K> for OwnedRight<K, L> {
     }
 }
 
-impl<K, L: Shelf<K>> RightSide<K> for OwnedRight<K, L> {
+impl<K, L: Exchanges<K>> Supply<K> for OwnedRight<K, L> {
     ghost may_be = { λ ts kept. taken_items ts ≡ kept };
 
     #[inline(always)]

@@ -12,9 +12,9 @@ use crate::in_place_memory::{prepared, prepared_copies};
 use crate::indexed::Indexed;
 use crate::merge_state::in_place::OwnedRight;
 use crate::merge_state::placing::PlacingMergeState;
-use crate::merge_state::right_side::RightSide;
+use crate::merge_state::supply::Supply;
 use crate::operations::MergeOperation;
-use crate::place::{Shelf, Slots};
+use crate::place::{Exchanges, Slots};
 use crate::slice_iterator::SliceIterator;
 use smallvec::SmallVec;
 use std::alloc::{AllocError, Global};
@@ -107,13 +107,13 @@ impl<'a, K: MadeWith<Global> + Drop, P: Copier<K>, const N: usize> InPlaceMergeS
 
 /// A right slice that is borrowed: its unread items, and a copy of each.
 #[derive(Drop)]
-pub struct CopiedRight<'a, K, P: Copier<K>, L: Shelf<K>> {
+pub struct CopiedRight<'a, K, P: Copier<K>, L: Exchanges<K>> {
     b: SliceIterator<'a, K>,
     copies: OwnedRight<K, L>,
     by: PhantomData<P>,
 }
 
-impl<'a, K, P: Copier<K>, L: Shelf<K>> Model for CopiedRight<'a, K, P, L> {
+impl<'a, K, P: Copier<K>, L: Exchanges<K>> Model for CopiedRight<'a, K, P, L> {
     ghost use Rattle.std.specs.Prelude.{List};
     ghost use Rattle.std.specs.List.{AllZip};
 
@@ -124,7 +124,7 @@ impl<'a, K, P: Copier<K>, L: Shelf<K>> Model for CopiedRight<'a, K, P, L> {
     ghost invariant = { λ s. AllZip P.alike s.b s.copies };
 }
 
-impl<'a, K, P: Copier<K>, L: Shelf<K>> CopiedRight<'a, K, P, L> {
+impl<'a, K, P: Copier<K>, L: Exchanges<K>> CopiedRight<'a, K, P, L> {
     // All items of the slice unread, with their copies.
     fn over(b: &'a [K], copies: L) -> Self
         requires { AllZip P.alike b.now (L.items copies) }
@@ -138,7 +138,7 @@ impl<'a, K, P: Copier<K>, L: Shelf<K>> CopiedRight<'a, K, P, L> {
     }
 }
 
-impl<'a, K, P: Copier<K>, L: Shelf<K>> Indexed<K> for CopiedRight<'a, K, P, L> {
+impl<'a, K, P: Copier<K>, L: Exchanges<K>> Indexed<K> for CopiedRight<'a, K, P, L> {
     ghost items = { λ s. s };
 
     #[inline(always)]
@@ -152,7 +152,7 @@ impl<'a, K, P: Copier<K>, L: Shelf<K>> Indexed<K> for CopiedRight<'a, K, P, L> {
     }
 }
 
-impl<'a, K, P: Copier<K>, L: Shelf<K>> RightSide<K> for CopiedRight<'a, K, P, L> {
+impl<'a, K, P: Copier<K>, L: Exchanges<K>> Supply<K> for CopiedRight<'a, K, P, L> {
     ghost may_be = { AreOwnOrCopies P.alike };
 
     #[inline(always)]
@@ -215,7 +215,7 @@ impl<'a, 'p, K, P: Copier<K>> Indexed<K> for BorrowedRight<'a, 'p, K, P> {
     }
 }
 
-impl<'a, 'p, K: Drop, P: Copier<K>> RightSide<K> for BorrowedRight<'a, 'p, K, P> {
+impl<'a, 'p, K: Drop, P: Copier<K>> Supply<K> for BorrowedRight<'a, 'p, K, P> {
     ghost may_be = { AreOwnOrCopies P.alike };
 
     #[inline(always)]

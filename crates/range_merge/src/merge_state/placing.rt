@@ -7,11 +7,11 @@ ghost use Rattle.range_merge.specs.Runs.{weight};
 
 use crate::compare::Compare;
 use crate::in_place_builder::InPlaceBuilder;
-use crate::merge_state::right_side::RightSide;
+use crate::merge_state::supply::Supply;
 use crate::merge_state::{MergeState, MergeStateMut};
 use crate::merging;
 use crate::operations::MergeOperation;
-use crate::place::Place;
+use crate::place::GrowsByGap;
 use std::alloc::AllocError;
 use std::marker::Model;
 
@@ -19,14 +19,14 @@ use std::marker::Model;
 /// made, it takes no memory and never fails. `L` is the list, by value where a caller makes the
 /// state.
 #[derive(Drop)]
-pub struct PlacingMergeState<K, const N: usize, R: RightSide<K>, L: Place<K>> {
+pub struct PlacingMergeState<K, const N: usize, R: Supply<K>, L: GrowsByGap<K>> {
     builder: InPlaceBuilder<K, N, L>,
     right: R,
     ac: bool,
     bc: bool,
 }
 
-impl<K, const N: usize, R: RightSide<K>, L: Place<K>> Model for PlacingMergeState<K, N, R, L> {
+impl<K, const N: usize, R: Supply<K>, L: GrowsByGap<K>> Model for PlacingMergeState<K, N, R, L> {
     ghost use Rattle.std.specs.Prelude.{◌≤◌, length};
     ghost use Rattle.range_merge.specs.States.{Placing};
 
@@ -43,7 +43,7 @@ impl<K, const N: usize, R: RightSide<K>, L: Place<K>> Model for PlacingMergeStat
     ghost invariant = { λ s. length (R.items s.right) ≤ s.builder.puts_left };
 }
 
-impl<K, const N: usize, R: RightSide<K>, L: Place<K>> PlacingMergeState<K, N, R, L> {
+impl<K, const N: usize, R: Supply<K>, L: GrowsByGap<K>> PlacingMergeState<K, N, R, L> {
     // All items of both sides unread, both sides off, and nothing kept.
     pub(crate) fn over(list: L, right: R, extra: usize) -> Self
         requires room { length (L.items list) + extra ≤ L.room list }
@@ -90,7 +90,8 @@ impl<K, const N: usize, R: RightSide<K>, L: Place<K>> PlacingMergeState<K, N, R,
     }
 }
 
-impl<K, const N: usize, R: RightSide<K>, L: Place<K>> MergeState for PlacingMergeState<K, N, R, L> {
+impl<K, const N: usize, R: Supply<K>, L: GrowsByGap<K>> MergeState
+    for PlacingMergeState<K, N, R, L> {
     type Item = K;
 
     ghost left = { λ s. s.left };
@@ -118,7 +119,7 @@ impl<K, const N: usize, R: RightSide<K>, L: Place<K>> MergeState for PlacingMerg
     }
 }
 
-impl<K, const N: usize, R: RightSide<K>, L: Place<K>> MergeStateMut
+impl<K, const N: usize, R: Supply<K>, L: GrowsByGap<K>> MergeStateMut
     for PlacingMergeState<K, N, R, L> {
     ghost left_on = { λ s. s.left_on };
 
@@ -171,7 +172,7 @@ impl<K, const N: usize, R: RightSide<K>, L: Place<K>> MergeStateMut
 // Removes the first `n` unread items of the right side, and puts what stands for them if they are
 // wanted.
 #[inline(always)]
-fn put_front<K, const N: usize, R: RightSide<K>, L: Place<K>>(
+fn put_front<K, const N: usize, R: Supply<K>, L: GrowsByGap<K>>(
     builder: &mut InPlaceBuilder<K, N, L>,
     right: &mut R,
     n: usize,

@@ -9,9 +9,9 @@ ghost use Rattle.range_merge.specs.Runs.{weight};
 ghost use Rattle.range_merge.specs.States.{HasRoomForAll};
 
 use crate::compare::{Compare, Copier};
+use crate::merge_state::grows_at_end::append_copies;
 use crate::merge_state::output::Output;
 use crate::merge_state::over_slices::SliceMergeState;
-use crate::merge_state::sink::append_copies;
 use crate::merging;
 use crate::operations::MergeOperation;
 use smallvec::SmallVec;
@@ -131,21 +131,20 @@ impl<'a, K: MadeWith<Global> + Drop, P: Copier<K>, const M: usize> SmallVecMerge
         ensures gives { GivesCopies P.alike C.order (O.connective op.now) a.now b.now ⊥ result }
         ensures comparisons { AddsAtMost (C.count cmp.old) (C.count cmp.new) (2 * weight C.order a.now b.now) }
     {
-        let alloc = *r.allocator();
         let mut list = r.into_vec()?;
         // Where there is no room for both at once, the list grows run by run.
         let _asked = list.reserve(a.len().saturating_add(b.len()));
         let mut state = SliceMergeState::over(
             a,
             b,
-            &mut list,
+            list,
             Copying {
                 copier,
                 at_first: 0,
             },
         );
         let _went_through = merging::merge(&mut state, op, cmp)?;
-        Ok(inline_if_few(mem::replace(state.result(), Vec::new(alloc))))
+        Ok(inline_if_few(state.result()))
     }
 }
 

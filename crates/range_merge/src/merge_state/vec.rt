@@ -3,8 +3,8 @@ ghost use Rattle.std.specs.Prelude.{false, ⊤};
 ghost use Rattle.range_merge.specs.Copies.{AreKeptThenCopies};
 
 use crate::compare::Copier;
+use crate::merge_state::grows_at_end::append_copies;
 use crate::merge_state::output::Output;
-use crate::merge_state::sink::append_copies;
 use crate::merge_state::small_vec::Copying;
 use std::alloc::AllocError;
 

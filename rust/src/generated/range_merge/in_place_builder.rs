@@ -6,14 +6,14 @@
 //! put finds too little of that, it is room that was asked for, and the unread items move up, at
 //! most once.
 
-use crate::generated::range_merge::merge_state::RightSide;
-use crate::generated::range_merge::place::Place;
+use crate::generated::range_merge::merge_state::Supply;
+use crate::generated::range_merge::place::GrowsByGap;
 use crate::support::SmallVec;
 use core::marker::PhantomData;
 
 /// A list with the kept items before those that are still unread. `L` is the list, by value where a
 /// caller makes the builder.
-pub struct InPlaceBuilder<K, const N: usize, L: Place<K> = SmallVec<K, N>> {
+pub struct InPlaceBuilder<K, const N: usize, L: GrowsByGap<K> = SmallVec<K, N>> {
     list: L,
     kept: usize,
     start: usize,
@@ -21,7 +21,7 @@ pub struct InPlaceBuilder<K, const N: usize, L: Place<K> = SmallVec<K, N>> {
     of: PhantomData<K>,
 }
 
-impl<K, const N: usize, L: Place<K>> InPlaceBuilder<K, N, L> {
+impl<K, const N: usize, L: GrowsByGap<K>> InPlaceBuilder<K, N, L> {
     // A builder over a list that has room for `extra` more items.
     pub(crate) fn over(list: L, extra: usize) -> Self {
         InPlaceBuilder {
@@ -104,7 +104,7 @@ impl<K, const N: usize, L: Place<K>> InPlaceBuilder<K, N, L> {
     /// give way to them, the unread items move up first, far enough for all that the right side
     /// has.
     #[inline(always)]
-    pub(crate) fn put_from<R: RightSide<K>>(&mut self, n: usize, right: &mut R) {
+    pub(crate) fn put_from<R: Supply<K>>(&mut self, n: usize, right: &mut R) {
         self.start = put_items(&mut self.list, self.kept, self.start, self.puts, n, right);
         self.kept += n;
         self.puts -= n;
@@ -127,7 +127,7 @@ impl<K, const N: usize, L: Place<K>> InPlaceBuilder<K, N, L> {
 // Puts what the right side gives for its first `n` unread items after the kept ones, into the gap.
 // It returns where the unread items begin now.
 #[inline(always)]
-fn put_items<K, L: Place<K>, R: RightSide<K>>(
+fn put_items<K, L: GrowsByGap<K>, R: Supply<K>>(
     list: &mut L,
     kept: usize,
     start: usize,
@@ -143,7 +143,7 @@ fn put_items<K, L: Place<K>, R: RightSide<K>>(
 // Sees that the gap has room for `n` items: if it hasn't, it opens one for `wanted`. It returns
 // where the unread items begin now.
 #[inline(always)]
-fn with_gap<K, L: Place<K>>(
+fn with_gap<K, L: GrowsByGap<K>>(
     list: &mut L,
     kept: usize,
     start: usize,

@@ -5,14 +5,14 @@
 pub(crate) mod bool_op;
 pub(crate) mod buffer;
 pub(crate) mod count;
+pub(crate) mod grows_at_end;
 pub(crate) mod in_place;
 pub(crate) mod in_place_ref;
 pub(crate) mod output;
 pub(crate) mod over_slices;
 pub(crate) mod placing;
-pub(crate) mod right_side;
-pub(crate) mod sink;
 pub(crate) mod small_vec;
+pub(crate) mod supply;
 pub(crate) mod vec;
 
 pub use crate::support::InPlaceMergeState;
@@ -20,11 +20,11 @@ pub use crate::support::InPlaceMergeStateRef;
 pub use bool_op::BoolOpMergeState;
 pub use buffer::{Buffer, BufferMergeState, NoRoom};
 pub use count::CountMergeState;
-pub(crate) use right_side::RightSide;
-pub(crate) use sink::append_copies;
+pub(crate) use grows_at_end::append_copies;
 pub use small_vec::SmallVecMergeState;
 
 use crate::support::AllocError;
+pub(crate) use supply::Supply;
 
 /// Two lists, each with the items that are still unread.
 pub trait MergeState {

@@ -57,9 +57,9 @@ pub(crate) fn merge<S: MergeStateMut, O: MergeOperation, C: Compare<S::Item>>(
     op: &O,
     cmp: &mut C,
 ) -> Result<bool, AllocError> {
-    match take_all(state, op, cmp)? {
+    match take_runs(state, op, cmp)? {
         Went::Stopped => Ok(false),
-        Went::On(_) => Ok(true),
+        Went::On(_) => take_rest(state, op),
     }
 }
 
@@ -70,24 +70,6 @@ pub(crate) enum Went {
     Stopped,
     /// It goes on. The next two items stand so to one another, if both lists have one.
     On(Option<Ordering>),
-}
-
-// Takes runs or drops them, until both lists are used up.
-#[inline(always)]
-fn take_all<S: MergeStateMut, O: MergeOperation, C: Compare<S::Item>>(
-    state: &mut S,
-    op: &O,
-    cmp: &mut C,
-) -> Result<Went, AllocError> {
-    match take_runs(state, op, cmp)? {
-        Went::Stopped => Ok(Went::Stopped),
-        Went::On(_) => {
-            if take_rest(state, op)? {
-                return Ok(Went::On(None));
-            }
-            Ok(Went::Stopped)
-        }
-    }
 }
 
 // Takes runs or drops them, while both lists have items. The steps follow one another, so that each

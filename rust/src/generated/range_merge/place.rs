@@ -3,11 +3,11 @@
 //! generic in that.
 
 use crate::generated::range_merge::indexed::Indexed;
-use crate::generated::range_merge::merge_state::RightSide;
+use crate::generated::range_merge::merge_state::Supply;
 
 /// A list of items that can be moved within it, and that grows only by a gap, where there is room
 /// for that.
-pub trait Place<K>: Indexed<K> {
+pub trait GrowsByGap<K>: Indexed<K> {
     /// Moves `n` items down from `from` to `to`. What they replace comes to lie after them.
     ///
     /// # Contract
@@ -53,7 +53,7 @@ pub trait Place<K>: Indexed<K> {
     /// ensures put: (ts : List (Taken K)) (kept : List K) → R.may_be ts kept → R.may_be (ts ++
     ///     taken_right true n (R.items right.old)) (kept ++ take n (drop at (Self.items self.new)))
     /// ```
-    fn put_from<R: RightSide<K>>(&mut self, at: usize, n: usize, right: &mut R);
+    fn put_from<R: Supply<K>>(&mut self, at: usize, n: usize, right: &mut R);
 
     /// Keeps the first `n` items, and drops the others.
     ///
@@ -67,7 +67,7 @@ pub trait Place<K>: Indexed<K> {
 }
 
 /// Items that are exchanged for others.
-pub trait Shelf<K>: Indexed<K> {
+pub trait Exchanges<K>: Indexed<K> {
     /// Exchanges the items from `at` on with `others`, as many as there are.
     ///
     /// # Contract

@@ -2,19 +2,19 @@
 //! A merge into its own left list, which takes the items of a right list that it owns.
 
 use crate::generated::range_merge::indexed::Indexed;
-use crate::generated::range_merge::merge_state::right_side::RightSide;
-use crate::generated::range_merge::place::Shelf;
+use crate::generated::range_merge::merge_state::supply::Supply;
+use crate::generated::range_merge::place::Exchanges;
 use core::marker::PhantomData;
 
 /// A right list that is owned: its items, of which the first are done with. What was exchanged for
 /// an item lies in its place.
-pub struct OwnedRight<K, L: Shelf<K>> {
+pub struct OwnedRight<K, L: Exchanges<K>> {
     list: L,
     start: usize,
     of: PhantomData<K>,
 }
 
-impl<K, L: Shelf<K>> OwnedRight<K, L> {
+impl<K, L: Exchanges<K>> OwnedRight<K, L> {
     // All items of the list unread.
     pub(crate) fn over(list: L) -> Self {
         OwnedRight {
@@ -25,7 +25,7 @@ impl<K, L: Shelf<K>> OwnedRight<K, L> {
     }
 }
 
-impl<K, L: Shelf<K>> Indexed<K> for OwnedRight<K, L> {
+impl<K, L: Exchanges<K>> Indexed<K> for OwnedRight<K, L> {
     #[inline(always)]
     fn len(&self) -> usize {
         self.list.len() - self.start
@@ -37,7 +37,7 @@ impl<K, L: Shelf<K>> Indexed<K> for OwnedRight<K, L> {
     }
 }
 
-impl<K, L: Shelf<K>> RightSide<K> for OwnedRight<K, L> {
+impl<K, L: Exchanges<K>> Supply<K> for OwnedRight<K, L> {
     #[inline(always)]
     fn put_front(&mut self, slots: &mut [K]) {
         self.list.swap_with(self.start, slots);

@@ -4,19 +4,19 @@
 use crate::generated::range_merge::compare::Copier;
 use crate::generated::range_merge::indexed::Indexed;
 use crate::generated::range_merge::merge_state::in_place::OwnedRight;
-use crate::generated::range_merge::merge_state::right_side::RightSide;
-use crate::generated::range_merge::place::Shelf;
+use crate::generated::range_merge::merge_state::supply::Supply;
+use crate::generated::range_merge::place::Exchanges;
 use crate::generated::range_merge::slice_iterator::SliceIterator;
 use core::marker::PhantomData;
 
 /// A right slice that is borrowed: its unread items, and a copy of each.
-pub struct CopiedRight<'a, K, P: Copier<K>, L: Shelf<K>> {
+pub struct CopiedRight<'a, K, P: Copier<K>, L: Exchanges<K>> {
     b: SliceIterator<'a, K>,
     copies: OwnedRight<K, L>,
     by: PhantomData<P>,
 }
 
-impl<'a, K, P: Copier<K>, L: Shelf<K>> CopiedRight<'a, K, P, L> {
+impl<'a, K, P: Copier<K>, L: Exchanges<K>> CopiedRight<'a, K, P, L> {
     // All items of the slice unread, with their copies.
     pub(crate) fn over(b: &'a [K], copies: L) -> Self {
         CopiedRight {
@@ -27,7 +27,7 @@ impl<'a, K, P: Copier<K>, L: Shelf<K>> CopiedRight<'a, K, P, L> {
     }
 }
 
-impl<'a, K, P: Copier<K>, L: Shelf<K>> Indexed<K> for CopiedRight<'a, K, P, L> {
+impl<'a, K, P: Copier<K>, L: Exchanges<K>> Indexed<K> for CopiedRight<'a, K, P, L> {
     #[inline(always)]
     fn len(&self) -> usize {
         self.b.as_slice().len()
@@ -39,7 +39,7 @@ impl<'a, K, P: Copier<K>, L: Shelf<K>> Indexed<K> for CopiedRight<'a, K, P, L> {
     }
 }
 
-impl<'a, K, P: Copier<K>, L: Shelf<K>> RightSide<K> for CopiedRight<'a, K, P, L> {
+impl<'a, K, P: Copier<K>, L: Exchanges<K>> Supply<K> for CopiedRight<'a, K, P, L> {
     #[inline(always)]
     fn put_front(&mut self, slots: &mut [K]) {
         self.b.drop_front(slots.len());
@@ -81,7 +81,7 @@ impl<'a, 'p, K, P: Copier<K>> Indexed<K> for BorrowedRight<'a, 'p, K, P> {
     }
 }
 
-impl<'a, 'p, K, P: Copier<K>> RightSide<K> for BorrowedRight<'a, 'p, K, P> {
+impl<'a, 'p, K, P: Copier<K>> Supply<K> for BorrowedRight<'a, 'p, K, P> {
     #[inline(always)]
     fn put_front(&mut self, slots: &mut [K]) {
         copy_each(slots, self.b.take_front(slots.len()), self.copier);

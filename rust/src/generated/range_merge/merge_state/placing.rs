@@ -3,24 +3,24 @@
 
 use crate::generated::range_merge::compare::Compare;
 use crate::generated::range_merge::in_place_builder::InPlaceBuilder;
-use crate::generated::range_merge::merge_state::right_side::RightSide;
+use crate::generated::range_merge::merge_state::supply::Supply;
 use crate::generated::range_merge::merge_state::{MergeState, MergeStateMut};
 use crate::generated::range_merge::merging;
 use crate::generated::range_merge::operations::MergeOperation;
-use crate::generated::range_merge::place::Place;
+use crate::generated::range_merge::place::GrowsByGap;
 use crate::support::AllocError;
 
 /// A state that keeps items of its left list, and puts what its right side gives between them. Once
 /// made, it takes no memory and never fails. `L` is the list, by value where a caller makes the
 /// state.
-pub struct PlacingMergeState<K, const N: usize, R: RightSide<K>, L: Place<K>> {
+pub struct PlacingMergeState<K, const N: usize, R: Supply<K>, L: GrowsByGap<K>> {
     builder: InPlaceBuilder<K, N, L>,
     right: R,
     ac: bool,
     bc: bool,
 }
 
-impl<K, const N: usize, R: RightSide<K>, L: Place<K>> PlacingMergeState<K, N, R, L> {
+impl<K, const N: usize, R: Supply<K>, L: GrowsByGap<K>> PlacingMergeState<K, N, R, L> {
     // All items of both sides unread, both sides off, and nothing kept.
     pub(crate) fn over(list: L, right: R, extra: usize) -> Self {
         PlacingMergeState {
@@ -53,7 +53,9 @@ impl<K, const N: usize, R: RightSide<K>, L: Place<K>> PlacingMergeState<K, N, R,
     }
 }
 
-impl<K, const N: usize, R: RightSide<K>, L: Place<K>> MergeState for PlacingMergeState<K, N, R, L> {
+impl<K, const N: usize, R: Supply<K>, L: GrowsByGap<K>> MergeState
+    for PlacingMergeState<K, N, R, L>
+{
     type Item = K;
 
     #[inline(always)]
@@ -77,7 +79,7 @@ impl<K, const N: usize, R: RightSide<K>, L: Place<K>> MergeState for PlacingMerg
     }
 }
 
-impl<K, const N: usize, R: RightSide<K>, L: Place<K>> MergeStateMut
+impl<K, const N: usize, R: Supply<K>, L: GrowsByGap<K>> MergeStateMut
     for PlacingMergeState<K, N, R, L>
 {
     #[inline(always)]
@@ -117,7 +119,7 @@ impl<K, const N: usize, R: RightSide<K>, L: Place<K>> MergeStateMut
 // Removes the first `n` unread items of the right side, and puts what stands for them if they are
 // wanted.
 #[inline(always)]
-fn put_front<K, const N: usize, R: RightSide<K>, L: Place<K>>(
+fn put_front<K, const N: usize, R: Supply<K>, L: GrowsByGap<K>>(
     builder: &mut InPlaceBuilder<K, N, L>,
     right: &mut R,
     n: usize,

@@ -2,9 +2,9 @@
 //! A merge that copies what is taken into a list.
 
 use crate::generated::range_merge::compare::{Compare, Copier};
+use crate::generated::range_merge::merge_state::grows_at_end::append_copies;
 use crate::generated::range_merge::merge_state::output::Output;
 use crate::generated::range_merge::merge_state::over_slices::SliceMergeState;
-use crate::generated::range_merge::merge_state::sink::append_copies;
 use crate::generated::range_merge::merging;
 use crate::generated::range_merge::operations::MergeOperation;
 use crate::support::{AllocError, SmallVec, Vec};
@@ -76,13 +76,12 @@ impl<'a, K, P: Copier<K>, const M: usize> SmallVecMergeState<'a, K, P, M> {
         op: &O,
         cmp: &mut C,
     ) -> Result<SmallVec<K, M>, AllocError> {
-        let alloc = *r.allocator();
         let mut list = r.into_vec()?;
         // Where there is no room for both at once, the list grows run by run.
         let _asked = list.reserve(a.len().saturating_add(b.len()));
-        let mut state = SliceMergeState::over(a, b, &mut list, Copying { copier });
+        let mut state = SliceMergeState::over(a, b, list, Copying { copier });
         let _went_through = merging::merge(&mut state, op, cmp)?;
-        Ok(inline_if_few(mem::replace(state.result(), Vec::new(alloc))))
+        Ok(inline_if_few(state.result()))
     }
 }
 

@@ -2,8 +2,8 @@
 //! Copies of what a merge takes, in a list that lies apart while it grows.
 
 use crate::generated::range_merge::compare::Copier;
+use crate::generated::range_merge::merge_state::grows_at_end::append_copies;
 use crate::generated::range_merge::merge_state::output::Output;
-use crate::generated::range_merge::merge_state::sink::append_copies;
 use crate::generated::range_merge::merge_state::small_vec::Copying;
 use crate::support::{AllocError, Vec};
 

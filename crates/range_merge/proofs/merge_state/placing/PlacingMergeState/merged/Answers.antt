@@ -4,7 +4,7 @@ use Rattle.range_merge.proofs.merge_state.placing.PlacingMergeState.merged.Goals
 
 pub returns-clause-taken : goal.returns-clause-taken
 returns-clause-taken g c = λ start.
-    let may_be = g.R.RightSide.may_be in
+    let may_be = g.R.Supply.may_be in
     let merged = c.merge.ensures in
     let kept : may_be (changes g.C.Compare.order (g.O.MergeOperation.connective c.args.op.now) c.args.self.left c.args.self.right) c.merge.new.state.kept =
     whole-output c.merge.result (λ ts. may_be ts c.args.self.kept) (λ ts. may_be ts c.merge.new.state.kept) _ _ (merged.succeeds tt) merged.taken merged.stopped start in

@@ -28,12 +28,12 @@ returns-clause-gives g c =
     let alike = g.P.Copier.alike in
     let merged = rw (c.over-state.ensures.left, c.over-state.ensures.right) at c.in_ok-_went_through.ensures in
     let went = went_through c.in_ok-_went_through._went_through merged.stopped in
-    let empty : c.over-state.result.taken.now.items ≡ [] =
-    ap (λ list. list.now.items) c.over-state.ensures.taken ∙ c.reserve-asked.ensures.items ∙ c.in_ok-list.ensures.ok ∙ c.requires.empty in
+    let empty : c.over-state.result.taken.items ≡ [] =
+    ap (λ list. list.items) c.over-state.ensures.taken ∙ c.reserve-asked.ensures.items ∙ c.in_ok-list.ensures.ok ∙ c.requires.empty in
     let kept = merged.taken went [] (rw (empty, c.over-state.ensures.fixed) (AreKeptThenCopies-first alike [])) in
     let copies = AreCopies-kept alike _ _ (rw (merged.fixed, c.over-state.ensures.fixed) at kept) in
-    let items = ap (λ list. list.now.items) c.result.ensures in
-    record { copied = rw (c.inline_if_few.ensures, c.replace.ensures.value, items) copies; succeeds = absurd }
+    let items = ap (λ list. list.items) c.result.ensures in
+    record { copied = rw (c.inline_if_few.ensures, items) copies; succeeds = absurd }
 
 pub returns-clause-comparisons : goal.returns-clause-comparisons
 returns-clause-comparisons g c =
