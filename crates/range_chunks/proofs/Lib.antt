@@ -18,3 +18,8 @@ pub mod Parts
 pub mod Measured
 pub mod SetWithin
 pub mod Counted
+pub mod Rejoined
+pub mod Before
+pub mod Popped
+pub mod Bounded
+pub mod Walked

@@ -1,3 +1,4 @@
+pub mod Bounds
 pub mod Chunks
 pub mod Places
 pub mod Tracking

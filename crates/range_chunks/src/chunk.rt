@@ -130,6 +130,17 @@ impl<T: Drop> Chunk<T> {
         }
     }
 
+    /// Takes the first boundary out, which isn't the only one.
+    pub fn take_first(&mut self) -> T
+        requires { 0 < length self.old.rest.items }
+        ensures items { items_of self.old ≡ result ∷ items_of self.new }
+        ensures odd { self.new.odd ≡ differ self.old.odd (odd 1) }
+    {
+        self.odd = self.is_inside(1);
+        let next = self.rest.remove(0);
+        mem::replace(&mut self.first, next)
+    }
+
     /// Puts a boundary behind the others.
     pub fn push(&mut self, item: T) -> Result<(), AllocError>
         ensures items { OnOk result (items_of self.new ≡ items_of self.old ++ item ∷ []) }
@@ -156,6 +167,33 @@ impl<T: Drop> Chunk<T> {
             insert_both_reserved(&mut self.rest, at - 1, start, end);
         }
         Ok(())
+    }
+
+    /// Moves the boundaries of the chunk behind this one to the end, where there is room for them.
+    pub fn append(&mut self, behind: Chunk<T>)
+        requires { vec_len self.old.rest + length (items_of behind) ≤ vec_capacity self.old.rest }
+        ensures items { items_of self.new ≡ items_of self.old ++ items_of behind }
+        ensures odd { self.new.odd ≡ self.old.odd }
+    {
+        let Chunk { first, rest, .. } = behind;
+        self.rest.push_reserved(first);
+        append_reserved(&mut self.rest, rest);
+    }
+
+    /// Moves the boundaries of the chunk before this one to the front, where there is room for
+    /// them.
+    pub fn prepend(&mut self, before: Chunk<T>)
+        requires { vec_len self.old.rest + length (items_of before) ≤ vec_capacity self.old.rest }
+        ensures items { items_of self.new ≡ items_of before ++ items_of self.old }
+        ensures odd { self.new.odd ≡ before.odd }
+    {
+        let Chunk { first, rest, odd } = before;
+        let len = rest.len() + 1;
+        let old_first = mem::replace(&mut self.first, first);
+        append_reserved(&mut self.rest, rest);
+        self.rest.push_reserved(old_first);
+        self.rest.as_mut_slice().rotate_right(len);
+        self.odd = odd;
     }
 
     /// Takes the boundaries from an index on, which isn't the first or the end, as a chunk of their
@@ -185,6 +223,17 @@ fn remove_first<T: Drop>(list: &mut Vec<T>, len: usize)
     ensures { list.new.items ≡ drop len list.old.items }
 {
     list.drain(..len);
+}
+
+// Moves the items of another list to the end, where there is room for them.
+fn append_reserved<T: Drop>(list: &mut Vec<T>, other: Vec<T>)
+    requires { vec_len list.old + vec_len other ≤ vec_capacity list.old }
+    ensures items { list.new.items ≡ list.old.items ++ other.items }
+    ensures len { vec_len list.new ≡ vec_len list.old + vec_len other }
+    ensures capacity { vec_capacity list.old ≤ vec_capacity list.new }
+{
+    let mut moved = other;
+    let _had_room = list.append(&mut moved);
 }
 
 // Inserts two items where there is room for them, and moves the later ones up.

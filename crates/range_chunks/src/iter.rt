@@ -213,7 +213,7 @@ impl<'a, T> Unread<'a, T> {
 
     // Takes the last boundary out.
     #[inline(always)]
-    fn take_last(&mut self) -> Option<&'a T>
+    pub(crate) fn take_last(&mut self) -> Option<&'a T>
         ensures { YieldsLastBy (λ x. x.now) (λ items. items) self.old result self.new }
     {
         if let Some((last, rest)) = self.back.split_last() {

@@ -6,3 +6,6 @@ pub struct Place {
     pub chunk: usize,
     pub index: usize,
 }
+
+/// Before all boundaries.
+pub const FRONT: Place = Place { chunk: 0, index: 0 };

@@ -14,6 +14,8 @@ mod counted;
 mod fitting;
 mod making;
 mod many_ranges;
+mod members;
+mod taking;
 
 use crate::chunk::Chunk;
 use crate::iter::Iter;
@@ -41,6 +43,9 @@ use std::ops::{Range, RangeFrom};
 /// A range has its start and not its end; an empty or reversed range has no members. Of two equal
 /// boundaries the set's own stays. If memory runs out, the set has the boundaries that it had.
 /// Nothing is copied but by `from_view`, `clone` and operations with a view.
+///
+/// A chunk that is left with fewer than 128 is joined with a neighbour whose list has room for both,
+/// so a set that shrinks gives its chunks back. It takes no memory.
 ///
 /// Among `c` chunks a search makes at most `d(c) + 10` comparisons, where `d` counts binary digits.
 /// `contains`, `range_at`, `next_member`, `next_gap` and calls with a range without an end search

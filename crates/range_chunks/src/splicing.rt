@@ -8,6 +8,7 @@ ghost use Rattle.range_chunks.specs.Places.{place_in, IsPlace};
 
 use crate::chunk::Chunk;
 use crate::inserting::insert_both;
+use crate::joining::join_around;
 use crate::overwriting::overwrite;
 use crate::place::Place;
 use crate::removing::remove_between;
@@ -37,6 +38,7 @@ pub fn splice<T: Drop>(
 {
     if is_before(chunks.as_slice(), from, to) {
         replace_between(chunks, from, to, start, end);
+        join_around(chunks, from.chunk);
         return Ok(());
     }
     match (start, end) {

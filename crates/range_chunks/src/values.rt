@@ -46,8 +46,8 @@ pub fn count_members<T: Countable>(chunks: &[Chunk<T>]) -> Option<u128>
     Some(count)
 }
 
-// How many values lie from one on, up to another, which is out.
-fn between<T: Countable>(start: &T, end: &T) -> u128
+/// How many values lie from one on, up to another, which is out.
+pub fn between<T: Countable>(start: &T, end: &T) -> u128
     requires { T.cmp start.now end.now ≡ Less }
     ensures value { result ≡ T.place end.now - T.place start.now }
     ensures start_is_value { T.is_value start.now }

@@ -9,6 +9,8 @@ mod combining;
 #[cfg(test)]
 mod comparisons;
 #[cfg(test)]
+mod ends;
+#[cfg(test)]
 mod fitting;
 #[cfg(test)]
 mod made_up;
@@ -18,5 +20,9 @@ mod making;
 mod refused;
 #[cfg(test)]
 mod rows;
+#[cfg(test)]
+mod space;
+#[cfg(test)]
+mod tracker_refused;
 #[cfg(test)]
 mod tracking;

@@ -139,16 +139,15 @@ const COMBINED: [Row; 3] = [
     Row { ranges: 20, change: Change::DifferenceWith, start: 0, end: 195, takes: true },
 ];
 
-// Whether the call is refused without room, gives the answer that it has with ample memory where
-// there is much, and one of the two between.
-fn is_refused_or_right(starved: &mut Starved, attempt: &Attempt) -> bool {
+/// Whether the call is refused without room, gives the answer that it has with ample memory where
+/// there is much, and one of the two between.
+pub fn is_refused_or_right<C: Call>(starved: &mut Starved, call: &C) -> bool {
     for round in 0..100usize {
-        if starved.answer_in(16 * round, attempt) == Answer::Wrong {
+        if starved.answer_in(16 * round, call) == Answer::Wrong {
             return false;
         }
     }
-    starved.answer_in(0, attempt) == Answer::Refused
-        && starved.answer_in(4_096, attempt) == Answer::Right
+    starved.answer_in(0, call) == Answer::Refused && starved.answer_in(4_096, call) == Answer::Right
 }
 
 #[test]

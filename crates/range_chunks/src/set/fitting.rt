@@ -1,10 +1,12 @@
-//! Where a stretch of numbers fits beside the members.
-ghost use Rattle.std.specs.Prelude.{◌≡◌, ◌<◌, ◌≤◌, ◌+◌, false, IfSome, IfNone};
+//! Where a stretch of values fits beside the members.
+ghost use Rattle.std.specs.Prelude.{◌≡◌, ◌<◌, ◌≤◌, ◌+◌, ℕ, false, cond, Some, None, IfSome, IfNone};
+ghost use Rattle.std.specs.Ordering.{is_le};
 ghost use Rattle.range_merge.specs.Boundaries.{member};
-ghost use Rattle.range_collections.specs.Fits.{Fits};
+ghost use Rattle.range_collections.specs.Fits.{Fits, IsRow};
 
+use crate::reading::{Reading, first_gap};
 use crate::set::ChunkedRangeSet;
-use range_collections::Unsigned;
+use range_collections::{Countable, Unsigned};
 use std::ops::Range;
 
 impl<T: Unsigned> ChunkedRangeSet<T> {
@@ -22,19 +24,45 @@ impl<T: Unsigned> ChunkedRangeSet<T> {
         ensures none { IfNone result ((x : T) →
             ¬ (Fits T.cmp T.place self.now within.start within.end len x)) }
     {
+        within.start.known();
+        within.end.known();
+        len.known();
+        self.first_fit_count_unchanged(within, len.place())
+    }
+}
+
+impl<T: Ord> ChunkedRangeSet<T> {
+    // How many chunks there are.
+    pub(crate) fn chunks_len(&self) -> usize {
+        self.chunks.len()
+    }
+}
+
+impl<T: Countable + Copy> ChunkedRangeSet<T> {
+    /// The least value from which `count` values lie in the range, none of them a member, or `None`
+    /// if there is none. If `count` is 0, it is the start of the range, unless that is reversed.
+    ///
+    /// It looks at each gap from the start up to the answer, and takes no memory.
+    pub fn first_fit_count_unchanged(&self, within: Range<T>, count: u128) -> Option<T>
+        ensures fits { IfSome result (λ at. IsRow T.cmp T.value false self.now
+            (T.place within.start) (T.place within.end) count (T.place at)) }
+        ensures least { IfSome result (λ at. (n : ℕ) → IsRow T.cmp T.value false self.now
+            (T.place within.start) (T.place within.end) count n → T.place at ≤ n) }
+        ensures none { IfNone result ((n : ℕ) → ¬ (IsRow T.cmp T.value false self.now
+            (T.place within.start) (T.place within.end) count n)) }
+        ensures nothing { count ≡ 0 →
+            result ≡ cond (is_le (T.cmp within.start within.end)) (Some within.start) None }
+    {
         let Range { start, end } = within;
-        if len.place() == 0 {
-            return if start.place() <= end.place() {
-                Some(start)
-            } else {
-                None
-            };
+        start.known();
+        end.known();
+        if count == 0 {
+            return start.cmp(&end).is_le().then_some(start);
         }
-        for gap in self.gaps(&start..&end) {
-            if gap.end.place() - gap.start.place() >= len.place() {
-                return Some(*gap.start);
-            }
+        match first_gap(self.gaps(&start..&end), count, None) {
+            Reading::Found(at) => Some(at),
+            Reading::Stopped { .. } => None,
+            Reading::End => None,
         }
-        None
     }
 }

@@ -156,6 +156,21 @@ impl<T> Chunk<T> {
         }
     }
 
+    /// Takes the first boundary out, which isn't the only one.
+    ///
+    /// # Contract
+    ///
+    /// ```text
+    /// requires 0 < length self.old.rest.items
+    /// ensures items: items_of self.old ≡ result ∷ items_of self.new
+    /// ensures odd: self.new.odd ≡ differ self.old.odd (odd 1)
+    /// ```
+    pub(crate) fn take_first(&mut self) -> T {
+        self.odd = self.is_inside(1);
+        let next = self.rest.remove(0);
+        mem::replace(&mut self.first, next)
+    }
+
     /// Puts a boundary behind the others.
     ///
     /// # Contract
@@ -192,6 +207,41 @@ impl<T> Chunk<T> {
         Ok(())
     }
 
+    /// Moves the boundaries of the chunk behind this one to the end, where there is room for them.
+    ///
+    /// # Contract
+    ///
+    /// ```text
+    /// requires vec_len self.old.rest + length (items_of behind) ≤ vec_capacity self.old.rest
+    /// ensures items: items_of self.new ≡ items_of self.old ++ items_of behind
+    /// ensures odd: self.new.odd ≡ self.old.odd
+    /// ```
+    pub(crate) fn append(&mut self, behind: Chunk<T>) {
+        let Chunk { first, rest, .. } = behind;
+        self.rest.push_reserved(first);
+        append_reserved(&mut self.rest, rest);
+    }
+
+    /// Moves the boundaries of the chunk before this one to the front, where there is room for
+    /// them.
+    ///
+    /// # Contract
+    ///
+    /// ```text
+    /// requires vec_len self.old.rest + length (items_of before) ≤ vec_capacity self.old.rest
+    /// ensures items: items_of self.new ≡ items_of before ++ items_of self.old
+    /// ensures odd: self.new.odd ≡ before.odd
+    /// ```
+    pub(crate) fn prepend(&mut self, before: Chunk<T>) {
+        let Chunk { first, rest, odd } = before;
+        let len = rest.len() + 1;
+        let old_first = mem::replace(&mut self.first, first);
+        append_reserved(&mut self.rest, rest);
+        self.rest.push_reserved(old_first);
+        self.rest.as_mut_slice().rotate_right(len);
+        self.odd = odd;
+    }
+
     /// Takes the boundaries from an index on, which isn't the first or the end, as a chunk of their
     /// own.
     ///
@@ -220,6 +270,12 @@ impl<T> Chunk<T> {
 // Removes so many items at the front.
 fn remove_first<T>(list: &mut Vec<T>, len: usize) {
     list.drain(..len);
+}
+
+// Moves the items of another list to the end, where there is room for them.
+fn append_reserved<T>(list: &mut Vec<T>, other: Vec<T>) {
+    let mut moved = other;
+    let _had_room = list.append(&mut moved);
 }
 
 // Inserts two items where there is room for them, and moves the later ones up.

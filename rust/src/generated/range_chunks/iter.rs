@@ -15,6 +15,16 @@ pub struct Iter<'a, T> {
     endless: bool,
 }
 
+impl<'a, T> Clone for Iter<'a, T> {
+    #[inline]
+    fn clone(&self) -> Self {
+        Iter {
+            unread: Clone::clone(&self.unread),
+            endless: Clone::clone(&self.endless),
+        }
+    }
+}
+
 impl<'a, T> Iter<'a, T> {
     // The ranges of the boundaries in these chunks.
     #[inline(always)]
@@ -98,6 +108,18 @@ pub(crate) struct Unread<'a, T> {
     back: &'a [T],
 }
 
+impl<'a, T> Clone for Unread<'a, T> {
+    #[inline]
+    fn clone(&self) -> Self {
+        Unread {
+            front: Clone::clone(&self.front),
+            chunks: Clone::clone(&self.chunks),
+            first: Clone::clone(&self.first),
+            back: Clone::clone(&self.back),
+        }
+    }
+}
+
 impl<'a, T> Unread<'a, T> {
     // The boundaries in these chunks.
     #[inline(always)]
@@ -156,7 +178,7 @@ impl<'a, T> Unread<'a, T> {
 
     // Takes the last boundary out.
     #[inline(always)]
-    fn take_last(&mut self) -> Option<&'a T> {
+    pub(crate) fn take_last(&mut self) -> Option<&'a T> {
         if let Some((last, rest)) = self.back.split_last() {
             self.back = rest;
             return Some(last);

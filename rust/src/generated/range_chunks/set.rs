@@ -7,6 +7,8 @@ pub(crate) mod counted;
 pub(crate) mod fitting;
 pub(crate) mod making;
 pub(crate) mod many_ranges;
+pub(crate) mod members;
+pub(crate) mod taking;
 
 use crate::generated::range_chunks::chunk::Chunk;
 use crate::generated::range_chunks::iter::Iter;
@@ -33,6 +35,9 @@ use core::ops::{Range, RangeFrom};
 /// A range has its start and not its end; an empty or reversed range has no members. Of two equal
 /// boundaries the set's own stays. If memory runs out, the set has the boundaries that it had.
 /// Nothing is copied but by `from_view`, `clone` and operations with a view.
+///
+/// A chunk that is left with fewer than 128 is joined with a neighbour whose list has room for both,
+/// so a set that shrinks gives its chunks back. It takes no memory.
 ///
 /// Among `c` chunks a search makes at most `d(c) + 10` comparisons, where `d` counts binary digits.
 /// `contains`, `range_at`, `next_member`, `next_gap` and calls with a range without an end search

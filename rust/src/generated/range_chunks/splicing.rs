@@ -3,6 +3,7 @@
 
 use crate::generated::range_chunks::chunk::Chunk;
 use crate::generated::range_chunks::inserting::insert_both;
+use crate::generated::range_chunks::joining::join_around;
 use crate::generated::range_chunks::overwriting::overwrite;
 use crate::generated::range_chunks::place::Place;
 use crate::generated::range_chunks::removing::remove_between;
@@ -36,6 +37,7 @@ pub(crate) fn splice<T>(
 ) -> Result<(), AllocError> {
     if is_before(chunks.as_slice(), from, to) {
         replace_between(chunks, from, to, start, end);
+        join_around(chunks, from.chunk);
         return Ok(());
     }
     match (start, end) {

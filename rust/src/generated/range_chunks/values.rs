@@ -44,7 +44,16 @@ pub(crate) fn count_members<T: Countable>(chunks: &[Chunk<T>]) -> Option<u128> {
     Some(count)
 }
 
-// How many values lie from one on, up to another, which is out.
-fn between<T: Countable>(start: &T, end: &T) -> u128 {
+/// How many values lie from one on, up to another, which is out.
+///
+/// # Contract
+///
+/// ```text
+/// requires T.cmp start.now end.now ≡ Less
+/// ensures value: result ≡ T.place end.now - T.place start.now
+/// ensures start_is_value: T.is_value start.now
+/// ensures end_is_value: T.is_value end.now
+/// ```
+pub(crate) fn between<T: Countable>(start: &T, end: &T) -> u128 {
     end.place() - start.place()
 }

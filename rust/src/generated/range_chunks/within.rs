@@ -22,6 +22,15 @@ pub struct RangesWithin<'a, T> {
     unread: Within<'a, T>,
 }
 
+impl<'a, T> Clone for RangesWithin<'a, T> {
+    #[inline]
+    fn clone(&self) -> Self {
+        RangesWithin {
+            unread: Clone::clone(&self.unread),
+        }
+    }
+}
+
 impl<'a, T> RangesWithin<'a, T> {
     // No range.
     #[inline(always)]
@@ -122,6 +131,17 @@ struct Within<'a, T> {
     first: Option<&'a T>,
     between: Unread<'a, T>,
     last: Option<&'a T>,
+}
+
+impl<'a, T> Clone for Within<'a, T> {
+    #[inline]
+    fn clone(&self) -> Self {
+        Within {
+            first: Clone::clone(&self.first),
+            between: Clone::clone(&self.between),
+            last: Clone::clone(&self.last),
+        }
+    }
 }
 
 impl<'a, T> Within<'a, T> {

@@ -1,0 +1,27 @@
+//! Whole ranges taken out of a set.
+ghost use Rattle.std.specs.Prelude.{◌≡◌, ◌++◌, ◌∷◌, [], MatchOption};
+ghost use Rattle.range_collections.specs.Ranges.{ranges_of};
+
+use crate::set::ChunkedRangeSet;
+use crate::taking::{pop_first, pop_last};
+use range_collections::RangeSetRange;
+
+impl<T: Ord + Drop> ChunkedRangeSet<T> {
+    /// Removes the first range and returns it, or `None` if the set is empty. It makes no comparison
+    /// and takes no memory.
+    pub fn pop_first(&mut self) -> Option<RangeSetRange<T>>
+        ensures range { MatchOption result ((self.old ≡ []) × (self.new ≡ []))
+            (λ range. ranges_of self.old ≡ range ∷ ranges_of self.new) }
+    {
+        pop_first(&mut self.chunks)
+    }
+
+    /// Removes the last range and returns it, or `None` if the set is empty. It makes no comparison
+    /// and takes no memory.
+    pub fn pop_last(&mut self) -> Option<RangeSetRange<T>>
+        ensures range { MatchOption result ((self.old ≡ []) × (self.new ≡ []))
+            (λ range. ranges_of self.old ≡ ranges_of self.new ++ range ∷ []) }
+    {
+        pop_last(&mut self.chunks)
+    }
+}

@@ -1,0 +1,153 @@
+//! The search for the first fit, which passes over gaps that are known to be too short.
+ghost use Rattle.std.specs.Prelude.{◌≡◌, ◌<◌, ◌≤◌, ◌+◌, ℕ, false, cond, Some, None, IfSome, IfNone};
+ghost use Rattle.std.specs.Ordering.{is_le};
+ghost use Rattle.range_merge.specs.Boundaries.{member};
+ghost use Rattle.range_collections.specs.Fits.{Fits, IsRow};
+ghost use Rattle.range_chunks.specs.Bounds.{IsBound, IsPast, IsStep};
+
+use crate::gap_bound::{GapBound, first_above, stop_of};
+use crate::reading::{Reading, Step, Until, first_gap};
+use crate::space::ChunkedSpace;
+use range_collections::{Countable, Unsigned};
+use std::ops::Range;
+
+// How many gaps a bound is for at most.
+const GAPS: usize = 512;
+
+impl<T: Unsigned> ChunkedSpace<T> {
+    /// The least number from which `len` numbers lie in the range and are free, or `None` if there
+    /// is no such number. If `len` is 0, it is the start of the range, unless that is reversed.
+    ///
+    /// What is taken stays as it is. It passes over some 512 gaps at a time where they are known
+    /// to be too short, and reads the others once: what it learns of them stays until something
+    /// is freed there. If there is no memory to remember it, only time is lost.
+    pub fn first_fit(&mut self, within: Range<T>, len: T) -> Option<T>
+        ensures unchanged { self.new ≡ self.old }
+        ensures fits { IfSome result (Fits T.cmp T.place self.old within.start within.end len) }
+        ensures free { IfSome result (λ at. (x : T) → T.place at ≤ T.place x →
+            T.place x < T.place at + T.place len → member T.cmp self.old x ≡ false) }
+        ensures least { IfSome result (λ x. (y : T) →
+            Fits T.cmp T.place self.old within.start within.end len y → T.place x ≤ T.place y) }
+        ensures none { IfNone result ((x : T) →
+            ¬ (Fits T.cmp T.place self.old within.start within.end len x)) }
+    {
+        within.start.known();
+        within.end.known();
+        len.known();
+        self.first_fit_count(within, len.place())
+    }
+}
+
+impl<T: Countable + Copy> ChunkedSpace<T> {
+    /// The least value from which `count` values lie in the range and are free, or `None` if there
+    /// is none. If `count` is 0, it is the start of the range, unless that is reversed. Else it is
+    /// as `first_fit`.
+    pub fn first_fit_count(&mut self, within: Range<T>, count: u128) -> Option<T>
+        ensures unchanged { self.new ≡ self.old }
+        ensures fits { IfSome result (λ at. IsRow T.cmp T.value false self.old
+            (T.place within.start) (T.place within.end) count (T.place at)) }
+        ensures least { IfSome result (λ at. (n : ℕ) → IsRow T.cmp T.value false self.old
+            (T.place within.start) (T.place within.end) count n → T.place at ≤ n) }
+        ensures none { IfNone result ((n : ℕ) → ¬ (IsRow T.cmp T.value false self.old
+            (T.place within.start) (T.place within.end) count n)) }
+        ensures nothing { count ≡ 0 →
+            result ≡ cond (is_le (T.cmp within.start within.end)) (Some within.start) None }
+    {
+        if count == 0 {
+            return self.taken.first_fit_count_unchanged(within, 0);
+        }
+        self.forget_wasted();
+        let Range { start, end } = within;
+        let mut from = start;
+        let mut at = 0;
+        while from.place() < end.place() {
+            at = first_above(self.bounds.as_slice(), at, from.place());
+            match self.step(at, from, end, count) {
+                Step::At(found) => return Some(found),
+                Step::From(next) => from = next,
+                Step::Nowhere => return None,
+            }
+        }
+        None
+    }
+
+    // Forgets all bounds where there are more than chunks: the set has shrunk, or moved away.
+    fn forget_wasted(&mut self)
+        ensures { self.new ≡ self.old }
+    {
+        if self.bounds.len() > self.taken.chunks_len() {
+            self.bounds.clear();
+        }
+    }
+
+    // Looks from one value on, which lies before the bound at an index or in what it speaks of.
+    fn step(&mut self, at: usize, from: T, end: T, count: u128) -> Step<T>
+        requires some { 0 < count }
+        ensures unchanged { self.new ≡ self.old }
+        ensures step { IsStep T.cmp T.value T.place self.old from end count result }
+    {
+        if let Some(past) = self.known_past(at, &from, count) {
+            return Step::From(past);
+        }
+        from.known();
+        end.known();
+        let until = Until {
+            gaps: GAPS,
+            place: stop_of(self.bounds.as_slice(), at, from.place()),
+        };
+        match first_gap(self.taken.gaps(&from..&end), count, Some(until)) {
+            Reading::Found(found) => Step::At(found),
+            Reading::Stopped { end: next, most } => {
+                self.note(at, from, next, most);
+                Step::From(next)
+            }
+            Reading::End => Step::Nowhere,
+        }
+    }
+
+    // The end of the bound at an index, if that speaks of the value and is too low.
+    fn known_past(&self, at: usize, from: &T, count: u128) -> Option<T>
+        ensures { IfSome result (λ past. (end : T) →
+            IsPast T.cmp T.value T.place self.now from.now end count past) }
+    {
+        let bound = self.bounds.get(at)?;
+        if bound.most < count && bound.is_around(from.place()) {
+            Some(bound.end)
+        } else {
+            None
+        }
+    }
+
+    // Remembers that between two values no gap has more than `most` values, if the second is a
+    // member.
+    fn note(&mut self, at: usize, start: T, end: T, most: u128)
+        requires ordered { T.place start ≤ T.place end }
+        requires most { (n k : ℕ) →
+            IsRow T.cmp T.value false self.old (T.place start) (T.place end) n k → n ≤ most }
+        ensures { self.new ≡ self.old }
+    {
+        if self.taken.contains(&end) {
+            end.known();
+            self.put_bound(at, GapBound { start, end, most });
+        }
+    }
+
+    // Puts a bound at an index, in the place of the one there if both start together. One that
+    // starts within that is left out. If there is no memory for it, it is lost.
+    fn put_bound(&mut self, at: usize, bound: GapBound<T>)
+        requires { IsBound T.cmp T.value T.place T.count self.old bound }
+        ensures { self.new ≡ self.old }
+    {
+        if at > self.bounds.len() {
+            return;
+        }
+        let place = bound.start.place();
+        match self.bounds.get(at) {
+            Some(old) if old.start.place() == place => self.bounds[at] = bound,
+            Some(old) if old.start.place() < place => {}
+            _ => {
+                let _inserted = self.bounds.insert(at, bound);
+            }
+        }
+    }
+}
