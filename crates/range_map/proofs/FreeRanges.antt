@@ -16,7 +16,7 @@ use Rattle.range_collections.proofs.Ascending.{Less-from_is_lt}
 use Rattle.range_collections.proofs.Shortest.{le-trans, Less-from_le, Less-then_le}
 use Rattle.range_map.specs.Steps.{Steps, IsCanonical}
 use Rattle.range_map.specs.Changed.{is_in_range, IsFree}
-use Rattle.range_map.specs.Places.{ArePlaces}
+use Rattle.range_map.specs.Places.{ArePlaces, IsAboveEnd}
 use Rattle.range_map.specs.declared.places.Places.{Places}
 use Rattle.range_map.proofs.Stretched.{both, from-first, option_before, value_at-place, value_at-key, neighbours}
 use Rattle.range_map.proofs.UpToEnd.{not_before}
@@ -29,14 +29,14 @@ pub value_read : {V : Type 0} (r : Option (Bor V)) (p : Option V) → option_cop
 value_read None p e h = sym e
 value_read (Some v) p e h = absurd (true≢false h)
 
-none_read : {V : Type 0} (r : Option (Bor V)) → option_copied r ≡ None → is_some r ≡ true → ⊥
+pub none_read : {V : Type 0} (r : Option (Bor V)) → option_copied r ≡ None → is_some r ≡ true → ⊥
 none_read None e h = absurd (true≢false (sym h))
 none_read (Some v) e h = let off : Some v.now ≡ None = e in absurd (cc)
 
 module _ {K V : Type 0} (order : K → K → Ordering) (o : IsTotalOrder order) (E : V → V → Bool) (e : IsEquivalence E)
     (m : Steps K V) (canonical : IsCanonical order E m) (start end : K) where
   -- a range without keys is free
-  pub IsFree-empty : is_lt (order start end) ≡ false → IsFree order start end m
+  pub IsFree-empty : is_lt (order start end) ≡ false → IsFree order start (Some end) m
   IsFree-empty none x inside =
       let in_it = both (is_le (order start x)) (is_lt (order x end)) inside in
       absurd (true≢false (sym (ap is_lt (Less-from_le o start x end in_it.0 (Less-from_is_lt (order x end) in_it.1))) ∙ none))
@@ -47,11 +47,11 @@ module _ {K V : Type 0} (order : K → K → Ordering) (o : IsTotalOrder order) 
 
     module _ (n : ℕ) (within : n ≤ length m.keys) (before : AllWithin (λ y. is_le (order y start) ≡ true) m.keys 0 n)
         (from : AllWithin (λ y. order y start ≡ Greater) m.keys n (length m.keys)) where
-      pub not_IsFree-value : (r : Option (Bor V)) → option_copied r ≡ option_before order o E e m canonical n → is_some r ≡ true → IsFree order start end m → ⊥
+      pub not_IsFree-value : (r : Option (Bor V)) → option_copied r ≡ option_before order o E e m canonical n → is_some r ≡ true → IsFree order start (Some end) m → ⊥
       not_IsFree-value r read some free =
           none_read r (read ∙ sym (value_at-place order o E e m canonical start n within before from) ∙ free start start_in) some
 
-      pub IsFree-decided : option_before order o E e m canonical n ≡ None → (b : Bool) → IsTrue b ↔ IsItemBelow order m.keys n end → IsTrue (not b) ↔ IsFree order start end m
+      pub IsFree-decided : option_before order o E e m canonical n ≡ None → (b : Bool) → IsTrue b ↔ IsItemBelow order m.keys n end → IsTrue (not b) ↔ IsFree order start (Some end) m
       IsFree-decided none true below = (
         λ t. absurd (true≢false (sym t)),
         λ free.
@@ -86,11 +86,48 @@ module _ {K V : Type 0} (order : K → K → Ordering) (o : IsTotalOrder order) 
                 | inr none ↦ λ i d low high. absurd (omega (arith, none, low, high))
               ]
 
-    -- where no step lies in a free range, none holds at its end
-    pub none_after : (p : Option V) (places : Places) → ArePlaces order E m start (Some end) p places → IsFree order start end m → places.from ≡ places.to →
-        get_or (None ∷ m.options) places.to None ≡ None
-    none_after p places are free same =
-        sym (value_at-place order o E e m canonical start places.to are.to_in
-        (rw (sym same) (λ i d low high. ap is_le (are.below i d low high)))
-        (λ i d low high. Greater-from_less o start _ (o.trans start end _ less (Less-from_greater o _ end (are.above i d low high)))))
-        ∙ free start start_in
+module _ {K V : Type 0} (order : K → K → Ordering) (o : IsTotalOrder order) (E : V → V → Bool) (e : IsEquivalence E)
+    (m : Steps K V) (canonical : IsCanonical order E m) (start : K) where
+  -- the start is in the range, which goes on up to the end, if there is one
+  starts_in : (end : Option K) → ((z : K) → end ≡ Some z → order start z ≡ Less) → is_in_range order start end start ≡ true
+  starts_in None some = ap (λ r. is_le r && true) (tied_itself o start)
+  starts_in (Some z) some = ap₂ (λ r s. is_le r && is_lt s) (tied_itself o start) (some z refl)
+
+  above_start : (end : Option K) → ((z : K) → end ≡ Some z → order start z ≡ Less) → (y : K) → IsAboveEnd order end y → order y start ≡ Greater
+  above_start None some y above = absurd above
+  above_start (Some z) some y above = Greater-from_less o start y (o.trans start z y (some z refl) (Less-from_greater o y z above))
+
+  -- where no step lies in a free range, none holds at its end
+  pub none_after : (end : Option K) (some : (z : K) → end ≡ Some z → order start z ≡ Less) (p : Option V) (places : Places) →
+      ArePlaces order E m start end p places → IsFree order start end m → places.from ≡ places.to → get_or (None ∷ m.options) places.to None ≡ None
+  none_after end some p places are free same =
+      sym (value_at-place order o E e m canonical start places.to are.to_in
+      (rw (sym same) (λ i d low high. ap is_le (are.below i d low high)))
+      (λ i d low high. above_start end some _ (are.above i d low high)))
+      ∙ free start (starts_in end some)
+
+  module _ (n : ℕ) (within : n ≤ length m.keys) (before : AllWithin (λ y. is_le (order y start) ≡ true) m.keys 0 n)
+      (from : AllWithin (λ y. order y start ≡ Greater) m.keys n (length m.keys)) where
+    at_start : IsFree order start None m → option_before order o E e m canonical n ≡ None
+    at_start free = sym (value_at-place order o E e m canonical start n within before from) ∙ free start (starts_in None (λ z none. absurd (cc)))
+
+    -- where the range goes on for ever, no key stands above the start
+    pub not_IsFree-next : n < length m.keys → IsFree order start None m → ⊥
+    not_IsFree-next more free =
+        let k : K = get_or m.keys n start in
+        let k_in : is_in_range order start None k ≡ true = ap (λ r. is_le r && true) (Less-from_greater o k start (from n start (omega arith) more)) in
+        absurd (true≢false (ap₂ (option_eq E) (sym (at_start free)) (sym (sym (value_at-key order o E e m canonical n start more) ∙ free k k_in)) ∙ neighbours order o E e m canonical n more))
+
+    pub IsFree-endless : n ≡ length m.keys → (r : Option (Bor V)) → option_copied r ≡ option_before order o E e m canonical n → (b : Bool) → is_some r ≡ not b →
+        IsTrue b ↔ IsFree order start None m
+    IsFree-endless last None read true h = (
+      λ _ x inside.
+          value_at-place order o E e m canonical x n within
+          (λ i d low high. le-trans o _ start x (before i d low high) (both (is_le (order start x)) true inside).0)
+          (λ i d low high. absurd (omega (arith, last, low, high)))
+          ∙ sym read,
+      λ _. refl,
+    )
+    IsFree-endless last None read false h = absurd (true≢false (sym h))
+    IsFree-endless last (Some v) read true h = absurd (true≢false h)
+    IsFree-endless last (Some v) read false h = (λ t. absurd (true≢false (sym t)), λ free. absurd (none_read (Some v) (read ∙ at_start free) refl))

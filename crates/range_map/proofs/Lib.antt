@@ -15,3 +15,6 @@ pub mod MadeUpTo
 pub mod RunPlaces
 pub mod Setlike
 pub mod Depths
+pub mod Overlapping
+pub mod GapsFound
+pub mod Retained

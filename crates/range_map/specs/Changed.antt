@@ -20,9 +20,8 @@ module _ {K : Type 0} (order : K → K → Ordering) where
   is_in_range start end x = is_le (order start x) && is_before_end end x
 
   -- no key of the range has a value
-  abbrev pub IsFree : {V : Type 0} → K → K → Steps K V → Type 0
-  IsFree start end a =
-      (x : K) → is_in_range start (Some end) x ≡ true → value_at order a x ≡ None
+  abbrev pub IsFree : {V : Type 0} → K → Option K → Steps K V → Type 0
+  IsFree start end a = (x : K) → is_in_range start end x ≡ true → value_at order a x ≡ None
 
   module _ {V : Type 0} (E : V → V → Bool) where
     -- p in the range, and elsewhere the option as it was

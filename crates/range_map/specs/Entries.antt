@@ -2,9 +2,12 @@
 --     range_until k end    from k up to the end, if there is one
 --     first_or keys end    the first key, or else the end
 --     entries m            the ranges with their values, from the lowest on
+--     overlaps order start end e    the range with its value shares a key with the one from start to end
 --     entry_now e          the range and the value that references point to
-use Rattle.std.specs.Prelude.{List, [], ◌∷◌, Option, Some, None}
+use Rattle.std.specs.Prelude.{Bool, ◌&&◌, List, [], ◌∷◌, Option, Some, None}
 use Rattle.std.specs.Borrow.{Bor}
+use Rattle.std.specs.Ordering.{is_lt}
+use Rattle.std.specs.declared.cmp.Ordering.{Ordering}
 use Rattle.range_collections.specs.Ranges.{range_now}
 use Rattle.range_collections.specs.declared.range_set_range.RangeSetRange.{RangeSetRange}
 use Rattle.range_collections.specs.declared.range_set_range.RangeSetRange.TheVariants.{Range, RangeFrom}
@@ -33,6 +36,12 @@ module _ {K V : Type 0} where
   -- the ranges of a map with their values, from the lowest on
   abbrev pub entries : Steps K V → List (RangeSetRange K × V)
   entries m = entries_until m.keys m.options None
+
+  -- the range begins below the end and ends above the start, of which the start is the lower one
+  abbrev pub overlaps : (K → K → Ordering) → K → K → RangeSetRange K × V → Bool
+  overlaps order start end (Range r, v) =
+      is_lt (order start end) && (is_lt (order r.start end) && is_lt (order start r.end))
+  overlaps order start end (RangeFrom r, v) = is_lt (order start end) && is_lt (order r.start end)
 
   -- the range and the value that references point to
   abbrev pub entry_now : RangeSetRange (Bor K) × Bor V → RangeSetRange K × V

@@ -10,3 +10,4 @@ pub mod Combining
 pub mod Units
 pub mod Depth
 pub mod Updated
+pub mod Gaps

@@ -1,6 +1,7 @@
 -- What an update makes of a map.
 --     IsUpdated order E start end f a r    r has f of the option in the range, elsewhere what a has
-use Rattle.std.specs.Prelude.{Bool, cond, Option, Some}
+--     kept test p                          the option, but none where its value fails the test
+use Rattle.std.specs.Prelude.{Bool, cond, Option, Some, None}
 use Rattle.std.specs.declared.cmp.Ordering.{Ordering}
 use Rattle.range_map.specs.Steps.{Steps, value_at, AreAlike}
 use Rattle.range_map.specs.Changed.{is_in_range}
@@ -11,3 +12,8 @@ abbrev pub IsUpdated : {K V : Type 0} → (K → K → Ordering) → (V → V �
 IsUpdated {K} order E start end f a r =
     (x : K) → AreAlike E (value_at order r x)
     (cond (is_in_range order start (Some end) x) (f (value_at order a x)) (value_at order a x))
+
+-- the option, but none where its value fails the test
+abbrev pub kept : {V : Type 0} → (V → Bool) → Option V → Option V
+kept test None = None
+kept test (Some v) = cond (test v) (Some v) None

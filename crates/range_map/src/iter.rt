@@ -87,9 +87,9 @@ fn range_until<'a, K>(start: &'a K, end: Option<&'a K>) -> RangeSetRange<&'a K>
     }
 }
 
-// The key at a place, or else the end.
+/// The key at a place, or else the end.
 #[inline(always)]
-fn next_or<'a, K>(keys: &'a [K], place: usize, end: Option<&'a K>) -> Option<&'a K>
+pub fn next_or<'a, K>(keys: &'a [K], place: usize, end: Option<&'a K>) -> Option<&'a K>
     ensures { option_copied result ≡ first_or (drop place keys.now) (option_copied end.entry) }
 {
     match keys.get(place) {

@@ -2,7 +2,9 @@
 //! up to the next one, or none.
 #![tactic(auto)]
 
+mod filter;
 mod free;
+mod gaps;
 mod insert_error;
 mod iter;
 pub mod laws;
@@ -11,12 +13,16 @@ mod operation;
 mod operations;
 mod places;
 mod replacing;
+mod retaining;
 mod runs;
 mod side;
 mod splicing;
 mod update;
 mod value;
+mod within;
 
+pub use filter::MapFilter;
+pub use gaps::Gaps;
 pub use insert_error::InsertError;
 pub use iter::Iter;
 pub use map::{RangeMap, Stretch};

@@ -46,8 +46,8 @@ pub fn find<K: Ord, V: Eq>(
     }
 }
 
-// How many keys are below this one.
-fn count_below<K: Ord>(keys: &[K], key: &K) -> usize
+/// How many keys are below this one.
+pub fn count_below<K: Ord>(keys: &[K], key: &K) -> usize
     requires { IsAscending K.cmp keys.now }
     ensures within { result ≤ length keys.now }
     ensures below { AllWithin (λ y. K.cmp y key.now ≡ Less) keys.now 0 result }

@@ -19,9 +19,68 @@ pub fn splice<T: Drop>(
         + length (option_to_list second) ≤ vec_capacity list.old + (to - from) }
     ensures { list.new.items ≡ spliced list.old.items from to first second }
 {
+    match (first, second) {
+        (Some(first), Some(second)) if from == to => insert_both(list, from, first, second),
+        (first, second) => replace_between(list, from, to, first, second),
+    }
+}
+
+// Replaces the items one by one: what is put more than gives way moves the later ones.
+fn replace_between<T: Drop>(
+    list: &mut Vec<T>,
+    from: usize,
+    to: usize,
+    first: Option<T>,
+    second: Option<T>,
+)
+    requires ordered { from ≤ to }
+    requires within { to ≤ length list.old.items }
+    requires room { length list.old.items + length (option_to_list first)
+        + length (option_to_list second) ≤ vec_capacity list.old + (to - from) }
+    ensures { list.new.items ≡ spliced list.old.items from to first second }
+{
     let (mid, to) = put(list, from, to, first);
     let (after, to) = put(list, mid, to, second);
     cut_out(list, after, to);
+}
+
+// Inserts two items at a place, where there is room for them, and moves the later ones up once.
+fn insert_both<T>(list: &mut Vec<T>, at: usize, first: T, second: T)
+    requires within { at ≤ length list.old.items }
+    requires room { length list.old.items + 2 ≤ vec_capacity list.old }
+    ensures { list.new.items ≡
+        take at list.old.items ++ (first ∷ second ∷ drop at list.old.items) }
+{
+    list.push_reserved(first);
+    list.push_reserved(second);
+    move_last_two(list.as_mut_slice(), at);
+}
+
+// Moves the last two items before those from a place on.
+fn move_last_two<T>(items: &mut [T], at: usize)
+    requires { at + 2 ≤ length items.old }
+    ensures { (front : List T) (a b : T) →
+        items.old ≡ front ++ a ∷ b ∷ [] → items.new ≡ take at front ++ (a ∷ b ∷ drop at front) }
+{
+    last_two_to_front(&mut items[at..]);
+}
+
+// So many items are turned by two places at once, which first clears a buffer of 4 KB. Fewer are
+// turned twice by one place, which takes none.
+const MANY: usize = 512;
+
+// Moves the last two items to the front.
+fn last_two_to_front<T>(items: &mut [T])
+    requires { 2 ≤ length items.old }
+    ensures { (front : List T) (a b : T) →
+        items.old ≡ front ++ a ∷ b ∷ [] → items.new ≡ a ∷ b ∷ front }
+{
+    if items.len() < MANY {
+        items.rotate_right(1);
+        items.rotate_right(1);
+    } else {
+        items.rotate_right(2);
+    }
 }
 
 // Removes the items between two places.

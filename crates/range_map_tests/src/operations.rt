@@ -1,12 +1,12 @@
 //! Made-up maps: operations on them have the values of arrays of options that are treated alike.
 ghost use Rattle.std.specs.Bool.{beq};
 ghost use Rattle.std.specs.Option.{is_some};
-ghost use Rattle.std.specs.Prelude.{cond, not, Some, None};
+ghost use Rattle.std.specs.Prelude.{cond, nat_eq, not, Some, None};
 ghost use Rattle.range_map.specs.Units.{unit_if};
 
 use crate::made_up::{KEYS, LIMIT, next_range, set};
 use range_collections::{Comparisons, RangeSet2};
-use range_map::{MapOperation, MapUpdate, RangeMap};
+use range_map::{MapFilter, MapOperation, MapUpdate, RangeMap};
 use range_tests_kit::generator::Generator;
 use std::alloc::{AllocError, Global};
 use std::ops::Range;
@@ -245,6 +245,38 @@ fn made_up_maps_are_updated(rt: HostRuntime) -> Result<(), AllocError> {
             turn_options(&mut options, &range);
             map.update(range, &Turn)?;
         }
+        assert!(rt; has(&map, &options), "{sequence}");
+    }
+    Ok(())
+}
+
+// Whether a value is the last one of those that are made up.
+struct Threes;
+
+impl MapFilter<u64> for Threes {
+    ghost is_kept = { λ _ v. nat_eq v 3 };
+
+    fn keeps(&self, value: &u64) -> bool {
+        *value == 3
+    }
+}
+
+// Takes all other options out.
+fn keep_threes(options: &mut Options) {
+    for key in 0..LIMIT {
+        if options[key as usize] != Some(3) {
+            options[key as usize] = None;
+        }
+    }
+}
+
+#[test]
+fn made_up_maps_keep_what_is_retained(rt: HostRuntime) -> Result<(), AllocError> {
+    let mut generator = Generator::new();
+    for sequence in 0..10_000u64 {
+        let (mut map, mut options) = made_up(rt.alloc(), &mut generator)?;
+        keep_threes(&mut options);
+        map.retain(&Threes);
         assert!(rt; has(&map, &options), "{sequence}");
     }
     Ok(())

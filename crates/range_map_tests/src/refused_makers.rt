@@ -1,8 +1,10 @@
 //! Out of memory where a map makes another map or a set, or a range is booked: each request is
 //! refused in turn, and the map has the values that it had. So is each copy of a value.
+ghost use Rattle.std.specs.Prelude.{Some};
+
 use crate::refused::{Alone, pair, value_at};
-use range_collections::{RangeSet2, RangeSetRef};
-use range_map::{InsertError, RangeMap};
+use range_collections::{Comparisons, RangeSet2, RangeSetRef};
+use range_map::{InsertError, MapOperation, MapUpdate, RangeMap};
 use range_tests_kit::starving::{Answer, Call, Starved};
 use range_tests_kit::ways::refused_if;
 use std::alloc::{AllocError, Global};
@@ -20,9 +22,11 @@ enum Wanted {
     Domain,
     Ones,
     Depth,
+    Combined,
+    Updated,
 }
 
-const ALL: [Wanted; 10] = [
+const ALL: [Wanted; 12] = [
     Wanted::Copy,
     Wanted::Ranges,
     Wanted::Booking,
@@ -33,6 +37,8 @@ const ALL: [Wanted; 10] = [
     Wanted::Domain,
     Wanted::Ones,
     Wanted::Depth,
+    Wanted::Combined,
+    Wanted::Updated,
 ];
 
 #[derive(Drop)]
@@ -104,6 +110,38 @@ fn book(mut map: RangeMap<u16, u16>) -> Answer {
     }
 }
 
+// The values of the left.
+struct Lefts;
+
+impl MapOperation<u16, u16> for Lefts {
+    type Output = u16;
+
+    ghost gives = { λ _ p q. p };
+
+    fn apply(&self, left: Option<&u16>, _right: Option<&u16>) -> Result<Option<u16>, AllocError> {
+        Ok(left.copied())
+    }
+}
+
+// The value 2 for each key.
+struct Twos;
+
+impl MapUpdate<u16> for Twos {
+    ghost gives = { λ _ p. Some 2 };
+
+    fn apply(&self, _option: Option<&u16>) -> Result<Option<u16>, AllocError> {
+        Ok(Some(2))
+    }
+}
+
+// The answer of a range whose keys are given another value.
+fn update(mut map: RangeMap<u16, u16>) -> Answer {
+    match map.update(12..15, &Twos) {
+        Ok(()) => Answer::right_if(map.get(&14) == Some(&2) && map.len() == 17),
+        Err(_) => refused_if(has(&map, 0, 400)),
+    }
+}
+
 // The answer of many ranges counted.
 fn count(alloc: Global) -> Answer {
     let ranges = [0..10u16, 5..20, 8..30, 9..10];
@@ -137,6 +175,11 @@ impl Call for Attempt {
             Wanted::Domain => set_answer(map.domain(alloc), &map),
             Wanted::Ones => set_answer(map.where_equal(alloc, &1), &map),
             Wanted::Depth => count(alloc),
+            Wanted::Combined => {
+                let made = map.combine(alloc, &map, &Lefts, &mut Comparisons::new());
+                answer_of(made, &map, 0, 400)
+            }
+            Wanted::Updated => update(map),
         }
     }
 }

@@ -1,24 +1,31 @@
 //! Ranges that are put in only where no key has a value.
-ghost use Rattle.std.specs.Prelude.{◌≡◌, ◌↔◌, Some, IsTrue, IsOk, OnOk, OnErr, IfErr};
+ghost use Rattle.std.specs.Prelude.{◌≡◌, ◌↔◌, None, Some, IsTrue, IsOk, OnOk, OnErr, IfErr};
 ghost use Rattle.range_map.specs.Changed.{IsSetTo, FitsAfter, IsFree};
 ghost use Rattle.range_map.specs.Refused.{IsRefusal};
 
-use crate::free::{is_free, set_free};
+use crate::free::{is_free, is_free_from, set_free};
 use crate::insert_error::InsertError;
 use crate::map::RangeMap;
-use std::ops::Range;
+use std::ops::{Range, RangeFrom};
 
 impl<K: Ord + Drop, V: Eq> RangeMap<K, V> {
     /// Whether no key of the range has a value. It is `true` for an empty or reversed range.
     pub fn is_free(&self, range: Range<K>) -> bool
-        ensures { IsTrue result ↔ IsFree K.cmp range.start range.end self.now }
+        ensures { IsTrue result ↔ IsFree K.cmp range.start (Some range.end) self.now }
     {
         is_free(
             self.keys.as_slice(),
             self.options.as_slice(),
             &range.start,
-            &range.end,
+            Some(&range.end),
         )
+    }
+
+    /// Whether no key from the start on has a value.
+    pub fn is_free_from(&self, range: RangeFrom<K>) -> bool
+        ensures { IsTrue result ↔ IsFree K.cmp range.start None self.now }
+    {
+        is_free_from(self.keys.as_slice(), self.options.as_slice(), &range.start)
     }
 }
 
@@ -31,16 +38,32 @@ impl<K: Ord + Drop, V: Eq + Drop> RangeMap<K, V> {
     /// copies nothing.
     pub fn insert_free(&mut self, range: Range<K>, value: V) -> Result<(), InsertError<V>>
         ensures values { OnOk result (IsSetTo K.cmp V.eq range.start (Some range.end) (Some value) self.old self.new) }
-        ensures free { OnOk result (IsFree K.cmp range.start range.end self.old) }
-        ensures handed_back { IfErr result (IsRefusal (IsFree K.cmp range.start range.end self.old) value) }
+        ensures free { OnOk result (IsFree K.cmp range.start (Some range.end) self.old) }
+        ensures handed_back { IfErr result (IsRefusal (IsFree K.cmp range.start (Some range.end) self.old) value) }
         ensures unchanged { OnErr result (self.new ≡ self.old) }
-        ensures succeeds { IsFree K.cmp range.start range.end self.old →
+        ensures succeeds { IsFree K.cmp range.start (Some range.end) self.old →
             FitsAfter K.cmp V.eq range.start (Some range.end) (Some value) self.old → IsOk result }
     {
         let Range { start, end } = range;
         if !start.cmp(&end).is_lt() {
             return Ok(());
         }
-        set_free(&mut self.keys, &mut self.options, start, end, value)
+        set_free(&mut self.keys, &mut self.options, start, Some(end), value)
+    }
+
+    /// Gives each key from the start on the value, if none of them has one.
+    ///
+    /// It asks for memory only if there are more steps after it, and before it changes anything. If
+    /// that fails, or a key has a value, the map is as it was, and the error has the value. It
+    /// copies nothing.
+    pub fn insert_free_from(&mut self, range: RangeFrom<K>, value: V) -> Result<(), InsertError<V>>
+        ensures values { OnOk result (IsSetTo K.cmp V.eq range.start None (Some value) self.old self.new) }
+        ensures free { OnOk result (IsFree K.cmp range.start None self.old) }
+        ensures handed_back { IfErr result (IsRefusal (IsFree K.cmp range.start None self.old) value) }
+        ensures unchanged { OnErr result (self.new ≡ self.old) }
+        ensures succeeds { IsFree K.cmp range.start None self.old →
+            FitsAfter K.cmp V.eq range.start None (Some value) self.old → IsOk result }
+    {
+        set_free(&mut self.keys, &mut self.options, range.start, None, value)
     }
 }

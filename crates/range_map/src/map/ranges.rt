@@ -1,14 +1,18 @@
 //! The ranges of a map: all of them with their values, and the one around a key.
-ghost use Rattle.std.specs.Prelude.{◌≡◌, ◌≤◌, length, option_copied, slice_get};
+ghost use Rattle.std.specs.Prelude.{◌≡◌, ◌≤◌, filter, length, option_copied, slice_get};
 ghost use Rattle.range_map.specs.Steps.{value_at};
-ghost use Rattle.range_map.specs.Entries.{entries};
+ghost use Rattle.range_map.specs.Entries.{entries, overlaps};
+ghost use Rattle.range_map.specs.Gaps.{AreGaps};
 ghost use Rattle.range_map.specs.Stretches.{IsStretch};
 
+use crate::gaps::Gaps;
 use crate::iter::Iter;
 use crate::map::RangeMap;
 use crate::places::{key_before, option_before};
+use crate::within::{gaps_between, overlapping_steps};
 use range_collections::{Comparisons, RangeSetRange};
 use range_merge::count_up_to;
+use std::ops::Range;
 
 /// The longest range around a key whose keys all have one value, or all have none. It has no start
 /// if all lower keys are in it too, and no end if all higher ones are.
@@ -27,6 +31,41 @@ impl<K: Ord, V: Eq> RangeMap<K, V> {
         ensures { result ≡ entries self.now }
     {
         Iter::new(self.keys.as_slice(), self.options.as_slice(), None)
+    }
+
+    /// The ranges that share a key with this one, whole, each with its value. It has none in common
+    /// with an empty or reversed range.
+    ///
+    /// ```text
+    /// bookings.overlapping(&10..&12)   // 9..11 with Guest::Ada, 11..14 with Guest::Bob
+    /// ```
+    pub fn overlapping<'a>(&'a self, range: Range<&K>) -> Iter<'a, K, V>
+        ensures { result ≡ filter (overlaps K.cmp range.entry.start.now range.entry.end.now)
+            (entries self.now) }
+    {
+        overlapping_steps(
+            self.keys.as_slice(),
+            self.options.as_slice(),
+            range.start,
+            range.end,
+        )
+    }
+
+    /// The parts of a range whose keys have no value, from the lowest on and from the highest down.
+    /// None is empty, and each ends below the start of the next. An empty or reversed range has none.
+    ///
+    /// ```text
+    /// bookings.gaps(&10..&20)          // 14..20
+    /// ```
+    pub fn gaps<'a>(&'a self, within: Range<&'a K>) -> Gaps<'a, K, V>
+        ensures { AreGaps K.cmp self.now within.entry.start.now within.entry.end.now result }
+    {
+        gaps_between(
+            self.keys.as_slice(),
+            self.options.as_slice(),
+            within.start,
+            within.end,
+        )
     }
 
     /// The longest range around `key` with its value, or with none.

@@ -1,8 +1,11 @@
 //! What a range has, put anew by what it had.
 ghost use Rattle.std.specs.Prelude.{◌≡◌, OnOk, OnErr};
-ghost use Rattle.range_map.specs.Updated.{IsUpdated};
+ghost use Rattle.range_map.specs.Steps.{AreAlike, value_at};
+ghost use Rattle.range_map.specs.Updated.{IsUpdated, kept};
 
+use crate::filter::MapFilter;
 use crate::map::RangeMap;
+use crate::retaining::retain_values;
 use crate::update::{InRange, MapUpdate};
 use crate::value::MapValue;
 use range_collections::{Comparisons, EntryClone};
@@ -24,5 +27,16 @@ impl<K: EntryClone + Drop, V: MapValue> RangeMap<K, V> {
         within.insert(range, ())?;
         *self = self.combine(alloc, &within, &InRange(op), &mut Comparisons::new())?;
         Ok(())
+    }
+}
+
+impl<K: Ord + Drop, V: Eq + Drop> RangeMap<K, V> {
+    /// Takes away each value that the filter doesn't keep, in place. The filter is asked once for
+    /// each range. It takes no memory and copies nothing.
+    pub fn retain<F: MapFilter<V>>(&mut self, filter: &F)
+        ensures { (x : K) → AreAlike V.eq (value_at K.cmp self.new x)
+            (kept (F.is_kept filter.now) (value_at K.cmp self.old x)) }
+    {
+        retain_values(&mut self.keys, &mut self.options, filter);
     }
 }

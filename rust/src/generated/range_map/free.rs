@@ -8,21 +8,8 @@ use crate::generated::range_map::replacing::put_range;
 use crate::generated::range_merge::count_up_to;
 use crate::support::Vec;
 
-/// Whether no key from the start up to the end has a value.
-///
-/// # Contract
-///
-/// ```text
-/// requires IsCanonical K.cmp V.eq (record { keys = keys.now; options = options.now })
-/// ensures IsTrue result ↔ IsFree K.cmp start.now end.now (record { keys = keys.now; options =
-///     options.now })
-/// ```
-pub(crate) fn is_free<K: Ord, V: Eq>(
-    keys: &[K],
-    options: &[Option<V>],
-    start: &K,
-    end: &K,
-) -> bool {
+// Whether no key from the start up to the end has a value.
+fn is_free_between<K: Ord, V: Eq>(keys: &[K], options: &[Option<V>], start: &K, end: &K) -> bool {
     if !start.cmp(end).is_lt() {
         return true;
     }
@@ -33,6 +20,44 @@ pub(crate) fn is_free<K: Ord, V: Eq>(
     !is_next_below(keys, n, end)
 }
 
+/// Whether no key from the start on has a value.
+///
+/// # Contract
+///
+/// ```text
+/// requires IsCanonical K.cmp V.eq (record { keys = keys.now; options = options.now })
+/// ensures IsTrue result ↔ IsFree K.cmp start.now None (record { keys = keys.now; options =
+///     options.now })
+/// ```
+pub(crate) fn is_free_from<K: Ord, V: Eq>(keys: &[K], options: &[Option<V>], start: &K) -> bool {
+    let n = count_up_to(keys, start, &mut Comparisons::new());
+    if n < keys.len() {
+        return false;
+    }
+    option_before(options, n).is_none()
+}
+
+/// Whether no key from the start up to the end, if there is one, has a value.
+///
+/// # Contract
+///
+/// ```text
+/// requires IsCanonical K.cmp V.eq (record { keys = keys.now; options = options.now })
+/// ensures IsTrue result ↔ IsFree K.cmp start.now (option_copied end.entry) (record { keys =
+///     keys.now; options = options.now })
+/// ```
+pub(crate) fn is_free<K: Ord, V: Eq>(
+    keys: &[K],
+    options: &[Option<V>],
+    start: &K,
+    end: Option<&K>,
+) -> bool {
+    match end {
+        Some(end) => is_free_between(keys, options, start, end),
+        None => is_free_from(keys, options, start),
+    }
+}
+
 // Whether there is a key at the place, and it is below the end.
 fn is_next_below<K: Ord>(keys: &[K], place: usize, end: &K) -> bool {
     match keys.get(place) {
@@ -41,20 +66,20 @@ fn is_next_below<K: Ord>(keys: &[K], place: usize, end: &K) -> bool {
     }
 }
 
-/// Gives the elements from the start up to the end the value, if none of them has one. It asks for
-/// memory only if steps are added, and before it changes anything.
+/// Gives the elements from the start up to the end, if there is one, the value, if none of them has
+/// one. It asks for memory only if steps are added, and before it changes anything.
 ///
 /// # Contract
 ///
 /// ```text
 /// requires canonical: IsCanonical K.cmp V.eq (record { keys = keys.old.items; options =
 ///     options.old.items })
-/// requires some: K.cmp start end ≡ Less
+/// requires some: (e : K) → end ≡ Some e → K.cmp start e ≡ Less
 /// ensures canonical: IsCanonical K.cmp V.eq (record { keys = keys.new.items; options =
 ///     options.new.items })
-/// ensures values: OnOk result (IsSetTo K.cmp V.eq start (Some end) (Some value) (record { keys
-///     = keys.old.items; options = options.old.items }) (record { keys = keys.new.items;
-///     options = options.new.items }))
+/// ensures values: OnOk result (IsSetTo K.cmp V.eq start end (Some value) (record { keys =
+///     keys.old.items; options = options.old.items }) (record { keys = keys.new.items; options
+///     = options.new.items }))
 /// ensures free: OnOk result (IsFree K.cmp start end (record { keys = keys.old.items; options =
 ///     options.old.items }))
 /// ensures handed_back: IfErr result (IsRefusal (IsFree K.cmp start end (record { keys =
@@ -62,17 +87,17 @@ fn is_next_below<K: Ord>(keys: &[K], place: usize, end: &K) -> bool {
 /// ensures keys_unchanged: OnErr result (keys.new.items ≡ keys.old.items)
 /// ensures options_unchanged: OnErr result (options.new.items ≡ options.old.items)
 /// ensures succeeds: IsFree K.cmp start end (record { keys = keys.old.items; options =
-///     options.old.items }) → FitsAfter K.cmp V.eq start (Some end) (Some value) (record { keys
-///     = keys.old.items; options = options.old.items }) → IsOk result
+///     options.old.items }) → FitsAfter K.cmp V.eq start end (Some value) (record { keys =
+///     keys.old.items; options = options.old.items }) → IsOk result
 /// ```
 pub(crate) fn set_free<K: Ord, V: Eq>(
     keys: &mut Vec<K>,
     options: &mut Vec<Option<V>>,
     start: K,
-    end: K,
+    end: Option<K>,
     value: V,
 ) -> Result<(), InsertError<V>> {
-    if !is_free(keys.as_slice(), options.as_slice(), &start, &end) {
+    if !is_free(keys.as_slice(), options.as_slice(), &start, end.as_ref()) {
         return Err(InsertError::NotFree(value));
     }
     let option = Some(value);
@@ -80,12 +105,12 @@ pub(crate) fn set_free<K: Ord, V: Eq>(
         keys.as_slice(),
         options.as_slice(),
         &start,
-        Some(&end),
+        end.as_ref(),
         &option,
     );
     match make_both_rooms(keys, options, places) {
         Ok(()) => {
-            put_range(keys, options, places, start, Some(end), option, None);
+            put_range(keys, options, places, start, end, option, None);
             Ok(())
         }
         Err(_) => Err(InsertError::OutOfMemory(option.unwrap())),

@@ -2,7 +2,9 @@
 //! Maps from ranges to values: strictly sorted keys, and for each the value that holds from it on,
 //! up to the next one, or none.
 
+pub(crate) mod filter;
 pub(crate) mod free;
+pub(crate) mod gaps;
 pub(crate) mod insert_error;
 pub(crate) mod iter;
 pub(crate) mod map;
@@ -10,12 +12,16 @@ pub(crate) mod operation;
 pub(crate) mod operations;
 pub(crate) mod places;
 pub(crate) mod replacing;
+pub(crate) mod retaining;
 pub(crate) mod runs;
 pub(crate) mod side;
 pub(crate) mod splicing;
 pub(crate) mod update;
 pub(crate) mod value;
+pub(crate) mod within;
 
+pub use filter::MapFilter;
+pub use gaps::Gaps;
 pub use insert_error::InsertError;
 pub use iter::Iter;
 pub use map::{RangeMap, Stretch};

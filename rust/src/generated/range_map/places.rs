@@ -42,8 +42,18 @@ pub(crate) fn find<K: Ord, V: Eq>(
     }
 }
 
-// How many keys are below this one.
-fn count_below<K: Ord>(keys: &[K], key: &K) -> usize {
+/// How many keys are below this one.
+///
+/// # Contract
+///
+/// ```text
+/// requires IsAscending K.cmp keys.now
+/// ensures within: result ≤ length keys.now
+/// ensures below: AllWithin (λ y. K.cmp y key.now ≡ Less) keys.now 0 result
+/// ensures from: AllWithin (λ y. is_le (K.cmp key.now y) ≡ true) keys.now result (length
+///     keys.now)
+/// ```
+pub(crate) fn count_below<K: Ord>(keys: &[K], key: &K) -> usize {
     match search(keys, key, &mut Comparisons::new()) {
         Ok(i) => i,
         Err(i) => i,

@@ -2,10 +2,13 @@
 //! The ranges of a map: all of them with their values, and the one around a key.
 
 use crate::generated::range_collections::{Comparisons, RangeSetRange};
+use crate::generated::range_map::gaps::Gaps;
 use crate::generated::range_map::iter::Iter;
 use crate::generated::range_map::map::RangeMap;
 use crate::generated::range_map::places::{key_before, option_before};
+use crate::generated::range_map::within::{gaps_between, overlapping_steps};
 use crate::generated::range_merge::count_up_to;
+use core::ops::Range;
 
 /// The longest range around a key whose keys all have one value, or all have none. It has no start
 /// if all lower keys are in it too, and no end if all higher ones are.
@@ -27,6 +30,49 @@ impl<K: Ord, V: Eq> RangeMap<K, V> {
     #[inline]
     pub fn iter(&self) -> Iter<'_, K, V> {
         Iter::new(self.keys.as_slice(), self.options.as_slice(), None)
+    }
+
+    /// The ranges that share a key with this one, whole, each with its value. It has none in common
+    /// with an empty or reversed range.
+    ///
+    /// ```text
+    /// bookings.overlapping(&10..&12)   // 9..11 with Guest::Ada, 11..14 with Guest::Bob
+    /// ```
+    ///
+    /// # Contract
+    ///
+    /// ```text
+    /// ensures result ≡ filter (overlaps K.cmp range.entry.start.now range.entry.end.now) (entries
+    ///     self.now)
+    /// ```
+    pub fn overlapping<'a>(&'a self, range: Range<&K>) -> Iter<'a, K, V> {
+        overlapping_steps(
+            self.keys.as_slice(),
+            self.options.as_slice(),
+            range.start,
+            range.end,
+        )
+    }
+
+    /// The parts of a range whose keys have no value, from the lowest on and from the highest down.
+    /// None is empty, and each ends below the start of the next. An empty or reversed range has none.
+    ///
+    /// ```text
+    /// bookings.gaps(&10..&20)          // 14..20
+    /// ```
+    ///
+    /// # Contract
+    ///
+    /// ```text
+    /// ensures AreGaps K.cmp self.now within.entry.start.now within.entry.end.now result
+    /// ```
+    pub fn gaps<'a>(&'a self, within: Range<&'a K>) -> Gaps<'a, K, V> {
+        gaps_between(
+            self.keys.as_slice(),
+            self.options.as_slice(),
+            within.start,
+            within.end,
+        )
     }
 
     /// The longest range around `key` with its value, or with none.

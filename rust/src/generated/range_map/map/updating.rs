@@ -2,7 +2,9 @@
 //! What a range has, put anew by what it had.
 
 use crate::generated::range_collections::{Comparisons, EntryClone};
+use crate::generated::range_map::filter::MapFilter;
 use crate::generated::range_map::map::RangeMap;
+use crate::generated::range_map::retaining::retain_values;
 use crate::generated::range_map::update::{InRange, MapUpdate};
 use crate::generated::range_map::value::MapValue;
 use crate::support::AllocError;
@@ -28,5 +30,20 @@ impl<K: EntryClone, V: MapValue> RangeMap<K, V> {
         within.insert(range, ())?;
         *self = self.combine(alloc, &within, &InRange(op), &mut Comparisons::new())?;
         Ok(())
+    }
+}
+
+impl<K: Ord, V: Eq> RangeMap<K, V> {
+    /// Takes away each value that the filter doesn't keep, in place. The filter is asked once for
+    /// each range. It takes no memory and copies nothing.
+    ///
+    /// # Contract
+    ///
+    /// ```text
+    /// ensures (x : K) → AreAlike V.eq (value_at K.cmp self.new x) (kept (F.is_kept filter.now)
+    ///     (value_at K.cmp self.old x))
+    /// ```
+    pub fn retain<F: MapFilter<V>>(&mut self, filter: &F) {
+        retain_values(&mut self.keys, &mut self.options, filter);
     }
 }

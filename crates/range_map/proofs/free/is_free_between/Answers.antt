@@ -1,7 +1,7 @@
 use Rattle.std.proofs.Common.{sym, ◌∙◌, true≢false, rules}
 use Rattle.range_collections.proofs.Ascending.{Less-from_is_lt}
 use Rattle.range_map.proofs.FreeRanges.{value_read, not_IsFree-value, IsFree-decided}
-use Rattle.range_map.proofs.free.is_free.Goals as goal
+use Rattle.range_map.proofs.free.is_free_between.Goals as goal
 
 pub returns-then-is_some : goal.returns-then-is_some
 returns-then-is_some g c =

@@ -1,6 +1,6 @@
 use Rattle.std.proofs.Common.{◌++◌, ap, ◌∙◌, take, drop}
 use Rattle.range_map.proofs.Spliced.{put_twice-spliced}
-use Rattle.range_map.proofs.splicing.splice.Goals as goal
+use Rattle.range_map.proofs.splicing.replace_between.Goals as goal
 
 pub returns : goal.returns
 returns g c =

@@ -1,0 +1,12 @@
+//! Which values of a map stay.
+ghost use Rattle.std.specs.Prelude.{◌≡◌, Bool};
+
+/// Which values `retain` keeps.
+pub trait MapFilter<V> {
+    // Whether this value stays.
+    ghost is_kept: { Self → V → Bool };
+
+    /// Whether this value stays.
+    fn keeps(&self, value: &V) -> bool
+        ensures { result ≡ is_kept self.now value.now };
+}
