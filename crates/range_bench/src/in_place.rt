@@ -36,7 +36,7 @@ pub extern "C" fn range_bench_copies(
 
 /// The union with a view, in place.
 #[unsafe(no_mangle)]
-pub extern "C" fn range_bench_union_lent(
+pub extern "C" fn range_bench_union_borrowed(
     alloc: Global,
     left: &[i64],
     right: &[i64],
@@ -50,7 +50,7 @@ pub extern "C" fn range_bench_union_lent(
 
 /// The intersection with a view, in place.
 #[unsafe(no_mangle)]
-pub extern "C" fn range_bench_intersection_lent(
+pub extern "C" fn range_bench_intersection_borrowed(
     alloc: Global,
     left: &[i64],
     right: &[i64],
@@ -64,7 +64,7 @@ pub extern "C" fn range_bench_intersection_lent(
 
 /// The difference from a view, in place.
 #[unsafe(no_mangle)]
-pub extern "C" fn range_bench_difference_lent(
+pub extern "C" fn range_bench_difference_borrowed(
     alloc: Global,
     left: &[i64],
     right: &[i64],
@@ -78,7 +78,7 @@ pub extern "C" fn range_bench_difference_lent(
 
 /// The symmetric difference with a view, in place.
 #[unsafe(no_mangle)]
-pub extern "C" fn range_bench_symmetric_difference_lent(
+pub extern "C" fn range_bench_symmetric_difference_borrowed(
     alloc: Global,
     left: &[i64],
     right: &[i64],

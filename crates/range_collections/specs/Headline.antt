@@ -36,7 +36,7 @@ module _ {K : Type 0} (order : K → K → Ordering) where
         member order items x ≡ f (member order a x) (member order b x)
 
     -- y stands for one of a; or for one of b, and none of a equals it; or where f is on while both
-    -- sides are off, it is the least value
+    -- sides are off, it is at or below every value
     abbrev pub IsTaken : (K → K → Type 0) → (K → K → Type 0) → K → Type 0
     IsTaken as_left as_right y =
         Any (λ x. as_left x y) a
@@ -88,7 +88,7 @@ module _ {K : Type 0} (order : K → K → Ordering) where
     -- whatever the result, it adds at most twice the sum of the binary digits of the runs' lengths
     pub comparisons : AddsAtMost before after (2 * weight order a b)
 
-  -- the one list of values that `!` makes of a
+  -- the list that `!` makes of a: of lists of values, the one
   pub record IsTheNegation (is_value : K → Type 0) (a items : List K) : Type 0 where
     -- it is strictly sorted, and has the values that a lacks
     pub negates : Negates order is_value items a

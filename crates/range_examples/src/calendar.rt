@@ -73,3 +73,26 @@ pub fn free_slots(alloc: Global, busy: &Minutes, day: Range<u32>) -> Result<Minu
 {
     Minutes::from_range(alloc, day)?.difference(busy.as_ref())
 }
+
+/// The minutes at which one of two people is busy, or both.
+pub fn either_busy(anna: &Minutes, ben: &Minutes) -> Result<Minutes, AllocError>
+    ensures members { IfOk result (λ busy. (minute : ℕ) → member nat_cmp busy minute ≡
+        (member nat_cmp anna.now minute || member nat_cmp ben.now minute)) }
+{
+    anna.union(ben.as_ref())
+}
+
+/// The minutes of the day at which both are free.
+pub fn everyone_free(
+    alloc: Global,
+    anna: &Minutes,
+    ben: &Minutes,
+    day: Range<u32>,
+) -> Result<Minutes, AllocError>
+    ensures members { IfOk result (λ free. (minute : ℕ) → member nat_cmp free minute ≡
+        ((is_le (nat_cmp day.start minute) && is_lt (nat_cmp minute day.end))
+        && not (member nat_cmp anna.now minute || member nat_cmp ben.now minute))) }
+{
+    let busy = either_busy(anna, ben)?;
+    free_slots(alloc, &busy, day)
+}

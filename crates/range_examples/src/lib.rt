@@ -12,7 +12,8 @@ mod releases;
 
 pub use allocator::{Addresses, free_run, give_back, lowest_free, take_lowest, take_run};
 pub use calendar::{
-    Minutes, add_busy, book, cancel, free_slots, is_free, new_calendar, someone_busy,
+    Minutes, add_busy, book, cancel, either_busy, everyone_free, free_slots, is_free, new_calendar,
+    someone_busy,
 };
 pub use character_class::{CharacterClass, either, has, negation};
 pub use downloads::{Offsets, comes_twice, next_missing, still_missing};

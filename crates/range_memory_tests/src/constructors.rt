@@ -15,6 +15,7 @@ enum Constructor {
     RangeSetRange,
     RangeSetRangeFrom,
     RangeSetRangeOfNothing,
+    Values,
 }
 
 // A constructor, and the boundaries that it makes.
@@ -25,7 +26,7 @@ struct Row<'a> {
 }
 
 #[rattlefmt::skip]
-const ROWS: [Row; 9] = [
+const ROWS: [Row; 10] = [
     Row { call: Constructor::Range, want: &[1, 5] },
     Row { call: Constructor::RangeFrom, want: &[5] },
     Row { call: Constructor::RangeUntil, want: &[i64::MIN, 5] },
@@ -35,6 +36,7 @@ const ROWS: [Row; 9] = [
     Row { call: Constructor::RangeSetRange, want: &[0, 2] },
     Row { call: Constructor::RangeSetRangeFrom, want: &[4] },
     Row { call: Constructor::RangeSetRangeOfNothing, want: &[] },
+    Row { call: Constructor::Values, want: &[0, 1, 3, 5] },
 ];
 
 impl Constructor {
@@ -55,6 +57,10 @@ impl Constructor {
             Constructor::RangeSetRangeOfNothing => {
                 RangeSet::from_range_set_range(alloc, RangeSetRange::from(5..1))
             }
+            // No more than the list of their ranges first has room for: where glibc makes a block
+            // longer it keeps what is left over for requests of exactly that size, so with more
+            // room a call may be refused again.
+            Constructor::Values => RangeSet::from_values(alloc, &[4, 0, 3, 3]),
         }
     }
 }
