@@ -1,8 +1,10 @@
-/* An allocator of addresses: blocks are taken where they first fit, given back, and taken again. */
+/* An allocator of addresses: blocks are taken where they first fit at a multiple of eight, given back, and taken again. */
 #include "range_set.h"
 
 #include <inttypes.h>
 #include <stdio.h>
+
+enum { ALIGN = 8 };
 
 /* The addresses of which blocks are taken, and which are. */
 typedef struct {
@@ -14,7 +16,7 @@ static range_set_status take(arena *arena, uint64_t size, uint64_t *at)
 {
     range_set_status status;
 
-    if (!range_set_u64_first_fit(arena->used.in.set, arena->start, arena->end, size, at)) {
+    if (!range_set_u64_first_fit_aligned(arena->used.in.set, arena->start, arena->end, size, ALIGN, at)) {
         printf("no %" PRIu64 " in a row are free\n", size);
         return RANGE_SET_DONE;
     }
@@ -41,7 +43,7 @@ int main(void)
     range_set_u64_owned_init(&arena.used, NULL);
     for (size_t i = 0; status == RANGE_SET_DONE && i < BLOCKS; i++) status = take(&arena, sizes[i], &at[i]);
     if (status == RANGE_SET_DONE) status = give_back(&arena, at[1], sizes[1]);
-    if (status == RANGE_SET_DONE) status = take(&arena, 301, &there);
+    if (status == RANGE_SET_DONE) status = take(&arena, 305, &there);
     if (status == RANGE_SET_DONE) status = take(&arena, 250, &there);
     if (range_set_u64_covered(arena.used.in.set, &there)) printf("%" PRIu64 " are taken\n", there);
     range_set_u64_owned_free(&arena.used);

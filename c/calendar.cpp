@@ -28,7 +28,7 @@ public:
     bool book(const std::string &person, std::uint32_t start, std::uint32_t end)
     {
         minutes &busy = busy_[person];
-        if (busy.intersects(minutes{{start, end}})) return false;
+        if (busy.intersects_range(start, end)) return false;
         busy.insert(start, end);
         return true;
     }

@@ -381,6 +381,28 @@ range_set_status NAME(union_all)(const SET *sets, size_t count, NUMBER *out, siz
     return NAME(written)(NAME(opened)(out, len, is_open, open), out, room, result);
 }
 
+/* Each number is a range that ends before the next, but for the greatest, whose range has no end. */
+range_set_status NAME(from_values)(const NUMBER *values, size_t count, NUMBER *out, size_t room, SET *result)
+{
+    static const RANGE endless = {0, 0, false};
+    NUMBER greatest = NAME(range_last)(endless);
+    bool has_greatest = false;
+    size_t len = 0, i;
+    if (!is_array(values, count, 2 * sizeof *values) || !is_array(out, room, sizeof *out) || !NAME(is_result)(result, out, room)
+        || !NAME(is_result)(result, values, count) || overlap(values, count * sizeof *values, out, room * sizeof *out))
+        return RANGE_SET_BAD_ARGUMENT;
+    if (2 * count > room) return NAME(written)(2 * count, out, room, result);
+    for (i = 0; i < count; i++) {
+        const NUMBER value = values[i];
+        has_greatest |= value == greatest;
+        if (value == greatest) continue;
+        out[len++] = value;
+        out[len++] = value + 1;
+    }
+    len = PROVED(union_from)(ROOM(out, len / 2), has_greatest, &greatest);
+    return NAME(written)(NAME(opened)(out, len, has_greatest, greatest), out, room, result);
+}
+
 /* ---- Texts ---- */
 
 /* Whether a text has no byte in common with the set's list or the result, nor the result with that list. No text is so long that its

@@ -101,6 +101,12 @@ template <class T> static void rows()
     check(day.contains(16) && !day.contains(17) && open->contains(1000), "contains");
     check(day.contains_range(9, 17) && !day.contains_range(9, 18), "contains_range");
     check(day.intersects_range(8, 10) && !day.intersects_range(17, 20) && !day.intersects_range(12, 12), "intersects_range");
+    check(
+        range_set<T>::from_values({14, 9, 12, 10, 13, 9}) == busy && range_set<T>::from_values(std::vector<T>()) == nothing, "from_values");
+    check(range_set<T>::from_values(std::set<T>{std::numeric_limits<T>::max()}).last()->has_end == false, "from_values: the greatest");
+    range_set<T> late = day;
+    check(
+        text<T>(late.insert_from(20).remove_from(30).insert_from(14)) == "9.." && text<T>(late.remove_from(12)) == "9..12", "open ranges");
     check(day.next_member(3) == 9 && day.next_gap(9) == 17 && !day.next_member(17) && day.next_gap(20) == 20, "next ones");
     check(day.prev_member(30) == 16 && day.prev_gap(12) == 8 && !day.prev_member(8) && day.prev_gap(17) == 17, "previous ones");
     check(day.select(3) == 12 && !day.select(8), "select");

@@ -307,6 +307,74 @@ static void TEST(previous_ones)(SET a, const NUMBER *points, const bool *on, siz
     if (!on[n - 1]) check(!CALL(select)(a, below, &at) && at == 77, "select past the last member");
 }
 
+/* The set of made-up numbers, near the least number, in the middle and near the greatest, with the exact room, more, and one too little. */
+static void TEST(from_values)(void)
+{
+    enum { COUNT_OF_VALUES = 12, GUARDED = 2 * COUNT_OF_VALUES + 2 };
+    const NUMBER bases[] = {LEAST, 50, (NUMBER)(MOST - (POINTS - 1))};
+    for (size_t b = 0; b < 3; b++) {
+        NUMBER values[COUNT_OF_VALUES + 1], buffer[GUARDED], *out = buffer + 1;
+        bool on[POINTS] = {false};
+        SET set = {NULL, 77};
+        const size_t count = random_below(COUNT_OF_VALUES + 1), room = 2 * count + random_below(2) * (GUARDED - 2 - 2 * count);
+        size_t i;
+        for (i = 0; i < count; i++) {
+            const unsigned p = random_below(POINTS);
+            values[i] = (NUMBER)(bases[b] + (NUMBER)p), on[p] = true;
+        }
+        for (i = 0; i < GUARDED; i++) buffer[i] = 77;
+        check(CALL(from_values)(values, count, out, room, &set) == RANGE_SET_DONE && set.boundaries == out, "from_values: status");
+        for (i = 0; i < POINTS; i++) check(CALL(contains)(set, (NUMBER)(bases[b] + (NUMBER)i)) == on[i], "from_values: the members");
+        check(CALL(view)(set.boundaries, set.len, &set) == RANGE_SET_DONE, "from_values: the list");
+        check(b == 2 || set.len % 2 == 0, "from_values: the end");
+        check(buffer[0] == 77 && out[room] == 77, "from_values: a number beside the buffer");
+        if (count == 0) continue;
+        out[0] = 77;
+        check(CALL(from_values)(values, count, out, 2 * count - 1, &set) == RANGE_SET_NO_ROOM, "from_values with too little room");
+        check(set.boundaries == NULL && set.len == 2 * count && out[0] == 77, "from_values with too little room: the length");
+        check(CALL(from_values)(values, count, values, 2 * count, &set) == RANGE_SET_BAD_ARGUMENT, "from_values over the numbers");
+        check(CALL(from_values)(values, count, out, room, (SET *)(void *)values) == RANGE_SET_BAD_ARGUMENT, "from_values into the numbers");
+        check(CALL(from_values)(values, count, out, room, (SET *)(void *)out) == RANGE_SET_BAD_ARGUMENT, "from_values into the buffer");
+        check(CALL(from_values)(values, count, out, room, NULL) == RANGE_SET_BAD_ARGUMENT, "from_values without a result");
+        check(CALL(from_values)(NULL, count, out, room, &set) == RANGE_SET_BAD_ARGUMENT, "from_values of null");
+        check(CALL(from_values)(values, SIZE_MAX / 4, out, room, &set) == RANGE_SET_BAD_ARGUMENT, "from_values of too many");
+        check(CALL(from_values)(values, count, NULL, room, &set) == RANGE_SET_BAD_ARGUMENT, "from_values into null");
+    }
+}
+
+/* The members one by one, upwards and downwards, of made-up sets: near the least number and in the middle, and near the greatest, where
+ * a range may have no end. */
+static void TEST(members)(void)
+{
+    const NUMBER bases[] = {LEAST, 50, (NUMBER)(MOST - (POINTS - 1))};
+    for (size_t b = 0; b < 3; b++) {
+        NUMBER items[POINTS];
+        SET set;
+        CALL(members) it;
+        size_t len = 0, p;
+        for (p = 0; p < POINTS; p++)
+            if (random_below(3) == 0) items[len++] = (NUMBER)(bases[b] + (NUMBER)p);
+        if (b < 2) len -= len % 2;
+        check(CALL(view)(items, len, &set) == RANGE_SET_DONE, "the set of some members");
+        it = CALL(members_first)(set);
+        for (p = 0; p < POINTS; p++) {
+            const NUMBER at = (NUMBER)(bases[b] + (NUMBER)p);
+            if (!CALL(contains)(set, at)) continue;
+            check(it.has_value && it.value == at, "members upwards");
+            CALL(members_next)(&it);
+        }
+        check(!it.has_value, "members past the last");
+        it = CALL(members_last)(set);
+        for (p = POINTS; p-- > 0;) {
+            const NUMBER at = (NUMBER)(bases[b] + (NUMBER)p);
+            if (!CALL(contains)(set, at)) continue;
+            check(it.has_value && it.value == at, "members downwards");
+            CALL(members_prev)(&it);
+        }
+        check(!it.has_value, "members before the first");
+    }
+}
+
 /* Whether all numbers from one point on, up to another, are members, and whether any is. */
 static void TEST(whole_ranges)(SET a, const NUMBER *points, const bool *on, size_t n)
 {
@@ -1099,7 +1167,7 @@ static void TEST(bad_buffers)(void)
 /* Searches in a set that was made otherwise, and isn't sorted, answer something, and stay within the list. */
 static void TEST(unsorted_searches)(void)
 {
-    NUMBER items[POINTS], *list;
+    NUMBER items[POINTS], *list, at;
     size_t len = random_below(POINTS), i;
     SET set, below = {NULL, 77}, from = {NULL, 77};
     for (i = 0; i < len; i++) items[i] = (NUMBER)random_below(9);
@@ -1111,6 +1179,12 @@ static void TEST(unsorted_searches)(void)
         check(below.len <= len && from.len <= len && from.boundaries + from.len == list + len, "split of an unsorted list");
         check(CALL(contains)(set, (NUMBER)i) == CALL(range_at)(set, (NUMBER)i, &it), "contains of an unsorted list");
         check(!CALL(contains_range)(set, (NUMBER)(i + 2), (NUMBER)(i + 3)) || len > 0, "contains_range of an unsorted list");
+        check(!CALL(intersects_range)(set, (NUMBER)i, (NUMBER)(i + 3)) || len > 0, "intersects_range of an unsorted list");
+        check(!CALL(range_from)(set, (NUMBER)i, &it) || len > 0, "range_from of an unsorted list");
+        check(!CALL(next_member)(set, (NUMBER)i, &at) || len > 0, "next_member of an unsorted list");
+        check(CALL(next_gap)(set, (NUMBER)i, &at) || len > 0, "next_gap of an unsorted list");
+        check(!CALL(prev_member)(set, (NUMBER)i, &at) || len > 0, "prev_member of an unsorted list");
+        check(CALL(prev_gap)(set, (NUMBER)i, &at) || len > 0, "prev_gap of an unsorted list");
     }
     free(list);
 }
@@ -1243,6 +1317,8 @@ static void TEST(all)(long cases)
     TEST(bad_places)();
     TEST(bad_buffers)();
     for (i = 0; i < cases; i++) TEST(made_up)();
+    for (i = 0; i < cases / 10; i++) TEST(members)();
+    for (i = 0; i < cases / 10; i++) TEST(from_values)();
     for (i = 0; i < cases / 10; i++) TEST(owned)();
     for (i = 0; i < cases / 100; i++) TEST(chunked)();
     for (i = 0; i < cases / 10; i++) TEST(unsorted_searches)();

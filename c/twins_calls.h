@@ -76,6 +76,18 @@ static void TEST(questions)(struct log *log, SET a, SET b, NUMBER x, NUMBER y, u
     TEST(tell_list)(log, from.boundaries, from.len);
 }
 
+/* The lowest members and the highest, so many at most, and where each range ends. */
+static void TEST(members)(struct log *log, SET a)
+{
+    CALL(members) up = CALL(members_first)(a), down = CALL(members_last)(a);
+    for (int i = 0; i < 20 && up.has_value; i++) {
+        tell(log, (uint64_t)up.value), tell(log, (uint64_t)CALL(range_last)(up.range));
+        CALL(members_next)(&up);
+    }
+    for (int i = 0; i < 20 && down.has_value; i++) tell(log, (uint64_t)down.value), CALL(members_prev)(&down);
+    tell(log, up.has_value), tell(log, down.has_value);
+}
+
 /* The calls that write a set, into so much room, and what stands in the buffer then. */
 static void TEST(operations)(struct log *log, SET a, SET b, NUMBER x, NUMBER y, unsigned keep, size_t room)
 {
@@ -114,6 +126,8 @@ static void TEST(any_order)(struct log *log, const NUMBER *items, size_t len, SE
     TEST(tell_set)(log, result, list);
     memcpy(list, items, len * sizeof *items);
     tell(log, CALL(from_ranges)(list, len / 2, &result));
+    TEST(tell_set)(log, result, list);
+    tell(log, CALL(from_values)(a.boundaries, a.len, list, room, &result));
     TEST(tell_set)(log, result, list);
     tell(log, CALL(union_all)(sets, 3, list, room, &result));
     TEST(tell_set)(log, result, list);
@@ -255,6 +269,7 @@ static void TEST(answers)(struct log *log, struct input *input)
     tell(log, CALL(from_unsorted)(left, left_len, &a));
     tell(log, CALL(from_unsorted)(right, right_len, &b));
     TEST(questions)(log, a, b, x, y, k);
+    TEST(members)(log, a);
     TEST(operations)(log, a, b, x, y, keep, room);
     TEST(any_order)(log, left, 0, a, b, room);
     TEST(in_place)(log, a, b, x, y, keep, room, (long)(k % 4));

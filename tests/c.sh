@@ -80,8 +80,8 @@ prints_its_lines() {
 
 # The allocator of addresses, and the calendar in C++, and what they print.
 runs_the_allocator() {
-    compiles c/allocator.c allocator && "$work/allocator" | cmp - <(printf '%s\n' '400 at 1000' '300 at 1400' '200 at 1700' \
-        'no 301 in a row are free' '250 at 1400' '850 are taken')
+    compiles c/allocator.c allocator && "$work/allocator" | cmp - <(printf '%s\n' '400 at 1000' '300 at 1400' '200 at 1704' \
+        'no 305 in a row are free' '250 at 1400' '850 are taken')
 }
 
 runs_the_calendar() {
@@ -258,7 +258,8 @@ sane_library() {
 # The tests under the sanitizers.
 is_sane() {
     local flags="-std=c99 -O1 -g -fsanitize=address,undefined -fno-sanitize-recover=all"
-    sane_library gcc $flags && gcc $flags $strict c/test.c "$work/layer.o" "$work/proved.o" -o "$work/sane" && "$work/sane" 1000
+    sane_library gcc $flags && gcc $flags $strict c/test.c "$work/layer.o" "$work/proved.o" -o "$work/sane" && "$work/sane" 1000 &&
+        gcc $flags $strict c/test_refused.c "$work/layer.o" "$work/proved.o" -Wl,--wrap=malloc,--wrap=realloc -o "$work/sane" && "$work/sane"
 }
 
 # The tests of one language as a compiler builds them.

@@ -121,7 +121,7 @@ def wrong_quotes(page, language, sources):
 
 def definition(text, word):
     """The lines that define the word: those between two blank ones, with the comment above it."""
-    declares = re.compile(rf"^ *(?:\w+ )?(?:pub (?:record |data |enum )?|ghost |fn ){word}\b", re.M)
+    declares = re.compile(rf"^ *(?:\w+ )?(?:pub (?:record |data |enum |struct )?|ghost |fn ){word}\b", re.M)
     return next((it.splitlines() for it in re.split(r"\n\n+", text) if declares.search(it)), [])
 
 

@@ -66,7 +66,7 @@ runs_the_cache() {
 # Runs the allocator of addresses, which says what is free in ranges and in blocks.
 runs_the_addresses() {
     [ "$(cargo_there run --quiet --example addresses)" = "768 of 1024 are free: 10.0.0.0..10.0.1.0, 10.0.2.0..10.0.4.0
-10.0.0.0 is taken
+10.0.0.0 is taken, 10.0.0.128/25 is free
 left in blocks: 10.0.0.1/32 10.0.0.2/31 10.0.0.4/30 10.0.0.8/29 10.0.0.16/28 10.0.0.32/27 10.0.0.64/26 10.0.0.128/25 10.0.2.0/23" ]
 }
 

@@ -95,7 +95,7 @@ struct CCalls {
     }
 
     template <Operation operation>
-    static std::size_t change_by_lent(const Set& left, const Set& right, Boundaries* out) {
+    static std::size_t change_by_borrowed(const Set& left, const Set& right, Boundaries* out) {
         Owned copy(left);
         expect(range_set_i64_owned_combine(&copy.owned, right.set(), kept(operation)));
         return given(copy.owned.in.set, out);

@@ -27,8 +27,8 @@ template <class Exports> struct Exported : Exports {
     }
 
     template <Operation operation>
-    static std::size_t change_by_lent(const Set& left, const Set& right, Boundaries* out) {
-        return call_two(Exports::lent[static_cast<std::size_t>(operation)], left, right, out);
+    static std::size_t change_by_borrowed(const Set& left, const Set& right, Boundaries* out) {
+        return call_two(Exports::borrowed[static_cast<std::size_t>(operation)], left, right, out);
     }
 
     template <Operation operation>

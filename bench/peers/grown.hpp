@@ -3,7 +3,8 @@
 
 #include "growing.hpp"
 
-// A Kind has a type Set, `put_in`, `take_out`, `contains` and `boundaries_of`, and `iter` where `has_ranges` says so.
+// A Kind has a type Set, `put_in`, `take_out`, `contains` and `boundaries_of`, and `iter` where `has_ranges` says so, and
+// `replace` where `finds_room` does.
 template <class Kind> class Grown final : public Growing {
 public:
     void insert(const Commands& commands) override { Kind::put_in(set, commands); }
@@ -17,6 +18,16 @@ public:
     std::size_t iter() const override {
         if constexpr (Kind::has_ranges) {
             return Kind::iter(set);
+        } else {
+            return 0;
+        }
+    }
+
+    bool finds_room() const override { return Kind::finds_room; }
+
+    std::int64_t replace(const Commands& commands) override {
+        if constexpr (Kind::finds_room) {
+            return Kind::replace(set, commands);
         } else {
             return 0;
         }

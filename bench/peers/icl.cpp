@@ -91,7 +91,7 @@ struct Icl {
     }
 
     template <Operation operation>
-    static std::size_t change_by_lent(const Set& left, const Set& right, Boundaries* out) {
+    static std::size_t change_by_borrowed(const Set& left, const Set& right, Boundaries* out) {
         Intervals set = left;
         change<operation>(set, right);
         return given(set, out);
@@ -138,6 +138,7 @@ struct Icl {
     }
 
     static constexpr bool has_ranges = true;
+    static constexpr bool finds_room = false;
 
     static void put_in(Set& set, const Commands& commands) { put_all(set, commands); }
 

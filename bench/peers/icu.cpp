@@ -61,7 +61,7 @@ struct Icu {
 
     // The set has no operation that makes a new one.
     template <Operation operation> static std::size_t combine(const Set& left, const Set& right, Boundaries* out) {
-        return change_by_lent<operation>(left, right, out);
+        return change_by_borrowed<operation>(left, right, out);
     }
 
     static std::size_t copy_one(const Set& left, Boundaries* out) { return given(UnicodeSet(left), out); }
@@ -73,7 +73,7 @@ struct Icu {
     }
 
     template <Operation operation>
-    static std::size_t change_by_lent(const Set& left, const Set& right, Boundaries* out) {
+    static std::size_t change_by_borrowed(const Set& left, const Set& right, Boundaries* out) {
         UnicodeSet set(left);
         change<operation>(set, right);
         return given(set, out);

@@ -10,8 +10,9 @@ struct Library {
     // The operations in the order of Operation.
     static constexpr range_bench_two* new_sets[] = {range_bench_union, range_bench_intersection, range_bench_difference,
                                                     range_bench_symmetric_difference};
-    static constexpr range_bench_two* lent[] = {range_bench_union_lent, range_bench_intersection_lent,
-                                                range_bench_difference_lent, range_bench_symmetric_difference_lent};
+    static constexpr range_bench_two* borrowed[] = {range_bench_union_borrowed, range_bench_intersection_borrowed,
+                                                    range_bench_difference_borrowed,
+                                                    range_bench_symmetric_difference_borrowed};
     static constexpr range_bench_two* owned[] = {range_bench_union_owned, range_bench_intersection_owned,
                                                  range_bench_difference_owned, range_bench_symmetric_difference_owned};
     static constexpr auto* copies = range_bench_copies;

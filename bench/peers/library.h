@@ -15,8 +15,8 @@ extern "C" {
 typedef size_t range_bench_two(const int64_t *left, size_t left_len, const int64_t *right, size_t right_len,
                                int64_t *out, size_t out_len);
 range_bench_two range_bench_union, range_bench_intersection, range_bench_difference, range_bench_symmetric_difference;
-range_bench_two range_bench_union_lent, range_bench_intersection_lent, range_bench_difference_lent,
-    range_bench_symmetric_difference_lent;
+range_bench_two range_bench_union_borrowed, range_bench_intersection_borrowed, range_bench_difference_borrowed,
+    range_bench_symmetric_difference_borrowed;
 range_bench_two range_bench_union_owned, range_bench_intersection_owned, range_bench_difference_owned,
     range_bench_symmetric_difference_owned;
 range_bench_two range_bench_copies;

@@ -96,7 +96,7 @@ struct Linear {
     }
 
     template <Operation operation>
-    static std::size_t change_by_lent(const Set& left, const Set& right, Boundaries* out) {
+    static std::size_t change_by_borrowed(const Set& left, const Set& right, Boundaries* out) {
         Buffer set(left, left.size());
         return change<operation>(set, right.data(), right.size(), out);
     }

@@ -98,7 +98,7 @@ struct Roaring {
     }
 
     template <Operation operation>
-    static std::size_t change_by_lent(const Set& left, const Set& right, Boundaries* out) {
+    static std::size_t change_by_borrowed(const Set& left, const Set& right, Boundaries* out) {
         Bitmap set = copy(left);
         change<operation>(set, right);
         return given(set, out);
@@ -141,6 +141,7 @@ struct Roaring {
     }
 
     static constexpr bool has_ranges = false;
+    static constexpr bool finds_room = false;
 
     static void put_in(const Bitmap& set, const Commands& commands) {
         for (std::size_t i = 0; i < commands.starts.size(); i++) {

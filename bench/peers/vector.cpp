@@ -82,7 +82,7 @@ struct Vector {
     }
 
     template <Operation operation>
-    static std::size_t change_by_lent(const Set& left, const Set& right, Boundaries* out) {
+    static std::size_t change_by_borrowed(const Set& left, const Set& right, Boundaries* out) {
         Set set = left;
         set = merged<operation>(set, right);
         return given(set, out);

@@ -24,12 +24,17 @@ constexpr std::size_t rounds = 3;
 // Who took longer for a size isn't asked for ten times as many, which may take a hundred times as long.
 constexpr double longest_ns = 1e9;
 
+// Of so many ranges gaps are read where each search reads all.
+constexpr std::size_t most_read = 100000000;
+
 volatile std::size_t kept;
 
 // So many ranges of 6 at distances of 10, put in in one random order and taken out in another, and values among them.
+// A few of them are replaced before, each by as many numbers at the lowest place.
 struct Work {
     Commands in;
     Commands out;
+    Commands replaced;
     Boundaries values;
 };
 
@@ -45,9 +50,15 @@ Commands shuffled(std::size_t ranges, std::mt19937_64& random) {
     return commands;
 }
 
+Commands front_of(const Commands& all, std::size_t len) {
+    std::ptrdiff_t end = static_cast<std::ptrdiff_t>(len);
+    return {{all.starts.begin(), all.starts.begin() + end}, {all.ends.begin(), all.ends.begin() + end}};
+}
+
 Work work_of(std::size_t ranges) {
     std::mt19937_64 random(ranges);
-    Work work{shuffled(ranges, random), shuffled(ranges, random), {}};
+    Work work{shuffled(ranges, random), shuffled(ranges, random), {}, {}};
+    work.replaced = front_of(work.out, std::min(ranges / 100, most_read / ranges));
     std::uniform_int_distribution<std::int64_t> any(0, static_cast<std::int64_t>(ranges) * 10 + 20);
     for (std::size_t i = 0; i < asked; i++) {
         work.values.push_back(any(random));
@@ -80,6 +91,7 @@ struct Times {
     double insert = 0;
     double contains = 0;
     double iter = 0;
+    double replace = 0;
     double remove = 0;
     double bytes = 0;
 };
@@ -95,23 +107,43 @@ Times timed(const GrowingKind& kind, const Work& work) {
     if (set->can_iter()) {
         times.iter = ns_of([&] { kept = set->iter(); }) / ranges;
     }
+    if (set->finds_room()) {
+        // A first search may learn where there is none.
+        kept = static_cast<std::size_t>(set->replace(front_of(work.replaced, 1)));
+        times.replace = ns_of([&] { kept = static_cast<std::size_t>(set->replace(work.replaced)); }) /
+                        static_cast<double>(work.replaced.starts.size());
+    }
     times.remove = ns_of([&] { set->remove(work.out); }) / ranges;
     return times;
 }
 
 Times least(const Times& a, const Times& b) {
-    return {std::min(a.insert, b.insert), std::min(a.contains, b.contains), std::min(a.iter, b.iter),
-            std::min(a.remove, b.remove), std::min(a.bytes, b.bytes)};
+    return {std::min(a.insert, b.insert),   std::min(a.contains, b.contains), std::min(a.iter, b.iter),
+            std::min(a.replace, b.replace), std::min(a.remove, b.remove),     std::min(a.bytes, b.bytes)};
 }
 
 [[noreturn]] void fail(const GrowingKind& kind, const std::string& what) {
     throw std::runtime_error("wrong: " + kind.name + ", ranges one by one: " + what);
 }
 
+// The same by lists: each range taken out, and as many numbers put in at the lowest place.
+std::int64_t replaced(Boundaries* all, const Commands& commands) {
+    std::int64_t places = 0;
+    for (std::size_t i = 0; i < commands.starts.size(); i++) {
+        std::int64_t len = commands.ends[i] - commands.starts[i], place = 0;
+        *all = plain(Operation::subtract, *all, {commands.starts[i], commands.ends[i]});
+        for (std::size_t k = 0; k < all->size() && (*all)[k] - place < len; k += 2) {
+            place = (*all)[k + 1];
+        }
+        *all = plain(Operation::unite, *all, {place, place + len});
+        places += place;
+    }
+    return places;
+}
+
 void check(const GrowingKind& kind, const Work& work) {
     Boundaries all = all_of(work.in);
-    Commands half{{work.out.starts.begin(), work.out.starts.begin() + static_cast<std::ptrdiff_t>(all.size() / 4)},
-                  {work.out.ends.begin(), work.out.ends.begin() + static_cast<std::ptrdiff_t>(all.size() / 4)}};
+    Commands half = front_of(work.out, all.size() / 4);
     std::unique_ptr<Growing> set = kind.make();
     set->insert(work.in);
     if (set->boundaries() != all) {
@@ -127,6 +159,10 @@ void check(const GrowingKind& kind, const Work& work) {
     if (set->can_iter() && set->iter() != work.in.starts.size() * 6) {
         fail(kind, "iter");
     }
+    if (set->finds_room() &&
+        (set->replace(work.replaced) != replaced(&all, work.replaced) || set->boundaries() != all)) {
+        fail(kind, "replace");
+    }
     set->remove(half);
     if (set->boundaries() != plain(Operation::subtract, all, all_of(half))) {
         fail(kind, "remove");
@@ -140,7 +176,7 @@ std::size_t check_growing(const std::vector<GrowingKind>& kinds, std::size_t ran
     std::size_t compared = 0;
     for (const GrowingKind& kind : kinds) {
         check(kind, work);
-        compared += kind.make()->can_iter() ? 4 : 3;
+        compared += (kind.make()->can_iter() ? 4 : 3) + (kind.make()->finds_room() ? 1 : 0);
     }
     return compared;
 }
@@ -150,9 +186,9 @@ void time_growing(const std::vector<GrowingKind>& kinds, std::size_t most, const
     if (!file) {
         throw std::runtime_error("cannot write " + csv);
     }
-    file << "ranges,contender,insert_ns,contains_ns,iter_ns,remove_ns,bytes\n";
-    std::printf("%8s %-16s %9s %9s %7s %9s %6s\n", "ranges", "contender", "insert", "contains", "iter", "remove",
-                "bytes");
+    file << "ranges,contender,insert_ns,contains_ns,iter_ns,replace_ns,remove_ns,bytes\n";
+    std::printf("%8s %-16s %9s %9s %7s %9s %9s %6s\n", "ranges", "contender", "insert", "contains", "iter", "replace",
+                "remove", "bytes");
     std::vector<bool> too_slow(kinds.size());
     for (std::size_t ranges = fewest; ranges <= most; ranges *= 10) {
         Work work = work_of(ranges);
@@ -171,10 +207,10 @@ void time_growing(const std::vector<GrowingKind>& kinds, std::size_t most, const
             }
             const Times& times = all[i];
             const char* name = kinds[i].name.c_str();
-            std::printf("%8zu %-16s %9.0f %9.1f %7.1f %9.0f %6.1f\n", ranges, name, times.insert, times.contains,
-                        times.iter, times.remove, times.bytes);
+            std::printf("%8zu %-16s %9.0f %9.1f %7.1f %9.0f %9.0f %6.1f\n", ranges, name, times.insert, times.contains,
+                        times.iter, times.replace, times.remove, times.bytes);
             file << ranges << ',' << name << ',' << times.insert << ',' << times.contains << ',' << times.iter << ','
-                 << times.remove << ',' << times.bytes << '\n';
+                 << times.replace << ',' << times.remove << ',' << times.bytes << '\n';
             too_slow[i] = times.insert * static_cast<double>(ranges) > longest_ns;
         }
         std::fflush(stdout);

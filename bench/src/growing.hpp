@@ -24,6 +24,11 @@ public:
     virtual bool can_iter() const = 0;
     virtual std::size_t iter() const = 0;
 
+    // Takes one range after the other out, and puts as many numbers in at the lowest place; the sum of the places. For
+    // those that find room.
+    virtual bool finds_room() const = 0;
+    virtual std::int64_t replace(const Commands& commands) = 0;
+
     virtual Boundaries boundaries() const = 0;
 };
 

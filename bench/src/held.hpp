@@ -131,13 +131,13 @@ private:
         }
         if constexpr (offers(Group::in_place)) {
             switch (task) {
-            case Task::union_lent:
+            case Task::union_borrowed:
                 return run(lend<Operation::unite>);
-            case Task::intersection_lent:
+            case Task::intersection_borrowed:
                 return run(lend<Operation::intersect>);
-            case Task::difference_lent:
+            case Task::difference_borrowed:
                 return run(lend<Operation::subtract>);
-            case Task::symmetric_difference_lent:
+            case Task::symmetric_difference_borrowed:
                 return run(lend<Operation::differ>);
             case Task::union_owned:
                 return run(hand_over<Operation::unite>);
@@ -239,7 +239,7 @@ private:
     }
 
     template <Operation operation> static std::size_t lend(const Sides& sides, Boundaries* out) {
-        return Kind::template change_by_lent<operation>(sides.first, sides.second, out);
+        return Kind::template change_by_borrowed<operation>(sides.first, sides.second, out);
     }
 
     template <Operation operation> static std::size_t hand_over(const Sides& sides, Boundaries* out) {

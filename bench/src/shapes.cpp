@@ -14,8 +14,8 @@ constexpr std::size_t many = 1024;
 
 const std::vector<Task> new_sets = {Task::union_new, Task::intersection_new, Task::difference_new,
                                     Task::symmetric_difference_new};
-const std::vector<Task> changes = {Task::copy_one,  Task::union_lent,  Task::intersection_lent,
-                                   Task::copy_both, Task::union_owned, Task::intersection_owned};
+const std::vector<Task> changes = {Task::copy_one,  Task::union_borrowed, Task::intersection_borrowed,
+                                   Task::copy_both, Task::union_owned,    Task::intersection_owned};
 const std::vector<Task> places = {Task::union_same_place, Task::union_other_place};
 const std::vector<Task> tests = {Task::is_disjoint, Task::is_subset};
 const std::vector<Task> rest = {Task::union_len, Task::iter};

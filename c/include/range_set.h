@@ -28,7 +28,7 @@
  *                            sign. Nothing was written.
  *
  * A call that writes a set takes a buffer `out` with room for `room` numbers. After the set the buffer is as it was, but for
- * `union_all` and `parse`. A buffer may be null with room 0, which asks for the length alone. The result of an operation has
+ * `from_values`, `union_all` and `parse`. A buffer may be null with room 0, which asks for the length alone. The result of an operation has
  * at most as many boundaries as both sets together. A set that grows range by range, as those of a download, stands in a
  * buffer and changes there: `buffer_of`, `insert`, `remove`. An owned set has a buffer that grows.
  *
@@ -139,6 +139,12 @@ RANGE_SET_STATUS range_set_i32_from_unsorted(int32_t *items, size_t len, range_s
  * nothing is said of what stands after it. Sorts without memory, in some count * log(count) steps. */
 RANGE_SET_STATUS range_set_i32_from_ranges(int32_t *ranges, size_t count, range_set_i32 *set);
 
+/* Writes the set of these numbers, in any order, some of them more than once. The buffer has to have room for two numbers for each,
+ * also where the set has fewer. Nothing is said of what stands after the set in the buffer. Sorts without other memory, in some
+ * count * log(count) steps. */
+RANGE_SET_STATUS range_set_i32_from_values(const int32_t *values, size_t count, int32_t *out, size_t room,
+                                                range_set_i32 *result);
+
 /* Whether `value` is a member. At most as many comparisons as set.len has binary digits. */
 bool range_set_i32_contains(range_set_i32 set, int32_t value);
 
@@ -193,6 +199,68 @@ bool range_set_i32_last(range_set_i32 set, range_set_i32_range *range);
 
 /* How many ranges the set has. */
 size_t range_set_i32_ranges_len(range_set_i32 set);
+
+/* A place among the members of a set, which is good until the set changes: where `has_value` is true, at the member `value`. The
+ * other fields are for the library alone. */
+typedef struct range_set_i32_members {
+    int32_t value;
+    bool has_value;
+    range_set_i32_range range;
+    size_t index;
+    range_set_i32 set;
+} range_set_i32_members;
+
+/* The greatest number of a range. */
+static inline int32_t range_set_i32_range_last(range_set_i32_range range)
+{
+    return range.has_end ? range.end - 1 : INT32_MAX;
+}
+
+/* The place of the lowest member, of the highest one. A loop over all of them, which `members_last` and `members_prev` make
+ * downwards:
+ *
+ *     range_set_i32_members it = range_set_i32_members_first(set);
+ *     for (; it.has_value; range_set_i32_members_next(&it)) .. it.value ..
+ */
+static inline range_set_i32_members range_set_i32_members_first(range_set_i32 set)
+{
+    range_set_i32_members members = {0, false, {0, 0, false}, 0, {NULL, 0}};
+    members.set = set;
+    members.has_value = range_set_i32_get(set, 0, &members.range);
+    members.value = members.range.start;
+    return members;
+}
+
+static inline range_set_i32_members range_set_i32_members_last(range_set_i32 set)
+{
+    range_set_i32_members members = {0, false, {0, 0, false}, 0, {NULL, 0}};
+    members.set = set;
+    members.has_value = range_set_i32_last(set, &members.range);
+    members.value = range_set_i32_range_last(members.range);
+    members.index = members.has_value ? range_set_i32_ranges_len(set) - 1 : 0;
+    return members;
+}
+
+/* Goes to the next member above, below. Where there is none it is at no member from then on. It has to be at one before. */
+static inline void range_set_i32_members_next(range_set_i32_members *members)
+{
+    if (members->value != range_set_i32_range_last(members->range)) {
+        members->value++;
+    } else {
+        members->has_value = range_set_i32_get(members->set, ++members->index, &members->range);
+        members->value = members->range.start;
+    }
+}
+
+static inline void range_set_i32_members_prev(range_set_i32_members *members)
+{
+    if (members->value != members->range.start) {
+        members->value--;
+    } else {
+        members->has_value = members->index > 0 && range_set_i32_get(members->set, --members->index, &members->range);
+        members->value = range_set_i32_range_last(members->range);
+    }
+}
 
 /* Whether the set has an end, so whether its members can be counted, and then how many there are, which always fits. Where it
  * has none `count` is as it was. Goes over the set once. */
@@ -320,8 +388,8 @@ RANGE_SET_STATUS range_set_i32_parse(const char *text, size_t text_len, int32_t 
  * at `start`, if end >= start. Looks at each boundary from `start` on, up to the answer. */
 bool range_set_i32_first_fit(range_set_i32 set, int32_t start, int32_t end, uint32_t count, int32_t *first);
 
-/* The same, but only where as many numbers of the type are below the first as a multiple of `align`: for a type without a sign, where
- * the number is one. An `align` of 0 fits nowhere. */
+/* The same, but only where as many numbers of the type are below the first as a multiple of `align`: the first itself is one where
+ * the type has no sign or `align` is a power of two. An `align` of 0 fits nowhere. */
 bool range_set_i32_first_fit_aligned(range_set_i32 set, int32_t start, int32_t end, uint32_t count, uint32_t align,
                                           int32_t *first);
 
@@ -496,6 +564,12 @@ RANGE_SET_STATUS range_set_u32_from_unsorted(uint32_t *items, size_t len, range_
  * nothing is said of what stands after it. Sorts without memory, in some count * log(count) steps. */
 RANGE_SET_STATUS range_set_u32_from_ranges(uint32_t *ranges, size_t count, range_set_u32 *set);
 
+/* Writes the set of these numbers, in any order, some of them more than once. The buffer has to have room for two numbers for each,
+ * also where the set has fewer. Nothing is said of what stands after the set in the buffer. Sorts without other memory, in some
+ * count * log(count) steps. */
+RANGE_SET_STATUS range_set_u32_from_values(const uint32_t *values, size_t count, uint32_t *out, size_t room,
+                                                range_set_u32 *result);
+
 /* Whether `value` is a member. At most as many comparisons as set.len has binary digits. */
 bool range_set_u32_contains(range_set_u32 set, uint32_t value);
 
@@ -550,6 +624,68 @@ bool range_set_u32_last(range_set_u32 set, range_set_u32_range *range);
 
 /* How many ranges the set has. */
 size_t range_set_u32_ranges_len(range_set_u32 set);
+
+/* A place among the members of a set, which is good until the set changes: where `has_value` is true, at the member `value`. The
+ * other fields are for the library alone. */
+typedef struct range_set_u32_members {
+    uint32_t value;
+    bool has_value;
+    range_set_u32_range range;
+    size_t index;
+    range_set_u32 set;
+} range_set_u32_members;
+
+/* The greatest number of a range. */
+static inline uint32_t range_set_u32_range_last(range_set_u32_range range)
+{
+    return range.has_end ? range.end - 1 : UINT32_MAX;
+}
+
+/* The place of the lowest member, of the highest one. A loop over all of them, which `members_last` and `members_prev` make
+ * downwards:
+ *
+ *     range_set_u32_members it = range_set_u32_members_first(set);
+ *     for (; it.has_value; range_set_u32_members_next(&it)) .. it.value ..
+ */
+static inline range_set_u32_members range_set_u32_members_first(range_set_u32 set)
+{
+    range_set_u32_members members = {0, false, {0, 0, false}, 0, {NULL, 0}};
+    members.set = set;
+    members.has_value = range_set_u32_get(set, 0, &members.range);
+    members.value = members.range.start;
+    return members;
+}
+
+static inline range_set_u32_members range_set_u32_members_last(range_set_u32 set)
+{
+    range_set_u32_members members = {0, false, {0, 0, false}, 0, {NULL, 0}};
+    members.set = set;
+    members.has_value = range_set_u32_last(set, &members.range);
+    members.value = range_set_u32_range_last(members.range);
+    members.index = members.has_value ? range_set_u32_ranges_len(set) - 1 : 0;
+    return members;
+}
+
+/* Goes to the next member above, below. Where there is none it is at no member from then on. It has to be at one before. */
+static inline void range_set_u32_members_next(range_set_u32_members *members)
+{
+    if (members->value != range_set_u32_range_last(members->range)) {
+        members->value++;
+    } else {
+        members->has_value = range_set_u32_get(members->set, ++members->index, &members->range);
+        members->value = members->range.start;
+    }
+}
+
+static inline void range_set_u32_members_prev(range_set_u32_members *members)
+{
+    if (members->value != members->range.start) {
+        members->value--;
+    } else {
+        members->has_value = members->index > 0 && range_set_u32_get(members->set, --members->index, &members->range);
+        members->value = range_set_u32_range_last(members->range);
+    }
+}
 
 /* Whether the set has an end, so whether its members can be counted, and then how many there are, which always fits. Where it
  * has none `count` is as it was. Goes over the set once. */
@@ -677,8 +813,8 @@ RANGE_SET_STATUS range_set_u32_parse(const char *text, size_t text_len, uint32_t
  * at `start`, if end >= start. Looks at each boundary from `start` on, up to the answer. */
 bool range_set_u32_first_fit(range_set_u32 set, uint32_t start, uint32_t end, uint32_t count, uint32_t *first);
 
-/* The same, but only where as many numbers of the type are below the first as a multiple of `align`: for a type without a sign, where
- * the number is one. An `align` of 0 fits nowhere. */
+/* The same, but only where as many numbers of the type are below the first as a multiple of `align`: the first itself is one where
+ * the type has no sign or `align` is a power of two. An `align` of 0 fits nowhere. */
 bool range_set_u32_first_fit_aligned(range_set_u32 set, uint32_t start, uint32_t end, uint32_t count, uint32_t align,
                                           uint32_t *first);
 
@@ -853,6 +989,12 @@ RANGE_SET_STATUS range_set_i64_from_unsorted(int64_t *items, size_t len, range_s
  * nothing is said of what stands after it. Sorts without memory, in some count * log(count) steps. */
 RANGE_SET_STATUS range_set_i64_from_ranges(int64_t *ranges, size_t count, range_set_i64 *set);
 
+/* Writes the set of these numbers, in any order, some of them more than once. The buffer has to have room for two numbers for each,
+ * also where the set has fewer. Nothing is said of what stands after the set in the buffer. Sorts without other memory, in some
+ * count * log(count) steps. */
+RANGE_SET_STATUS range_set_i64_from_values(const int64_t *values, size_t count, int64_t *out, size_t room,
+                                                range_set_i64 *result);
+
 /* Whether `value` is a member. At most as many comparisons as set.len has binary digits. */
 bool range_set_i64_contains(range_set_i64 set, int64_t value);
 
@@ -907,6 +1049,68 @@ bool range_set_i64_last(range_set_i64 set, range_set_i64_range *range);
 
 /* How many ranges the set has. */
 size_t range_set_i64_ranges_len(range_set_i64 set);
+
+/* A place among the members of a set, which is good until the set changes: where `has_value` is true, at the member `value`. The
+ * other fields are for the library alone. */
+typedef struct range_set_i64_members {
+    int64_t value;
+    bool has_value;
+    range_set_i64_range range;
+    size_t index;
+    range_set_i64 set;
+} range_set_i64_members;
+
+/* The greatest number of a range. */
+static inline int64_t range_set_i64_range_last(range_set_i64_range range)
+{
+    return range.has_end ? range.end - 1 : INT64_MAX;
+}
+
+/* The place of the lowest member, of the highest one. A loop over all of them, which `members_last` and `members_prev` make
+ * downwards:
+ *
+ *     range_set_i64_members it = range_set_i64_members_first(set);
+ *     for (; it.has_value; range_set_i64_members_next(&it)) .. it.value ..
+ */
+static inline range_set_i64_members range_set_i64_members_first(range_set_i64 set)
+{
+    range_set_i64_members members = {0, false, {0, 0, false}, 0, {NULL, 0}};
+    members.set = set;
+    members.has_value = range_set_i64_get(set, 0, &members.range);
+    members.value = members.range.start;
+    return members;
+}
+
+static inline range_set_i64_members range_set_i64_members_last(range_set_i64 set)
+{
+    range_set_i64_members members = {0, false, {0, 0, false}, 0, {NULL, 0}};
+    members.set = set;
+    members.has_value = range_set_i64_last(set, &members.range);
+    members.value = range_set_i64_range_last(members.range);
+    members.index = members.has_value ? range_set_i64_ranges_len(set) - 1 : 0;
+    return members;
+}
+
+/* Goes to the next member above, below. Where there is none it is at no member from then on. It has to be at one before. */
+static inline void range_set_i64_members_next(range_set_i64_members *members)
+{
+    if (members->value != range_set_i64_range_last(members->range)) {
+        members->value++;
+    } else {
+        members->has_value = range_set_i64_get(members->set, ++members->index, &members->range);
+        members->value = members->range.start;
+    }
+}
+
+static inline void range_set_i64_members_prev(range_set_i64_members *members)
+{
+    if (members->value != members->range.start) {
+        members->value--;
+    } else {
+        members->has_value = members->index > 0 && range_set_i64_get(members->set, --members->index, &members->range);
+        members->value = range_set_i64_range_last(members->range);
+    }
+}
 
 /* Whether the set has an end, so whether its members can be counted, and then how many there are, which always fits. Where it
  * has none `count` is as it was. Goes over the set once. */
@@ -1034,8 +1238,8 @@ RANGE_SET_STATUS range_set_i64_parse(const char *text, size_t text_len, int64_t 
  * at `start`, if end >= start. Looks at each boundary from `start` on, up to the answer. */
 bool range_set_i64_first_fit(range_set_i64 set, int64_t start, int64_t end, uint64_t count, int64_t *first);
 
-/* The same, but only where as many numbers of the type are below the first as a multiple of `align`: for a type without a sign, where
- * the number is one. An `align` of 0 fits nowhere. */
+/* The same, but only where as many numbers of the type are below the first as a multiple of `align`: the first itself is one where
+ * the type has no sign or `align` is a power of two. An `align` of 0 fits nowhere. */
 bool range_set_i64_first_fit_aligned(range_set_i64 set, int64_t start, int64_t end, uint64_t count, uint64_t align,
                                           int64_t *first);
 
@@ -1254,6 +1458,12 @@ RANGE_SET_STATUS range_set_u64_from_unsorted(uint64_t *items, size_t len, range_
  * nothing is said of what stands after it. Sorts without memory, in some count * log(count) steps. */
 RANGE_SET_STATUS range_set_u64_from_ranges(uint64_t *ranges, size_t count, range_set_u64 *set);
 
+/* Writes the set of these numbers, in any order, some of them more than once. The buffer has to have room for two numbers for each,
+ * also where the set has fewer. Nothing is said of what stands after the set in the buffer. Sorts without other memory, in some
+ * count * log(count) steps. */
+RANGE_SET_STATUS range_set_u64_from_values(const uint64_t *values, size_t count, uint64_t *out, size_t room,
+                                                range_set_u64 *result);
+
 /* Whether `value` is a member. At most as many comparisons as set.len has binary digits. */
 bool range_set_u64_contains(range_set_u64 set, uint64_t value);
 
@@ -1308,6 +1518,68 @@ bool range_set_u64_last(range_set_u64 set, range_set_u64_range *range);
 
 /* How many ranges the set has. */
 size_t range_set_u64_ranges_len(range_set_u64 set);
+
+/* A place among the members of a set, which is good until the set changes: where `has_value` is true, at the member `value`. The
+ * other fields are for the library alone. */
+typedef struct range_set_u64_members {
+    uint64_t value;
+    bool has_value;
+    range_set_u64_range range;
+    size_t index;
+    range_set_u64 set;
+} range_set_u64_members;
+
+/* The greatest number of a range. */
+static inline uint64_t range_set_u64_range_last(range_set_u64_range range)
+{
+    return range.has_end ? range.end - 1 : UINT64_MAX;
+}
+
+/* The place of the lowest member, of the highest one. A loop over all of them, which `members_last` and `members_prev` make
+ * downwards:
+ *
+ *     range_set_u64_members it = range_set_u64_members_first(set);
+ *     for (; it.has_value; range_set_u64_members_next(&it)) .. it.value ..
+ */
+static inline range_set_u64_members range_set_u64_members_first(range_set_u64 set)
+{
+    range_set_u64_members members = {0, false, {0, 0, false}, 0, {NULL, 0}};
+    members.set = set;
+    members.has_value = range_set_u64_get(set, 0, &members.range);
+    members.value = members.range.start;
+    return members;
+}
+
+static inline range_set_u64_members range_set_u64_members_last(range_set_u64 set)
+{
+    range_set_u64_members members = {0, false, {0, 0, false}, 0, {NULL, 0}};
+    members.set = set;
+    members.has_value = range_set_u64_last(set, &members.range);
+    members.value = range_set_u64_range_last(members.range);
+    members.index = members.has_value ? range_set_u64_ranges_len(set) - 1 : 0;
+    return members;
+}
+
+/* Goes to the next member above, below. Where there is none it is at no member from then on. It has to be at one before. */
+static inline void range_set_u64_members_next(range_set_u64_members *members)
+{
+    if (members->value != range_set_u64_range_last(members->range)) {
+        members->value++;
+    } else {
+        members->has_value = range_set_u64_get(members->set, ++members->index, &members->range);
+        members->value = members->range.start;
+    }
+}
+
+static inline void range_set_u64_members_prev(range_set_u64_members *members)
+{
+    if (members->value != members->range.start) {
+        members->value--;
+    } else {
+        members->has_value = members->index > 0 && range_set_u64_get(members->set, --members->index, &members->range);
+        members->value = range_set_u64_range_last(members->range);
+    }
+}
 
 /* Whether the set has an end, so whether its members can be counted, and then how many there are, which always fits. Where it
  * has none `count` is as it was. Goes over the set once. */
@@ -1435,8 +1707,8 @@ RANGE_SET_STATUS range_set_u64_parse(const char *text, size_t text_len, uint64_t
  * at `start`, if end >= start. Looks at each boundary from `start` on, up to the answer. */
 bool range_set_u64_first_fit(range_set_u64 set, uint64_t start, uint64_t end, uint64_t count, uint64_t *first);
 
-/* The same, but only where as many numbers of the type are below the first as a multiple of `align`: for a type without a sign, where
- * the number is one. An `align` of 0 fits nowhere. */
+/* The same, but only where as many numbers of the type are below the first as a multiple of `align`: the first itself is one where
+ * the type has no sign or `align` is a power of two. An `align` of 0 fits nowhere. */
 bool range_set_u64_first_fit_aligned(range_set_u64 set, uint64_t start, uint64_t end, uint64_t count, uint64_t align,
                                           uint64_t *first);
 

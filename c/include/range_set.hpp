@@ -74,6 +74,7 @@ template <class T> struct calls_of;
         static constexpr auto view = range_set_##number##_view; \
         static constexpr auto from_unsorted = range_set_##number##_from_unsorted; \
         static constexpr auto from_ranges = range_set_##number##_from_ranges; \
+        static constexpr auto from_values = range_set_##number##_from_values; \
         static constexpr auto contains = range_set_##number##_contains; \
         static constexpr auto contains_range = range_set_##number##_contains_range; \
         static constexpr auto intersects_range = range_set_##number##_intersects_range; \
@@ -86,6 +87,11 @@ template <class T> struct calls_of;
         static constexpr auto prev_member = range_set_##number##_prev_member; \
         static constexpr auto prev_gap = range_set_##number##_prev_gap; \
         static constexpr auto select = range_set_##number##_select; \
+        using members = range_set_##number##_members; \
+        static constexpr auto members_first = range_set_##number##_members_first; \
+        static constexpr auto members_last = range_set_##number##_members_last; \
+        static constexpr auto members_next = range_set_##number##_members_next; \
+        static constexpr auto members_prev = range_set_##number##_members_prev; \
         static constexpr auto rank = range_set_##number##_rank; \
         static constexpr auto get = range_set_##number##_get; \
         static constexpr auto last = range_set_##number##_last; \
@@ -187,6 +193,7 @@ namespace detail {
 // The members of a set, from the lowest on and from the highest down, until the set changes.
 template <class T> class members {
     using calls = detail::calls<T>;
+    using place = typename calls::members;
 
 public:
     class iterator {
@@ -199,25 +206,18 @@ public:
         using pointer = void;
 
         iterator() noexcept = default;
-        iterator(typename calls::set set, std::size_t index) noexcept : set_(set) { enter(index); }
+        explicit iterator(place at) noexcept : at_(at) {}
 
-        reference operator*() const noexcept { return value_; }
+        reference operator*() const noexcept { return static_cast<T>(at_.value); }
         iterator &operator++() noexcept
         {
-            if (value_ == last())
-                enter(index_ + 1);
-            else
-                ++value_;
+            calls::members_next(&at_);
             return *this;
         }
         iterator &operator--() noexcept
         {
-            if (is_there_ && value_ != static_cast<T>(part_.start)) {
-                --value_;
-            } else {
-                enter(index_ - 1);
-                value_ = last();
-            }
+            if (at_.has_value) calls::members_prev(&at_);
+            else at_ = calls::members_last(at_.set);
             return *this;
         }
         iterator operator++(int) noexcept
@@ -236,31 +236,24 @@ public:
         // Of two iterators of one set.
         friend bool operator==(const iterator &a, const iterator &b) noexcept
         {
-            return a.index_ == b.index_ && (!a.is_there_ || a.value_ == b.value_);
+            return a.at_.has_value == b.at_.has_value && (!a.at_.has_value || a.at_.value == b.at_.value);
         }
         friend bool operator!=(const iterator &a, const iterator &b) noexcept { return !(a == b); }
 
     private:
-        // Goes to the first number of a range, or past all.
-        void enter(std::size_t index) noexcept
-        {
-            index_ = index;
-            is_there_ = calls::get(set_, index, &part_);
-            if (is_there_) value_ = part_.start;
-        }
-        T last() const noexcept { return part_.has_end ? static_cast<T>(part_.end - 1) : std::numeric_limits<T>::max(); }
-
-        typename calls::set set_ = {};
-        typename calls::part part_ = {};
-        std::size_t index_ = 0;
-        bool is_there_ = false;
-        T value_ = 0;
+        // At no member it is past all.
+        place at_ = {};
     };
     using const_iterator = iterator;
 
     explicit members(typename calls::set set) noexcept : set_(set) {}
-    iterator begin() const noexcept { return iterator(set_, 0); }
-    iterator end() const noexcept { return iterator(set_, calls::ranges_len(set_)); }
+    iterator begin() const noexcept { return iterator(calls::members_first(set_)); }
+    iterator end() const noexcept
+    {
+        place past = {};
+        past.set = set_;
+        return iterator(past);
+    }
 
 private:
     typename calls::set set_;
@@ -453,7 +446,8 @@ public:
         number first = start;
         return told(calls::first_fit(set_, start, end, count, &first), first);
     }
-    // The same, but only where as many numbers of the type are below the first as a multiple of `align`.
+    // The same, but only where as many numbers of the type are below the first as a multiple of `align`: the first itself is one
+    // where the type has no sign or `align` is a power of two.
     std::optional<T> first_fit_aligned(T start, T end, std::make_unsigned_t<T> count, std::make_unsigned_t<T> align) const noexcept
     {
         number first = start;
@@ -560,6 +554,15 @@ public:
         }
         return written(room, [&](number *out, std::size_t of, auto *set) { return calls::union_all(each.get(), count, out, of, set); });
     }
+    // The set of these numbers, as a std::vector has them, in any order, some of them more than once.
+    template <class Values> static range_set from_values(const Values &values)
+    {
+        const auto count = static_cast<std::size_t>(std::distance(values.begin(), values.end()));
+        const auto items = room_for(count);
+        std::copy(values.begin(), values.end(), items.get());
+        return written(2 * count, [&](number *out, std::size_t room, auto *set) { return calls::from_values(items.get(), count, out, room, set); });
+    }
+    static range_set from_values(std::initializer_list<T> values) { return from_values<std::initializer_list<T>>(values); }
     // The set of a text of ranges, "0..10, 20..", or nothing where it isn't one or a number doesn't fit the type. `fault`, where it
     // isn't null, is then the byte at which the text stops being one of ranges; of a number that doesn't fit it is as it was.
     static std::optional<range_set> parse(std::string_view text, std::size_t *fault = nullptr)
@@ -627,6 +630,9 @@ public:
     // Puts the numbers from `start` to below `end` in, takes them out, where the set lies.
     range_set &insert(T start, T end) { return change(calls::insert, start, end); }
     range_set &remove(T start, T end) { return change(calls::remove, start, end); }
+    // The same of all numbers from `start` on.
+    range_set &insert_from(T start) { return *this |= *range_set_view<T>::of(&start, 1); }
+    range_set &remove_from(T start) { return *this -= *range_set_view<T>::of(&start, 1); }
     void clear() noexcept { in_.set.len = 0; }
 
     range_set &operator|=(detail::operand<T> other) { return *this = combine(*this, other, RANGE_SET_UNION); }

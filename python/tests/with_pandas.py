@@ -9,6 +9,7 @@ from collections import Counter
 from datetime import date, timedelta
 from pathlib import Path
 
+import numpy
 import pandas
 
 from range_sets import MutableRangeSet, RangeSet
@@ -72,12 +73,29 @@ class Frames(unittest.TestCase):
             self.assertEqual((aware.kind, aware[0]), ("datetime[UTC]", (zoned["start"][0], zoned["end"][1])))
         self.assertEqual([*RangeSet.from_values(zoned["start"]).members()], list(zoned["start"]))
         self.assertEqual(RangeSet([(frame["start"][0], frame["end"][1])]).kind, "datetime")
+        self.check_timestamps(made, frame)
         for value in (pandas.Timestamp(1), pandas.Timedelta(1), pandas.Timestamp(1, tz="UTC")):
             with self.assertRaisesRegex(ValueError, "microseconds are wanted"):
                 RangeSet([(value, None)])
         for pair in ((pandas.NaT, None), (frame["start"][0], pandas.NaT), (date(2026, 5, 1), pandas.NaT), (timedelta(1), pandas.NaT)):
             with self.assertRaisesRegex(ValueError, "NaT is in no order"):
                 RangeSet([pair])
+
+    def check_timestamps(self, made, frame):
+        """Pandas' own times, asked of the set of a data frame's times, which are numpy's."""
+        noon, second = pandas.Timestamp("2026-05-03 12:00"), pandas.Timestamp("1970-01-01 00:00:05")
+        self.assertTrue(noon in made and made.covers(noon, frame["end"][1]) and pandas.Timestamp("2026-05-09") not in made)
+        self.assertEqual(made.rank(noon), 60 * 3600 * 10**9)
+        self.assertEqual(made.first_fit(pandas.Timedelta(days=1), noon), frame["end"][1])
+        self.assertEqual(RangeSet([(frame["start"][0], frame["end"][1])], kind="datetime64[ns]"), made)
+        self.assertEqual(RangeSet([(second, None)], kind="datetime64[s]"), RangeSet([(numpy.datetime64(5, "s"), None)]))
+        for call, error, words in (
+            (lambda: pandas.NaT in made, ValueError, "NaT is in no order"),
+            (lambda: pandas.Timestamp(1, tz="UTC") in made, TypeError, "a numpy.datetime64.ns. is wanted"),
+            (lambda: RangeSet([(pandas.Timestamp(1), None)], kind="datetime64[s]"), ValueError, "a time of whole s in 64 bits"),
+        ):
+            with self.assertRaisesRegex(error, words):
+                call()
 
 
 class Example(unittest.TestCase):

@@ -45,9 +45,8 @@ fn blocks(set: &Addresses) -> String {
         let end = range.end().map_or(1 << 32, |end| number(end));
         while start < end {
             // The largest block that begins there and has no more addresses than are left.
-            let bits = (start | 1 << 32)
-                .trailing_zeros()
-                .min(63 - (end - start).leading_zeros());
+            let most = 63 - (end - start).leading_zeros();
+            let bits = (start | 1 << 32).trailing_zeros().min(most);
             found.push(format!("{}/{}", Ipv4Addr::from(start as u32), 32 - bits));
             start += 1 << bits;
         }
@@ -55,25 +54,26 @@ fn blocks(set: &Addresses) -> String {
     found.join(" ")
 }
 
-/// How many addresses there are. A set with the greatest one has no end, so that one is counted by itself.
+/// How many addresses there are: those below the greatest, and that one.
 fn count(set: &Addresses) -> u128 {
-    let (mut below, last) = (set.clone(), Ipv4Addr::BROADCAST);
-    below.remove(last..);
-    below.covered().unwrap_or(0) + u128::from(set.contains(&last))
+    let last = Ipv4Addr::BROADCAST;
+    set.rank(&last) + u128::from(set.contains(&last))
 }
 
 fn main() -> Result<(), Box<dyn Error>> {
-    let network = Addresses::from(block("10.0.0.0/22")?);
-    let mut free = network.clone();
+    let mut free = Addresses::from(block("10.0.0.0/22")?);
+    let all = count(&free);
     free.remove(block("10.0.1.0/24")?);
-    let (left, all) = (count(&free), count(&network));
+    let left = count(&free);
     println!("{left} of {all} are free: {}", text(&free));
     assert_eq!(read(&text(&free))?, free);
     assert_eq!(count(&!&free), (1 << 32) - left);
-
     let taken = **free.first().ok_or("nothing is free")?.start();
     free.remove(taken..=taken);
     assert_eq!(taken.next_value().as_ref(), free.next_member(&taken));
-    println!("{taken} is taken\nleft in blocks: {}", blocks(&free));
+    let within = taken..Ipv4Addr::new(10, 0, 4, 0);
+    let half = (!&free).first_fit_aligned(within, 128, 128).ok_or("full")?;
+    let left = blocks(&free);
+    println!("{taken} is taken, {half}/25 is free\nleft in blocks: {left}");
     Ok(())
 }

@@ -63,11 +63,9 @@ fn main() {
 
     let free = calendar.free();
     let hour = free
-        .iter()
-        .filter_map(|range| Some(**range.start()..**range.end()?))
-        .find(|time| time.len() >= 60)
+        .first_run(0..5 * DAY, 60)
         .expect("some hour of the week suits all");
-    println!("an hour for all: {} to {}", At(hour.start), At(hour.end));
+    println!("an hour for all: {} to {}", At(hour), At(hour + 60));
     println!("{} minutes in all", free.covered().unwrap_or(0));
     for time in free.ranges_within(&at(1, 0, 0)..&at(2, 0, 0)) {
         println!("{} to {}", At(*time.start), At(*time.end));

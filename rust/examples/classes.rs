@@ -30,22 +30,17 @@ fn pattern(class: &Class) -> String {
     let mut text = String::from("[");
     for range in class {
         let first = **range.start();
-        // The end is the first character after the range; a range of characters skips the surrogates.
-        let last = range.end().map_or(char::MAX, |end| before(**end));
+        // The end is the first character after the range.
+        let last = match range.end() {
+            Some(end) => class.prev_member(end).unwrap_or(first),
+            None => char::MAX,
+        };
         text += &shown(first);
         if last != first {
             text += &format!("-{}", shown(last));
         }
     }
     text + "]"
-}
-
-/// The character before one that isn't the least.
-fn before(c: char) -> char {
-    match c {
-        '\u{e000}' => '\u{d7ff}',
-        _ => char::from_u32(u32::from(c) - 1).expect("the least character ends no range"),
-    }
 }
 
 fn main() {

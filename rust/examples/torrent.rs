@@ -58,7 +58,7 @@ fn main() {
     }
     println!(
         "{} ranges after half of the pieces",
-        download.here.iter().count()
+        download.here.ranges_len()
     );
 
     let missing = download.next_missing(0).expect("half of them are missing");
@@ -71,5 +71,5 @@ fn main() {
     download.put(70_000);
     assert_eq!(download.next_missing(0), None);
     assert!(download.has(0..PIECES * PIECE));
-    println!("{} range in the end", download.here.iter().count());
+    println!("{} range in the end", download.here.ranges_len());
 }

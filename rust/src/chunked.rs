@@ -2,9 +2,13 @@
 
 mod combining;
 mod iter;
+mod members;
+mod taking;
 mod traits;
 
 pub use iter::{Gaps, IntoIter, Iter, RangesWithin};
+pub use members::Members;
+pub use taking::Overlapping;
 
 use self::iter::IntoBoundaries;
 use crate::any_range::AnyRange;
@@ -66,6 +70,7 @@ impl<T: Ord> ChunkedRangeSet<T> {
     ///
     /// assert!(ChunkedRangeSet::<u64>::new().is_empty());
     /// ```
+    #[must_use]
     pub fn new() -> Self {
         ChunkedRangeSet(proved::ChunkedRangeSet::new(Global))
     }
@@ -433,6 +438,11 @@ impl<T: Ord> ChunkedRangeSet<T> {
 
     pub(crate) fn into_boundaries(self) -> IntoBoundaries<T> {
         IntoBoundaries::new(self.0.chunks.into_inner())
+    }
+
+    /// The proved set.
+    pub(crate) fn into_proved(self) -> proved::ChunkedRangeSet<T> {
+        self.0
     }
 
     #[inline(always)]

@@ -136,8 +136,8 @@ impl RangeSetEntry for Duration {
 /// The addresses from 0.0.0.0 on, in the order of their numbers.
 ///
 /// A block up to the greatest address has no end: 224.0.0.0/3 is `insert(first..)` or `insert(first..=last)`. The set
-/// that has it has no end either, so its [`covered`](crate::RangeSetRef::covered) is `None`. Its size is that of what
-/// lies below the greatest address, plus 1.
+/// that has it has no end either, so its [`covered`](crate::RangeSetRef::covered) is `None`. Its size is the
+/// [`rank`](crate::RangeSetRef::rank) of the greatest address, plus 1.
 ///
 /// # Examples
 ///
@@ -146,11 +146,8 @@ impl RangeSetEntry for Duration {
 /// use std::net::Ipv4Addr;
 ///
 /// let (first, last) = (Ipv4Addr::new(224, 0, 0, 0), Ipv4Addr::BROADCAST);
-/// let mut set = RangeSet2::from(first..=last);
-/// assert_eq!(set.covered(), None);
-///
-/// let has_last = set.remove_changed(last..);
-/// assert_eq!(set.covered().unwrap() + u128::from(has_last), 1 << 29);
+/// let set = RangeSet2::from(first..=last);
+/// assert_eq!((set.covered(), set.rank(&last) + 1), (None, 1 << 29));
 /// ```
 #[cfg(feature = "std")]
 #[cfg_attr(docsrs, doc(cfg(feature = "std")))]

@@ -42,6 +42,7 @@ mod operations;
 pub mod pairs;
 mod ranges;
 mod room;
+mod space;
 mod taking;
 mod traits;
 
@@ -55,6 +56,7 @@ use smallvec::SmallVec;
 
 pub use chunked::ChunkedRangeSet;
 pub use map::{ByMapValue, InsertError, MapValue, RangeMap};
+pub use space::ChunkedSpace;
 
 /// It is implemented for numbers, `char`, references to texts and slices, `String`, `Vec` and `Option`.
 ///

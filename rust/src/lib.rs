@@ -52,6 +52,7 @@ mod operation;
 pub mod pairs;
 mod range;
 pub mod range_set;
+mod space;
 #[allow(dead_code, unsafe_code)]
 mod support;
 mod text;
@@ -106,5 +107,6 @@ pub use map::RangeMap;
 pub use operation::{Connective, NoRoom};
 pub use range::RangeSetRange;
 pub use range_set::{RangeSet, RangeSet2};
+pub use space::ChunkedSpace;
 pub use text::{Expected, ParseError};
 pub use view::RangeSetRef;

@@ -15,11 +15,9 @@ pub use kept::ByClone;
 pub(crate) use kept::{Copies, Kept};
 
 use crate::any_range::AnyRange;
-use crate::generated::range_collections::Comparisons;
 use crate::generated::range_entry::EntryClone;
 use crate::generated::range_map as proved;
-use crate::generated::range_map::InsertError;
-use crate::generated::range_merge::{count_up_to, search};
+use crate::generated::range_map::{InsertError, MapFilter};
 use crate::memory::{expect_memory, out_of_memory, AllocError};
 use crate::range::RangeSetRange;
 use crate::support::Global;
@@ -67,6 +65,16 @@ pub type RangeMap<K, V> = Map<K, V, ByClone>;
 /// A map from ranges to values. Its names are [`RangeMap`] and [`fallible::RangeMap`](crate::fallible::RangeMap), which
 /// say how values are copied: by `Clone`, or by a copy that may fail.
 pub struct Map<K: Ord, V: Eq, C>(proved::RangeMap<K, Kept<V, C>>);
+
+/// A filter by a closure.
+struct KeptIf<F>(F);
+
+impl<V, C, F: Fn(&V) -> bool> MapFilter<Kept<V, C>> for KeptIf<F> {
+    #[inline(always)]
+    fn keeps(&self, kept: &Kept<V, C>) -> bool {
+        (self.0)(&kept.value)
+    }
+}
 
 /// What both kinds of maps have.
 impl<K: Ord, V: Eq, C> Map<K, V, C> {
@@ -145,10 +153,7 @@ impl<K: Ord, V: Eq, C> Map<K, V, C> {
     pub fn is_free(&self, range: impl AnyRange<K>) -> bool {
         match range.into() {
             RangeSetRange::Range(range) => self.0.is_free(range),
-            RangeSetRange::RangeFrom(range) => {
-                let stretch = self.0.range_at(&range.start);
-                stretch.value.is_none() && stretch.end.is_none()
-            }
+            RangeSetRange::RangeFrom(range) => self.0.is_free_from(range),
         }
     }
 
@@ -210,21 +215,11 @@ impl<K: Ord, V: Eq, C> Map<K, V, C> {
     /// assert_eq!(guests, ["Ada", "Bob"]);
     /// ```
     pub fn overlapping(&self, range: Range<&K>) -> Iter<'_, K, V, C> {
-        let (from, to) = self.places_of(&range);
-        // The step before the first one may go on into the range.
-        let from = if range.is_empty() {
-            to
-        } else {
-            from.saturating_sub(1)
-        };
-        Iter::new(proved::Iter::new(
-            &self.0.keys[from..to],
-            &self.0.options[from..to],
-            self.0.keys.get(to),
-        ))
+        Iter::new(self.0.overlapping(range))
     }
 
-    /// Returns an iterator over the parts of a range whose keys have no value, from the lowest on. None of them is empty.
+    /// Returns an iterator over the parts of a range whose keys have no value, from the lowest on. None of them is empty,
+    /// and no two touch. It also runs from the highest part down.
     ///
     /// It makes *O*(log *n*) comparisons, and none for a step.
     ///
@@ -238,26 +233,24 @@ impl<K: Ord, V: Eq, C> Map<K, V, C> {
     /// assert_eq!(free, [&8..&9, &12..&15, &16..&18]);
     /// ```
     pub fn gaps<'a>(&'a self, within: Range<&'a K>) -> Gaps<'a, K, V, C> {
-        let (from, to) = self.places_of(&within);
-        let begins = from
-            .checked_sub(1)
-            .map_or(true, |before| self.0.options[before].is_none());
-        Gaps {
-            start: (begins && !within.is_empty()).then_some(within.start),
-            keys: &self.0.keys[from..to],
-            options: &self.0.options[from..to],
-            end: within.end,
-        }
+        Gaps::new(self.0.gaps(within))
     }
 
-    /// The places of the steps that begin within a range, above its start.
-    fn places_of(&self, range: &Range<&K>) -> (usize, usize) {
-        let (keys, count) = (self.0.keys.as_slice(), &mut Comparisons::new());
-        let from = count_up_to(keys, range.start, count);
-        let to = match search(keys, range.end, count) {
-            Ok(i) | Err(i) => i,
-        };
-        (from, to.max(from))
+    /// Takes away each value that `keep` returns `false` for. It takes no memory and copies nothing.
+    ///
+    /// `keep` is called once for each range, from the lowest on.
+    ///
+    /// # Examples
+    ///
+    /// ```
+    /// use range_sets::RangeMap;
+    ///
+    /// let mut bookings = RangeMap::from_iter([(9..11, "Ada"), (11..14, "Bob"), (15..16, "Ada")]);
+    /// bookings.retain(|guest| *guest == "Ada");
+    /// assert_eq!(format!("{bookings:?}"), r#"{9..11: "Ada", 15..16: "Ada"}"#);
+    /// ```
+    pub fn retain(&mut self, keep: impl Fn(&V) -> bool) {
+        self.changed(|map| map.retain(&KeptIf(keep)));
     }
 
     /// Takes the value of each key away, and keeps the room.
@@ -305,10 +298,14 @@ impl<K: Ord, V: Eq, C> Map<K, V, C> {
     #[inline(always)]
     pub(crate) fn try_insert_free(
         &mut self,
-        range: Range<K>,
+        range: RangeSetRange<K>,
         value: V,
     ) -> Result<(), InsertError<V>> {
-        let result = self.changed(|map| map.insert_free(range, Kept::new(value)));
+        let value = Kept::new(value);
+        let result = self.changed(|map| match range {
+            RangeSetRange::Range(range) => map.insert_free(range, value),
+            RangeSetRange::RangeFrom(range) => map.insert_free_from(range, value),
+        });
         result.map_err(|refused| match refused {
             InsertError::NotFree(kept) => InsertError::NotFree(kept.value),
             InsertError::OutOfMemory(kept) => InsertError::OutOfMemory(kept.value),
@@ -369,7 +366,8 @@ impl<K: Ord, V: Eq + Clone> RangeMap<K, V> {
         expect_memory::<K, _, _>(self.try_insert(range.into(), value));
     }
 
-    /// Gives each key of a range the value if none of them has one, and else gives the value back. It clones nothing.
+    /// Gives each key of a range [of any kind](AnyRange) the value if none of them has one, and else gives the value back.
+    /// It clones nothing.
     ///
     /// # Examples
     ///
@@ -380,9 +378,10 @@ impl<K: Ord, V: Eq + Clone> RangeMap<K, V> {
     /// assert_eq!(bookings.insert_free(9..12, "Ada"), Ok(()));
     /// assert_eq!(bookings.insert_free(11..14, "Bob"), Err("Bob"));
     /// assert_eq!(bookings.get(&12), None);
+    /// assert_eq!(bookings.insert_free(20.., "Eve"), Ok(()));
     /// ```
-    pub fn insert_free(&mut self, range: Range<K>, value: V) -> Result<(), V> {
-        match self.try_insert_free(range, value) {
+    pub fn insert_free(&mut self, range: impl AnyRange<K>, value: V) -> Result<(), V> {
+        match self.try_insert_free(range.into(), value) {
             Ok(()) => Ok(()),
             Err(InsertError::NotFree(value)) => Err(value),
             Err(InsertError::OutOfMemory(_)) => out_of_memory::<K>(),

@@ -64,6 +64,10 @@ fn compare(chunked: &ChunkedRangeSet<u32>, set: &RangeSet2<u32>, random: &mut Ra
     assert_eq!(chunked.span(), set.span());
     assert_eq!(chunked.boundaries_len(), set.boundaries().len());
     assert_eq!(chunked.ranges_len(), set.iter().len());
+    assert_eq!(chunked.prev_member(&value), set.prev_member(&value));
+    assert_eq!(chunked.prev_gap(&value), set.prev_gap(&value));
+    let ends = &value..&(value + random.below(places) as u32);
+    assert!(chunked.overlapping(ends.clone()).eq(set.overlapping(ends)));
 }
 
 /// Makes the same changes to both kinds of sets, and compares what they answer and what they are.
@@ -103,6 +107,99 @@ fn made_up(seed: u64, places: u64, changes: usize, puts_in_ten: u64) {
     assert!(chunked == ChunkedRangeSet::from(set.clone()) && chunked == chunked.clone());
     assert_eq!(RangeSet2::from(chunked.clone()), set);
     assert!(chunked.into_iter().eq(set.into_iter()));
+}
+
+/// Takes ranges out of both kinds of sets, at either end.
+fn popped(seed: u64, chunked: &mut ChunkedRangeSet<u32>, set: &mut RangeSet2<u32>, pops: usize) {
+    let mut random = Random(seed.wrapping_mul(0x9e37_79b9_7f4a_7c15) | 1);
+    for _ in 0..pops {
+        if random.below(2) == 0 {
+            assert_eq!(chunked.pop_first(), set.pop_first(), "seed {seed}");
+        } else {
+            assert_eq!(chunked.pop_last(), set.pop_last(), "seed {seed}");
+        }
+        let value = random.below(20_000) as u32;
+        assert_eq!(chunked.contains(&value), set.contains(&value));
+    }
+    assert!(chunked.iter().eq(set.iter()), "seed {seed}");
+}
+
+#[test]
+fn ranges_are_taken_out_at_either_end() {
+    for seed in (1..40).step_by(one_in()) {
+        let mut random = Random(seed);
+        let mut set: RangeSet2<u32> = (0..1_500).map(|_| any_range(&mut random, 20_000)).collect();
+        if seed % 2 == 0 {
+            set.insert(19_000..);
+        }
+        let mut chunked = ChunkedRangeSet::from(set.clone());
+        popped(seed, &mut chunked, &mut set, 600);
+        // In between, ranges that fill the chunks again.
+        for _ in 0..300 {
+            let range = any_range(&mut random, 20_000);
+            chunked.insert(range.clone());
+            set.insert(range);
+        }
+        popped(seed + 1, &mut chunked, &mut set, 2_000);
+        assert!(
+            chunked.is_empty() && chunked.pop_first().is_none() && chunked.pop_last().is_none()
+        );
+    }
+}
+
+#[test]
+fn changes_tell_whether_they_changed_something() {
+    for seed in (1..2_000).step_by(one_in()) {
+        let mut random = Random(seed);
+        let (mut chunked, mut set) = (ChunkedRangeSet::new(), RangeSet2::empty());
+        for _ in 0..20 {
+            let range = any_range(&mut random, 60);
+            match random.below(4) {
+                0 => assert_eq!(
+                    chunked.insert_changed(range.clone()),
+                    set.insert_changed(range)
+                ),
+                1 => assert_eq!(
+                    chunked.remove_changed(range.clone()),
+                    set.remove_changed(range)
+                ),
+                2 => assert_eq!(
+                    chunked.insert_changed(range.start + 40..),
+                    set.insert_changed(range.start + 40..)
+                ),
+                _ => assert_eq!(
+                    chunked.remove_changed(range.start + 20..),
+                    set.remove_changed(range.start + 20..)
+                ),
+            }
+            assert!(chunked.iter().eq(set.iter()), "seed {seed}");
+        }
+    }
+}
+
+#[test]
+fn members_and_values() {
+    let values = [7u8, 3, 255, 4, 3, 0];
+    let set = ChunkedRangeSet::from_values(values);
+    assert_eq!(set.to_string(), "0..1, 3..5, 7..8, 255..");
+    assert_eq!(
+        *fallible::ChunkedRangeSet::from_values(values).unwrap(),
+        set
+    );
+    assert!(set.members().eq([0, 3, 4, 7, 255]));
+    assert!(set.members().rev().eq([255, 7, 4, 3, 0]));
+    let mut both = set.members();
+    assert_eq!(
+        (both.next(), both.next_back(), both.next_back()),
+        (Some(0), Some(255), Some(7))
+    );
+    assert!(both.clone().eq([3, 4]));
+    assert_eq!((both.next(), both.next_back()), (Some(3), Some(4)));
+    assert_eq!((both.next(), both.next_back()), (None, None));
+    assert!(ChunkedRangeSet::<u8>::from_values([])
+        .members()
+        .next()
+        .is_none());
 }
 
 #[test]

@@ -4,7 +4,7 @@
 mod common;
 
 use common::{bitmap, boundaries, one_in, pairs, set, Bitmap, Operation, OPERATIONS};
-use range_sets::{fallible, RangeSet, RangeSet2, RangeSetRange, RangeSetRef};
+use range_sets::{fallible, ChunkedRangeSet, RangeSet, RangeSet2, RangeSetRange, RangeSetRef};
 use std::fmt::Debug;
 
 static NOTHING: RangeSet<[String; 4]> = RangeSet::empty();
@@ -89,12 +89,38 @@ where
     );
 }
 
+/// The same of one that goes forwards alone, or doesn't know how many are left.
+fn clones_forwards<I>(mut parts: I)
+where
+    I: Iterator + Clone + Debug,
+    I::Item: PartialEq + Debug,
+{
+    loop {
+        let left: Vec<_> = parts.clone().collect();
+        assert_eq!(format!("{parts:?}"), format!("{left:?}"));
+        let next = parts.next();
+        assert_eq!(next, left.into_iter().next());
+        if next.is_none() {
+            return;
+        }
+    }
+}
+
 #[test]
 fn iterators_are_cloned_and_shown() {
     for (a, _) in pairs().step_by(5) {
         let set: RangeSet2<u8> = set(a);
         clones_alike(set.iter());
         clones_alike(set.clone().into_iter());
+        clones_forwards(set.gaps(&9..&40));
+        clones_forwards(set.gaps(&9..));
+        clones_forwards(set.gaps(..=&40));
+        clones_forwards(set.overlapping(&9..&40));
+        clones_forwards((&set & RangeSet2::from(0..63)).members());
+        let chunked = ChunkedRangeSet::from(set);
+        clones_forwards(chunked.iter());
+        clones_forwards(chunked.ranges_within(&9..&40));
+        clones_forwards(chunked.gaps(&9..&40));
     }
     let texts: RangeSet2<String> = ("a".to_string()..).into();
     assert_eq!(format!("{:?}", texts.iter()), r#"["a"..]"#);

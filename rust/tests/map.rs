@@ -94,6 +94,11 @@ fn compare(map: &RangeMap<u8, u8>, cells: &Cells, what: &str) {
             .filter(|&key| cells[usize::from(key)].is_none())
             .collect();
         let gaps: Vec<_> = map.gaps(&range.start..&range.end).collect();
+        let back = map.gaps(&range.start..&range.end).rev();
+        assert!(back.eq(gaps.iter().rev().cloned()), "{what}, {range:?}");
+        let both = map.overlapping(&range.start..&range.end).rev();
+        let both = both.map(|(it, &value)| (it.cloned(), value));
+        assert!(both.eq(found.iter().rev().cloned()), "{what}, {range:?}");
         assert!(
             gaps.iter().all(|gap| gap.start < gap.end),
             "{what}, {range:?}"
@@ -140,23 +145,25 @@ fn made_up_changes_as_of_an_array_of_options() {
             let free =
                 (0..KEYS as u8).all(|key| !has(&range, key) || cells[usize::from(key)].is_none());
             assert_eq!(map.is_free(range.clone()), free, "seed {seed}, {range:?}");
-            if let RangeSetRange::Range(range) = range {
-                let refused = if free {
-                    Ok(())
-                } else {
-                    Err(InsertError::NotFree(value))
-                };
-                assert_eq!(refusing.insert_free(range.clone(), value), refused);
-                assert_eq!(map.insert_free(range.clone(), value).is_ok(), free);
-                if free {
-                    for key in range {
-                        cells[usize::from(key)] = Some(value);
-                    }
+            let refused = if free {
+                Ok(())
+            } else {
+                Err(InsertError::NotFree(value))
+            };
+            assert_eq!(refusing.insert_free(range.clone(), value), refused);
+            assert_eq!(map.insert_free(range.clone(), value).is_ok(), free);
+            for key in 0..KEYS as u8 {
+                if free && has(&range, key) {
+                    cells[usize::from(key)] = Some(value);
                 }
-                compare(&map, &cells, &format!("seed {seed}, booking {change}"));
             }
+            compare(&map, &cells, &format!("seed {seed}, booking {change}"));
             assert_eq!(read(&refusing), read(&map), "seed {seed}");
         }
+        let kept = cells.map(|cell| cell.filter(|&value| value != 1));
+        let mut retained = map.clone();
+        retained.retain(|&value| value != 1);
+        compare(&retained, &kept, &format!("seed {seed}, retain"));
         let collected: RangeMap<u8, u8> = stretches(&cells).into_iter().rev().collect();
         assert!(collected == map && map == map.clone(), "seed {seed}");
         assert_eq!(RangeMap::from(refusing), map, "seed {seed}");

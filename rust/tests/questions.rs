@@ -202,7 +202,10 @@ fn members_from_both_ends_and_back_to_a_set() {
         hosts.boundaries(),
         [Ipv4Addr::new(10, 0, 0, 1), Ipv4Addr::new(10, 0, 0, 3)]
     );
-    assert_eq!(hosts.members().next_back(), Some(Ipv4Addr::new(10, 0, 0, 2)));
+    assert_eq!(
+        hosts.members().next_back(),
+        Some(Ipv4Addr::new(10, 0, 0, 2))
+    );
     let last = RangeSet2::from_values([Ipv6Addr::from(u128::MAX), Ipv6Addr::UNSPECIFIED]);
     assert_eq!(last.members().next_back(), Some(Ipv6Addr::from(u128::MAX)));
 }

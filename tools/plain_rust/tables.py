@@ -47,7 +47,7 @@ SAME = set(
     enumerate eq expect extend_from_slice filter filter_map first fmt format from get insert into_iter into_vec
     is_ascii_digit is_empty is_eq is_err is_ge is_gt is_le is_lt is_ne is_none is_ok is_some is_whitespace iter
     iter_mut last leading_zeros len map max min next next_back not ok or parse pop position push_reserved remove
-    reserve rev reverse rotate_left rotate_right saturating_add saturating_mul saturating_sub shrink_to_fit
+    reserve retain rev reverse rotate_left rotate_right saturating_add saturating_mul saturating_sub shrink_to_fit
     size_hint sort_unstable sort_unstable_by_key split split_at split_at_mut split_first split_last split_off
     split_once strip_prefix sub swap swap_with_slice take then_some trailing_zeros trim truncate unwrap unwrap_or
     valid_up_to windows with_capacity wrapping_sub write_str zip
@@ -93,7 +93,7 @@ LEFT_OUT_NAMES = {"JsonError", "NonZeroU8", "NonZeroU16", "NonZeroU32", "NonZero
 
 # Files of which these items alone are written: lists of support have gaps without items, where Rattle's have blank
 # items, so what moves items is theirs. See the module `opened`.
-ITEMS_KEPT = {"range_merge/place": {"trait Place", "trait Shelf"}}
+ITEMS_KEPT = {"range_merge/place": {"trait GrowsByGap", "trait Exchanges"}}
 
 # Items that are left out, by their file: a kind with a name, or an impl with its title up to the generics of the type.
 ITEMS_LEFT_OUT = {
@@ -109,6 +109,7 @@ ITEMS_LEFT_OUT = {
     # Rust drops a set's list by itself.
     "range_collections/range_set": {"impl Drop for RangeSet"},
     "range_chunks/set": {"impl Drop for ChunkedRangeSet"},
+    "range_chunks/space": {"impl Drop for ChunkedSpace"},
     # Values that aren't plain numbers have one by their `EntryClone`, in support.
     "range_map/value": {"impl MapValue for T"},
 }
@@ -117,7 +118,7 @@ UNCALLED = {
     "range_merge/compare": {"Compare::made"},
     "range_merge/in_place_builder": {"InPlaceBuilder::puts_left", "InPlaceBuilder::put", "InPlaceBuilder::finish", "fn put_item"},
     "range_merge/merge_state/small_vec": {"SmallVecMergeState::new"},
-    "range_merge/place": {"Place::set"},
+    "range_merge/place": {"GrowsByGap::set"},
     "range_entry/lists": {"fn is_empty_list"},
     "range_collections/comparisons": {"Compare for Comparisons::made"},
     "range_collections/range_set/by_view": {
@@ -149,5 +150,8 @@ SHOWN = {
 CLONED = {
     "range_collections/iter": {"Iter", "RangesWithin", "Unread"},
     "range_collections/members": {"Members"},
+    "range_chunks/iter": {"Iter", "Unread"},
+    "range_chunks/within": {"RangesWithin", "Within"},
+    "range_map/gaps": {"Gaps"},
     "range_map/iter": {"Iter"},
 }

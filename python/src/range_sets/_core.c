@@ -164,48 +164,32 @@ ARRANGEMENT(from_boundaries, view, false, copy->len)
 ARRANGEMENT(from_unsorted, from_unsorted, false, copy->len)
 ARRANGEMENT(from_ranges, from_ranges, true, copy->len / 2)
 
-/* A range for each number, and whether one of the numbers is the greatest, which no end is above. */
-static bool fill_ranges(const List *values, uint64_t *ranges)
-{
-    const uint64_t *numbers = values->items, greatest = values->is_signed ? INT64_MAX : UINT64_MAX;
-    bool has_greatest = false;
-    for (size_t i = 0; i < values->len; i++) {
-        uint64_t number = numbers[i];
-        has_greatest |= number == greatest;
-        ranges[2 * i] = number;
-        ranges[2 * i + 1] = number + (number != greatest);
-    }
-    return has_greatest;
-}
+#define VALUES(type) values->items, values->len
 
-/* The set with all that is in a list and the greatest number. */
-static PyObject *with_greatest(PyObject *list, bool is_signed)
+static range_set_status write_from_values(const List *values, void *out, size_t room, size_t *written)
 {
-    uint64_t greatest = is_signed ? INT64_MAX : UINT64_MAX;
-    PyObject *bytes = PyBytes_FromStringAndSize((char *)&greatest, 8);
-    PyObject *other = bytes == NULL ? NULL : list_over(bytes, 1, is_signed);
-    PyObject *both = other == NULL ? NULL : core_union(NULL, (PyObject *[]){list, other}, 2);
-    Py_XDECREF(other);
-    return both;
+    if (values->is_signed) { WRITE(i64, from_values, VALUES) }
+    WRITE(u64, from_values, VALUES)
 }
 
 static PyObject *core_from_values(PyObject *module, PyObject *object)
 {
-    List list, ranges;
+    List list;
     size_t written = 0;
     if (!borrow(object, &list, false, false)) return NULL;
-    PyObject *bytes = PyBytes_FromStringAndSize(NULL, 16 * list.len), *made = NULL;
+    size_t room = 2 * list.len;
+    PyObject *bytes = PyBytes_FromStringAndSize(NULL, 8 * room);
+    range_set_status status = RANGE_SET_DONE;
     if (bytes != NULL) {
-        ranges = (List){.items = PyBytes_AS_STRING(bytes), .len = 2 * list.len, .is_signed = list.is_signed};
         PyThreadState *thread = let_others_run(list.len);
-        bool has_greatest = fill_ranges(&list, ranges.items);
-        arrange_from_ranges(&ranges, &written);
+        status = write_from_values(&list, PyBytes_AS_STRING(bytes), room, &written);
         go_on(thread);
-        made = list_over(bytes, written, list.is_signed);
-        if (made != NULL && has_greatest) Py_SETREF(made, with_greatest(made, list.is_signed));
     }
     release(&list);
-    return made;
+    if (bytes == NULL) return NULL;
+    if (status == RANGE_SET_DONE) return list_over(bytes, written, list.is_signed);
+    Py_DECREF(bytes);
+    return raise_status(status, 0);
 }
 
 /* ---- Questions ---- */
@@ -275,6 +259,10 @@ static PyObject *core_contains_each(PyObject *module, PyObject *const *args, Py_
         range_set_##type##_split(LIST_AND_NUMBER(type), &below, &from); \
         return Py_BuildValue("nn", (Py_ssize_t)below.len, (Py_ssize_t)(given->lists[0].len - from.len)); \
     } \
+    static PyObject *find_rank_##type(const Arguments *given) \
+    { \
+        return PyLong_FromUnsignedLongLong(range_set_##type##_rank(LIST_AND_NUMBER(type))); \
+    } \
     static PyObject *find_first_fit_##type(const Arguments *given) \
     { \
         number first; \
@@ -311,6 +299,7 @@ FINDS(u64, uint64_t, PyLong_FromUnsignedLongLong)
 
 FIND(range_at, 1, false)
 FIND(split, 1, false)
+FIND(rank, 1, false)
 FIND(first_fit, 2, true)
 FIND(select, 0, true)
 FIND(covered, 0, false)
@@ -324,7 +313,7 @@ static PyMethodDef methods[] = {
     METHOD(union), METHOD(intersection), METHOD(difference), METHOD(symmetric_difference), METHOD(negation),
     METHOD_OF_ONE(from_boundaries), METHOD_OF_ONE(from_unsorted), METHOD_OF_ONE(from_ranges), METHOD(is_signed), METHOD(is_sorted),
     METHOD(is_empty), METHOD(contains), METHOD(contains_range), METHOD(is_disjoint), METHOD(intersects), METHOD(is_subset),
-    METHOD(equal), METHOD(range_at), METHOD(split), METHOD(first_fit), METHOD(select), METHOD(covered), METHOD(parse),
+    METHOD(equal), METHOD(range_at), METHOD(split), METHOD(rank), METHOD(first_fit), METHOD(select), METHOD(covered), METHOD(parse),
     METHOD_OF_ONE(print), METHOD_OF_ONE(pack), METHOD_OF_ONE(unpack), METHOD_OF_ONE(from_values), METHOD(contains_each),
     {NULL, NULL, 0, NULL},
 };

@@ -264,13 +264,16 @@ class Deltas(Timed):
 
 
 class Numpys(Kind):
-    """What numpy has as datetime64 of one unit, by the numbers that it has too. The least of 64 bits is its NaT."""
+    """What numpy has as datetime64 of one unit, by the numbers that it has too. The least of 64 bits is its NaT. Times of pandas without
+    a time zone are taken as numpy's."""
 
     def __init__(self, dtype: Any) -> None:
         super().__init__(dtype.name, f"a numpy.{dtype.name}", _LEAST + 1, _MOST, "times")
         self.dtype = dtype
 
     def code(self, value: Any) -> int:
+        if hasattr(value, "to_datetime64") and value.tzinfo is None:
+            value = self._of_unit(value.to_datetime64())
         if getattr(value, "dtype", None) != self.dtype or getattr(value, "ndim", 0):
             raise self.wrong(value)
         code = int(value.view("i8"))
@@ -302,6 +305,14 @@ class Numpys(Kind):
         # numpy's own texts of times far beyond the age of the universe may not read back.
         text, unit = str(value), self._unit()
         return f"numpy.datetime64({(text if self.dtype.type(text, unit) == value else self.code(value))!r}, '{unit}')"
+
+    def _of_unit(self, given: Any) -> Any:
+        """A time of another unit in this one, which has to have it."""
+        found = given.astype(self.dtype)
+        # NaT differs from itself.
+        if given == given and found.astype(given.dtype) != given:
+            raise ValueError(f"a time of whole {self._unit()} in 64 bits is wanted")
+        return found
 
     def _unit(self) -> str:
         name: str = self.dtype.name

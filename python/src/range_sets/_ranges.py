@@ -247,10 +247,11 @@ class AnyRangeSet(Operators):
         >>> s.rank(5), s.rank(15), s.rank(22)
         (5, 10, 12)
         """
-        below, kind = self.split(value)[0]._now
+        boundaries, kind = self._now
+        upper, kind = range_of(value, None, kind)
         if kind is FLOAT:
             kind.one(value)
-        return _core.covered(below) or 0
+        return _core.rank(boundaries, upper[0])
 
     def select(self, k: SupportsIndex) -> Any:
         """The member that so many others are below, or None if no more than `k` are members. Floats can't be counted.

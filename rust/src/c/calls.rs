@@ -379,14 +379,27 @@ macro_rules! calls {
                 room: usize,
                 result: *mut Numbers,
             ) -> Status {
-                let join = |items: &mut [$number], open: Option<$number>| {
-                    let pairs: *mut $range = items.as_mut_ptr().cast();
-                    let pairs = unsafe { room_at(pairs, items.len() / 2) };
-                    let mut start = open.unwrap_or(0);
-                    let count = proved_union_from(pairs, open.is_some(), &mut start);
-                    (count, open.map(|_| start))
-                };
                 unsafe { operations::union_all(sets, count, out, room, result, join) }
+            }
+
+            #[export_name = concat!("range_set_", $name, "_from_values")]
+            unsafe extern "C" fn from_values(
+                values: *const $number,
+                count: usize,
+                out: *mut $number,
+                room: usize,
+                result: *mut Numbers,
+            ) -> Status {
+                unsafe { operations::from_values(values, count, out, room, result, join) }
+            }
+
+            /// The union of ranges with an end, and of the numbers from `open` on where that is given.
+            fn join(items: &mut [$number], open: Option<$number>) -> (usize, Option<$number>) {
+                let pairs: *mut $range = items.as_mut_ptr().cast();
+                let pairs = unsafe { room_at(pairs, items.len() / 2) };
+                let mut start = open.unwrap_or(0);
+                let count = proved_union_from(pairs, open.is_some(), &mut start);
+                (count, open.map(|_| start))
             }
 
             // ---- Texts ----

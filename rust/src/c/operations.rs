@@ -2,6 +2,7 @@
 
 use super::lists::{is_array, is_result, items_at, room_at, Bytes, Set};
 use super::Status;
+use crate::any_range::NextValue;
 
 /// Whether the buffer overlaps neither the set's list nor the result, and the result not that list.
 fn is_apart<T>(set: &Set<T>, out: *const T, room: usize, result: *const Set<T>) -> bool {
@@ -94,6 +95,48 @@ pub(super) unsafe fn union_all<T: Copy + Ord>(
         opened(items, count, open)
     };
     unsafe { written(sets, out, room, result, write) }
+}
+
+/// The set of `count` numbers. `join` is as for [`union_all`].
+///
+/// # Safety
+///
+/// The numbers, the buffer and the result are null or as long as they say.
+pub(super) unsafe fn from_values<T: Copy + NextValue>(
+    values: *const T,
+    count: usize,
+    out: *mut T,
+    room: usize,
+    result: *mut Set<T>,
+    join: impl FnOnce(&mut [T], Option<T>) -> (usize, Option<T>),
+) -> Status {
+    let pairs: *const [T; 2] = values.cast();
+    let (given, buffer) = (Bytes::of(values, count), Bytes::of(out, room));
+    if !is_array(pairs, count)
+        || !is_array(out, room)
+        || !is_result(result, buffer)
+        || !is_result(result, given)
+        || given.overlap(buffer)
+    {
+        return Status::BadArgument;
+    }
+    let needed = 2 * count;
+    if needed > room {
+        return unsafe { answered(needed, out, room, result) };
+    }
+    let (values, items) = unsafe { (items_at(values, count), room_at(out, room)) };
+    let (mut len, mut open) = (0, None);
+    for &value in values {
+        match value.next_value() {
+            Some(next) => {
+                items[len..len + 2].copy_from_slice(&[value, next]);
+                len += 2;
+            }
+            None => open = Some(value),
+        }
+    }
+    let (count, open) = join(&mut items[..len], open);
+    unsafe { answered(opened(items, count, open), out, room, result) }
 }
 
 /// The ranges with an end, and the start of the last range where it has none.

@@ -4,6 +4,7 @@ use crate::generated::range_chunks as proved;
 use crate::generated::range_chunks::chunk::Chunk;
 use crate::range::RangeSetRange;
 use alloc::vec;
+use core::fmt;
 use core::iter::FusedIterator;
 
 /// An iterator over the ranges of a set in chunks, from the lowest on and from the highest down.
@@ -22,6 +23,7 @@ use core::iter::FusedIterator;
 /// assert_eq!(ranges.next().unwrap().cloned(), (9..11).into());
 /// assert!(ranges.next().is_none());
 /// ```
+#[must_use = "iterators are lazy and do nothing unless consumed"]
 pub struct Iter<'a, T>(proved::Iter<'a, T>);
 
 impl<'a, T> Iter<'a, T> {
@@ -48,6 +50,19 @@ impl<T> DoubleEndedIterator for Iter<'_, T> {
 }
 
 impl<T> FusedIterator for Iter<'_, T> {}
+
+impl<T> Clone for Iter<'_, T> {
+    fn clone(&self) -> Self {
+        Iter(self.0.clone())
+    }
+}
+
+/// The ranges that are left.
+impl<T: fmt::Debug> fmt::Debug for Iter<'_, T> {
+    fn fmt(&self, f: &mut fmt::Formatter<'_>) -> fmt::Result {
+        f.debug_list().entries(self.clone()).finish()
+    }
+}
 
 /// [`ChunkedRangeSet::gaps`] makes it.
 ///
@@ -81,6 +96,13 @@ pub use crate::generated::range_chunks::Gaps;
 /// ```
 pub use crate::generated::range_chunks::RangesWithin;
 
+/// The parts that are left.
+impl<T: fmt::Debug> fmt::Debug for RangesWithin<'_, T> {
+    fn fmt(&self, f: &mut fmt::Formatter<'_>) -> fmt::Result {
+        f.debug_list().entries(self.clone()).finish()
+    }
+}
+
 /// An iterator over the ranges of a set in chunks that was taken by value. `into_iter` makes it.
 ///
 /// # Examples
@@ -93,6 +115,7 @@ pub use crate::generated::range_chunks::RangesWithin;
 ///     assert_eq!(format!("{range:?}"), r#""a".."c""#);
 /// }
 /// ```
+#[must_use = "iterators are lazy and do nothing unless consumed"]
 pub struct IntoIter<T>(IntoBoundaries<T>);
 
 impl<T> IntoIter<T> {

@@ -3,7 +3,8 @@
 use crate::any_range::AnyRange;
 use crate::array::Array;
 use crate::chunked::{self, IntoIter, Iter};
-use crate::fallible::{AllocError, EntryClone, RangeSet};
+use crate::fallible::{AllocError, EntryClone, RangeSet, RangeSet2};
+use crate::generated::range_collections::FromPlace;
 use crate::range::RangeSetRange;
 use crate::range_set::RangeSetRef;
 use core::fmt;
@@ -39,6 +40,7 @@ impl<T: Ord> ChunkedRangeSet<T> {
     ///
     /// assert!(ChunkedRangeSet::<u64>::new().is_empty());
     /// ```
+    #[must_use]
     pub fn new() -> Self {
         ChunkedRangeSet(chunked::ChunkedRangeSet::new())
     }
@@ -65,6 +67,28 @@ impl<T: Ord> ChunkedRangeSet<T> {
         let mut set = Self::new();
         set.extend(ranges)?;
         Ok(set)
+    }
+
+    /// Returns the set of these values, which may come in any order and more than once.
+    ///
+    /// # Errors
+    ///
+    /// If memory runs out.
+    ///
+    /// # Examples
+    ///
+    /// ```
+    /// use range_sets::fallible::{AllocError, ChunkedRangeSet};
+    ///
+    /// let set = ChunkedRangeSet::from_values([7u8, 3, 4, 3])?;
+    /// assert_eq!(set.to_string(), "3..5, 7..8");
+    /// # Ok::<(), AllocError>(())
+    /// ```
+    pub fn from_values(values: impl IntoIterator<Item = T>) -> Result<Self, AllocError>
+    where
+        T: FromPlace,
+    {
+        RangeSet2::from_values(values)?.try_into()
     }
 
     /// Adds the values of a range [of any kind](AnyRange). An empty or a reversed range changes nothing.
@@ -107,6 +131,76 @@ impl<T: Ord> ChunkedRangeSet<T> {
     /// ```
     pub fn remove(&mut self, range: impl AnyRange<T>) -> Result<(), AllocError> {
         self.0.try_remove(range.into())
+    }
+
+    /// Adds the values of a range. The answer is `true` if one of them wasn't a member.
+    ///
+    /// # Errors
+    ///
+    /// If memory runs out. The set is then as it was.
+    ///
+    /// # Examples
+    ///
+    /// ```
+    /// use range_sets::fallible::{AllocError, ChunkedRangeSet};
+    ///
+    /// let mut seen = ChunkedRangeSet::from_ranges([0..10])?;
+    /// assert!(seen.insert_changed(5..12)?);
+    /// assert!(!seen.insert_changed(3..=11)?);
+    /// # Ok::<(), AllocError>(())
+    /// ```
+    pub fn insert_changed(&mut self, range: impl AnyRange<T>) -> Result<bool, AllocError> {
+        self.0.try_insert_changed(range.into())
+    }
+
+    /// Removes the values of a range. The answer is `true` if one of them was a member.
+    ///
+    /// # Errors
+    ///
+    /// If memory runs out. The set is then as it was.
+    ///
+    /// # Examples
+    ///
+    /// ```
+    /// use range_sets::fallible::{AllocError, ChunkedRangeSet};
+    ///
+    /// let mut free = ChunkedRangeSet::from_ranges([0..10])?;
+    /// assert!(free.remove_changed(8..)?);
+    /// assert!(!free.remove_changed(8..10)?);
+    /// # Ok::<(), AllocError>(())
+    /// ```
+    pub fn remove_changed(&mut self, range: impl AnyRange<T>) -> Result<bool, AllocError> {
+        self.0.try_remove_changed(range.into())
+    }
+
+    /// Removes the first range and returns it, or `None` if the set is empty. It takes no memory.
+    ///
+    /// # Examples
+    ///
+    /// ```
+    /// use range_sets::fallible::{AllocError, ChunkedRangeSet};
+    ///
+    /// let mut busy = ChunkedRangeSet::from_ranges([9..11, 15..18])?;
+    /// assert_eq!(busy.pop_first(), Some((9..11).into()));
+    /// # Ok::<(), AllocError>(())
+    /// ```
+    pub fn pop_first(&mut self) -> Option<RangeSetRange<T>> {
+        self.0.pop_first()
+    }
+
+    /// Removes the last range and returns it, or `None` if the set is empty. It takes no memory.
+    ///
+    /// # Examples
+    ///
+    /// ```
+    /// use range_sets::fallible::{AllocError, ChunkedRangeSet};
+    ///
+    /// let mut busy = ChunkedRangeSet::from_ranges([9..11, 15..18])?;
+    /// assert_eq!(busy.pop_last(), Some((15..18).into()));
+    /// # Ok::<(), AllocError>(())
+    /// ```
+    pub fn pop_last(&mut self) -> Option<RangeSetRange<T>> {
+        self.0.pop_last()
     }
 
     /// Removes all values.

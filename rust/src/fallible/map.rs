@@ -126,7 +126,7 @@ impl<K: Ord, V: MapValue> RangeMap<K, V> {
         self.try_insert(range.into(), value)
     }
 
-    /// Gives each key of a range the value if none of them has one. It copies nothing.
+    /// Gives each key of a range [of any kind](AnyRange) the value if none of them has one. It copies nothing.
     ///
     /// # Errors
     ///
@@ -142,8 +142,8 @@ impl<K: Ord, V: MapValue> RangeMap<K, V> {
     /// assert_eq!(bookings.insert_free(11..14, "Bob"), Err(InsertError::NotFree("Bob")));
     /// # Ok::<(), InsertError<&str>>(())
     /// ```
-    pub fn insert_free(&mut self, range: Range<K>, value: V) -> Result<(), InsertError<V>> {
-        self.try_insert_free(range, value)
+    pub fn insert_free(&mut self, range: impl AnyRange<K>, value: V) -> Result<(), InsertError<V>> {
+        self.try_insert_free(range.into(), value)
     }
 
     /// Takes the value of each key of a range [of any kind](AnyRange) away. An empty or a reversed range changes nothing.

@@ -70,7 +70,7 @@ impl<K: fmt::Debug, V: fmt::Debug, C> fmt::Debug for Iter<'_, K, V, C> {
     }
 }
 
-/// An iterator over the parts of a range whose keys have no value. [`Map::gaps`] makes it.
+/// An iterator over the parts of a range whose keys have no value, from both ends. [`Map::gaps`] makes it.
 ///
 /// # Examples
 ///
@@ -83,32 +83,27 @@ impl<K: fmt::Debug, V: fmt::Debug, C> fmt::Debug for Iter<'_, K, V, C> {
 /// assert_eq!(free.next(), None);
 /// ```
 #[must_use = "iterators are lazy and do nothing unless consumed"]
-pub struct Gaps<'a, K, V, C> {
-    /// Where a part begins, if its end isn't found yet.
-    pub(super) start: Option<&'a K>,
-    /// The steps that are left.
-    pub(super) keys: &'a [K],
-    pub(super) options: &'a [Option<Kept<V, C>>],
-    pub(super) end: &'a K,
+pub struct Gaps<'a, K, V, C>(proved::Gaps<'a, K, Kept<V, C>>);
+
+impl<'a, K, V, C> Gaps<'a, K, V, C> {
+    pub(super) fn new(gaps: proved::Gaps<'a, K, Kept<V, C>>) -> Self {
+        Gaps(gaps)
+    }
 }
 
 impl<'a, K, V, C> Iterator for Gaps<'a, K, V, C> {
     type Item = Range<&'a K>;
 
+    #[inline]
     fn next(&mut self) -> Option<Self::Item> {
-        loop {
-            let start = self.start.take();
-            let step = self.keys.split_first().zip(self.options.split_first());
-            let ((key, keys), (option, options)) = match step {
-                Some(step) => step,
-                None => return start.map(|start| start..self.end),
-            };
-            (self.keys, self.options) = (keys, options);
-            self.start = option.is_none().then_some(key);
-            if let Some(start) = start {
-                return Some(start..key);
-            }
-        }
+        self.0.next()
+    }
+}
+
+impl<K, V, C> DoubleEndedIterator for Gaps<'_, K, V, C> {
+    #[inline]
+    fn next_back(&mut self) -> Option<Self::Item> {
+        self.0.next_back()
     }
 }
 
@@ -116,7 +111,7 @@ impl<K, V, C> FusedIterator for Gaps<'_, K, V, C> {}
 
 impl<K, V, C> Clone for Gaps<'_, K, V, C> {
     fn clone(&self) -> Self {
-        Gaps { ..*self }
+        Gaps(self.0.clone())
     }
 }
 

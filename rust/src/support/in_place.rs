@@ -9,7 +9,7 @@ use crate::generated::range_merge::in_place_memory::{prepared, prepared_copies};
 use crate::generated::range_merge::merge_state::in_place::OwnedRight;
 use crate::generated::range_merge::merge_state::in_place_ref::{BorrowedRight, CopiedRight};
 use crate::generated::range_merge::merge_state::placing::PlacingMergeState;
-use crate::generated::range_merge::merge_state::right_side::RightSide;
+use crate::generated::range_merge::merge_state::supply::Supply;
 use crate::generated::range_merge::{Compare, Copier, MergeOperation};
 use core::marker::PhantomData;
 
@@ -67,7 +67,7 @@ impl<K, P: Copier<K>, const N: usize> InPlaceMergeStateRef<K, P, N> {
 
 /// Merges into a list that has room for `extra` more items, at most so many of which the right side puts.
 #[inline(always)]
-fn merge_opened<K, R: RightSide<Slot<K>>, O: MergeOperation, C: Compare<K>, const N: usize>(
+fn merge_opened<K, R: Supply<Slot<K>>, O: MergeOperation, C: Compare<K>, const N: usize>(
     a: &mut SmallVec<K, N>,
     right: R,
     extra: usize,

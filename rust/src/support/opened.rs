@@ -3,8 +3,8 @@
 use super::slot::Slot;
 use super::SmallVec;
 use crate::generated::range_merge::indexed::Indexed;
-use crate::generated::range_merge::merge_state::right_side::RightSide;
-use crate::generated::range_merge::place::{Place, Shelf};
+use crate::generated::range_merge::merge_state::supply::Supply;
+use crate::generated::range_merge::place::{Exchanges, GrowsByGap};
 use core::marker::PhantomData;
 use core::mem;
 use core::ptr;
@@ -126,7 +126,7 @@ impl<K, const N: usize> Indexed<Slot<K>> for Opened<'_, K, N> {
     }
 }
 
-impl<K, const N: usize> Place<Slot<K>> for Opened<'_, K, N> {
+impl<K, const N: usize> GrowsByGap<Slot<K>> for Opened<'_, K, N> {
     #[inline(always)]
     fn move_down(&mut self, to: usize, from: usize, n: usize) {
         if to == from {
@@ -163,7 +163,7 @@ impl<K, const N: usize> Place<Slot<K>> for Opened<'_, K, N> {
     }
 
     #[inline(always)]
-    fn put_from<R: RightSide<Slot<K>>>(&mut self, at: usize, n: usize, right: &mut R) {
+    fn put_from<R: Supply<Slot<K>>>(&mut self, at: usize, n: usize, right: &mut R) {
         self.clear(at, at + n);
         if !mem::needs_drop::<K>() {
             right.put_front(self.slots(at, n));
@@ -248,7 +248,7 @@ impl<K, const N: usize> Indexed<Slot<K>> for &mut Given<'_, K, N> {
     }
 }
 
-impl<K, const N: usize> Shelf<Slot<K>> for &mut Given<'_, K, N> {
+impl<K, const N: usize> Exchanges<Slot<K>> for &mut Given<'_, K, N> {
     #[inline(always)]
     fn swap_with(&mut self, at: usize, others: &mut [Slot<K>]) {
         let n = others.len();

@@ -3,7 +3,7 @@
 use super::opened::Opened;
 use super::{AllocError, AllocFailed, Global, Vec};
 use crate::generated::range_merge::indexed::Indexed;
-use crate::generated::range_merge::place::Place;
+use crate::generated::range_merge::place::GrowsByGap;
 use core::ops::{Deref, DerefMut, Range};
 
 /// A list with room for `N` items in the value itself.

@@ -7,7 +7,7 @@ use super::slot::Slot;
 use super::*;
 use crate::generated::range_merge::indexed::Indexed;
 use crate::generated::range_merge::merge_state::in_place::OwnedRight;
-use crate::generated::range_merge::place::{Place, Shelf};
+use crate::generated::range_merge::place::{Exchanges, GrowsByGap};
 use crate::generated::range_merge::{
     Compare, Connective, Copier, DiffOp, IntersectionOp, MergeOperation, UnionOp, XorOp,
 };

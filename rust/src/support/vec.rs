@@ -67,6 +67,36 @@ impl<T> Vec<T> {
         Ok(())
     }
 
+    /// Moves the items of another list to the end.
+    #[inline]
+    pub fn append(&mut self, other: &mut Self) -> Result<(), AllocError> {
+        self.0.try_reserve(other.0.len())?;
+        self.0.append(&mut other.0);
+        Ok(())
+    }
+
+    /// Takes the last item out.
+    #[inline(always)]
+    pub fn pop(&mut self) -> Option<T> {
+        self.0.pop()
+    }
+
+    /// Inserts an item at `at`, or gives it back if there is no memory for it.
+    #[inline]
+    pub fn insert(&mut self, at: usize, value: T) -> Result<(), AllocFailed<T>> {
+        if self.0.try_reserve(1).is_err() {
+            return Err(AllocFailed { value });
+        }
+        self.0.insert(at, value);
+        Ok(())
+    }
+
+    /// Keeps the items for which `keep` is true.
+    #[inline]
+    pub fn retain(&mut self, keep: impl FnMut(&T) -> bool) {
+        self.0.retain(keep);
+    }
+
     /// Removes the item at `at`, and moves the later ones down.
     #[inline(always)]
     pub fn remove(&mut self, at: usize) -> T {

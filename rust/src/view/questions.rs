@@ -185,7 +185,8 @@ impl<T: Ord> RangeSetRef<T> {
         }
     }
 
-    /// Returns how many values are members, or `None` if the set has no end.
+    /// Returns how many values are members, or `None` if the set has no end. A set without an end has [`rank`](Self::rank)
+    /// of the greatest value members, and that value.
     ///
     /// # Examples
     ///
@@ -193,7 +194,9 @@ impl<T: Ord> RangeSetRef<T> {
     /// use range_sets::RangeSetRef;
     ///
     /// assert_eq!(RangeSetRef::new(&['a', 'd', 'x', 'z']).unwrap().covered(), Some(5));
-    /// assert_eq!(RangeSetRef::single(&7u8).covered(), None);
+    /// let open = RangeSetRef::single(&7u8);
+    /// assert_eq!(open.covered(), None);
+    /// assert_eq!(open.rank(&u8::MAX) + 1, 249);
     /// ```
     pub fn covered(&self) -> Option<u128>
     where

@@ -22,9 +22,23 @@ type Call = (
     fn(&mut ChunkedRangeSet<Hostile>, Range<Hostile>),
 );
 
-const CHANGES: [Change; 9] = [
+const CHANGES: [Change; 13] = [
     ("insert", |set, range| set.insert(range), inserted),
     ("remove", |set, range| set.remove(range), removed),
+    (
+        "insert_changed",
+        |set, range| {
+            set.insert_changed(range);
+        },
+        inserted,
+    ),
+    (
+        "remove_changed",
+        |set, range| {
+            set.remove_changed(range);
+        },
+        removed,
+    ),
     ("extend", |set, range| set.extend([range]), inserted),
     (
         "insert without an end",
@@ -43,6 +57,16 @@ const CHANGES: [Change; 9] = [
     ),
     ("clear", |set, _| set.clear(), |_, _| Vec::new()),
     (
+        "pop_first",
+        |set, _| drop(set.pop_first()),
+        |boundaries, _| boundaries[boundaries.len().min(2)..].to_vec(),
+    ),
+    (
+        "pop_last",
+        |set, _| drop(set.pop_last()),
+        |boundaries, _| boundaries[..boundaries.len().saturating_sub(1) / 2 * 2].to_vec(),
+    ),
+    (
         "fallible insert",
         |set, range| fallibly(set, |set| set.insert(range)),
         inserted,
@@ -55,13 +79,16 @@ const CHANGES: [Change; 9] = [
 ];
 
 /// What only compares or reads.
-const QUESTIONS: [Call; 5] = [
+const QUESTIONS: [Call; 6] = [
     ("questions of a value", |set, range| {
         let _ = (set.contains(&range.start), set.is_empty());
         let _ = (set.next_member(&range.start), set.next_gap(&range.end));
     }),
     ("contains_range", |set, range| {
         let _ = set.contains_range(range);
+    }),
+    ("overlapping", |set, range| {
+        let _ = set.overlapping(&range.start..&range.end).count();
     }),
     ("intersects_range", |set, range| {
         let _ = set.intersects_range(range);

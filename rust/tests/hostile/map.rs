@@ -24,7 +24,7 @@ struct Change {
     asked: fn(&mut Cells, Range<u16>, u16),
 }
 
-const CHANGES: [Change; 11] = [
+const CHANGES: [Change; 13] = [
     Change {
         name: "insert",
         call: |map, range, value| map.insert(range, value),
@@ -63,6 +63,32 @@ const CHANGES: [Change; 11] = [
         asked: |cells, range, value| {
             if range.clone().all(|key| cells[usize::from(key)].is_none()) {
                 put(cells, range, Some(value));
+            }
+        },
+    },
+    Change {
+        name: "insert_free without an end",
+        call: |map, range, value| {
+            let start = *range.start.0;
+            if map.is_free(range.start..) {
+                let _ = map.insert_free(Hostile::of(start).., value);
+            }
+        },
+        asked: |cells, range, value| {
+            if cells[usize::from(range.start)..]
+                .iter()
+                .all(Option::is_none)
+            {
+                put(cells, range.start..100, Some(value));
+            }
+        },
+    },
+    Change {
+        name: "retain",
+        call: |map, _, value| map.retain(|it| *it != value),
+        asked: |cells, _, value| {
+            for cell in cells.iter_mut().filter(|cell| **cell == Some(value)) {
+                *cell = None;
             }
         },
     },

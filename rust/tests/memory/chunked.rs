@@ -27,12 +27,14 @@ type Change = fn(&mut ChunkedRangeSet<u32>, Range<u32>) -> Result<(), AllocError
 
 const INSERT: Change = |set, range| set.insert(range);
 const REMOVE: Change = |set, range| set.remove(range);
+const INSERT_CHANGED: Change = |set, range| set.insert_changed(range).map(drop);
+const REMOVE_CHANGED: Change = |set, range| set.remove_changed(range).map(drop);
 const UNION: Change = |set, range| set.union_with(&range_sets::RangeSet2::from(range));
 const DIFFERENCE: Change = |set, range| set.difference_with(&range_sets::RangeSet2::from(range));
 
 /// A change of a set of so many ranges, and whether it asks for memory: where the set grows, and its list of chunks or the
 /// chunk has no room, or the chunk is full. A chunk has at most 512 boundaries, and room for a power of two.
-const ROWS: [(&str, Change, u32, Range<u32>, bool); 17] = [
+const ROWS: [(&str, Change, u32, Range<u32>, bool); 19] = [
     ("the first range", INSERT, 0, 5..8, true),
     ("a range that is there", INSERT, 3, 11..14, false),
     ("a range where there is room", INSERT, 129, 17..18, false),
@@ -54,6 +56,8 @@ const ROWS: [(&str, Change, u32, Range<u32>, bool); 17] = [
     ("the end of a range", REMOVE, 128, 12..15, false),
     ("many ranges", REMOVE, 3000, 13..20_012, false),
     ("all ranges", REMOVE, 3000, 0..40_000, false),
+    ("a range, and whether", INSERT_CHANGED, 128, 17..18, true),
+    ("a middle, and whether", REMOVE_CHANGED, 128, 12..13, true),
     ("a set of one range", UNION, 300, 12..17, true),
     ("a set out of many ranges", DIFFERENCE, 300, 12..1_017, true),
 ];

@@ -8,7 +8,7 @@ mod refusing;
 
 use range_sets::fallible::{AllocError, EntryClone, RangeSet, RangeSet2};
 use range_sets::tracker::{ChunkedTracker, TrackError, Tracker};
-use range_sets::{Connective, ParseError, RangeSetEntry, RangeSetRange, RangeSetRef};
+use range_sets::{Array, Connective, ParseError, RangeSetEntry, RangeSetRange, RangeSetRef};
 use refusing::{each_refusal, refusals, refusing, unrefused, Refusal, LARGEST};
 use std::cell::Cell;
 use std::fmt::Debug;
@@ -305,6 +305,29 @@ fn sets_from_texts() {
     assert_eq!(refused, Err(ParseError::OutOfMemory));
     let (one, _) = refusing(Refusal::From(0), || "5..9".parse::<RangeSet2<u8>>());
     assert_eq!(one.unwrap().boundaries(), [5, 9]);
+}
+
+#[test]
+fn sets_of_values() {
+    fn made<const N: usize>(room: usize)
+    where
+        [u64; N]: Array<Item = u64>,
+    {
+        // Ranges of two values, and the greatest value, in any order and twice.
+        let values = || {
+            let few = (0..room as u64).map(|i| 4 * (7 * i % 31));
+            let pairs = few.flat_map(|at| [at + 1, at]);
+            pairs.chain([u64::MAX, 0, u64::MAX]).collect::<Vec<u64>>()
+        };
+        let call = |values: &mut Vec<u64>| {
+            RangeSet::<[u64; N]>::from_values(values.drain(..)).map(|set| list(&set))
+        };
+        let requests = each_refusal("from_values", values, call, |_, _| true);
+        assert!(requests > 0, "{room} ranges, room for {N}");
+    }
+    made::<0>(1);
+    made::<2>(3);
+    made::<2>(31);
 }
 
 #[test]

@@ -2,7 +2,7 @@
 //! and `_free` takes back.
 
 use crate::tree::Tree;
-use range_sets::{ChunkedRangeSet, RangeSet2, RangeSetRange};
+use range_sets::{ChunkedRangeSet, ChunkedSpace, RangeSet2, RangeSetRange};
 use std::ops::Range;
 use std::slice::{from_raw_parts as list, from_raw_parts_mut as room};
 
@@ -13,7 +13,12 @@ trait Growing: Default {
     fn contains(&self, value: i64) -> bool;
     /// Calls `each` with the ranges, from the lowest on.
     fn ranges(&self, each: impl FnMut(Range<i64>));
+    /// The least number from 0 on at which `len` fit that are no members.
+    fn first_fit(&mut self, len: i64) -> i64;
 }
+
+/// Where numbers are looked for.
+const ANYWHERE: Range<i64> = 0..i64::MAX;
 
 fn with_end(range: RangeSetRange<&i64>) -> Range<i64> {
     match range {
@@ -38,6 +43,10 @@ impl Growing for RangeSet2<i64> {
     fn ranges(&self, each: impl FnMut(Range<i64>)) {
         self.iter().map(with_end).for_each(each);
     }
+
+    fn first_fit(&mut self, len: i64) -> i64 {
+        self.first_fit_count(ANYWHERE, len as u128).unwrap_or(-1)
+    }
 }
 
 impl Growing for ChunkedRangeSet<i64> {
@@ -55,6 +64,34 @@ impl Growing for ChunkedRangeSet<i64> {
 
     fn ranges(&self, each: impl FnMut(Range<i64>)) {
         self.iter().map(with_end).for_each(each);
+    }
+
+    fn first_fit(&mut self, len: i64) -> i64 {
+        let long_enough = |gap: &Range<&i64>| gap.end - gap.start >= len;
+        let mut gaps = self.gaps(&ANYWHERE.start..&ANYWHERE.end);
+        gaps.find(long_enough).map_or(-1, |gap| *gap.start)
+    }
+}
+
+impl Growing for ChunkedSpace<i64> {
+    fn insert(&mut self, range: Range<i64>) {
+        self.insert(range);
+    }
+
+    fn remove(&mut self, range: Range<i64>) {
+        self.remove(range);
+    }
+
+    fn contains(&self, value: i64) -> bool {
+        self.contains(&value)
+    }
+
+    fn ranges(&self, each: impl FnMut(Range<i64>)) {
+        self.iter().map(with_end).for_each(each);
+    }
+
+    fn first_fit(&mut self, len: i64) -> i64 {
+        self.first_fit_count(ANYWHERE, len as u128).unwrap_or(-1)
     }
 }
 
@@ -74,11 +111,22 @@ impl Growing for Tree {
     fn ranges(&self, each: impl FnMut(Range<i64>)) {
         self.iter().for_each(each);
     }
+
+    fn first_fit(&mut self, len: i64) -> i64 {
+        let mut from = ANYWHERE.start;
+        for range in self.iter() {
+            if range.start - from >= len {
+                break;
+            }
+            from = range.end;
+        }
+        from
+    }
 }
 
 /// The exports of one contender.
 macro_rules! exports {
-    ($kind:ty: $new:ident $free:ident $insert:ident $remove:ident $contains:ident $iter:ident $boundaries:ident) => {
+    ($kind:ty: $new:ident $free:ident $insert:ident $remove:ident $contains:ident $iter:ident $replace:ident $boundaries:ident) => {
         #[no_mangle]
         pub extern "C" fn $new() -> *mut $kind {
             Box::into_raw(Box::default())
@@ -119,6 +167,19 @@ macro_rules! exports {
             members
         }
 
+        /// Takes each range out, and puts as many numbers in at the lowest place. The sum of the places.
+        #[no_mangle]
+        pub unsafe extern "C" fn $replace(set: *mut $kind, starts: *const i64, ends: *const i64, len: usize) -> i64 {
+            let mut places = 0i64;
+            for (start, end) in list(starts, len).iter().zip(list(ends, len)) {
+                Growing::remove(&mut *set, *start..*end);
+                let place = Growing::first_fit(&mut *set, *end - *start);
+                Growing::insert(&mut *set, place..place + (*end - *start));
+                places = places.wrapping_add(place);
+            }
+            places
+        }
+
         /// Writes the front of the boundaries, and tells how many there are.
         #[no_mangle]
         pub unsafe extern "C" fn $boundaries(set: *const $kind, out: *mut i64, out_len: usize) -> usize {
@@ -136,6 +197,7 @@ macro_rules! exports {
     };
 }
 
-exports! { RangeSet2<i64>: growing_list_new growing_list_free growing_list_insert growing_list_remove growing_list_contains growing_list_iter growing_list_boundaries }
-exports! { ChunkedRangeSet<i64>: growing_chunks_new growing_chunks_free growing_chunks_insert growing_chunks_remove growing_chunks_contains growing_chunks_iter growing_chunks_boundaries }
-exports! { Tree: growing_tree_new growing_tree_free growing_tree_insert growing_tree_remove growing_tree_contains growing_tree_iter growing_tree_boundaries }
+exports! { RangeSet2<i64>: growing_list_new growing_list_free growing_list_insert growing_list_remove growing_list_contains growing_list_iter growing_list_replace growing_list_boundaries }
+exports! { ChunkedRangeSet<i64>: growing_chunks_new growing_chunks_free growing_chunks_insert growing_chunks_remove growing_chunks_contains growing_chunks_iter growing_chunks_replace growing_chunks_boundaries }
+exports! { ChunkedSpace<i64>: growing_space_new growing_space_free growing_space_insert growing_space_remove growing_space_contains growing_space_iter growing_space_replace growing_space_boundaries }
+exports! { Tree: growing_tree_new growing_tree_free growing_tree_insert growing_tree_remove growing_tree_contains growing_tree_iter growing_tree_replace growing_tree_boundaries }

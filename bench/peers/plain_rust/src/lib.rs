@@ -60,10 +60,10 @@ sets! {
     plain_rust_intersection = |a, b| view(a).intersection(view(b));
     plain_rust_difference = |a, b| view(a).difference(view(b));
     plain_rust_symmetric_difference = |a, b| view(a).symmetric_difference(view(b));
-    plain_rust_union_lent = |a, b| changed(set(a), |it| it.union_with(view(b)));
-    plain_rust_intersection_lent = |a, b| changed(set(a), |it| it.intersection_with(view(b)));
-    plain_rust_difference_lent = |a, b| changed(set(a), |it| it.difference_with(view(b)));
-    plain_rust_symmetric_difference_lent = |a, b| changed(set(a), |it| it.symmetric_difference_with(view(b)));
+    plain_rust_union_borrowed = |a, b| changed(set(a), |it| it.union_with(view(b)));
+    plain_rust_intersection_borrowed = |a, b| changed(set(a), |it| it.intersection_with(view(b)));
+    plain_rust_difference_borrowed = |a, b| changed(set(a), |it| it.difference_with(view(b)));
+    plain_rust_symmetric_difference_borrowed = |a, b| changed(set(a), |it| it.symmetric_difference_with(view(b)));
     plain_rust_union_owned = |a, b| changed(set(a), |it| *it |= set(b));
     plain_rust_intersection_owned = |a, b| changed(set(a), |it| *it &= set(b));
     plain_rust_difference_owned = |a, b| changed(set(a), |it| *it -= set(b));

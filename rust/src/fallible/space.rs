@@ -1,0 +1,184 @@
+//! A space whose calls return an error if memory runs out.
+
+use crate::any_range::AnyRange;
+use crate::fallible::{AllocError, ChunkedRangeSet};
+use crate::generated::range_collections::{Countable, Unsigned};
+use crate::{chunked, space};
+use core::fmt;
+use core::ops::{Deref, Range};
+
+/// A space whose values are taken and freed range by range, and whose changes return an error if memory runs out.
+///
+/// It dereferences to [`crate::ChunkedSpace`] for the questions, and goes either way by `into` without a copy.
+///
+/// # Examples
+///
+/// ```
+/// use range_sets::fallible::{AllocError, ChunkedSpace};
+///
+/// let mut heap = ChunkedSpace::new();
+/// heap.insert(0u64..4096)?;
+/// heap.remove(1024..2048)?;
+/// assert_eq!(heap.first_fit(0..65_536, 512), Some(1024));
+/// # Ok::<(), AllocError>(())
+/// ```
+pub struct ChunkedSpace<T: Countable + Copy>(space::ChunkedSpace<T>);
+
+impl<T: Countable + Copy> ChunkedSpace<T> {
+    /// Returns the space where nothing is taken. It takes no memory.
+    ///
+    /// # Examples
+    ///
+    /// ```
+    /// use range_sets::fallible::ChunkedSpace;
+    ///
+    /// assert!(ChunkedSpace::<u64>::new().is_empty());
+    /// ```
+    pub fn new() -> Self {
+        ChunkedSpace(space::ChunkedSpace::new())
+    }
+
+    /// Takes the values of a range [of any kind](AnyRange). An empty or a reversed range changes nothing.
+    ///
+    /// # Errors
+    ///
+    /// If memory runs out. The same values are then taken as before.
+    ///
+    /// # Examples
+    ///
+    /// ```
+    /// use range_sets::fallible::{AllocError, ChunkedSpace};
+    ///
+    /// let mut ports = ChunkedSpace::new();
+    /// ports.insert(0u16..1024)?;
+    /// assert!(ports.contains(&80));
+    /// # Ok::<(), AllocError>(())
+    /// ```
+    pub fn insert(&mut self, range: impl AnyRange<T>) -> Result<(), AllocError> {
+        self.0.try_insert(range.into())
+    }
+
+    /// Frees the values of a range [of any kind](AnyRange). An empty or a reversed range changes nothing.
+    ///
+    /// # Errors
+    ///
+    /// If memory runs out. The same values are then taken as before.
+    ///
+    /// # Examples
+    ///
+    /// ```
+    /// use range_sets::fallible::{AllocError, ChunkedSpace};
+    ///
+    /// let mut ports = ChunkedSpace::new();
+    /// ports.insert(0u16..1024)?;
+    /// ports.remove(80..81)?;
+    /// assert!(!ports.contains(&80));
+    /// # Ok::<(), AllocError>(())
+    /// ```
+    pub fn remove(&mut self, range: impl AnyRange<T>) -> Result<(), AllocError> {
+        self.0.try_remove(range.into())
+    }
+
+    /// Frees all values.
+    ///
+    /// # Examples
+    ///
+    /// ```
+    /// use range_sets::fallible::{AllocError, ChunkedSpace};
+    ///
+    /// let mut ports = ChunkedSpace::new();
+    /// ports.insert(0u16..1024)?;
+    /// ports.clear();
+    /// assert!(ports.is_empty());
+    /// # Ok::<(), AllocError>(())
+    /// ```
+    pub fn clear(&mut self) {
+        self.0.clear();
+    }
+
+    /// Returns the least number of the range from which on `len` numbers of it are free, or `None` if there is no such
+    /// stretch. Without memory it remembers less.
+    ///
+    /// # Examples
+    ///
+    /// ```
+    /// use range_sets::fallible::{AllocError, ChunkedSpace};
+    ///
+    /// let mut used = ChunkedSpace::new();
+    /// used.insert(0u64..64)?;
+    /// assert_eq!(used.first_fit(0..4096, 16), Some(64));
+    /// # Ok::<(), AllocError>(())
+    /// ```
+    pub fn first_fit(&mut self, within: Range<T>, len: T) -> Option<T>
+    where
+        T: Unsigned,
+    {
+        self.0.first_fit(within, len)
+    }
+
+    /// Returns the least value of the range from which on `count` values of it are free, or `None` if there is no such
+    /// stretch. Without memory it remembers less.
+    ///
+    /// # Examples
+    ///
+    /// ```
+    /// use range_sets::fallible::{AllocError, ChunkedSpace};
+    ///
+    /// let mut busy = ChunkedSpace::new();
+    /// busy.insert(-64i64..0)?;
+    /// assert_eq!(busy.first_fit_count(-64..64, 3), Some(0));
+    /// # Ok::<(), AllocError>(())
+    /// ```
+    pub fn first_fit_count(&mut self, within: Range<T>, count: u128) -> Option<T> {
+        self.0.first_fit_count(within, count)
+    }
+}
+
+impl<T: Countable + Copy> Default for ChunkedSpace<T> {
+    fn default() -> Self {
+        Self::new()
+    }
+}
+
+impl<T: Countable + Copy> Deref for ChunkedSpace<T> {
+    type Target = space::ChunkedSpace<T>;
+
+    #[inline(always)]
+    fn deref(&self) -> &space::ChunkedSpace<T> {
+        &self.0
+    }
+}
+
+/// The same space: its calls end the process if memory runs out.
+impl<T: Countable + Copy> From<ChunkedSpace<T>> for space::ChunkedSpace<T> {
+    fn from(space: ChunkedSpace<T>) -> Self {
+        space.0
+    }
+}
+
+/// The same space: its calls return an error if memory runs out.
+impl<T: Countable + Copy> From<space::ChunkedSpace<T>> for ChunkedSpace<T> {
+    fn from(space: space::ChunkedSpace<T>) -> Self {
+        ChunkedSpace(space)
+    }
+}
+
+/// The space where the set's members are taken, which are moved.
+impl<T: Countable + Copy> From<ChunkedRangeSet<T>> for ChunkedSpace<T> {
+    fn from(taken: ChunkedRangeSet<T>) -> Self {
+        ChunkedSpace(chunked::ChunkedRangeSet::from(taken).into())
+    }
+}
+
+/// The set of what is taken, which is moved.
+impl<T: Countable + Copy> From<ChunkedSpace<T>> for ChunkedRangeSet<T> {
+    fn from(space: ChunkedSpace<T>) -> Self {
+        chunked::ChunkedRangeSet::from(space.0).into()
+    }
+}
+
+impl<T: Countable + Copy + fmt::Debug> fmt::Debug for ChunkedSpace<T> {
+    fn fmt(&self, f: &mut fmt::Formatter<'_>) -> fmt::Result {
+        self.0.fmt(f)
+    }
+}

@@ -1,0 +1,271 @@
+//! Sets that are searched for room again and again.
+
+use crate::any_range::AnyRange;
+use crate::chunked::{ChunkedRangeSet, Gaps, Iter};
+use crate::generated::range_chunks as proved;
+use crate::generated::range_collections::{Countable, Unsigned};
+use crate::memory::{expect_memory, AllocError};
+use crate::range::RangeSetRange;
+use crate::support::Global;
+use core::fmt;
+use core::ops::Range;
+
+/// A space whose values are taken and freed range by range, as an allocator's addresses.
+///
+/// It is a [`ChunkedRangeSet`] of what is taken that also remembers how long the gaps are, for some 512 of them at a
+/// time. So [`first_fit`](Self::first_fit) passes over those that are too short. What it remembers of gaps stays until
+/// one of their neighbours is freed; they are read again by the next search that comes by.
+///
+/// # Examples
+///
+/// ```
+/// use range_sets::ChunkedSpace;
+///
+/// let mut heap = ChunkedSpace::new();
+/// heap.insert(0u64..4096);
+/// assert_eq!(heap.first_fit(0..65_536, 512), Some(4096));
+///
+/// heap.remove(1024..2048);
+/// assert_eq!(heap.first_fit(0..65_536, 512), Some(1024));
+/// ```
+///
+/// # Memory
+///
+/// If memory runs out for a change, the process ends, as in std's collections;
+/// [`fallible::ChunkedSpace`](crate::fallible::ChunkedSpace) returns an error instead. A search never fails: without
+/// memory it remembers less.
+pub struct ChunkedSpace<T: Countable + Copy>(proved::ChunkedSpace<T>);
+
+impl<T: Countable + Copy> ChunkedSpace<T> {
+    /// Returns the space where nothing is taken. It takes no memory.
+    ///
+    /// # Examples
+    ///
+    /// ```
+    /// use range_sets::ChunkedSpace;
+    ///
+    /// assert!(ChunkedSpace::<u64>::new().is_empty());
+    /// ```
+    pub fn new() -> Self {
+        ChunkedSpace(proved::ChunkedSpace::new(Global))
+    }
+
+    /// Takes the values of a range [of any kind](AnyRange). An empty or a reversed range changes nothing.
+    ///
+    /// # Examples
+    ///
+    /// ```
+    /// use range_sets::ChunkedSpace;
+    ///
+    /// let mut ports = ChunkedSpace::new();
+    /// ports.insert(0u16..1024);
+    /// assert!(ports.contains(&80));
+    /// ```
+    pub fn insert(&mut self, range: impl AnyRange<T>) {
+        expect_memory::<T, _, _>(self.try_insert(range.into()));
+    }
+
+    /// Frees the values of a range [of any kind](AnyRange). An empty or a reversed range changes nothing.
+    ///
+    /// # Examples
+    ///
+    /// ```
+    /// use range_sets::ChunkedSpace;
+    ///
+    /// let mut ports = ChunkedSpace::new();
+    /// ports.insert(0u16..1024);
+    /// ports.remove(80..81);
+    /// assert_eq!(ports.first_fit(0..9000, 1), Some(80));
+    /// ```
+    pub fn remove(&mut self, range: impl AnyRange<T>) {
+        expect_memory::<T, _, _>(self.try_remove(range.into()));
+    }
+
+    /// Frees all values.
+    ///
+    /// # Examples
+    ///
+    /// ```
+    /// use range_sets::ChunkedSpace;
+    ///
+    /// let mut ports = ChunkedSpace::new();
+    /// ports.insert(0u16..1024);
+    /// ports.clear();
+    /// assert_eq!(ports.first_fit(0..9000, 1), Some(0));
+    /// ```
+    pub fn clear(&mut self) {
+        self.0.clear();
+    }
+
+    /// Returns the least number of the range from which on `len` numbers of it are free, or `None` if there is no such
+    /// stretch.
+    ///
+    /// # Examples
+    ///
+    /// ```
+    /// use range_sets::{ChunkedRangeSet, ChunkedSpace};
+    ///
+    /// let mut used = ChunkedSpace::from(ChunkedRangeSet::from_iter([0u64..64, 80..128]));
+    /// assert_eq!(used.first_fit(0..4096, 16), Some(64));
+    /// assert_eq!(used.first_fit(0..4096, 20), Some(128));
+    /// assert_eq!(used.first_fit(0..140, 20), None);
+    /// ```
+    pub fn first_fit(&mut self, within: Range<T>, len: T) -> Option<T>
+    where
+        T: Unsigned,
+    {
+        self.0.first_fit(within, len)
+    }
+
+    /// Returns the least value of the range from which on `count` values of it are free, or `None` if there is no such
+    /// stretch.
+    ///
+    /// # Examples
+    ///
+    /// ```
+    /// use range_sets::{ChunkedRangeSet, ChunkedSpace};
+    ///
+    /// let mut busy = ChunkedSpace::from(ChunkedRangeSet::from_iter([-64i64..-8, -6..0]));
+    /// assert_eq!(busy.first_fit_count(-64..64, 2), Some(-8));
+    /// assert_eq!(busy.first_fit_count(-64..64, 3), Some(0));
+    /// ```
+    pub fn first_fit_count(&mut self, within: Range<T>, count: u128) -> Option<T> {
+        self.0.first_fit_count(within, count)
+    }
+
+    /// Returns `true` if this value is taken.
+    ///
+    /// # Examples
+    ///
+    /// ```
+    /// use range_sets::{ChunkedRangeSet, ChunkedSpace};
+    ///
+    /// let used = ChunkedSpace::from(ChunkedRangeSet::from_iter([0u64..64]));
+    /// assert!(used.contains(&63) && !used.contains(&64));
+    /// ```
+    pub fn contains(&self, value: &T) -> bool {
+        self.0.as_set().contains(value)
+    }
+
+    /// Returns `true` if some value of a range is taken.
+    ///
+    /// # Examples
+    ///
+    /// ```
+    /// use range_sets::{ChunkedRangeSet, ChunkedSpace};
+    ///
+    /// let used = ChunkedSpace::from(ChunkedRangeSet::from_iter([0u64..64]));
+    /// assert!(used.intersects_range(60..70) && !used.intersects_range(64..70));
+    /// ```
+    pub fn intersects_range(&self, range: Range<T>) -> bool {
+        self.0.as_set().intersects_range(range)
+    }
+
+    /// Returns `true` if nothing is taken.
+    ///
+    /// # Examples
+    ///
+    /// ```
+    /// use range_sets::ChunkedSpace;
+    ///
+    /// assert!(ChunkedSpace::<u32>::new().is_empty());
+    /// ```
+    pub fn is_empty(&self) -> bool {
+        self.0.as_set().is_empty()
+    }
+
+    /// Returns how many values are taken, or `None` if what is taken has no end. It looks at each boundary.
+    ///
+    /// # Examples
+    ///
+    /// ```
+    /// use range_sets::{ChunkedRangeSet, ChunkedSpace};
+    ///
+    /// let used = ChunkedSpace::from(ChunkedRangeSet::from_iter([0u64..64, 80..128]));
+    /// assert_eq!(used.covered(), Some(112));
+    /// ```
+    pub fn covered(&self) -> Option<u128> {
+        self.0.as_set().covered()
+    }
+
+    /// Returns an iterator over the ranges that are taken, from the lowest on.
+    ///
+    /// # Examples
+    ///
+    /// ```
+    /// use range_sets::{ChunkedRangeSet, ChunkedSpace};
+    ///
+    /// let used = ChunkedSpace::from(ChunkedRangeSet::from_iter([80u64..128, 0..64]));
+    /// assert_eq!(used.iter().next(), Some((&0..&64).into()));
+    /// ```
+    pub fn iter(&self) -> Iter<'_, T> {
+        Iter::new(self.0.as_set().iter())
+    }
+
+    /// Returns an iterator over the parts of a range that are free, from the lowest on.
+    ///
+    /// # Examples
+    ///
+    /// ```
+    /// use range_sets::{ChunkedRangeSet, ChunkedSpace};
+    ///
+    /// let used = ChunkedSpace::from(ChunkedRangeSet::from_iter([0u64..64, 80..128]));
+    /// let free: Vec<_> = used.gaps(&0..&256).collect();
+    /// assert_eq!(free, [&64..&80, &128..&256]);
+    /// ```
+    pub fn gaps<'a>(&'a self, within: Range<&'a T>) -> Gaps<'a, T> {
+        self.0.as_set().gaps(within)
+    }
+
+    #[inline(always)]
+    pub(crate) fn try_insert(&mut self, range: RangeSetRange<T>) -> Result<(), AllocError> {
+        match range {
+            RangeSetRange::Range(range) => self.0.insert(range),
+            RangeSetRange::RangeFrom(range) => self.0.insert_from(range),
+        }
+    }
+
+    #[inline(always)]
+    pub(crate) fn try_remove(&mut self, range: RangeSetRange<T>) -> Result<(), AllocError> {
+        match range {
+            RangeSetRange::Range(range) => self.0.remove(range),
+            RangeSetRange::RangeFrom(range) => self.0.remove_from(range),
+        }
+    }
+}
+
+impl<T: Countable + Copy> Default for ChunkedSpace<T> {
+    fn default() -> Self {
+        Self::new()
+    }
+}
+
+/// The space where the set's members are taken, which are moved.
+impl<T: Countable + Copy> From<ChunkedRangeSet<T>> for ChunkedSpace<T> {
+    fn from(taken: ChunkedRangeSet<T>) -> Self {
+        ChunkedSpace(proved::ChunkedSpace::from_set(Global, taken.into_proved()))
+    }
+}
+
+/// The set of what is taken, which is moved.
+///
+/// # Examples
+///
+/// ```
+/// use range_sets::{ChunkedRangeSet, ChunkedSpace};
+///
+/// let mut used = ChunkedSpace::new();
+/// used.insert(0u64..64);
+/// assert_eq!(ChunkedRangeSet::from(used).to_string(), "0..64");
+/// ```
+impl<T: Countable + Copy> From<ChunkedSpace<T>> for ChunkedRangeSet<T> {
+    fn from(space: ChunkedSpace<T>) -> Self {
+        ChunkedRangeSet::of_proved(space.0.into_set())
+    }
+}
+
+impl<T: Countable + Copy + fmt::Debug> fmt::Debug for ChunkedSpace<T> {
+    fn fmt(&self, f: &mut fmt::Formatter<'_>) -> fmt::Result {
+        f.debug_set().entries(self.iter()).finish()
+    }
+}
