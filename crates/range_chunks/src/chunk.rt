@@ -8,6 +8,7 @@ ghost use Rattle.range_merge.specs.Boundaries.{is_odd as odd};
 ghost use Rattle.range_merge.specs.Connective.{differ};
 ghost use Rattle.range_chunks.specs.Chunks.{items_of};
 
+use range_merge::move_last_two;
 use std::alloc::AllocError;
 use std::mem;
 
@@ -245,15 +246,5 @@ fn insert_both_reserved<T>(list: &mut Vec<T>, at: usize, a: T, b: T)
 {
     list.push_reserved(a);
     list.push_reserved(b);
-    last_two_to_front(&mut list[at..]);
-}
-
-// Moves the last two items to the front.
-#[inline(always)]
-fn last_two_to_front<T>(items: &mut [T])
-    requires { 2 ≤ length items.old }
-    ensures { (front : List T) (a b : T) →
-        items.old ≡ front ++ a ∷ b ∷ [] → items.new ≡ a ∷ b ∷ front }
-{
-    items.rotate_right(2);
+    move_last_two(list.as_mut_slice(), at);
 }

@@ -4,6 +4,8 @@ ghost use Rattle.std.specs.Option.{option_to_list};
 ghost use Rattle.std.specs.Vec.{vec_capacity};
 ghost use Rattle.range_collections.specs.Splicing.{spliced};
 
+use range_merge::move_last_two;
+
 /// Replaces the items between two places by the first and the second, where they are given. There
 /// is room for them.
 pub fn splice<T: Drop>(
@@ -54,33 +56,6 @@ fn insert_both<T>(list: &mut Vec<T>, at: usize, first: T, second: T)
     list.push_reserved(first);
     list.push_reserved(second);
     move_last_two(list.as_mut_slice(), at);
-}
-
-// Moves the last two items before those from a place on.
-fn move_last_two<T>(items: &mut [T], at: usize)
-    requires { at + 2 ≤ length items.old }
-    ensures { (front : List T) (a b : T) →
-        items.old ≡ front ++ a ∷ b ∷ [] → items.new ≡ take at front ++ (a ∷ b ∷ drop at front) }
-{
-    last_two_to_front(&mut items[at..]);
-}
-
-// So many items are turned by two places at once, which first clears a buffer of 4 KB. Fewer are
-// turned twice by one place, which takes none.
-const MANY: usize = 512;
-
-// Moves the last two items to the front.
-fn last_two_to_front<T>(items: &mut [T])
-    requires { 2 ≤ length items.old }
-    ensures { (front : List T) (a b : T) →
-        items.old ≡ front ++ a ∷ b ∷ [] → items.new ≡ a ∷ b ∷ front }
-{
-    if items.len() < MANY {
-        items.rotate_right(1);
-        items.rotate_right(1);
-    } else {
-        items.rotate_right(2);
-    }
 }
 
 // Removes the items between two places.

@@ -14,6 +14,7 @@ mod place;
 mod runs;
 mod searching;
 mod slice_iterator;
+mod turning;
 
 pub use compare::{Compare, Copier};
 pub use in_place_builder::InPlaceBuilder;
@@ -27,3 +28,4 @@ pub use operations::{Connective, DiffOp, IntersectionOp, MergeOperation, UnionOp
 pub use runs::{Run, run_length};
 pub use searching::{count_up_to, search};
 pub use slice_iterator::SliceIterator;
+pub use turning::move_last_two;

@@ -9,7 +9,7 @@ ghost use Rattle.range_merge.specs.Owners.{owners};
 ghost use Rattle.range_merge.specs.Parts.{IfOn, IsFront, IsTurn, Part, Ran};
 ghost use Rattle.range_merge.specs.Runs.{weight};
 ghost use Rattle.range_merge.specs.Steps.{FirstsStand, ahead_of, takes};
-ghost use Rattle.range_merge.specs.declared.runs.Run.TheVariants.{Left, Right, Both};
+ghost use Rattle.range_merge.specs.declared.runs.Run.TheVariants.{Left, Right};
 
 use crate::compare::Compare;
 use crate::galloping::{Front, gallop};

@@ -14,7 +14,7 @@ ghost use Rattle.range_collections.specs.Ranges.{range_items};
 use crate::comparisons::Comparisons;
 use crate::lists::is_odd;
 use crate::range_set_range::has_elements;
-use range_merge::search;
+use range_merge::{move_last_two, search};
 use smallvec::SmallVec;
 use std::alloc::{AllocError, Global};
 use std::default::MadeWith;
@@ -178,32 +178,4 @@ fn insert_both<T: MadeWith<Global> + Drop, const N: usize>(
     list.push_reserved(end);
     move_last_two(list.as_mut_slice(), at);
     Ok(())
-}
-
-// Moves the last two items before those from index `at` on.
-#[inline(always)]
-fn move_last_two<T>(items: &mut [T], at: usize)
-    requires { at + 2 ≤ length items.old }
-    ensures { (front : List T) (a b : T) →
-        items.old ≡ front ++ a ∷ b ∷ [] → items.new ≡ take at front ++ (a ∷ b ∷ drop at front) }
-{
-    last_two_to_front(&mut items[at..]);
-}
-
-// So many items are turned by two places at once, which first clears a buffer of 4 KB. Fewer are
-// turned twice by one place, which takes none.
-const MANY: usize = 512;
-
-// Moves the last two items to the front.
-fn last_two_to_front<T>(items: &mut [T])
-    requires { 2 ≤ length items.old }
-    ensures { (front : List T) (a b : T) →
-        items.old ≡ front ++ a ∷ b ∷ [] → items.new ≡ a ∷ b ∷ front }
-{
-    if items.len() < MANY {
-        items.rotate_right(1);
-        items.rotate_right(1);
-    } else {
-        items.rotate_right(2);
-    }
 }
