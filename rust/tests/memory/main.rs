@@ -5,6 +5,7 @@ mod chunked;
 mod common;
 mod map;
 mod refusing;
+mod space;
 
 use range_sets::fallible::{AllocError, EntryClone, RangeSet, RangeSet2};
 use range_sets::tracker::{ChunkedTracker, TrackError, Tracker};

@@ -3,6 +3,7 @@
 //!
 //! The first boundary lies in the chunk itself, so that a search among chunks reads no list.
 
+use crate::generated::range_merge::move_last_two;
 use crate::support::{AllocError, Vec};
 use core::mem;
 
@@ -283,11 +284,5 @@ fn append_reserved<T>(list: &mut Vec<T>, other: Vec<T>) {
 fn insert_both_reserved<T>(list: &mut Vec<T>, at: usize, a: T, b: T) {
     list.push_reserved(a);
     list.push_reserved(b);
-    last_two_to_front(&mut list[at..]);
-}
-
-// Moves the last two items to the front.
-#[inline(always)]
-fn last_two_to_front<T>(items: &mut [T]) {
-    items.rotate_right(2);
+    move_last_two(list.as_mut_slice(), at);
 }

@@ -13,6 +13,7 @@ pub(crate) mod place;
 pub(crate) mod runs;
 pub(crate) mod searching;
 pub(crate) mod slice_iterator;
+pub(crate) mod turning;
 
 pub use crate::support::{InPlaceMergeState, InPlaceMergeStateRef};
 pub use compare::{Compare, Copier};
@@ -28,3 +29,4 @@ pub(crate) use runs::run_length;
 pub use runs::Run;
 pub(crate) use searching::{count_up_to, search};
 pub use slice_iterator::SliceIterator;
+pub(crate) use turning::move_last_two;

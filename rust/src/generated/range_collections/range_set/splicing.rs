@@ -5,7 +5,7 @@
 use crate::generated::range_collections::comparisons::Comparisons;
 use crate::generated::range_collections::lists::is_odd;
 use crate::generated::range_collections::range_set_range::has_elements;
-use crate::generated::range_merge::search;
+use crate::generated::range_merge::{move_last_two, search};
 use crate::support::{AllocError, SmallVec};
 use core::mem;
 use core::ops::Range;
@@ -114,24 +114,4 @@ fn insert_both<T, const N: usize>(
     list.push_reserved(end);
     move_last_two(list.as_mut_slice(), at);
     Ok(())
-}
-
-// Moves the last two items before those from index `at` on.
-#[inline(always)]
-fn move_last_two<T>(items: &mut [T], at: usize) {
-    last_two_to_front(&mut items[at..]);
-}
-
-// So many items are turned by two places at once, which first clears a buffer of 4 KB. Fewer are
-// turned twice by one place, which takes none.
-const MANY: usize = 512;
-
-// Moves the last two items to the front.
-fn last_two_to_front<T>(items: &mut [T]) {
-    if items.len() < MANY {
-        items.rotate_right(1);
-        items.rotate_right(1);
-    } else {
-        items.rotate_right(2);
-    }
 }

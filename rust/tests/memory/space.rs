@@ -1,0 +1,68 @@
+//! Memory refused at each request in turn: a change of a space answers an error and leaves it as it was, and a search that
+//! can't remember what it learned finds the same place.
+
+use crate::refusing::{each_refusal, refusing, unrefused, Refusal};
+use range_sets::fallible::{AllocError, ChunkedSpace};
+use range_sets::RangeSetRange;
+
+/// A space with so many ranges, each of which takes half of ten numbers.
+fn space(ranges: u64) -> ChunkedSpace<u64> {
+    let mut space = ChunkedSpace::new();
+    for i in 0..ranges {
+        space
+            .insert(10 * i + 10..10 * i + 15)
+            .expect("no memory is refused");
+    }
+    space
+}
+
+fn listed(space: &ChunkedSpace<u64>) -> Vec<RangeSetRange<u64>> {
+    unrefused(|| space.iter().map(|range| range.cloned()).collect())
+}
+
+type Change = fn(&mut ChunkedSpace<u64>) -> Result<(), AllocError>;
+
+/// A change, of a space of so many ranges, and whether it asks for memory.
+struct Row {
+    name: &'static str,
+    ranges: u64,
+    change: Change,
+    asks: bool,
+}
+
+#[rustfmt::skip]
+const ROWS: [Row; 6] = [
+    Row { name: "the first range", ranges: 0, change: |space| space.insert(5..8), asks: true },
+    Row { name: "a full chunk is split", ranges: 256, change: |space| space.insert(17..18), asks: true },
+    Row { name: "all gaps at once", ranges: 3000, change: |space| space.insert(0..40_000), asks: false },
+    Row { name: "all from a start on", ranges: 3000, change: |space| space.insert(12..), asks: false },
+    Row { name: "the middle of a range", ranges: 256, change: |space| space.remove(12..13), asks: true },
+    Row { name: "many ranges", ranges: 3000, change: |space| space.remove(13..20_012), asks: false },
+];
+
+#[test]
+fn changes_are_refused_and_leave_the_space_as_it_was() {
+    for row in ROWS {
+        let requests = each_refusal(
+            row.name,
+            || space(row.ranges),
+            |space| (row.change)(space).map(|()| listed(space)),
+            |space, before| listed(space) == listed(before),
+        );
+        assert_eq!(requests > 0, row.asks, "{}: {requests} requests", row.name);
+    }
+}
+
+#[test]
+fn searches_that_cannot_remember_find_the_same_place() {
+    let mut space = space(3000);
+    for (len, place) in [(5, 0), (10, 0), (11, 30_005), (6, 0)] {
+        let (found, refused) = refusing(Refusal::From(0), || space.first_fit(0..40_000, len));
+        assert_eq!(found, Some(place), "{len} numbers");
+        assert_eq!(refused > 0, place > 0, "{len} numbers");
+    }
+    let (found, refused) = refusing(Refusal::Nothing, || {
+        [11, 11].map(|len| space.first_fit(0..40_000, len))
+    });
+    assert_eq!((found, refused), ([Some(30_005); 2], 0));
+}
