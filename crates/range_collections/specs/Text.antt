@@ -35,7 +35,7 @@ abbrev pub if_ascii : List ℕ → List ℕ → Option (List ℕ)
 if_ascii characters text = cond (list_all is_ascii characters) (Some text) None
 
 module _ {K : Type 0} (output : K → Option (List ℕ)) (text : K → List ℕ) where
-  -- what is printed of x is known, and is this text; private contracts use this word and the next
+  -- what is printed of x is known, and is this text
   abbrev pub IsText : K → Type 0
   IsText x = output x ≡ Some (text x)
 

@@ -33,6 +33,6 @@ pub use range_merge::{
     UnionOp, XorOp, count_up_to, merge, run_length, search,
 };
 pub use range_set::{RangeSet, RangeSet2};
-pub use range_set_range::RangeSetRange;
+pub use range_set_range::{RangeSetRange, write_range};
 pub use view::RangeSetRef;
 pub use whole_number::WholeNumber;

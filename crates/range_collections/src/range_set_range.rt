@@ -171,8 +171,11 @@ impl<T: WholeNumber> fmt::Debug for RangeSetRange<T> {
     }
 }
 
-// The text of a range of references, each end as its own Debug text.
-pub(crate) fn write_range<T: fmt::Debug, W: fmt::Write>(
+/// Writes the range as `0..10`, or as `20..` if it has no end. Each end is written as its own Debug
+/// text.
+///
+/// The text is known where that of each end is.
+pub fn write_range<T: fmt::Debug, W: fmt::Write>(
     range: &RangeSetRange<&T>,
     f: &mut fmt::Formatter<W>,
 ) -> fmt::Result
