@@ -1,10 +1,16 @@
 -- A range put into a set or taken out of it.
 --     IsChangedByRange order f room a b new r     the list after a call that puts a range in or takes it out
-use Rattle.std.specs.Prelude.{◌≡◌, ◌⊎◌, ℕ, ◌≤◌, List, [], length, Result, IsOk, OnOk, OnErr}
+--     without_value r                             the Ok or the Err of r, without the Ok's value
+use Rattle.std.specs.Prelude.{◌≡◌, ◌⊎◌, ℕ, ◌≤◌, List, [], length, Result, Ok, Err, IsOk, OnOk, OnErr}
 use Rattle.std.specs.declared.alloc.AllocError.{AllocError}
 use Rattle.std.specs.declared.cmp.Ordering.{Ordering}
 use Rattle.range_merge.specs.Connective.{Table, Means}
 use Rattle.range_collections.specs.InPlace.{AreOwnElseOf}
+
+-- the Ok or the Err of r, without the Ok's value
+abbrev pub without_value : {A E : Type 0} → Result A E → Result (Unit {0}) E
+without_value (Ok a) = Ok tt
+without_value (Err e) = Err e
 
 module _ {K : Type 0} (order : K → K → Ordering) where
   -- a list that a call with a range changed from a to new, where b are the range's boundaries: an

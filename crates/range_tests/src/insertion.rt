@@ -152,6 +152,27 @@ fn ranges_are_put_in_and_taken_out_without_a_copy(rt: HostRuntime) {
     }
 }
 
+// Whether the call that says if it changed the set leaves these boundaries, and says so exactly if
+// they are others than before.
+fn says(alloc: Global, row: &Row, call: Call, want: &[i64]) -> Option<bool> {
+    let mut set: RangeSet2<i64> = own(alloc, row.items)?;
+    let range = row.start..row.end;
+    let changed = match call {
+        Call::Insert | Call::InsertCounted => set.insert_changed(range),
+        Call::Remove | Call::RemoveCounted => set.remove_changed(range),
+    };
+    Some(changed.ok()? == (row.items != want) && set.boundaries() == want)
+}
+
+#[test]
+fn a_change_is_said_exactly_where_boundaries_differ(rt: HostRuntime) {
+    for row in &ROWS {
+        let inserted = says(rt.alloc(), row, Call::Insert, row.inserted);
+        let removed = says(rt.alloc(), row, Call::Remove, row.removed);
+        assert!(rt; inserted == Some(true) && removed == Some(true), "{row:?}");
+    }
+}
+
 // The set of these boundaries, which add to the tally whenever they are compared.
 fn tallied<'t>(
     alloc: Global,
