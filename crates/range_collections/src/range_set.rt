@@ -21,6 +21,7 @@ mod members;
 mod operations;
 mod operators;
 mod splicing;
+mod taking;
 mod values;
 
 use crate::iter::Iter;
@@ -65,7 +66,7 @@ use std::marker::Model;
 /// | `contains_range`, `gaps`, `ranges_within` | `2 d(n) + 1` | |
 /// | `intersects_range` | `d(n) + 2` | |
 /// | `first_fit`, `first_fit_count`, `first_fit_aligned`, `first_run` | `2 d(n) + 1`, then two numbers a boundary | |
-/// | `iter`, `members`, `first`, `last`, `span`, `ranges_len`, `covered`, `select`, `is_empty`, `as_ref`, `boundaries` | none | |
+/// | `iter`, `members`, `first`, `last`, `span`, `ranges_len`, `covered`, `select`, `is_empty`, `as_ref`, `boundaries`, `pop_first`, `pop_last` | none | |
 /// | `is_all` | one `is_min_value` | |
 /// | `==`, `eq_ref`, `new` | one a boundary | |
 /// | `intersects`, `is_disjoint`, `is_subset`, `is_superset`, `merge_test`, `merge_len` | `2 w` | |

@@ -63,6 +63,37 @@ fn ranges_come_in_order_and_then_none(rt: HostRuntime) {
     }
 }
 
+// Whether the ranges that are taken out from the front are these, and then none.
+fn come_out_in_order(set: Option<RangeSet2<i64>>, want: &[&[i64]]) -> Option<bool> {
+    let mut set = set?;
+    for range in want {
+        if !is_range(Some(set.pop_first()?.as_ref()), range) {
+            return Some(false);
+        }
+    }
+    Some(set.pop_first().is_none() && set.boundaries().is_empty())
+}
+
+// The same from the last range on.
+fn come_out_from_the_end(set: Option<RangeSet2<i64>>, want: &[&[i64]]) -> Option<bool> {
+    let mut set = set?;
+    for range in want.iter().rev() {
+        if !is_range(Some(set.pop_last()?.as_ref()), range) {
+            return Some(false);
+        }
+    }
+    Some(set.pop_last().is_none() && set.boundaries().is_empty())
+}
+
+#[test]
+fn ranges_are_taken_out_at_both_ends(rt: HostRuntime) {
+    for Ranges { items, ranges } in IN_ORDER {
+        let front = come_out_in_order(own(rt.alloc(), items), ranges);
+        let back = come_out_from_the_end(own(rt.alloc(), items), ranges);
+        assert!(rt; front == Some(true) && back == Some(true), "{items:?}");
+    }
+}
+
 // Boundaries, a value, and the range that holds it, by its boundaries.
 #[derive(Clone, Copy, Debug)]
 struct Held<'a> {
