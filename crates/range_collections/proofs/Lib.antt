@@ -2,6 +2,7 @@ pub mod Ascending
 pub mod CountUpTo
 pub mod Copies
 pub mod OwnItems
+pub mod Overlapping
 pub mod Sets
 pub mod Shortest
 pub mod Cut

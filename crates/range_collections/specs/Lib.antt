@@ -32,5 +32,6 @@ pub mod Buffers
 pub mod Unions
 pub mod Intersections
 pub mod Reading
+pub mod Overlapping
 pub mod ParseErrors
 pub mod Scanning

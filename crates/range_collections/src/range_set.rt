@@ -63,7 +63,7 @@ use std::marker::Model;
 /// | Calls | Comparisons, at most | Memory |
 /// |---|---|---|
 /// | `contains`, `range_at`, `split`, `next_member`, `next_gap`, `prev_member`, `prev_gap`, `rank` | `d(n)` | |
-/// | `contains_range`, `gaps`, `ranges_within` | `2 d(n) + 1` | |
+/// | `contains_range`, `gaps`, `ranges_within`, `overlapping` | `2 d(n) + 1` | |
 /// | `intersects_range` | `d(n) + 2` | |
 /// | `first_fit`, `first_fit_count`, `first_fit_aligned`, `first_run` | `2 d(n) + 1`, then two numbers a boundary | |
 /// | `iter`, `members`, `first`, `last`, `span`, `ranges_len`, `covered`, `select`, `is_empty`, `as_ref`, `boundaries`, `pop_first`, `pop_last` | none | |

@@ -94,6 +94,52 @@ fn ranges_are_taken_out_at_both_ends(rt: HostRuntime) {
     }
 }
 
+// Boundaries, the ends of a range, and the ranges of the set that share a value with it.
+#[derive(Clone, Copy, Debug)]
+struct Overlapping<'a> {
+    items: &'a [i64],
+    low: i64,
+    high: i64,
+    ranges: &'a [&'a [i64]],
+}
+
+#[rattlefmt::skip]
+const OVERLAPPING: [Overlapping; 14] = [
+    Overlapping { items: &[], low: 0, high: 9, ranges: &[] },
+    Overlapping { items: &[3, 5, 9], low: 0, high: 3, ranges: &[] },
+    Overlapping { items: &[3, 5, 9], low: 0, high: 4, ranges: &[&[3, 5]] },
+    Overlapping { items: &[3, 5, 9], low: 4, high: 5, ranges: &[&[3, 5]] },
+    Overlapping { items: &[3, 5, 9], low: 3, high: 9, ranges: &[&[3, 5]] },
+    Overlapping { items: &[3, 5, 9], low: 4, high: 10, ranges: &[&[3, 5], &[9]] },
+    Overlapping { items: &[3, 5, 9], low: 5, high: 9, ranges: &[] },
+    Overlapping { items: &[3, 5, 9], low: 5, high: 10, ranges: &[&[9]] },
+    Overlapping { items: &[3, 5, 9], low: 20, high: 30, ranges: &[&[9]] },
+    Overlapping { items: &[3, 5, 9], low: 4, high: 4, ranges: &[] },
+    Overlapping { items: &[3, 5, 9], low: 10, high: 0, ranges: &[] },
+    Overlapping { items: &[0, 2, 4, 6, 8, 10], low: 3, high: 7, ranges: &[&[4, 6]] },
+    Overlapping { items: &[0, 2, 4, 6, 8, 10], low: 1, high: 9, ranges: &[&[0, 2], &[4, 6], &[8, 10]] },
+    Overlapping { items: &[0, 2, 4, 6, 8, 10], low: 6, high: 12, ranges: &[&[8, 10]] },
+];
+
+// Whether the set, and its view, have these ranges in common with the row's, from both ends.
+fn overlap(set: Option<RangeSet2<i64>>, row: &Overlapping) -> Option<bool> {
+    let (set, low, high, want) = (set?, row.low, row.high, row.ranges);
+    let view = set.as_ref();
+    let in_order = are_in_order(set.overlapping(&low..&high), want)
+        && are_in_order(view.overlapping(&low..&high), want);
+    Some(in_order && are_in_order_from_the_end(set.overlapping(&low..&high), want))
+}
+
+#[test]
+fn ranges_that_share_a_value_with_a_range_are_whole(rt: HostRuntime) {
+    for row in &OVERLAPPING {
+        assert!(rt;
+            overlap(own(rt.alloc(), row.items), row) == Some(true),
+            "{row:?}"
+        );
+    }
+}
+
 // Boundaries, a value, and the range that holds it, by its boundaries.
 #[derive(Clone, Copy, Debug)]
 struct Held<'a> {

@@ -1,5 +1,5 @@
 //! What the set's view answers, in the order of the view's calls.
-ghost use Rattle.std.specs.Prelude.{◌≡◌, ◌↔◌, ◌+◌, ◌*◌, ◌<◌, ◌^◌, List, length, false, IsTrue, [], None, Some, MatchOption, slice_get, true, Contains, IsSome, IfSome, ◌≤◌, IfNone, ◌&&◌, not};
+ghost use Rattle.std.specs.Prelude.{◌≡◌, ◌↔◌, ◌+◌, ◌*◌, ◌<◌, ◌^◌, List, length, false, IsTrue, [], None, Some, MatchOption, slice_get, true, Contains, IsSome, IfSome, ◌≤◌, IfNone, ◌&&◌, not, filter};
 ghost use Rattle.std.specs.List.{last_or};
 ghost use Rattle.range_merge.specs.Boundaries.{member};
 ghost use Rattle.range_merge.specs.Changes.{changes};
@@ -13,6 +13,7 @@ ghost use Rattle.range_collections.specs.Extent.{IsSpan, HasAllWithin, IsNext};
 ghost use Rattle.range_collections.specs.Ranges.{ranges_of, range_now, IsInRange};
 ghost use Rattle.range_collections.specs.Split.{split_left, split_right, IsLeastBelow, IsLeastFrom};
 ghost use Rattle.range_collections.specs.Within.{GivesParts};
+ghost use Rattle.range_collections.specs.Overlapping.{overlaps};
 ghost use Rattle.range_collections.specs.Covered.{covered_of};
 ghost use Rattle.range_collections.specs.Buffers.{WritesOperation};
 ghost use Rattle.std.specs.Ordering.{is_le, is_lt};
@@ -346,6 +347,23 @@ impl<T: Ord, const N: usize> RangeSet<T, N> {
         ensures comparisons { AddsAtMost count.old count.new (2 * digits (length self.now) + 1) }
     {
         self.as_ref().ranges_within_counted(within, count)
+    }
+
+    /// The ranges of the set that share an element with `range`, whole, from the lowest on and from
+    /// the highest down. An empty or reversed range shares none.
+    ///
+    /// It takes no memory, and makes at most `2 * d + 1` comparisons, where `d` is the number of
+    /// binary digits of the number of boundaries (seen by reading). The iterator's steps make none.
+    ///
+    /// ```text
+    /// busy.overlapping(&10..&13)       // 9..11 and 12..15, of RangeSet{9..11, 12..15, 20..}
+    /// ```
+    #[inline]
+    pub fn overlapping(&self, range: Range<&T>) -> Iter<'_, T>
+        ensures { ranges_of result ≡ filter
+            (overlaps T.cmp range.entry.start.now range.entry.end.now) (ranges_of self.now) }
+    {
+        self.as_ref().overlapping(range)
     }
 
     /// Writes the boundaries of the operation's result to the start of `out`, and returns how many

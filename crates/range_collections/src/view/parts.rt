@@ -1,16 +1,18 @@
 //! The parts of a view: it cut in two at an element, and the parts of a range of elements that are
 //! in it or not. They are slices of the view's own list, and nothing is copied.
-ghost use Rattle.std.specs.Prelude.{◌≡◌, ◌+◌, ◌<◌, ◌≤◌, ◌^◌, length, take, drop, ◌*◌, ◌&&◌, not};
+ghost use Rattle.std.specs.Prelude.{◌≡◌, ◌+◌, ◌<◌, ◌≤◌, ◌^◌, length, take, drop, ◌*◌, ◌&&◌, not, filter};
 ghost use Rattle.range_merge.specs.Counting.{AddsAtMost};
 ghost use Rattle.range_merge.specs.Runs.{digits};
 ghost use Rattle.range_merge.specs.Connective.{intersection_table, difference_table};
 ghost use Rattle.range_collections.specs.Split.{split_left, split_right, IsLeastBelow, IsLeastFrom};
 ghost use Rattle.range_collections.specs.Within.{GivesParts, within_table};
+ghost use Rattle.range_collections.specs.Overlapping.{overlaps};
+ghost use Rattle.range_collections.specs.Ranges.{ranges_of};
 ghost use Rattle.std.specs.Ordering.{is_le, is_lt};
 ghost use Rattle.range_merge.specs.Boundaries.{member};
 
 use crate::comparisons::Comparisons;
-use crate::iter::{Gaps, RangesWithin};
+use crate::iter::{Gaps, Iter, RangesWithin};
 use crate::lists::is_odd;
 use crate::range_set_range::has_elements;
 use crate::view::RangeSetRef;
@@ -138,6 +140,31 @@ impl<'a, T: Ord> RangeSetRef<'a, T> {
             (2 * digits (length self.now.boundaries.now) + 1) }
     {
         self.parts_within(within, true, count)
+    }
+
+    /// The ranges of the set that share an element with `range`, whole, from the lowest on and from
+    /// the highest down. An empty or reversed range shares none.
+    ///
+    /// It takes no memory, and makes at most `2 * d + 1` comparisons, where `d` is the number of
+    /// binary digits of the number of boundaries (seen by reading). The iterator's steps make none.
+    ///
+    /// ```text
+    /// busy.overlapping(&10..&13)       // 9..11 and 12..15, of RangeSet{9..11, 12..15, 20..}
+    /// ```
+    #[inline]
+    pub fn overlapping(&self, range: Range<&T>) -> Iter<'a, T>
+        ensures { ranges_of result ≡ filter
+            (overlaps T.cmp range.entry.start.now range.entry.end.now)
+            (ranges_of self.now.boundaries.now) }
+    {
+        if !has_elements(range.start, range.end, &mut Comparisons::new()) {
+            return Iter::new(&[]);
+        }
+        let from = count_up_to(self.boundaries, range.start, &mut Comparisons::new());
+        let to = self.count_below(range.end, &mut Comparisons::new());
+        // A range starts at an even index and ends at an odd one.
+        let end = self.boundaries.len().min(to.saturating_add(to % 2));
+        Iter::new(&self.boundaries[from - from % 2..end])
     }
 
     // The parts of `within` whose elements are members where `inside` is true, or else no members.
