@@ -67,6 +67,9 @@ module _ {K : Type 0} {order : K → K → Ordering} (o : IsTotalOrder order) (i
     pub ends_in_order : order s e ≡ Less
     ends_in_order = up 0 1 s (omega arith) (omega arith)
 
+    pub places_in_order : place s ≤ place e
+    places_in_order = omega (arith, place-less o is_value value place count value_is_value place_of_value place_fits in_order s e v w ends_in_order)
+
     in_range : (n : ℕ) → n < count → place s ≤ n → n < place e → member order (s ∷ e ∷ rest) (value n) ≡ true
     in_range n less from below =
         let high = Greater-value o is_value value place count value_is_value place_of_value place_fits in_order e n w less below in

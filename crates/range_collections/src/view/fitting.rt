@@ -132,6 +132,9 @@ impl<'a, T: FromPlace> RangeSetRef<'a, T> {
         start.known();
         end.known();
         if count == 0 {
+            if !start.cmp(end).is_le() {
+                return None;
+            }
             return place_in(&(start..end), 0, align);
         }
         // A view that need not live longer than the ends.
@@ -148,7 +151,9 @@ struct Row<'a, T> {
     place: u128,
 }
 
-// The first place, a multiple of `align`, from which on one of the ranges has `count` values.
+// The first place, a multiple of `align`, from which on one of the ranges has `count` values. It is
+// inlined, so that nothing is divided where `align` is 1.
+#[inline(always)]
 fn first_row<T: Countable>(
     ranges: RangesWithin<'_, T>,
     count: u128,
@@ -169,6 +174,8 @@ fn first_row<T: Countable>(
         range_start (slice_get (filter (has_values T.cmp T.place count) (ranges_of ranges.entry)) 0) }
 {
     for range in ranges {
+        range.start.known();
+        range.end.known();
         if let Some(place) = place_in(&range, count, align) {
             return Some(Row {
                 range_start: range.start,
@@ -180,8 +187,10 @@ fn first_row<T: Countable>(
 }
 
 // The first place in the range, a multiple of `align`, from which on it has `count` values.
+#[inline(always)]
 fn place_in<T: Countable>(range: &Range<&T>, count: u128, align: u128) -> Option<u128>
-    requires { 0 < align }
+    requires aligned { 0 < align }
+    requires in_order { T.place range.now.start.now ≤ T.place range.now.end.now }
     ensures fits { IfSome result (λ at. (T.place range.now.start.now ≤ at)
         × (at + count ≤ T.place range.now.end.now)) }
     ensures aligned { IfSome result (λ at. at % align ≡ 0) }
@@ -189,19 +198,15 @@ fn place_in<T: Countable>(range: &Range<&T>, count: u128, align: u128) -> Option
         T.place range.now.start.now ≤ n → at ≤ n) }
     ensures none { IfNone result ((n : ℕ) → n % align ≡ 0 → T.place range.now.start.now ≤ n →
         T.place range.now.end.now < n + count) }
-    ensures start_is_value { T.is_value range.now.start.now }
-    ensures end_is_value { T.is_value range.now.end.now }
 {
-    range.start.known();
-    range.end.known();
     let start = range.start.place();
-    let end = range.end.place();
+    let room = range.end.place() - start;
     // Without a division where the range is too short.
-    if end.checked_sub(start)? < count {
+    if room < count {
         return None;
     }
     let first = start.checked_next_multiple_of(align)?;
-    if end.checked_sub(first)? < count {
+    if room.checked_sub(first - start)? < count {
         None
     } else {
         Some(first)
