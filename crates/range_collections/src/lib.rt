@@ -34,5 +34,5 @@ pub use range_merge::{
 };
 pub use range_set::{RangeSet, RangeSet2};
 pub use range_set_range::{RangeSetRange, write_range};
-pub use view::RangeSetRef;
+pub use view::{RangeSetRef, place_in};
 pub use whole_number::WholeNumber;

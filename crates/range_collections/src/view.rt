@@ -16,6 +16,7 @@ mod predicates;
 mod ranges;
 
 use crate::lists::is_ascending;
+pub use fitting::place_in;
 use std::alloc::AllocError;
 use std::slice;
 

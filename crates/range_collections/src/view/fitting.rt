@@ -186,9 +186,10 @@ fn first_row<T: Countable>(
     None
 }
 
-// The first place in the range, a multiple of `align`, from which on it has `count` values.
+/// The first place in the range, a multiple of `align`, from which on it has `count` values, or
+/// `None` if there is none. The range isn't reversed, and `align` isn't 0.
 #[inline(always)]
-fn place_in<T: Countable>(range: &Range<&T>, count: u128, align: u128) -> Option<u128>
+pub fn place_in<T: Countable>(range: &Range<&T>, count: u128, align: u128) -> Option<u128>
     requires aligned { 0 < align }
     requires in_order { T.place range.now.start.now ≤ T.place range.now.end.now }
     ensures fits { IfSome result (λ at. (T.place range.now.start.now ≤ at)
