@@ -1,8 +1,7 @@
 //! The ranges of a set, and what of it lies before, within or after something.
 
 use crate::any_range::Within;
-use crate::generated::range_collections::{Comparisons, FromPlace};
-use crate::generated::range_merge::{count_up_to, search};
+use crate::generated::range_collections::FromPlace;
 use crate::iter::Iter;
 use crate::range::RangeSetRange;
 use crate::view::RangeSetRef;
@@ -258,17 +257,7 @@ impl<T: Ord> RangeSetRef<T> {
     /// assert_eq!(met, [(&9..&11).into(), (&12..&15).into()]);
     /// ```
     pub fn overlapping(&self, range: Range<&T>) -> Iter<'_, T> {
-        let items = self.boundaries();
-        if range.is_empty() {
-            return Iter::new(&[]);
-        }
-        let count = &mut Comparisons::new();
-        let from = count_up_to(items, range.start, count);
-        let to = match search(items, range.end, count) {
-            Ok(i) | Err(i) => i,
-        };
-        // The start of the first range lies before an odd number, and the end of the last one after it.
-        Iter::new(&items[from - from % 2..items.len().min(to + to % 2)])
+        Iter::of_proved(self.proved().overlapping(range))
     }
 }
 

@@ -28,6 +28,7 @@ pub use iter::{Gaps, Iter, RangesWithin};
 pub use members::Members;
 pub use parse::{check_ranges, Expected, ParseError};
 pub use range_set::{RangeSet, RangeSet2};
-pub use range_set_range::RangeSetRange;
+pub use range_set_range::{write_range, RangeSetRange};
+pub(crate) use view::place_in;
 pub use view::RangeSetRef;
 pub use whole_number::WholeNumber;

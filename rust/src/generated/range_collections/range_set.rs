@@ -55,14 +55,15 @@ use crate::support::{AllocError, Global, SmallVec, Vec};
 /// | Calls | Comparisons, at most | Memory |
 /// |---|---|---|
 /// | `contains`, `range_at`, `split`, `next_member`, `next_gap`, `prev_member`, `prev_gap`, `rank` | `d(n)` | |
-/// | `contains_range`, `gaps`, `ranges_within` | `2 d(n) + 1` | |
+/// | `contains_range`, `gaps`, `ranges_within`, `overlapping` | `2 d(n) + 1` | |
 /// | `intersects_range` | `d(n) + 2` | |
 /// | `first_fit`, `first_fit_count`, `first_fit_aligned`, `first_run` | `2 d(n) + 1`, then two numbers a boundary | |
-/// | `iter`, `members`, `first`, `last`, `span`, `ranges_len`, `covered`, `select`, `is_empty`, `as_ref`, `boundaries` | none | |
+/// | `iter`, `members`, `first`, `last`, `span`, `ranges_len`, `covered`, `select`, `is_empty`, `as_ref`, `boundaries`, `pop_first`, `pop_last` | none | |
 /// | `is_all` | one `is_min_value` | |
 /// | `==`, `eq_ref`, `new` | one a boundary | |
 /// | `intersects`, `is_disjoint`, `is_subset`, `is_superset`, `merge_test`, `merge_len` | `2 w` | |
 /// | `insert`, `remove` | `2 d(n) + 1` | if the list grows beyond its room |
+/// | `insert_changed`, `remove_changed` | `4 d(n) + 2` | the same |
 /// | `bitor_assign` and the like, `merge_owned` | `2 w` | room for the right side |
 /// | `union_with` and the like, `merge_ref` | `2 w` | the same, and copies of the right side where a copy may fail |
 /// | `union` and the like, operators, `merge_new`, `combine` | `2 w` | the result |

@@ -142,8 +142,18 @@ impl<T: PartialEq> PartialEq for RangeSetRange<T> {
 
 impl<T: Eq> Eq for RangeSetRange<T> {}
 
-// The text of a range of references, each end as its own Debug text.
-pub(crate) fn write_range<T: fmt::Debug>(
+/// Writes the range as `0..10`, or as `20..` if it has no end. Each end is written as its own Debug
+/// text.
+///
+/// The text is known where that of each end is.
+///
+/// # Contract
+///
+/// ```text
+/// ensures (text : T → List ℕ) → AllEnds (IsText T.debug_output text) (range_now range.now) →
+///     WritesOnOk W.write_str_gives f.old result (range_text text (range_now range.now)) f.new
+/// ```
+pub fn write_range<T: fmt::Debug>(
     range: &RangeSetRange<&T>,
     f: &mut fmt::Formatter<'_>,
 ) -> fmt::Result {

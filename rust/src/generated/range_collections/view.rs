@@ -12,6 +12,7 @@ pub(crate) mod predicates;
 pub(crate) mod ranges;
 
 use crate::generated::range_collections::lists::is_ascending;
+pub(crate) use fitting::place_in;
 
 /// A borrowed set: a strictly sorted slice of boundaries.
 ///

@@ -290,6 +290,27 @@ impl<T: Ord, const N: usize> RangeSet<T, N> {
     pub fn ranges_within<'a>(&'a self, within: Range<&'a T>) -> RangesWithin<'a, T> {
         self.as_ref().ranges_within(within)
     }
+
+    /// The ranges of the set that share an element with `range`, whole, from the lowest on and from
+    /// the highest down. An empty or reversed range shares none.
+    ///
+    /// It takes no memory, and makes at most `2 * d + 1` comparisons, where `d` is the number of
+    /// binary digits of the number of boundaries (seen by reading). The iterator's steps make none.
+    ///
+    /// ```text
+    /// busy.overlapping(&10..&13)       // 9..11 and 12..15, of RangeSet{9..11, 12..15, 20..}
+    /// ```
+    ///
+    /// # Contract
+    ///
+    /// ```text
+    /// ensures ranges_of result ≡ filter (overlaps T.cmp range.entry.start.now range.entry.end.now)
+    ///     (ranges_of self.now)
+    /// ```
+    #[inline]
+    pub fn overlapping(&self, range: Range<&T>) -> Iter<'_, T> {
+        self.as_ref().overlapping(range)
+    }
 }
 
 impl<T: RangeSetEntry, const N: usize> RangeSet<T, N> {

@@ -54,6 +54,34 @@ impl<T: Ord, const N: usize> RangeSet<T, N> {
         set_range(&mut self.list, range, true, count)
     }
 
+    /// Adds the elements of the range, as `insert` does, and returns `true` if one of them wasn't a
+    /// member before. It makes at most `4 * d + 2` comparisons, where `d` is the number of binary
+    /// digits of the number of boundaries (seen by reading).
+    ///
+    /// ```text
+    /// let mut seen = RangeSet2::from_range(alloc, 0..10)?;
+    /// seen.insert_changed(5..12)?      // true
+    /// seen.insert_changed(3..11)?      // false
+    /// ```
+    ///
+    /// # Contract
+    ///
+    /// ```text
+    /// ensures answer: IfOk result (λ is_new. (is_new ≡ false) ↔ HasAllWithin T.cmp self.old
+    ///     range.start range.end)
+    /// ensures changed: IsChangedByRange T.cmp union_table N self.old (range_items T.cmp
+    ///     range.start range.end) self.new (without_value result)
+    /// ensures members: OnOk result ((x : T) → member T.cmp self.new x ≡ (member T.cmp self.old x
+    ///     || (is_le (T.cmp range.start x) && is_lt (T.cmp x range.end))))
+    /// ```
+    pub fn insert_changed(&mut self, range: Range<T>) -> Result<bool, AllocError> {
+        let all = self
+            .as_ref()
+            .has_all_within(&range.start, &range.end, &mut Comparisons::new());
+        self.insert(range)?;
+        Ok(!all)
+    }
+
     /// Removes the elements of the range. An empty or reversed range changes nothing. Of two equal
     /// boundaries, this set's own stays.
     ///
@@ -91,5 +119,31 @@ impl<T: Ord, const N: usize> RangeSet<T, N> {
         count: &mut Comparisons,
     ) -> Result<(), AllocError> {
         set_range(&mut self.list, range, false, count)
+    }
+
+    /// Removes the elements of the range, as `remove` does, and returns `true` if one of them was a
+    /// member before. It makes at most `3 * d + 3` comparisons, where `d` is the number of binary
+    /// digits of the number of boundaries (seen by reading).
+    ///
+    /// ```text
+    /// let mut free = RangeSet2::from_range(alloc, 0..10)?;
+    /// free.remove_changed(8..12)?      // true
+    /// free.remove_changed(8..10)?      // false
+    /// ```
+    ///
+    /// # Contract
+    ///
+    /// ```text
+    /// ensures answer: IfOk result (λ was_there. IsTrue was_there ↔ HasMemberWithin T.cmp self.old
+    ///     range.start range.end)
+    /// ensures changed: IsChangedByRange T.cmp difference_table N self.old (range_items T.cmp
+    ///     range.start range.end) self.new (without_value result)
+    /// ensures members: OnOk result ((x : T) → member T.cmp self.new x ≡ (member T.cmp self.old x
+    ///     && not (is_le (T.cmp range.start x) && is_lt (T.cmp x range.end))))
+    /// ```
+    pub fn remove_changed(&mut self, range: Range<T>) -> Result<bool, AllocError> {
+        let some = self.as_ref().has_member_within(&range.start, &range.end);
+        self.remove(range)?;
+        Ok(some)
     }
 }

@@ -122,6 +122,9 @@ impl<'a, T: FromPlace> RangeSetRef<'a, T> {
     // The place of that value.
     fn first_aligned_place(&self, start: &T, end: &T, count: u128, align: u128) -> Option<u128> {
         if count == 0 {
+            if !start.cmp(end).is_le() {
+                return None;
+            }
             return place_in(&(start..end), 0, align);
         }
         // A view that need not live longer than the ends.
@@ -137,7 +140,9 @@ struct Row<'a, T> {
     place: u128,
 }
 
-// The first place, a multiple of `align`, from which on one of the ranges has `count` values.
+// The first place, a multiple of `align`, from which on one of the ranges has `count` values. It is
+// inlined, so that nothing is divided where `align` is 1.
+#[inline(always)]
 fn first_row<T: Countable>(
     ranges: RangesWithin<'_, T>,
     count: u128,
@@ -154,16 +159,32 @@ fn first_row<T: Countable>(
     None
 }
 
-// The first place in the range, a multiple of `align`, from which on it has `count` values.
-fn place_in<T: Countable>(range: &Range<&T>, count: u128, align: u128) -> Option<u128> {
+/// The first place in the range, a multiple of `align`, from which on it has `count` values, or
+/// `None` if there is none. The range isn't reversed, and `align` isn't 0.
+///
+/// # Contract
+///
+/// ```text
+/// requires aligned: 0 < align
+/// requires in_order: T.place range.now.start.now ≤ T.place range.now.end.now
+/// ensures fits: IfSome result (λ at. (T.place range.now.start.now ≤ at) × (at + count ≤
+///     T.place range.now.end.now))
+/// ensures aligned: IfSome result (λ at. at % align ≡ 0)
+/// ensures least: IfSome result (λ at. (n : ℕ) → n % align ≡ 0 → T.place range.now.start.now ≤
+///     n → at ≤ n)
+/// ensures none: IfNone result ((n : ℕ) → n % align ≡ 0 → T.place range.now.start.now ≤ n →
+///     T.place range.now.end.now < n + count)
+/// ```
+#[inline(always)]
+pub(crate) fn place_in<T: Countable>(range: &Range<&T>, count: u128, align: u128) -> Option<u128> {
     let start = range.start.place();
-    let end = range.end.place();
+    let room = range.end.place() - start;
     // Without a division where the range is too short.
-    if end.checked_sub(start)? < count {
+    if room < count {
         return None;
     }
     let first = start.next_multiple_up(align)?;
-    if end.checked_sub(first)? < count {
+    if room.checked_sub(first - start)? < count {
         None
     } else {
         Some(first)

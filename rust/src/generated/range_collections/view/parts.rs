@@ -3,7 +3,7 @@
 //! in it or not. They are slices of the view's own list, and nothing is copied.
 
 use crate::generated::range_collections::comparisons::Comparisons;
-use crate::generated::range_collections::iter::{Gaps, RangesWithin};
+use crate::generated::range_collections::iter::{Gaps, Iter, RangesWithin};
 use crate::generated::range_collections::lists::is_odd;
 use crate::generated::range_collections::range_set_range::has_elements;
 use crate::generated::range_collections::view::RangeSetRef;
@@ -144,6 +144,34 @@ impl<'a, T: Ord> RangeSetRef<'a, T> {
         count: &mut Comparisons,
     ) -> RangesWithin<'a, T> {
         self.parts_within(within, true, count)
+    }
+
+    /// The ranges of the set that share an element with `range`, whole, from the lowest on and from
+    /// the highest down. An empty or reversed range shares none.
+    ///
+    /// It takes no memory, and makes at most `2 * d + 1` comparisons, where `d` is the number of
+    /// binary digits of the number of boundaries (seen by reading). The iterator's steps make none.
+    ///
+    /// ```text
+    /// busy.overlapping(&10..&13)       // 9..11 and 12..15, of RangeSet{9..11, 12..15, 20..}
+    /// ```
+    ///
+    /// # Contract
+    ///
+    /// ```text
+    /// ensures ranges_of result ≡ filter (overlaps T.cmp range.entry.start.now range.entry.end.now)
+    ///     (ranges_of self.now.boundaries.now)
+    /// ```
+    #[inline]
+    pub fn overlapping(&self, range: Range<&T>) -> Iter<'a, T> {
+        if !has_elements(range.start, range.end, &mut Comparisons::new()) {
+            return Iter::new(&[]);
+        }
+        let from = count_up_to(self.boundaries, range.start, &mut Comparisons::new());
+        let to = self.count_below(range.end, &mut Comparisons::new());
+        // A range starts at an even index and ends at an odd one.
+        let end = self.boundaries.len().min(to.saturating_add(to % 2));
+        Iter::new(&self.boundaries[from - from % 2..end])
     }
 
     // The parts of `within` whose elements are members where `inside` is true, or else no members.

@@ -189,14 +189,7 @@ impl<'a, T: Ord> RangeSetRef<'a, T> {
     /// ```
     #[inline]
     pub(crate) fn contains_range_counted(&self, range: Range<T>, count: &mut Comparisons) -> bool {
-        if !has_elements(&range.start, &range.end, count) {
-            return true;
-        }
-        let before = count_up_to(self.boundaries, &range.start, count);
-        if !is_odd(before) {
-            return false;
-        }
-        before == self.count_below(&range.end, count)
+        self.has_all_within(&range.start, &range.end, count)
     }
 
     /// Whether some member lies in the range. It is `false` for an empty or reversed range.
@@ -208,14 +201,33 @@ impl<'a, T: Ord> RangeSetRef<'a, T> {
     /// ```
     #[inline]
     pub fn intersects_range(&self, range: Range<T>) -> bool {
-        if !has_elements(&range.start, &range.end, &mut Comparisons::new()) {
+        self.has_member_within(&range.start, &range.end)
+    }
+
+    // Whether every element from `start` on and below `end` is a member.
+    #[inline(always)]
+    pub(crate) fn has_all_within(&self, start: &T, end: &T, count: &mut Comparisons) -> bool {
+        if !has_elements(start, end, count) {
+            return true;
+        }
+        let before = count_up_to(self.boundaries, start, count);
+        if !is_odd(before) {
             return false;
         }
-        let count = count_up_to(self.boundaries, &range.start, &mut Comparisons::new());
+        before == self.count_below(end, count)
+    }
+
+    // Whether some element from `start` on and below `end` is a member.
+    #[inline(always)]
+    pub(crate) fn has_member_within(&self, start: &T, end: &T) -> bool {
+        if !has_elements(start, end, &mut Comparisons::new()) {
+            return false;
+        }
+        let count = count_up_to(self.boundaries, start, &mut Comparisons::new());
         if is_odd(count) {
             return true;
         }
-        self.is_next_below(count, &range.end)
+        self.is_next_below(count, end)
     }
 
     // The least element at or above `from` that is a member, where `inside` is true, or else that
