@@ -34,53 +34,56 @@ const DIFFERENCE: Change = |set, range| set.difference_with(&range_sets::RangeSe
 
 /// A change of a set of so many ranges, and whether it asks for memory: where the set grows, and its list of chunks or the
 /// chunk has no room, or the chunk is full. A chunk has at most 512 boundaries, and room for a power of two.
-const ROWS: [(&str, Change, u32, Range<u32>, bool); 19] = [
-    ("the first range", INSERT, 0, 5..8, true),
-    ("a range that is there", INSERT, 3, 11..14, false),
-    ("a range where there is room", INSERT, 129, 17..18, false),
-    ("a range where there is none", INSERT, 128, 17..18, true),
-    ("a range before a full chunk", INSERT, 256, 2..4, true),
-    ("a range behind a full chunk", INSERT, 256, 9000..9001, true),
-    (
-        "a chunk where there is no room",
-        INSERT,
-        640,
-        9000..9001,
-        true,
-    ),
-    ("a longer range", INSERT, 3000, 20_010..20_017, false),
-    ("one range of many", INSERT, 3000, 12..20_017, false),
-    ("no range", INSERT, 128, 9..9, false),
-    ("what isn't there", REMOVE, 128, 15..20, false),
-    ("the middle of a range", REMOVE, 128, 12..13, true),
-    ("the end of a range", REMOVE, 128, 12..15, false),
-    ("many ranges", REMOVE, 3000, 13..20_012, false),
-    ("all ranges", REMOVE, 3000, 0..40_000, false),
-    ("a range, and whether", INSERT_CHANGED, 128, 17..18, true),
-    ("a middle, and whether", REMOVE_CHANGED, 128, 12..13, true),
-    ("a set of one range", UNION, 300, 12..17, true),
-    ("a set out of many ranges", DIFFERENCE, 300, 12..1_017, true),
+struct Row {
+    name: &'static str,
+    change: Change,
+    ranges: u32,
+    range: Range<u32>,
+    asks: bool,
+}
+
+#[rustfmt::skip]
+const ROWS: [Row; 19] = [
+    Row { name: "the first range", change: INSERT, ranges: 0, range: 5..8, asks: true },
+    Row { name: "a range that is there", change: INSERT, ranges: 3, range: 11..14, asks: false },
+    Row { name: "a range where there is room", change: INSERT, ranges: 129, range: 17..18, asks: false },
+    Row { name: "a range where there is none", change: INSERT, ranges: 128, range: 17..18, asks: true },
+    Row { name: "a range before a full chunk", change: INSERT, ranges: 256, range: 2..4, asks: true },
+    Row { name: "a range behind a full chunk", change: INSERT, ranges: 256, range: 9000..9001, asks: true },
+    Row { name: "a chunk where there is no room", change: INSERT, ranges: 640, range: 9000..9001, asks: true },
+    Row { name: "a longer range", change: INSERT, ranges: 3000, range: 20_010..20_017, asks: false },
+    Row { name: "one range of many", change: INSERT, ranges: 3000, range: 12..20_017, asks: false },
+    Row { name: "no range", change: INSERT, ranges: 128, range: 9..9, asks: false },
+    Row { name: "what isn't there", change: REMOVE, ranges: 128, range: 15..20, asks: false },
+    Row { name: "the middle of a range", change: REMOVE, ranges: 128, range: 12..13, asks: true },
+    Row { name: "the end of a range", change: REMOVE, ranges: 128, range: 12..15, asks: false },
+    Row { name: "many ranges", change: REMOVE, ranges: 3000, range: 13..20_012, asks: false },
+    Row { name: "all ranges", change: REMOVE, ranges: 3000, range: 0..40_000, asks: false },
+    Row { name: "a range, and whether", change: INSERT_CHANGED, ranges: 128, range: 17..18, asks: true },
+    Row { name: "a middle, and whether", change: REMOVE_CHANGED, ranges: 128, range: 12..13, asks: true },
+    Row { name: "a set of one range", change: UNION, ranges: 300, range: 12..17, asks: true },
+    Row { name: "a set out of many ranges", change: DIFFERENCE, ranges: 300, range: 12..1_017, asks: true },
 ];
 
 #[test]
 fn changes_are_refused_and_leave_the_set_as_it_was() {
-    for (name, change, ranges, range, asks) in ROWS {
+    for row in ROWS {
         let requests = each_refusal(
-            name,
-            || set(ranges),
-            |set| change(set, range.clone()).map(|()| listed(set)),
+            row.name,
+            || set(row.ranges),
+            |set| (row.change)(set, row.range.clone()).map(|()| listed(set)),
             |set, before| listed(set) == listed(before),
         );
-        assert_eq!(requests > 0, asks, "{name}: {requests} requests");
+        assert_eq!(requests > 0, row.asks, "{}: {requests} requests", row.name);
     }
 }
 
 #[test]
 fn what_needs_no_room_asks_for_nothing() {
-    for (name, change, ranges, range, asks) in ROWS {
-        let mut changed = set(ranges);
-        let (result, _) = refusing(Refusal::From(0), || change(&mut changed, range));
-        assert_eq!(result.is_err(), asks, "{name}");
+    for row in ROWS {
+        let mut changed = set(row.ranges);
+        let (result, _) = refusing(Refusal::From(0), || (row.change)(&mut changed, row.range));
+        assert_eq!(result.is_err(), row.asks, "{}", row.name);
     }
     let (set, _) = refusing(Refusal::From(0), ChunkedRangeSet::<u32>::new);
     assert!(set.is_empty());
