@@ -24,6 +24,7 @@ mod set;
 mod space;
 mod splicing;
 mod taking;
+mod text;
 mod to_the_end;
 mod tracker;
 mod tracking;

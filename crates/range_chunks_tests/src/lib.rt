@@ -23,6 +23,8 @@ mod rows;
 #[cfg(test)]
 mod space;
 #[cfg(test)]
+mod text;
+#[cfg(test)]
 mod tracker_refused;
 #[cfg(test)]
 mod tracking;

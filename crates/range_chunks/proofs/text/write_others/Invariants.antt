@@ -1,0 +1,12 @@
+use Rattle.std.proofs.Common.{◌≡◌, List, ◌++◌, ℕ}
+use Rattle.std.specs.Fmt.{HasWritten, IsPlainFormatter}
+use Rattle.range_collections.specs.Ranges.{ranges_of}
+use Rattle.range_collections.specs.Text.{AreTexts, others_text}
+use Rattle.range_chunks.proofs.text.write_others.Given as goal
+
+abbrev pub invariant-loop-range : goal.invariant-loop-range
+invariant-loop-range g l =
+    (text : g.row.T.Denot → List ℕ) → AreTexts g.T.Debug.debug_output text (ranges_of l.initial.range-iterator) → IsPlainFormatter l.initial.f →
+    AreTexts g.T.Debug.debug_output text (ranges_of l.range-iterator)
+    × ((done : List ℕ) × HasWritten g.W.Write.write_str_gives l.initial.f done l.f
+    × (done ++ others_text text (ranges_of l.range-iterator) ≡ others_text text (ranges_of l.initial.range-iterator)))
