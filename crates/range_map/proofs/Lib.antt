@@ -18,3 +18,4 @@ pub mod Depths
 pub mod Overlapping
 pub mod GapsFound
 pub mod Retained
+pub mod UpdatedKeys

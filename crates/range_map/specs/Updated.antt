@@ -7,11 +7,11 @@ use Rattle.range_map.specs.Steps.{Steps, value_at, AreAlike}
 use Rattle.range_map.specs.Changed.{is_in_range}
 
 -- f of the option in the range, and elsewhere the option as it was
-abbrev pub IsUpdated : {K V : Type 0} → (K → K → Ordering) → (V → V → Bool) → K → K →
+abbrev pub IsUpdated : {K V : Type 0} → (K → K → Ordering) → (V → V → Bool) → K → Option K →
     (Option V → Option V) → Steps K V → Steps K V → Type 0
 IsUpdated {K} order E start end f a r =
     (x : K) → AreAlike E (value_at order r x)
-    (cond (is_in_range order start (Some end) x) (f (value_at order a x)) (value_at order a x))
+    (cond (is_in_range order start end x) (f (value_at order a x)) (value_at order a x))
 
 -- the option, but none where its value fails the test
 abbrev pub kept : {V : Type 0} → (V → Bool) → Option V → Option V

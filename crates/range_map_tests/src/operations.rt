@@ -242,8 +242,13 @@ fn made_up_maps_are_updated(rt: HostRuntime) -> Result<(), AllocError> {
         let (mut map, mut options) = made_up(rt.alloc(), &mut generator)?;
         for _ in 0..4 {
             let range = next_range(&mut generator);
-            turn_options(&mut options, &range);
-            map.update(range, &Turn)?;
+            if generator.below(4) == 0 {
+                turn_options(&mut options, &(range.start..LIMIT));
+                map.update_from(range.start.., &Turn)?;
+            } else {
+                turn_options(&mut options, &range);
+                map.update(range, &Turn)?;
+            }
         }
         assert!(rt; has(&map, &options), "{sequence}");
     }

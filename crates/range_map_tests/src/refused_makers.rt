@@ -24,9 +24,10 @@ enum Wanted {
     Depth,
     Combined,
     Updated,
+    UpdatedFrom,
 }
 
-const ALL: [Wanted; 12] = [
+const ALL: [Wanted; 13] = [
     Wanted::Copy,
     Wanted::Ranges,
     Wanted::Booking,
@@ -39,6 +40,7 @@ const ALL: [Wanted; 12] = [
     Wanted::Depth,
     Wanted::Combined,
     Wanted::Updated,
+    Wanted::UpdatedFrom,
 ];
 
 #[derive(Drop)]
@@ -142,6 +144,14 @@ fn update(mut map: RangeMap<u16, u16>) -> Answer {
     }
 }
 
+// The answer of keys from a start on that are given another value.
+fn update_from(mut map: RangeMap<u16, u16>) -> Answer {
+    match map.update_from(305.., &Twos) {
+        Ok(()) => Answer::right_if(map.get(&310) == Some(&2) && map.len() == 17),
+        Err(_) => refused_if(has(&map, 0, 400)),
+    }
+}
+
 // The answer of many ranges counted.
 fn count(alloc: Global) -> Answer {
     let ranges = [0..10u16, 5..20, 8..30, 9..10];
@@ -180,6 +190,7 @@ impl Call for Attempt {
                 answer_of(made, &map, 0, 400)
             }
             Wanted::Updated => update(map),
+            Wanted::UpdatedFrom => update_from(map),
         }
     }
 }
@@ -191,6 +202,68 @@ fn what_is_made_is_refused_while_memory_is_short(rt: HostRuntime) -> Result<(), 
         let mut starved = Starved::new(alloc)?;
         let attempt = Attempt { alloc, wanted };
         assert!(rt; starved.agrees(&attempt, true), "{wanted:?}");
+    }
+    Ok(())
+}
+
+// What is asked of a range without keys.
+#[derive(Clone, Copy, Debug)]
+enum Change {
+    Insert,
+    InsertFree,
+    Remove,
+    Update,
+}
+
+const CHANGES: [Change; 4] = [
+    Change::Insert,
+    Change::InsertFree,
+    Change::Remove,
+    Change::Update,
+];
+
+// A change of a range without keys.
+#[derive(Drop)]
+struct Idle {
+    alloc: Global,
+    change: Change,
+    start: u16,
+    end: u16,
+}
+
+impl Call for Idle {
+    type Given = RangeMap<u16, u16>;
+
+    fn given(&self) -> Option<RangeMap<u16, u16>> {
+        spread(self.alloc)
+    }
+
+    fn answer(&self, mut map: RangeMap<u16, u16>) -> Answer {
+        let range = self.start..self.end;
+        let made = match self.change {
+            Change::Insert => map.insert(range, 2).is_ok(),
+            Change::InsertFree => map.insert_free(range, 2).is_ok(),
+            Change::Remove => map.remove(range).is_ok(),
+            Change::Update => map.update(range, &Twos).is_ok(),
+        };
+        Answer::right_if(made && has(&map, 0, 400))
+    }
+}
+
+#[test]
+fn a_range_without_keys_takes_no_memory(rt: HostRuntime) -> Result<(), AllocError> {
+    let alloc = rt.alloc();
+    for change in CHANGES {
+        for (start, end) in [(5, 5), (7, 3)] {
+            let mut starved = Starved::new(alloc)?;
+            let idle = Idle {
+                alloc,
+                change,
+                start,
+                end,
+            };
+            assert!(rt; starved.agrees(&idle, false), "{change:?} {start}..{end}");
+        }
     }
     Ok(())
 }

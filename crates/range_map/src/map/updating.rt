@@ -1,5 +1,7 @@
 //! What a range has, put anew by what it had.
-ghost use Rattle.std.specs.Prelude.{◌≡◌, OnOk, OnErr};
+ghost use Rattle.std.specs.Prelude.{◌≡◌, cond, false, None, Some, IsOk, OnOk, OnErr};
+ghost use Rattle.std.specs.Option.{is_some};
+ghost use Rattle.std.specs.Ordering.{is_lt};
 ghost use Rattle.range_map.specs.Steps.{AreAlike, value_at};
 ghost use Rattle.range_map.specs.Updated.{IsUpdated, kept};
 
@@ -10,22 +12,58 @@ use crate::update::{InRange, MapUpdate};
 use crate::value::MapValue;
 use range_collections::{Comparisons, EntryClone};
 use std::alloc::AllocError;
-use std::ops::Range;
+use std::ops::{Range, RangeFrom};
 
 impl<K: EntryClone + Drop, V: MapValue> RangeMap<K, V> {
     /// Gives each key of the range what the update makes of its value, or of none. An empty or
     /// reversed range changes nothing.
     ///
     /// It makes the map anew, so that its time and memory grow with the number of all steps, and
-    /// copies the values outside of the range. If memory runs out, the map is as it was.
+    /// copies the values outside of the range. If memory runs out, the map is as it was. An empty
+    /// or reversed range takes none.
     pub fn update<O: MapUpdate<V>>(&mut self, range: Range<K>, op: &O) -> Result<(), AllocError>
-        ensures values { OnOk result (IsUpdated K.cmp V.eq range.start range.end (O.gives op.now) self.old self.new) }
+        ensures values { OnOk result (IsUpdated K.cmp V.eq range.start (Some range.end) (O.gives op.now) self.old self.new) }
+        ensures unchanged { OnErr result (self.new ≡ self.old) }
+        ensures empty { is_lt (K.cmp range.start range.end) ≡ false → (self.new ≡ self.old) × IsOk result }
+    {
+        if !range.start.cmp(&range.end).is_lt() {
+            return Ok(());
+        }
+        let mut within = RangeMap::new(*self.keys.allocator());
+        within.insert(range, ())?;
+        self.update_keys(&within, op)
+    }
+
+    /// Gives each key from the start on what the update makes of its value, or of none.
+    ///
+    /// It makes the map anew, so that its time and memory grow with the number of all steps, and
+    /// copies the values below the start. If memory runs out, the map is as it was.
+    pub fn update_from<O: MapUpdate<V>>(
+        &mut self,
+        range: RangeFrom<K>,
+        op: &O,
+    ) -> Result<(), AllocError>
+        ensures values { OnOk result (IsUpdated K.cmp V.eq range.start None (O.gives op.now) self.old self.new) }
+        ensures unchanged { OnErr result (self.new ≡ self.old) }
+    {
+        let mut within = RangeMap::new(*self.keys.allocator());
+        within.insert_from(range, ())?;
+        self.update_keys(&within, op)
+    }
+
+    // Gives each key that has the unit what the update makes of its value, or of none.
+    fn update_keys<O: MapUpdate<V>>(
+        &mut self,
+        within: &RangeMap<K, ()>,
+        op: &O,
+    ) -> Result<(), AllocError>
+        ensures values { OnOk result ((x : K) → AreAlike V.eq (value_at K.cmp self.new x)
+            (cond (is_some (value_at K.cmp within.now x))
+            (O.gives op.now (value_at K.cmp self.old x)) (value_at K.cmp self.old x))) }
         ensures unchanged { OnErr result (self.new ≡ self.old) }
     {
         let alloc = *self.keys.allocator();
-        let mut within = RangeMap::new(alloc);
-        within.insert(range, ())?;
-        *self = self.combine(alloc, &within, &InRange(op), &mut Comparisons::new())?;
+        *self = self.combine(alloc, within, &InRange(op), &mut Comparisons::new())?;
         Ok(())
     }
 }

@@ -1,0 +1,11 @@
+use Rattle.std.proofs.Common.{None}
+use Rattle.std.proofs.lemmas.Result.{on_ok_weaker}
+use Rattle.range_map.proofs.UpdatedKeys.{IsUpdated-of_keys}
+use Rattle.range_map.proofs.map.RangeMap.update_from.Goals as goal
+
+pub returns-clause-values : goal.returns-clause-values
+returns-clause-values g c =
+    on_ok_weaker c.update_keys.result
+    (IsUpdated-of_keys g.K.Ord.cmp g.V.PartialEq.eq _ c.args.range.start None (g.O.MapUpdate.gives c.args.op.now)
+    c.new-within.result c.insert_from.new.self c.new-within.ensures.values c.in_ok-insert_from.ensures.values c.args.self.now c.update_keys.new.self)
+    c.update_keys.ensures.values
