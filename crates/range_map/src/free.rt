@@ -96,6 +96,7 @@ pub fn set_free<K: Ord + Drop, V: Eq + Drop>(
         &start,
         end.as_ref(),
         &option,
+        &mut Comparisons::new(),
     );
     match make_both_rooms(keys, options, places) {
         Ok(()) => {

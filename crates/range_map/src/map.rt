@@ -1,7 +1,9 @@
 //! The map: strictly sorted keys, and the option that holds from each of them on.
-ghost use Rattle.std.specs.Prelude.{◌≡◌, ◌↔◌, [], false, filter, length, IsTrue, Some, None, OnOk, OnErr, IsOk, option_copied};
+ghost use Rattle.std.specs.Prelude.{◌≡◌, ◌↔◌, ◌+◌, ◌*◌, ◌^◌, ◌<◌, [], false, filter, length, IsTrue, Some, None, OnOk, OnErr, IsOk, option_copied};
 ghost use Rattle.std.specs.Option.{is_some};
 ghost use Rattle.std.specs.Ordering.{is_lt};
+ghost use Rattle.range_merge.specs.Counting.{AddsAtMost};
+ghost use Rattle.range_merge.specs.Runs.{digits};
 ghost use Rattle.range_map.specs.Steps.{value_at, ranges_len};
 ghost use Rattle.range_map.specs.Changed.{IsSetTo, FitsAfter};
 
@@ -21,7 +23,7 @@ use crate::places::option_before;
 use crate::replacing::set_range;
 use crate::value::MapValue;
 use range_collections::Comparisons;
-use range_merge::count_up_to;
+use range_merge::{Compare, count_up_to};
 pub use ranges::Stretch;
 use std::alloc::{AllocError, Global};
 use std::marker::Model;
@@ -82,7 +84,17 @@ impl<K: Ord, V: Eq> RangeMap<K, V> {
     pub fn get(&self, key: &K) -> Option<&V>
         ensures { option_copied result ≡ value_at K.cmp self.now key.now }
     {
-        let n = count_up_to(self.keys.as_slice(), key, &mut Comparisons::new());
+        self.get_counted(key, &mut Comparisons::new())
+    }
+
+    /// The same, counted: at most as many comparisons as the number of the map's keys has binary
+    /// digits. A range has two keys at most.
+    pub fn get_counted(&self, key: &K, count: &mut Comparisons) -> Option<&V>
+        requires { count.old < 2 ^ 64 }
+        ensures value { option_copied result ≡ value_at K.cmp self.now key.now }
+        ensures comparisons { AddsAtMost count.old count.new (digits (length self.now.keys)) }
+    {
+        let n = count_up_to(self.keys.as_slice(), key, count);
         option_before(self.options.as_slice(), n)
     }
 
@@ -133,7 +145,25 @@ impl<K: Ord + Drop, V: MapValue> RangeMap<K, V> {
         ensures empty { is_lt (K.cmp range.start range.end) ≡ false → (self.new ≡ self.old) × IsOk result }
         ensures succeeds { FitsAfter K.cmp V.eq range.start (Some range.end) (Some value) self.old → IsOk result }
     {
-        self.set(range, Some(value))
+        self.insert_counted(range, value, &mut Comparisons::new())
+    }
+
+    /// The same, counted: one comparison of the start with the end, and for each of the two at most
+    /// as many as the number of the map's keys has binary digits.
+    pub fn insert_counted(
+        &mut self,
+        range: Range<K>,
+        value: V,
+        count: &mut Comparisons,
+    ) -> Result<(), AllocError>
+        requires made { count.old < 2 ^ 64 }
+        ensures values { OnOk result (IsSetTo K.cmp V.eq range.start (Some range.end) (Some value) self.old self.new) }
+        ensures unchanged { OnErr result (self.new ≡ self.old) }
+        ensures empty { is_lt (K.cmp range.start range.end) ≡ false → (self.new ≡ self.old) × IsOk result }
+        ensures succeeds { FitsAfter K.cmp V.eq range.start (Some range.end) (Some value) self.old → IsOk result }
+        ensures comparisons { AddsAtMost count.old count.new (2 * digits (length self.old.keys) + 1) }
+    {
+        self.set(range, Some(value), count)
     }
 
     /// Takes the value of each key of the range away. An empty or reversed range changes nothing.
@@ -146,7 +176,24 @@ impl<K: Ord + Drop, V: MapValue> RangeMap<K, V> {
         ensures empty { is_lt (K.cmp range.start range.end) ≡ false → (self.new ≡ self.old) × IsOk result }
         ensures succeeds { FitsAfter K.cmp V.eq range.start (Some range.end) None self.old → IsOk result }
     {
-        self.set(range, None)
+        self.remove_counted(range, &mut Comparisons::new())
+    }
+
+    /// The same, counted: one comparison of the start with the end, and for each of the two at most
+    /// as many as the number of the map's keys has binary digits.
+    pub fn remove_counted(
+        &mut self,
+        range: Range<K>,
+        count: &mut Comparisons,
+    ) -> Result<(), AllocError>
+        requires made { count.old < 2 ^ 64 }
+        ensures values { OnOk result (IsSetTo K.cmp V.eq range.start (Some range.end) None self.old self.new) }
+        ensures unchanged { OnErr result (self.new ≡ self.old) }
+        ensures empty { is_lt (K.cmp range.start range.end) ≡ false → (self.new ≡ self.old) × IsOk result }
+        ensures succeeds { FitsAfter K.cmp V.eq range.start (Some range.end) None self.old → IsOk result }
+        ensures comparisons { AddsAtMost count.old count.new (2 * digits (length self.old.keys) + 1) }
+    {
+        self.set(range, None, count)
     }
 
     /// Gives each key from the start on the value, in the place of the one that it had.
@@ -179,21 +226,42 @@ impl<K: Ord + Drop, V: MapValue> RangeMap<K, V> {
         ensures unchanged { OnErr result (self.new ≡ self.old) }
         ensures succeeds { FitsAfter K.cmp V.eq start None option self.old → IsOk result }
     {
-        set_range(&mut self.keys, &mut self.options, start, None, option)
+        set_range(
+            &mut self.keys,
+            &mut self.options,
+            start,
+            None,
+            option,
+            &mut Comparisons::new(),
+        )
     }
 
     // Gives each key of the range an option.
-    fn set(&mut self, range: Range<K>, option: Option<V>) -> Result<(), AllocError>
+    fn set(
+        &mut self,
+        range: Range<K>,
+        option: Option<V>,
+        count: &mut Comparisons,
+    ) -> Result<(), AllocError>
+        requires made { count.old < 2 ^ 64 }
         ensures values { OnOk result (IsSetTo K.cmp V.eq range.start (Some range.end) option self.old self.new) }
         ensures unchanged { OnErr result (self.new ≡ self.old) }
         ensures empty { is_lt (K.cmp range.start range.end) ≡ false → (self.new ≡ self.old) × IsOk result }
         ensures succeeds { FitsAfter K.cmp V.eq range.start (Some range.end) option self.old → IsOk result }
+        ensures comparisons { AddsAtMost count.old count.new (2 * digits (length self.old.keys) + 1) }
     {
         let Range { start, end } = range;
-        if !start.cmp(&end).is_lt() {
+        if !count.compare(&start, &end).is_lt() {
             return Ok(());
         }
-        set_range(&mut self.keys, &mut self.options, start, Some(end), option)
+        set_range(
+            &mut self.keys,
+            &mut self.options,
+            start,
+            Some(end),
+            option,
+            count,
+        )
     }
 }
 

@@ -1,11 +1,13 @@
 //! Where a range lies among the steps of a map.
-ghost use Rattle.std.specs.Prelude.{◌≡◌, ◌<◌, ◌≤◌, ◌-◌, ◌+◌, ◌∷◌, option_copied, MatchOption, None, Some, length, true, not, get_or, OnOk, OnErr, IsOk};
+ghost use Rattle.std.specs.Prelude.{◌≡◌, ◌<◌, ◌≤◌, ◌-◌, ◌+◌, ◌*◌, ◌^◌, ◌∷◌, option_copied, MatchOption, None, Some, length, true, not, get_or, OnOk, OnErr, IsOk};
 ghost use Rattle.std.specs.List.{AllWithin};
 ghost use Rattle.std.specs.Option.{option_eq};
 ghost use Rattle.std.specs.Ordering.{is_le};
 ghost use Rattle.std.specs.Vec.{vec_capacity};
 ghost use Rattle.std.specs.declared.cmp.Ordering.TheVariants.{Less};
 ghost use Rattle.range_merge.specs.Boundaries.{IsAscending};
+ghost use Rattle.range_merge.specs.Counting.{AddsAtMost};
+ghost use Rattle.range_merge.specs.Runs.{digits};
 ghost use Rattle.range_map.specs.Steps.{Steps, AreAlike};
 ghost use Rattle.range_map.specs.Places.{ArePlaces, put_len, IsUpToEnd, IsAboveEnd};
 
@@ -30,14 +32,17 @@ pub fn find<K: Ord, V: Eq>(
     start: &K,
     end: Option<&K>,
     option: &Option<V>,
+    count: &mut Comparisons,
 ) -> Places
     requires ascending { IsAscending K.cmp keys.now }
     requires one_each { length options.now ≡ length keys.now }
-    ensures { ArePlaces K.cmp V.eq (record { keys = keys.now; options = options.now })
+    requires made { count.old < 2 ^ 126 }
+    ensures places { ArePlaces K.cmp V.eq (record { keys = keys.now; options = options.now })
         start.now (option_copied end.entry) option.now result }
+    ensures comparisons { AddsAtMost count.old count.new (2 * digits (length keys.now)) }
 {
-    let from = count_below(keys, start);
-    let to = count_up_to_end(keys, end);
+    let from = count_below(keys, start, count);
+    let to = count_up_to_end(keys, end, count);
     Places {
         from,
         to,
@@ -47,27 +52,31 @@ pub fn find<K: Ord, V: Eq>(
 }
 
 /// How many keys are below this one.
-pub fn count_below<K: Ord>(keys: &[K], key: &K) -> usize
-    requires { IsAscending K.cmp keys.now }
+pub fn count_below<K: Ord>(keys: &[K], key: &K, count: &mut Comparisons) -> usize
+    requires ascending { IsAscending K.cmp keys.now }
+    requires made { count.old < 2 ^ 127 }
     ensures within { result ≤ length keys.now }
     ensures below { AllWithin (λ y. K.cmp y key.now ≡ Less) keys.now 0 result }
     ensures from { AllWithin (λ y. is_le (K.cmp key.now y) ≡ true) keys.now result (length keys.now) }
+    ensures comparisons { AddsAtMost count.old count.new (digits (length keys.now)) }
 {
-    match search(keys, key, &mut Comparisons::new()) {
+    match search(keys, key, count) {
         Ok(i) => i,
         Err(i) => i,
     }
 }
 
 // How many keys are at or below the end: all of them, if there is none.
-fn count_up_to_end<K: Ord>(keys: &[K], end: Option<&K>) -> usize
-    requires { IsAscending K.cmp keys.now }
+fn count_up_to_end<K: Ord>(keys: &[K], end: Option<&K>, count: &mut Comparisons) -> usize
+    requires ascending { IsAscending K.cmp keys.now }
+    requires made { count.old < 2 ^ 127 }
     ensures within { result ≤ length keys.now }
     ensures up_to { AllWithin (IsUpToEnd K.cmp (option_copied end.entry)) keys.now 0 result }
     ensures above { AllWithin (IsAboveEnd K.cmp (option_copied end.entry)) keys.now result (length keys.now) }
+    ensures comparisons { AddsAtMost count.old count.new (digits (length keys.now)) }
 {
     match end {
-        Some(end) => count_up_to(keys, end, &mut Comparisons::new()),
+        Some(end) => count_up_to(keys, end, count),
         None => keys.len(),
     }
 }

@@ -1,7 +1,9 @@
 //! A range given one option: the steps that lie in it give way to at most two.
-ghost use Rattle.std.specs.Prelude.{◌≡◌, ◌<◌, ◌≤◌, ◌-◌, ◌+◌, ◌∷◌, None, Some, Option, cond, length, take, drop, true, false, get_or, IfOk, OnOk, OnErr, IsOk, option_copied};
+ghost use Rattle.std.specs.Prelude.{◌≡◌, ◌<◌, ◌≤◌, ◌-◌, ◌+◌, ◌*◌, ◌^◌, ◌∷◌, None, Some, Option, cond, length, take, drop, true, false, get_or, IfOk, OnOk, OnErr, IsOk, option_copied};
 ghost use Rattle.std.specs.Vec.{vec_capacity};
 ghost use Rattle.std.specs.declared.cmp.Ordering.TheVariants.{Less};
+ghost use Rattle.range_merge.specs.Counting.{AddsAtMost};
+ghost use Rattle.range_merge.specs.Runs.{digits};
 ghost use Rattle.range_collections.specs.Splicing.{spliced};
 ghost use Rattle.range_map.specs.Steps.{Steps, AreAlike, IsCanonical};
 ghost use Rattle.range_map.specs.Changed.{IsSetTo, FitsAfter};
@@ -10,6 +12,7 @@ ghost use Rattle.range_map.specs.Places.{ArePlaces, after_range, put_len};
 use crate::places::{Places, find, make_room};
 use crate::splicing::splice;
 use crate::value::{MapValue, copy_option};
+use range_collections::Comparisons;
 use std::alloc::AllocError;
 
 /// Gives the elements from the start up to the end, if there is one, an option. It asks for memory
@@ -20,9 +23,11 @@ pub fn set_range<K: Ord + Drop, V: MapValue>(
     start: K,
     end: Option<K>,
     option: Option<V>,
+    count: &mut Comparisons,
 ) -> Result<(), AllocError>
     requires canonical { IsCanonical K.cmp V.eq (record { keys = keys.old.items; options = options.old.items }) }
     requires some { (e : K) → end ≡ Some e → K.cmp start e ≡ Less }
+    requires made { count.old < 2 ^ 126 }
     ensures canonical { IsCanonical K.cmp V.eq (record { keys = keys.new.items; options = options.new.items }) }
     ensures values { OnOk result (IsSetTo K.cmp V.eq start end option
         (record { keys = keys.old.items; options = options.old.items })
@@ -31,6 +36,7 @@ pub fn set_range<K: Ord + Drop, V: MapValue>(
     ensures options_unchanged { OnErr result (options.new.items ≡ options.old.items) }
     ensures succeeds { FitsAfter K.cmp V.eq start end option
         (record { keys = keys.old.items; options = options.old.items }) → IsOk result }
+    ensures comparisons { AddsAtMost count.old count.new (2 * digits (length keys.old.items)) }
 {
     let places = find(
         keys.as_slice(),
@@ -38,6 +44,7 @@ pub fn set_range<K: Ord + Drop, V: MapValue>(
         &start,
         end.as_ref(),
         &option,
+        count,
     );
     make_room(keys, places)?;
     make_room(options, places)?;

@@ -10,14 +10,14 @@ pub make_both_rooms-requires : goal.make_both_rooms-requires
 make_both_rooms-requires g c =
     let m : Steps g.row.K.Denot g.row.V.Denot = record { keys = c.args.keys.now.items; options = c.args.options.now.items } in
     let are : ArePlaces g.K.Ord.cmp g.V.PartialEq.eq m c.args.start c.args.end (Some c.args.value) c.find-places.result =
-    rw (c.as_slice-3.ensures.value, c.as_slice-4.ensures.value, c.as_ref-2.ensures.value) at c.find-places.ensures in
+    rw (c.as_slice-3.ensures.value, c.as_slice-4.ensures.value, c.as_ref-2.ensures.value) at c.find-places.ensures.places in
     places_ordered g.K.Ord.cmp g.met.K.Ord.total g.V.PartialEq.eq g.met.V.Eq.laws m c.requires.canonical c.args.start c.args.end c.requires.some (Some c.args.value) c.find-places.result are
 
 pub put_range-requires-clause-copied : goal.put_range-requires-clause-copied
 put_range-requires-clause-copied g c =
     let m : Steps g.row.K.Denot g.row.V.Denot = record { keys = c.args.keys.now.items; options = c.args.options.now.items } in
     let are : ArePlaces g.K.Ord.cmp g.V.PartialEq.eq m c.args.start c.args.end (Some c.args.value) c.find-places.result =
-    rw (c.as_slice-3.ensures.value, c.as_slice-4.ensures.value, c.as_ref-2.ensures.value) at c.find-places.ensures in
+    rw (c.as_slice-3.ensures.value, c.as_slice-4.ensures.value, c.as_ref-2.ensures.value) at c.find-places.ensures.places in
     λ same _.
     ap (λ ws. option_eq g.V.PartialEq.eq None (get_or (None ∷ ws) c.find-places.result.to None)) c.make_both_rooms.ensures.options
     ∙ ap (option_eq g.V.PartialEq.eq None)
@@ -28,6 +28,6 @@ pub returns-in-Err-clause-succeeds : goal.returns-in-Err-clause-succeeds
 returns-in-Err-clause-succeeds g c =
     let m : Steps g.row.K.Denot g.row.V.Denot = record { keys = c.args.keys.now.items; options = c.args.options.now.items } in
     let are : ArePlaces g.K.Ord.cmp g.V.PartialEq.eq m c.args.start c.args.end (Some c.args.value) c.find-places.result =
-    rw (c.as_slice-3.ensures.value, c.as_slice-4.ensures.value, c.as_ref-2.ensures.value) at c.find-places.ensures in
+    rw (c.as_slice-3.ensures.value, c.as_slice-4.ensures.value, c.as_ref-2.ensures.value) at c.find-places.ensures.places in
     λ _ fits.
     absurd (true≢false (sym (c.in-Err.ensures.succeeds (put_len-fits g.K.Ord.cmp g.met.K.Ord.total g.V.PartialEq.eq g.met.V.Eq.laws m c.requires.canonical c.args.start c.args.end c.requires.some (Some c.args.value) c.find-places.result are fits))))
