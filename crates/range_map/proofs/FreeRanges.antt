@@ -1,11 +1,12 @@
 -- Where no key of a range has a value: at its start none holds, and no key of the map lies in it.
-use Rattle.std.proofs.Common.{◌≡◌, ◌↔◌, IsTrue, ℕ, ◌<◌, ◌≤◌, ◌&&◌, ◌∷◌, inl, inr, Bool, true, false, not, None, Some, Option, length, get_or, refl, sym, ap, ap₂, ◌∙◌, arith, true≢false, option_copied, unwrap_or}
+use Rattle.std.proofs.Common.{◌≡◌, ◌↔◌, IsTrue, ℕ, ◌<◌, ◌≤◌, ◌&&◌, ◌∷◌, inl, inr, Bool, true, false, not, None, Some, Option, length, get_or, refl, sym, ap, ap₂, ◌∙◌, arith, true≢false, option_copied, unwrap_or, cond}
 use Rattle.std.proofs.lemmas.Bool.{cases_lt}
 use Rattle.std.proofs.lemmas.List.{get_or_default}
 use Rattle.std.specs.Borrow.{Bor}
 use Rattle.std.specs.List.{AllWithin}
 use Rattle.std.specs.Option.{option_eq, is_some}
 use Rattle.std.specs.Cmp.{IsTotalOrder, IsEquivalence}
+use Rattle.std.specs.Cmp.Lexicographic.{options_equiv}
 use Rattle.std.proofs.lemmas.Cmp.{tied_itself}
 use Rattle.std.specs.declared.cmp.Ordering.{Ordering}
 use Rattle.std.specs.declared.cmp.Ordering.TheVariants.{Less, Greater}
@@ -14,8 +15,8 @@ use Rattle.range_merge.proofs.Orders.{Greater-from_less, Less-from_greater}
 use Rattle.range_collections.specs.Intersects.{IsItemBelow}
 use Rattle.range_collections.proofs.Ascending.{Less-from_is_lt}
 use Rattle.range_collections.proofs.Shortest.{le-trans, Less-from_le, Less-then_le}
-use Rattle.range_map.specs.Steps.{Steps, IsCanonical}
-use Rattle.range_map.specs.Changed.{is_in_range, IsFree}
+use Rattle.range_map.specs.Steps.{Steps, value_at, IsCanonical}
+use Rattle.range_map.specs.Changed.{is_in_range, IsFree, IsSetTo}
 use Rattle.range_map.specs.Places.{ArePlaces, IsAboveEnd}
 use Rattle.range_map.specs.declared.places.Places.{Places}
 use Rattle.range_map.proofs.Stretched.{both, from-first, option_before, value_at-place, value_at-key, neighbours}
@@ -131,3 +132,15 @@ module _ {K V : Type 0} (order : K → K → Ordering) (o : IsTotalOrder order) 
     IsFree-endless last None read false h = absurd (true≢false (sym h))
     IsFree-endless last (Some v) read true h = absurd (true≢false h)
     IsFree-endless last (Some v) read false h = (λ t. absurd (true≢false (sym t)), λ free. absurd (none_read (Some v) (read ∙ at_start free) refl))
+
+-- where no key of a range has a value, taking the values away changes nothing
+pub IsSetTo-free : {K V : Type 0} (order : K → K → Ordering) (E : V → V → Bool) → IsEquivalence E → (m : Steps K V) (start : K) (end : Option K) →
+    IsFree order start end m → IsSetTo order E start end None m m
+IsSetTo-free order E e m start end free x =
+    by_bool (is_in_range order start end x)
+    (λ t. ap₂ (option_eq E) (free x t) (ap (λ b. cond b None (value_at order m x)) t))
+    (λ f. ap (λ b. option_eq E (value_at order m x) (cond b None (value_at order m x))) f ∙ (options_equiv e).refl (value_at order m x))
+  where
+    by_bool : {G : Type 0} (c : Bool) → (c ≡ true → G) → (c ≡ false → G) → G
+    by_bool true t f = t refl
+    by_bool false t f = f refl

@@ -5,7 +5,7 @@ ghost use Rattle.std.specs.Ordering.{is_lt};
 ghost use Rattle.range_merge.specs.Counting.{AddsAtMost};
 ghost use Rattle.range_merge.specs.Runs.{digits};
 ghost use Rattle.range_map.specs.Steps.{value_at, ranges_len};
-ghost use Rattle.range_map.specs.Changed.{IsSetTo, FitsAfter};
+ghost use Rattle.range_map.specs.Changed.{IsSetTo, FitsAfter, IsFree};
 
 mod booking;
 mod building;
@@ -144,6 +144,7 @@ impl<K: Ord + Drop, V: MapValue> RangeMap<K, V> {
         ensures unchanged { OnErr result (self.new ≡ self.old) }
         ensures empty { is_lt (K.cmp range.start range.end) ≡ false → (self.new ≡ self.old) × IsOk result }
         ensures succeeds { FitsAfter K.cmp V.eq range.start (Some range.end) (Some value) self.old → IsOk result }
+        ensures no_change { IsSetTo K.cmp V.eq range.start (Some range.end) (Some value) self.old self.old → IsOk result }
     {
         self.insert_counted(range, value, &mut Comparisons::new())
     }
@@ -161,6 +162,7 @@ impl<K: Ord + Drop, V: MapValue> RangeMap<K, V> {
         ensures unchanged { OnErr result (self.new ≡ self.old) }
         ensures empty { is_lt (K.cmp range.start range.end) ≡ false → (self.new ≡ self.old) × IsOk result }
         ensures succeeds { FitsAfter K.cmp V.eq range.start (Some range.end) (Some value) self.old → IsOk result }
+        ensures no_change { IsSetTo K.cmp V.eq range.start (Some range.end) (Some value) self.old self.old → IsOk result }
         ensures comparisons { AddsAtMost count.old count.new (2 * digits (length self.old.keys) + 1) }
     {
         self.set(range, Some(value), count)
@@ -175,6 +177,7 @@ impl<K: Ord + Drop, V: MapValue> RangeMap<K, V> {
         ensures unchanged { OnErr result (self.new ≡ self.old) }
         ensures empty { is_lt (K.cmp range.start range.end) ≡ false → (self.new ≡ self.old) × IsOk result }
         ensures succeeds { FitsAfter K.cmp V.eq range.start (Some range.end) None self.old → IsOk result }
+        ensures free { IsFree K.cmp range.start (Some range.end) self.old → IsOk result }
     {
         self.remove_counted(range, &mut Comparisons::new())
     }
@@ -191,6 +194,7 @@ impl<K: Ord + Drop, V: MapValue> RangeMap<K, V> {
         ensures unchanged { OnErr result (self.new ≡ self.old) }
         ensures empty { is_lt (K.cmp range.start range.end) ≡ false → (self.new ≡ self.old) × IsOk result }
         ensures succeeds { FitsAfter K.cmp V.eq range.start (Some range.end) None self.old → IsOk result }
+        ensures free { IsFree K.cmp range.start (Some range.end) self.old → IsOk result }
         ensures comparisons { AddsAtMost count.old count.new (2 * digits (length self.old.keys) + 1) }
     {
         self.set(range, None, count)
@@ -204,6 +208,7 @@ impl<K: Ord + Drop, V: MapValue> RangeMap<K, V> {
         ensures values { OnOk result (IsSetTo K.cmp V.eq range.start None (Some value) self.old self.new) }
         ensures unchanged { OnErr result (self.new ≡ self.old) }
         ensures succeeds { FitsAfter K.cmp V.eq range.start None (Some value) self.old → IsOk result }
+        ensures no_change { IsSetTo K.cmp V.eq range.start None (Some value) self.old self.old → IsOk result }
     {
         self.set_from(range.start, Some(value))
     }
@@ -216,6 +221,7 @@ impl<K: Ord + Drop, V: MapValue> RangeMap<K, V> {
         ensures values { OnOk result (IsSetTo K.cmp V.eq range.start None None self.old self.new) }
         ensures unchanged { OnErr result (self.new ≡ self.old) }
         ensures succeeds { FitsAfter K.cmp V.eq range.start None None self.old → IsOk result }
+        ensures free { IsFree K.cmp range.start None self.old → IsOk result }
     {
         self.set_from(range.start, None)
     }
@@ -225,6 +231,7 @@ impl<K: Ord + Drop, V: MapValue> RangeMap<K, V> {
         ensures values { OnOk result (IsSetTo K.cmp V.eq start None option self.old self.new) }
         ensures unchanged { OnErr result (self.new ≡ self.old) }
         ensures succeeds { FitsAfter K.cmp V.eq start None option self.old → IsOk result }
+        ensures no_change { IsSetTo K.cmp V.eq start None option self.old self.old → IsOk result }
     {
         set_range(
             &mut self.keys,
@@ -248,6 +255,7 @@ impl<K: Ord + Drop, V: MapValue> RangeMap<K, V> {
         ensures unchanged { OnErr result (self.new ≡ self.old) }
         ensures empty { is_lt (K.cmp range.start range.end) ≡ false → (self.new ≡ self.old) × IsOk result }
         ensures succeeds { FitsAfter K.cmp V.eq range.start (Some range.end) option self.old → IsOk result }
+        ensures no_change { IsSetTo K.cmp V.eq range.start (Some range.end) option self.old self.old → IsOk result }
         ensures comparisons { AddsAtMost count.old count.new (2 * digits (length self.old.keys) + 1) }
     {
         let Range { start, end } = range;

@@ -1,5 +1,6 @@
 //! Ranges that are put in only where no key has a value.
-ghost use Rattle.std.specs.Prelude.{◌≡◌, ◌↔◌, None, Some, IsTrue, IsOk, OnOk, OnErr, IfErr};
+ghost use Rattle.std.specs.Prelude.{◌≡◌, ◌↔◌, false, None, Some, IsTrue, IsOk, OnOk, OnErr, IfErr};
+ghost use Rattle.std.specs.Ordering.{is_lt};
 ghost use Rattle.range_map.specs.Changed.{IsSetTo, FitsAfter, IsFree};
 ghost use Rattle.range_map.specs.Refused.{IsRefusal};
 
@@ -43,6 +44,7 @@ impl<K: Ord + Drop, V: Eq + Drop> RangeMap<K, V> {
         ensures unchanged { OnErr result (self.new ≡ self.old) }
         ensures succeeds { IsFree K.cmp range.start (Some range.end) self.old →
             FitsAfter K.cmp V.eq range.start (Some range.end) (Some value) self.old → IsOk result }
+        ensures empty { is_lt (K.cmp range.start range.end) ≡ false → (self.new ≡ self.old) × IsOk result }
     {
         let Range { start, end } = range;
         if !start.cmp(&end).is_lt() {
