@@ -242,7 +242,7 @@ fn operations_key_by_key() {
         let asked = both(&|a, b| if b.is_some() { None } else { a });
         assert_eq!(read(&a.without(&domain)), stretches(&asked));
 
-        let (mut updated, start, end) = (a.clone(), random.below(40) as u8, random.below(40) as u8);
+        let (mut updated, range) = (a.clone(), any_range(&mut random));
         let more = |value: Option<&u8>| {
             if value == Some(&2) {
                 None
@@ -250,10 +250,9 @@ fn operations_key_by_key() {
                 Some(value.map_or(9, |n| n + 1))
             }
         };
-        updated.update(start..end, more);
+        updated.update(range.clone(), more);
         let asked: Cells = std::array::from_fn(|key| {
-            let inside = (start..end).contains(&(key as u8));
-            if inside {
+            if has(&range, key as u8) {
                 more(left[key].as_ref())
             } else {
                 left[key]
@@ -269,12 +268,12 @@ fn operations_key_by_key() {
         assert_eq!(refused.is_err(), !(a.is_empty() && b.is_empty()));
         let mut same = fallible::RangeMap::from(a.clone());
         assert_eq!(
-            same.update(start..end, |_| Err(fallible::AllocError))
+            same.update(range.clone(), |_| Err(fallible::AllocError))
                 .is_err(),
-            start < end
+            (0..KEYS as u8).any(|key| has(&range, key))
         );
         assert_eq!(read(&same), read(&a));
-        same.update(start..end, |value| Ok(more(value))).unwrap();
+        same.update(range, |value| Ok(more(value))).unwrap();
         assert_eq!(read(&same), read(&updated));
         let found = x.combine(&y, |a, b| Ok(op(a, b))).unwrap();
         assert_eq!(read(&found), read(&a.combine(&b, op)));

@@ -242,7 +242,8 @@ impl<K: EntryClone, V: MapValue> RangeMap<K, V> {
         self.try_combine(that, op)
     }
 
-    /// Gives each key of a range what `op` makes of its value, or of none. An empty or a reversed range changes nothing.
+    /// Gives each key of a range [of any kind](AnyRange) what `op` makes of its value, or of none. An empty or a reversed
+    /// range changes nothing.
     ///
     /// It makes the map anew: it takes time for each step, and copies the values outside of the range.
     ///
@@ -262,10 +263,10 @@ impl<K: EntryClone, V: MapValue> RangeMap<K, V> {
     /// ```
     pub fn update(
         &mut self,
-        range: Range<K>,
+        range: impl AnyRange<K>,
         op: impl Fn(Option<&V>) -> Result<Option<V>, AllocError>,
     ) -> Result<(), AllocError> {
-        self.try_update(range, op)
+        self.try_update(range.into(), op)
     }
 
     /// Returns the map with the values of both. Where both have one, this map's stays.

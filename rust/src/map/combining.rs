@@ -1,11 +1,13 @@
 //! Two maps, and maps and sets.
 
 use super::{Copies, Kept, Map, RangeMap};
+use crate::any_range::AnyRange;
 use crate::array::{Array, List};
 use crate::generated::range_collections::Comparisons;
 use crate::generated::range_entry::EntryClone;
 use crate::generated::range_map::{self as proved, MapOperation, MapUpdate};
 use crate::memory::{expect_memory, AllocError};
+use crate::range::RangeSetRange;
 use crate::range_set::{RangeSet, RangeSetRef};
 use crate::support::Global;
 use core::ops::Range;
@@ -66,10 +68,13 @@ impl<K: Ord + EntryClone, V: Eq, C: Copies<V>> Map<K, V, C> {
     /// The new map is made aside, so a panic leaves the old one.
     pub(crate) fn try_update(
         &mut self,
-        range: Range<K>,
+        range: RangeSetRange<K>,
         op: impl Fn(Option<&V>) -> Result<Option<V>, AllocError>,
     ) -> Result<(), AllocError> {
-        self.0.update(range, &ByCall(op))
+        match range {
+            RangeSetRange::Range(range) => self.0.update(range, &ByCall(op)),
+            RangeSetRange::RangeFrom(range) => self.0.update_from(range, &ByCall(op)),
+        }
     }
 
     pub(crate) fn try_union_with_left(&self, that: &Self) -> Result<Self, AllocError> {
@@ -151,7 +156,8 @@ impl<K: EntryClone, V: Eq + Clone> RangeMap<K, V> {
         expect_memory::<K, _, _>(self.try_combine(that, |a, b| Ok(op(a, b))))
     }
 
-    /// Gives each key of a range what `op` makes of its value, or of none. An empty or a reversed range changes nothing.
+    /// Gives each key of a range [of any kind](AnyRange) what `op` makes of its value, or of none. An empty or a reversed
+    /// range changes nothing.
     ///
     /// It makes the map anew: it takes time for each step, and clones the values outside of the range.
     ///
@@ -163,9 +169,12 @@ impl<K: EntryClone, V: Eq + Clone> RangeMap<K, V> {
     /// let mut depth = RangeMap::from_iter([(0..5, 1)]);
     /// depth.update(3..9, |count| Some(count.unwrap_or(&0) + 1));
     /// assert_eq!(format!("{depth:?}"), "{0..3: 1, 3..5: 2, 5..9: 1}");
+    ///
+    /// depth.update(8.., |_| Some(7));
+    /// assert_eq!(format!("{depth:?}"), "{0..3: 1, 3..5: 2, 5..8: 1, 8..: 7}");
     /// ```
-    pub fn update(&mut self, range: Range<K>, op: impl Fn(Option<&V>) -> Option<V>) {
-        expect_memory::<K, _, _>(self.try_update(range, |value| Ok(op(value))));
+    pub fn update(&mut self, range: impl AnyRange<K>, op: impl Fn(Option<&V>) -> Option<V>) {
+        expect_memory::<K, _, _>(self.try_update(range.into(), |value| Ok(op(value))));
     }
 
     /// Returns the map with the values of both. Where both have one, this map's stays.

@@ -51,17 +51,33 @@ const BOOK: Change = |map, range| {
 const REMOVE: Change = |map, range| map.remove(range);
 const UPDATE: Change =
     |map, range| map.update(range, |it| it.map(MapValue::copy_value).transpose());
+const UPDATE_FROM: Change =
+    |map, range| map.update(range.start.., |it| it.map(MapValue::copy_value).transpose());
 const INSERT_FROM: Change = |map, range| map.insert(range.start.., unrefused(|| value(7)));
 const REMOVE_FROM: Change = |map, range| map.remove(range.start..);
 
 /// A map of so many ranges has two keys for each, and room for a power of two.
-const ROWS: [Row; 18] = [
+const ROWS: [Row; 20] = [
     Row {
         what: "a range updated",
         change: UPDATE,
         ranges: 9,
         range: 12..43,
         asks: true,
+    },
+    Row {
+        what: "all from a start on updated",
+        change: UPDATE_FROM,
+        ranges: 9,
+        range: 12..12,
+        asks: true,
+    },
+    Row {
+        what: "an empty range updated",
+        change: UPDATE,
+        ranges: 9,
+        range: 12..12,
+        asks: false,
     },
     Row {
         what: "a free range where there is room",
