@@ -14,6 +14,7 @@ pub mod Lengths
 pub mod Around
 pub mod Between
 pub mod Pairs
+pub mod Selected
 pub mod Parts
 pub mod Measured
 pub mod SetWithin

@@ -1,4 +1,5 @@
 pub mod Bounds
 pub mod Chunks
+pub mod Ended
 pub mod Places
 pub mod Tracking

@@ -1,8 +1,10 @@
-//! The greatest member at or below a value, and the greatest value there that is none.
-ghost use Rattle.std.specs.Prelude.{◌≡◌, ◌+◌, ◌-◌, ◌<◌, length, get_or, true, false, not, IfSome, IfNone};
+//! Members one by one: how many lie below a value, the one with so many below it, and the greatest
+//! at or below a value.
+ghost use Rattle.std.specs.Prelude.{◌≡◌, ◌+◌, ◌-◌, ◌<◌, ◌≤◌, length, get_or, true, false, not, IfSome, IfNone};
 ghost use Rattle.std.specs.Ordering.{is_le};
 ghost use Rattle.std.specs.declared.cmp.Ordering.TheVariants.{Less};
 ghost use Rattle.range_merge.specs.Boundaries.{IsAscending, count_up_to, member};
+ghost use Rattle.range_collections.specs.Covered.{members_below};
 ghost use Rattle.range_collections.specs.Members.{IsPrevious};
 ghost use Rattle.range_chunks.specs.Chunks.{flat, AreChunks};
 
@@ -11,7 +13,55 @@ use crate::cutting::is_inside;
 use crate::iter::Unread;
 use crate::place::FRONT;
 use crate::questions::place_up_to;
-use range_collections::{Comparisons, FromPlace, RangeSetEntry};
+use crate::values::{between, count_ended};
+use range_collections::{Comparisons, Countable, FromPlace, RangeSetEntry};
+
+/// How many members are below `at`.
+pub fn rank<T: Countable>(chunks: &[Chunk<T>], at: &T) -> u128
+    requires sorted { IsAscending T.cmp (flat chunks.now) }
+    requires chunks { AreChunks chunks.now }
+    ensures fits { result < T.count }
+    ensures value { result ≡ members_below T.cmp T.value (flat chunks.now) (T.place at.now) }
+{
+    at.known();
+    if chunks.is_empty() {
+        return 0;
+    }
+    let before = place_up_to(chunks, at, &mut Comparisons::new());
+    let (count, endless) = count_ended(Unread::between(chunks, FRONT, before));
+    match endless {
+        Some(start) => {
+            start.known();
+            count + (at.place() - start.place())
+        }
+        None => count,
+    }
+}
+
+/// The member with `k` members below it, if there is one.
+pub fn select<T: FromPlace>(chunks: &[Chunk<T>], k: u128) -> Option<T>
+    requires { IsAscending T.cmp (flat chunks.now) }
+    ensures value { IfSome result T.is_value }
+    ensures member { IfSome result (λ at. member T.cmp (flat chunks.now) at ≡ true) }
+    ensures rank { IfSome result (λ at.
+        members_below T.cmp T.value (flat chunks.now) (T.place at) ≡ k) }
+    ensures none { IfNone result (members_below T.cmp T.value (flat chunks.now) T.count ≤ k) }
+{
+    let mut unread = Unread::new(chunks);
+    let mut left = k;
+    while let Some(start) = unread.take_first() {
+        let Some(end) = unread.take_first() else {
+            start.known();
+            return T::from_place(start.place().checked_add(left)?);
+        };
+        let values = between(start, end);
+        if left < values {
+            return T::from_place(start.place() + left);
+        }
+        left -= values;
+    }
+    None
+}
 
 /// The greatest value at or below `from` that is a member, where `inside` is true, or else that is
 /// none.

@@ -1,10 +1,11 @@
 //! What is asked of all values of a type: whether each is a member, and how many are.
-ghost use Rattle.std.specs.Prelude.{◌≡◌, ◌↔◌, ◌-◌, ◌<◌, IsTrue, IfSome};
+ghost use Rattle.std.specs.Prelude.{◌≡◌, ◌↔◌, ◌-◌, ◌<◌, IsTrue, IfSome, option_copied};
 ghost use Rattle.std.specs.declared.cmp.Ordering.TheVariants.{Less};
 ghost use Rattle.range_merge.specs.Boundaries.{IsAscending};
 ghost use Rattle.range_collections.specs.Covered.{covered_of};
 ghost use Rattle.range_collections.specs.Values.{IsEverything};
 ghost use Rattle.range_chunks.specs.Chunks.{flat};
+ghost use Rattle.range_chunks.specs.Ended.{CountsEnded};
 
 use crate::chunk::Chunk;
 use crate::iter::Unread;
@@ -37,13 +38,28 @@ pub fn count_members<T: Countable>(chunks: &[Chunk<T>]) -> Option<u128>
     ensures fits { IfSome result (λ n. n < T.count) }
     ensures value { result ≡ covered_of T.cmp T.value T.count (flat chunks.now) }
 {
-    let mut unread = Unread::new(chunks);
+    match count_ended(Unread::new(chunks)) {
+        (count, None) => Some(count),
+        (_, Some(_)) => None,
+    }
+}
+
+/// How many values lie in the ranges with an end, and where the last range starts if it has none.
+pub(crate) fn count_ended<T: Countable>(boundaries: Unread<'_, T>) -> (u128, Option<&T>)
+    requires { IsAscending T.cmp boundaries }
+    ensures fits { result.0 < T.count }
+    ensures counted { CountsEnded T.cmp T.value T.count boundaries.entry
+        (option_copied result.1) result.0 }
+{
+    let mut unread = boundaries;
     let mut count: u128 = 0;
     while let Some(start) = unread.take_first() {
-        let end = unread.take_first()?;
+        let Some(end) = unread.take_first() else {
+            return (count, Some(start));
+        };
         count += between(start, end);
     }
-    Some(count)
+    (count, None)
 }
 
 /// How many values lie from one on, up to another, which is out.

@@ -1,12 +1,25 @@
-//! The greatest member at or below a value, of values that stand in a row.
-ghost use Rattle.std.specs.Prelude.{◌≡◌, IfSome, IfNone, true, false};
+//! The members of a set one by one, of values that stand in a row.
+ghost use Rattle.std.specs.Prelude.{◌≡◌, ◌<◌, ◌≤◌, IfSome, IfNone, true, false};
 ghost use Rattle.std.specs.Ordering.{is_le};
 ghost use Rattle.range_merge.specs.Boundaries.{member};
+ghost use Rattle.range_collections.specs.Covered.{members_below};
 ghost use Rattle.range_collections.specs.Members.{IsPrevious};
 
-use crate::members::prev_at;
+use crate::members::{prev_at, rank, select};
 use crate::set::ChunkedRangeSet;
-use range_collections::FromPlace;
+use range_collections::{Countable, FromPlace};
+
+impl<T: Countable> ChunkedRangeSet<T> {
+    /// How many members are below `at`.
+    ///
+    /// It is one search, then looks at each boundary below `at` once. It takes no memory.
+    pub fn rank(&self, at: &T) -> u128
+        ensures fits { result < T.count }
+        ensures value { result ≡ members_below T.cmp T.value self.now (T.place at.now) }
+    {
+        rank(self.chunks.as_slice(), at)
+    }
+}
 
 impl<T: FromPlace> ChunkedRangeSet<T> {
     /// The greatest member at or below `from`, or `None` if there is none. It is `from` itself if
@@ -31,5 +44,18 @@ impl<T: FromPlace> ChunkedRangeSet<T> {
             member T.cmp self.now x ≡ true) }
     {
         prev_at(self.chunks.as_slice(), from, false)
+    }
+
+    /// The member with `k` members below it, or `None` if there are no more than `k`.
+    ///
+    /// It looks at each boundary up to the answer once, and takes no memory.
+    pub fn select(&self, k: u128) -> Option<T>
+        ensures value { IfSome result T.is_value }
+        ensures member { IfSome result (λ at. member T.cmp self.now at ≡ true) }
+        ensures rank { IfSome result (λ at.
+            members_below T.cmp T.value self.now (T.place at) ≡ k) }
+        ensures none { IfNone result (members_below T.cmp T.value self.now T.count ≤ k) }
+    {
+        select(self.chunks.as_slice(), k)
     }
 }

@@ -1,0 +1,133 @@
+use Rattle.std.proofs.Common.{◌≡◌, refl, sym, ap, ◌∙◌, true, ◌+◌, ◌-◌, ◌<◌, ◌≤◌, length, take, drop, arith}
+use Rattle.range_merge.specs.Boundaries.{member}
+use Rattle.range_collections.specs.Covered.{members_below}
+use Rattle.range_collections.proofs.Counted.{members_below-nil, Less-pair, members_below-step}
+use Rattle.range_collections.proofs.Previous.{IfSome-at_place, IfSome-when, IfNone-always}
+use Rattle.range_collections.proofs.Ranked.{IfNone-past}
+use Rattle.range_chunks.specs.Chunks.{flat}
+use Rattle.range_chunks.proofs.Pairs.{two-more, start-at, end-at, index-after, rest-after}
+use Rattle.range_chunks.proofs.Selected.{member-in_pair, rank-in_pair, member-in_last, rank-in_last, rank-past}
+use Rattle.range_chunks.proofs.members.select.Goals as goal
+
+pub loop-start-init : goal.loop-start-init
+loop-start-init g c =
+    let all = flat c.args.chunks.now in
+    let none : length all - length c.new-unread.result ≡ 0 = omega (arith, ap length c.new-unread.ensures) in (
+      c.new-unread.ensures ∙ sym (ap (λ k. drop k all) none),
+      omega (arith, none),
+      omega (arith, ap (λ k. members_below g.T.Ord.cmp g.T.Countable.value (take k all) g.T.Countable.count) none, members_below-nil g.T.Ord.cmp g.T.Countable.value g.T.Countable.count),
+    )
+
+pub between-values-requires : goal.between-values-requires
+between-values-requires g c =
+    let law = g.met.T.Countable in
+    let all = flat c.args.chunks.now in
+    let i = length all - length c.loop-start.unread in
+    let first = sym c.loop-start.invariant.0 ∙ c.in-Some.ensures in
+    let second = c.in-Some-take_first.ensures in
+    Less-pair g.met.T.Ord.total g.T.RangeSetEntry.is_value g.T.Countable.value g.T.Countable.place g.T.Countable.count
+    law.value_is_value law.place_of_value law.place_fits law.in_order
+    all i c.in-Some.start.now c.in-Some-take_first.end.now c.requires (two-more all i _ _ _ _ first second) c.loop-start.invariant.1
+    (start-at all i _ _ _ _ first second) (end-at all i _ _ _ _ first second)
+
+pub returns-then-left-values-clause-member : goal.returns-then-left-values-clause-member
+returns-then-left-values-clause-member g c =
+    let law = g.met.T.Countable in
+    let all = flat c.args.chunks.now in
+    let i = length all - length c.loop-start.unread in
+    let first = sym c.loop-start.invariant.0 ∙ c.in-Some.ensures in
+    let q = c.place-then-left-values.result + c.loop-start.left in
+    let at : q ≡ g.T.Countable.place c.in-Some.start.now + c.loop-start.left = omega (arith, c.place-then-left-values.ensures) in
+    let low : q < g.T.Countable.place c.in-Some-take_first.end.now = omega (arith, at, c.between-values.ensures.value, c.if-left-values.true) in
+    IfSome-at_place g.T.Countable.value g.T.Countable.count q (λ at. member g.T.Ord.cmp (flat c.args.chunks.now) at ≡ true) c.from_place-then-left-values.result c.from_place-then-left-values.ensures
+    (member-in_pair g.met.T.Ord.total g.T.RangeSetEntry.is_value g.T.Countable.value g.T.Countable.place g.T.Countable.count
+    law.value_is_value law.place_of_value law.place_fits law.in_order
+    all c.requires i c.loop-start.invariant.1 c.in-Some.start.now c.between-values.ensures.start_is_value c.take_first.new.self first c.args.k c.loop-start.left c.loop-start.invariant.2
+    c.in-Some-take_first.end.now c.between-values.ensures.end_is_value c.take_first-in-Some.new.self c.in-Some-take_first.ensures q at low)
+
+pub returns-then-left-values-clause-rank : goal.returns-then-left-values-clause-rank
+returns-then-left-values-clause-rank g c =
+    let law = g.met.T.Countable in
+    let all = flat c.args.chunks.now in
+    let i = length all - length c.loop-start.unread in
+    let first = sym c.loop-start.invariant.0 ∙ c.in-Some.ensures in
+    let q = c.place-then-left-values.result + c.loop-start.left in
+    let at : q ≡ g.T.Countable.place c.in-Some.start.now + c.loop-start.left = omega (arith, c.place-then-left-values.ensures) in
+    let low : q < g.T.Countable.place c.in-Some-take_first.end.now = omega (arith, at, c.between-values.ensures.value, c.if-left-values.true) in
+    IfSome-at_place g.T.Countable.value g.T.Countable.count q (λ at. members_below g.T.Ord.cmp g.T.Countable.value (flat c.args.chunks.now) (g.T.Countable.place at) ≡ c.args.k) c.from_place-then-left-values.result c.from_place-then-left-values.ensures
+    (rank-in_pair g.met.T.Ord.total g.T.RangeSetEntry.is_value g.T.Countable.value g.T.Countable.place g.T.Countable.count
+    law.value_is_value law.place_of_value law.place_fits law.in_order
+    all c.requires i c.loop-start.invariant.1 c.in-Some.start.now c.between-values.ensures.start_is_value c.take_first.new.self first c.args.k c.loop-start.left c.loop-start.invariant.2
+    c.in-Some-take_first.end.now c.between-values.ensures.end_is_value c.take_first-in-Some.new.self c.in-Some-take_first.ensures q at low)
+
+pub returns-in_default-take_first-clause-member : goal.returns-in_default-take_first-clause-member
+returns-in_default-take_first-clause-member g c =
+    let law = g.met.T.Countable in
+    let all = flat c.args.chunks.now in
+    let i = length all - length c.loop-start.unread in
+    let first = sym c.loop-start.invariant.0 ∙ c.in-Some.ensures in
+    let q = c.in_ok-checked_add.field-0 in
+    let at : q ≡ g.T.Countable.place c.in-Some.start.now + c.loop-start.left = omega (arith, c.in_ok-checked_add.ensures.1, c.place.ensures) in
+    IfSome-when g.T.Countable.value g.T.Countable.count q (λ at. member g.T.Ord.cmp (flat c.args.chunks.now) at ≡ true) c.from_place.result c.from_place.ensures
+    (member-in_last g.met.T.Ord.total g.T.RangeSetEntry.is_value g.T.Countable.value g.T.Countable.place g.T.Countable.count
+    law.value_is_value law.place_of_value law.place_fits law.in_order
+    all c.requires i c.loop-start.invariant.1 c.in-Some.start.now c.known.ensures c.take_first.new.self first c.args.k c.loop-start.left c.loop-start.invariant.2
+    c.in_default-take_first.ensures.0 q at)
+
+pub returns-in_default-take_first-clause-rank : goal.returns-in_default-take_first-clause-rank
+returns-in_default-take_first-clause-rank g c =
+    let law = g.met.T.Countable in
+    let all = flat c.args.chunks.now in
+    let i = length all - length c.loop-start.unread in
+    let first = sym c.loop-start.invariant.0 ∙ c.in-Some.ensures in
+    let q = c.in_ok-checked_add.field-0 in
+    let at : q ≡ g.T.Countable.place c.in-Some.start.now + c.loop-start.left = omega (arith, c.in_ok-checked_add.ensures.1, c.place.ensures) in
+    IfSome-when g.T.Countable.value g.T.Countable.count q (λ at. members_below g.T.Ord.cmp g.T.Countable.value (flat c.args.chunks.now) (g.T.Countable.place at) ≡ c.args.k) c.from_place.result c.from_place.ensures
+    (rank-in_last g.met.T.Ord.total g.T.RangeSetEntry.is_value g.T.Countable.value g.T.Countable.place g.T.Countable.count
+    law.value_is_value law.place_of_value law.place_fits law.in_order
+    all c.requires i c.loop-start.invariant.1 c.in-Some.start.now c.known.ensures c.take_first.new.self first c.args.k c.loop-start.left c.loop-start.invariant.2
+    c.in_default-take_first.ensures.0 q at)
+
+pub returns-in_default-take_first-clause-none : goal.returns-in_default-take_first-clause-none
+returns-in_default-take_first-clause-none g c =
+    let law = g.met.T.Countable in
+    let all = flat c.args.chunks.now in
+    let i = length all - length c.loop-start.unread in
+    let first = sym c.loop-start.invariant.0 ∙ c.in-Some.ensures in
+    IfNone-past c.from_place.result c.in_ok-checked_add.field-0 g.T.Countable.count _ c.from_place.ensures
+    (λ past. rank-past g.met.T.Ord.total g.T.RangeSetEntry.is_value g.T.Countable.value g.T.Countable.place g.T.Countable.count
+    law.value_is_value law.place_of_value law.place_fits law.in_order
+    all c.requires i c.loop-start.invariant.1 c.in-Some.start.now c.known.ensures c.take_first.new.self first c.args.k c.loop-start.left c.loop-start.invariant.2
+    (omega (arith, past, c.in_ok-checked_add.ensures.1, c.place.ensures)))
+
+pub returns-in_err-checked_add-clause-none : goal.returns-in_err-checked_add-clause-none
+returns-in_err-checked_add-clause-none g c =
+    let law = g.met.T.Countable in
+    let all = flat c.args.chunks.now in
+    let i = length all - length c.loop-start.unread in
+    let first = sym c.loop-start.invariant.0 ∙ c.in-Some.ensures in
+    IfNone-always c.from_residual.result
+    (rank-past g.met.T.Ord.total g.T.RangeSetEntry.is_value g.T.Countable.value g.T.Countable.place g.T.Countable.count
+    law.value_is_value law.place_of_value law.place_fits law.in_order
+    all c.requires i c.loop-start.invariant.1 c.in-Some.start.now c.known.ensures c.take_first.new.self first c.args.k c.loop-start.left c.loop-start.invariant.2
+    (omega (arith, law.count_fits, c.place.ensures, c.in_err-checked_add.ensures)))
+
+pub loop-start-preserved : goal.loop-start-preserved
+loop-start-preserved g c =
+    let law = g.met.T.Countable in
+    let all = flat c.args.chunks.now in
+    let i = length all - length c.loop-start.unread in
+    let first = sym c.loop-start.invariant.0 ∙ c.in-Some.ensures in
+    let second = c.in-Some-take_first.ensures in
+    let step =
+    members_below-step g.met.T.Ord.total g.T.RangeSetEntry.is_value g.T.Countable.value g.T.Countable.place g.T.Countable.count
+    law.value_is_value law.place_of_value law.place_fits law.in_order
+    all i c.in-Some.start.now c.in-Some-take_first.end.now c.requires (two-more all i _ _ _ _ first second) c.loop-start.invariant.1
+    (start-at all i _ _ _ _ first second) (end-at all i _ _ _ _ first second)
+    c.between-values.ensures.start_is_value c.between-values.ensures.end_is_value in
+    let next = index-after all i _ _ _ _ first second in
+    let same = ap (λ k. members_below g.T.Ord.cmp g.T.Countable.value (take k all) g.T.Countable.count) next in (
+      rest-after all i _ _ _ _ first second ∙ sym (ap (λ k. drop k all) next),
+      omega (arith, c.loop-start.invariant.1, next),
+      omega (arith, step, same, c.loop-start.invariant.2, c.between-values.ensures.value, c.if-left-values.false),
+    )
