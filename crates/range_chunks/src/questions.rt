@@ -18,7 +18,6 @@ use crate::searching::find;
 use crate::splicing::is_before;
 use range_collections::Comparisons;
 use range_merge::Compare;
-use std::ops::Range;
 
 /// Whether the element is a member.
 #[inline]
@@ -39,46 +38,46 @@ pub fn is_member<T: Ord>(chunks: &[Chunk<T>], value: &T, count: &mut Comparisons
     }
 }
 
-/// Whether every element of the range is a member.
-pub fn has_all<T: Ord + Drop>(chunks: &[Chunk<T>], range: Range<T>, count: &mut Comparisons) -> bool
+/// Whether every element from the start on, up to the end, is a member.
+pub fn has_all<T: Ord>(chunks: &[Chunk<T>], start: &T, end: &T, count: &mut Comparisons) -> bool
     requires sorted { IsAscending T.cmp (flat chunks.now) }
     requires chunks { AreChunks chunks.now }
     requires made { count.old < 2 ^ 64 }
-    ensures members { IsTrue result ↔ HasAllWithin T.cmp (flat chunks.now) range.start range.end }
+    ensures members { IsTrue result ↔ HasAllWithin T.cmp (flat chunks.now) start.now end.now }
     ensures comparisons { AddsAtMost count.old count.new
         (2 * (digits (length chunks.now) + digits 512) + 1) }
 {
-    if !count.compare(&range.start, &range.end).is_lt() {
+    if !count.compare(start, end).is_lt() {
         return true;
     }
     if chunks.is_empty() {
         return false;
     }
-    let from = place_up_to(chunks, &range.start, count);
+    let from = place_up_to(chunks, start, count);
     if !is_inside(chunks, from) {
         return false;
     }
-    let to = place_below(chunks, &range.end, count);
+    let to = place_below(chunks, end, count);
     !is_before(chunks, from, to)
 }
 
-/// Whether some member lies in the range.
-pub fn has_some<T: Ord + Drop>(chunks: &[Chunk<T>], range: Range<T>) -> bool
+/// Whether some member lies from the start on, up to the end.
+pub fn has_some<T: Ord>(chunks: &[Chunk<T>], start: &T, end: &T) -> bool
     requires sorted { IsAscending T.cmp (flat chunks.now) }
     requires chunks { AreChunks chunks.now }
-    ensures { IsTrue result ↔ HasMemberWithin T.cmp (flat chunks.now) range.start range.end }
+    ensures { IsTrue result ↔ HasMemberWithin T.cmp (flat chunks.now) start.now end.now }
 {
     if chunks.is_empty() {
         return false;
     }
-    if !range.start.cmp(&range.end).is_lt() {
+    if !start.cmp(end).is_lt() {
         return false;
     }
-    let place = place_up_to(chunks, &range.start, &mut Comparisons::new());
+    let place = place_up_to(chunks, start, &mut Comparisons::new());
     if is_inside(chunks, place) {
         return true;
     }
-    is_item_below(chunks, place, &range.end)
+    is_item_below(chunks, place, end)
 }
 
 /// The least element at or above `from` that is a member, where `inside` is true, or else that is

@@ -152,7 +152,7 @@ impl<T: Ord + Drop> ChunkedRangeSet<T> {
     pub fn intersects_range(&self, range: Range<T>) -> bool
         ensures { IsTrue result ↔ HasMemberWithin T.cmp self.now range.start range.end }
     {
-        has_some(self.chunks.as_slice(), range)
+        has_some(self.chunks.as_slice(), &range.start, &range.end)
     }
 
     /// Adds the elements of the range. An empty or reversed range changes nothing. Of two equal

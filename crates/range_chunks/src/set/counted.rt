@@ -40,7 +40,7 @@ impl<T: Ord + Drop> ChunkedRangeSet<T> {
         ensures comparisons { AddsAtMost count.old count.new
             (2 * (digits (length self.now) + digits 512) + 1) }
     {
-        has_all(self.chunks.as_slice(), range, count)
+        has_all(self.chunks.as_slice(), &range.start, &range.end, count)
     }
 
     /// `insert`, with a counter.

@@ -12,40 +12,40 @@ use Rattle.range_chunks.proofs.questions.has_all.Goals as goal
 
 pub returns-then-not-is_lt-clause-members : goal.returns-then-not-is_lt-clause-members
 returns-then-not-is_lt-clause-members g c =
-    let off : is_lt (g.T.Ord.cmp c.args.range.start c.args.range.end) ≡ false = search rules in
-    (λ _. HasAllWithin-nothing g.met.T.Ord.total c.args.range.start c.args.range.end (flat c.args.chunks.now) off, λ _. refl)
+    let off : is_lt (g.T.Ord.cmp c.args.start.now c.args.end.now) ≡ false = search rules in
+    (λ _. HasAllWithin-nothing g.met.T.Ord.total c.args.start.now c.args.end.now (flat c.args.chunks.now) off, λ _. refl)
 
 pub returns-then-is_empty-clause-members : goal.returns-then-is_empty-clause-members
 returns-then-is_empty-clause-members g c =
-    let less : g.T.Ord.cmp c.args.range.start c.args.range.end ≡ Less = search rules in
+    let less : g.T.Ord.cmp c.args.start.now c.args.end.now ≡ Less = search rules in
     let none : length c.args.chunks.now ≡ 0 = search rules in (
       λ t. absurd (cc),
       λ all.
-          absurd (true≢false (sym (all c.args.range.start (ap is_le (Equal-self g.met.T.Ord.total c.args.range.start)) less)
-          ∙ no_members g.met.T.Ord.total c.args.chunks.now none c.args.range.start)),
+          absurd (true≢false (sym (all c.args.start.now (ap is_le (Equal-self g.met.T.Ord.total c.args.start.now)) less)
+          ∙ no_members g.met.T.Ord.total c.args.chunks.now none c.args.start.now)),
     )
 
 pub returns-then-not-is_inside-clause-members : goal.returns-then-not-is_inside-clause-members
 returns-then-not-is_inside-clause-members g c =
-    let less : g.T.Ord.cmp c.args.range.start c.args.range.end ≡ Less = search rules in (
+    let less : g.T.Ord.cmp c.args.start.now c.args.end.now ≡ Less = search rules in (
       λ t. absurd (cc),
-      λ all. absurd (not_all_within g.met.T.Ord.total c.args.range.start (flat c.args.chunks.now) (place_in c.args.chunks.now c.place_up_to-from.result)
+      λ all. absurd (not_all_within g.met.T.Ord.total c.args.start.now (flat c.args.chunks.now) (place_in c.args.chunks.now c.place_up_to-from.result)
           c.place_up_to-from.ensures.within c.place_up_to-from.ensures.before c.place_up_to-from.ensures.from
-          c.args.range.end less (even-from_test c.is_inside.result _ c.is_inside.ensures c.if-not-is_inside.true) all),
+          c.args.end.now less (even-from_test c.is_inside.result _ c.is_inside.ensures c.if-not-is_inside.true) all),
     )
 
 pub is_before-requires-clause-ordered : goal.is_before-requires-clause-ordered
 is_before-requires-clause-ordered g c =
-    let less : g.T.Ord.cmp c.args.range.start c.args.range.end ≡ Less = search rules in
-    counts_ordered g.met.T.Ord.total c.args.range.start c.args.range.end (flat c.args.chunks.now) (place_in c.args.chunks.now c.place_up_to-from.result) (place_in c.args.chunks.now c.place_below-to.result)
+    let less : g.T.Ord.cmp c.args.start.now c.args.end.now ≡ Less = search rules in
+    counts_ordered g.met.T.Ord.total c.args.start.now c.args.end.now (flat c.args.chunks.now) (place_in c.args.chunks.now c.place_up_to-from.result) (place_in c.args.chunks.now c.place_below-to.result)
     c.requires.sorted less c.place_up_to-from.ensures.within c.place_up_to-from.ensures.before c.place_up_to-from.ensures.from
     c.place_below-to.ensures.within c.place_below-to.ensures.before c.place_below-to.ensures.from
 
 pub returns-clause-members : goal.returns-clause-members
 returns-clause-members g c =
-    let less : g.T.Ord.cmp c.args.range.start c.args.range.end ≡ Less = search rules in
+    let less : g.T.Ord.cmp c.args.start.now c.args.end.now ≡ Less = search rules in
     IsTrue-not_before c.is_before.result _ _ _ c.is_before.ensures.some c.is_before.ensures.none
-    (IsTrue-all_within g.met.T.Ord.total c.args.range.start c.args.range.end (flat c.args.chunks.now) (place_in c.args.chunks.now c.place_up_to-from.result) (place_in c.args.chunks.now c.place_below-to.result)
+    (IsTrue-all_within g.met.T.Ord.total c.args.start.now c.args.end.now (flat c.args.chunks.now) (place_in c.args.chunks.now c.place_up_to-from.result) (place_in c.args.chunks.now c.place_below-to.result)
     c.requires.sorted less c.place_up_to-from.ensures.within c.place_up_to-from.ensures.before c.place_up_to-from.ensures.from
     c.place_below-to.ensures.within c.place_below-to.ensures.before c.place_below-to.ensures.from (odd-from_test c.is_inside.result _ c.is_inside.ensures c.if-not-is_inside.false))
 

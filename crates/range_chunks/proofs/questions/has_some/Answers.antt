@@ -17,10 +17,10 @@ returns-then-is_empty g c =
 
 pub returns-then-is_inside : goal.returns-then-is_inside
 returns-then-is_inside g c =
-    let less : g.T.Ord.cmp c.args.range.start c.args.range.end ≡ Less = search rules in
+    let less : g.T.Ord.cmp c.args.start.now c.args.end.now ≡ Less = search rules in
     let odd : place_in c.args.chunks.now c.place_up_to-place.result % 2 ≡ 1 = omega (arith, odd-from_test c.is_inside.result (place_in c.args.chunks.now c.place_up_to-place.result) c.is_inside.ensures c.if-is_inside.true) in (
       λ _.
-          HasMemberWithin-start g.met.T.Ord.total (flat c.args.chunks.now) c.args.range.start c.args.range.end (place_in c.args.chunks.now c.place_up_to-place.result)
+          HasMemberWithin-start g.met.T.Ord.total (flat c.args.chunks.now) c.args.start.now c.args.end.now (place_in c.args.chunks.now c.place_up_to-place.result)
           c.requires.sorted c.place_up_to-place.ensures.within c.place_up_to-place.ensures.before c.place_up_to-place.ensures.from
           less odd,
       λ _. refl,
@@ -29,8 +29,8 @@ returns-then-is_inside g c =
 pub returns : goal.returns
 returns g c =
     let even : place_in c.args.chunks.now c.place_up_to-place.result % 2 ≡ 0 = even-from_test c.is_inside.result (place_in c.args.chunks.now c.place_up_to-place.result) c.is_inside.ensures c.if-is_inside.false in
-    let next : IsItemBelow g.T.Ord.cmp (flat c.args.chunks.now) (place_in c.args.chunks.now c.place_up_to-place.result) c.args.range.end
-    ↔ HasMemberWithin g.T.Ord.cmp (flat c.args.chunks.now) c.args.range.start c.args.range.end =
-    HasMemberWithin-next g.met.T.Ord.total (flat c.args.chunks.now) c.args.range.start c.args.range.end (place_in c.args.chunks.now c.place_up_to-place.result)
+    let next : IsItemBelow g.T.Ord.cmp (flat c.args.chunks.now) (place_in c.args.chunks.now c.place_up_to-place.result) c.args.end.now
+    ↔ HasMemberWithin g.T.Ord.cmp (flat c.args.chunks.now) c.args.start.now c.args.end.now =
+    HasMemberWithin-next g.met.T.Ord.total (flat c.args.chunks.now) c.args.start.now c.args.end.now (place_in c.args.chunks.now c.place_up_to-place.result)
     c.requires.sorted c.place_up_to-place.ensures.within c.place_up_to-place.ensures.before c.place_up_to-place.ensures.from even in
     (λ t. next.0 (c.is_item_below.ensures.0 t), λ h. c.is_item_below.ensures.1 (next.1 h))
