@@ -1,5 +1,5 @@
 -- A walk through gaps, of which those that are read are too short.
-use Rattle.std.proofs.Common.{◌≡◌, refl, sym, ap, subst, ℕ, inl, inr, ◌<◌, ◌≤◌, ◌+◌, ◌-◌, ◌%◌, suc, ◌&&◌, ◌∙◌, true, false, not, cond, List, [], ◌∷◌, arith}
+use Rattle.std.proofs.Common.{◌≡◌, refl, sym, ap, subst, ℕ, inl, inr, ◌<◌, ◌≤◌, ◌+◌, ◌-◌, ◌%◌, suc, ◌&&◌, ◌∙◌, true, false, not, cond, List, [], ◌∷◌, Option, Some, None, IfNone, arith}
 use Rattle.std.specs.Cmp.{IsTotalOrder, ranks}
 use Rattle.std.proofs.lemmas.Cmp.{by_ranked}
 use Rattle.std.specs.Ordering.{is_le, is_lt, nat_cmp, ord_max}
@@ -11,6 +11,10 @@ use Rattle.range_collections.specs.Fits.{IsRow}
 use Rattle.range_collections.proofs.Counted.{place-less}
 use Rattle.range_collections.proofs.Rows.{IsUnread, IsUnread-next, IsRow-front, row_from, IsRow-members, row-nil, IsRow-from_parts, IsRow-to_parts, from_not, to_not, member-before, up_to-value}
 use Rattle.range_chunks.specs.Bounds.{IsFirstRow, IsStopped, IsFirstFree, IsPast}
+
+pub IfNone-map : {X P Q : Type 0} (r : Option X) → (P → Q) → IfNone r P → IfNone r Q
+IfNone-map None f h = f h
+IfNone-map (Some x) f h = tt
 
 -- what is longer than the longest gap that was read is still there, and `count` values are longer
 pub record IsWalked {K : Type 0} (order : K → K → Ordering) (value : ℕ → K) (place : K → ℕ) (total count most : ℕ) (gaps unread : List K) : Type 0 where

@@ -1,12 +1,12 @@
-//! Where a stretch of values fits beside the members.
-ghost use Rattle.std.specs.Prelude.{◌≡◌, ◌<◌, ◌≤◌, ◌+◌, ℕ, false, cond, Some, None, IfSome, IfNone};
+//! Where a stretch of values fits beside the members, or in them.
+ghost use Rattle.std.specs.Prelude.{◌≡◌, ◌<◌, ◌≤◌, ◌+◌, ◌%◌, ℕ, true, false, cond, Some, None, IfSome, IfNone};
 ghost use Rattle.std.specs.Ordering.{is_le};
 ghost use Rattle.range_merge.specs.Boundaries.{member};
 ghost use Rattle.range_collections.specs.Fits.{Fits, IsRow};
 
-use crate::reading::{Reading, first_gap};
+use crate::reading::{first_place, first_start};
 use crate::set::ChunkedRangeSet;
-use range_collections::{Countable, Unsigned};
+use range_collections::{Countable, FromPlace, Unsigned, place_in};
 use std::ops::Range;
 
 impl<T: Unsigned> ChunkedRangeSet<T> {
@@ -59,10 +59,73 @@ impl<T: Countable + Copy> ChunkedRangeSet<T> {
         if count == 0 {
             return start.cmp(&end).is_le().then_some(start);
         }
-        match first_gap(self.gaps(&start..&end), count, None) {
-            Reading::Found(at) => Some(at),
-            Reading::Stopped { .. } => None,
-            Reading::End => None,
+        first_start(self.gaps(&start..&end), count)
+    }
+
+    /// The least value from which `count` members in a row lie in the range, or `None` if there is
+    /// none. If `count` is 0, it is the start of the range, unless that is reversed.
+    ///
+    /// It looks at each range from the start up to the answer, and takes no memory.
+    pub fn first_run(&self, within: Range<T>, count: u128) -> Option<T>
+        ensures fits { IfSome result (λ at. IsRow T.cmp T.value true self.now
+            (T.place within.start) (T.place within.end) count (T.place at)) }
+        ensures least { IfSome result (λ at. (n : ℕ) → IsRow T.cmp T.value true self.now
+            (T.place within.start) (T.place within.end) count n → T.place at ≤ n) }
+        ensures none { IfNone result ((n : ℕ) → ¬ (IsRow T.cmp T.value true self.now
+            (T.place within.start) (T.place within.end) count n)) }
+    {
+        let Range { start, end } = within;
+        start.known();
+        end.known();
+        if count == 0 {
+            return start.cmp(&end).is_le().then_some(start);
         }
+        first_start(self.ranges_within(&start..&end), count)
+    }
+}
+
+impl<T: FromPlace> ChunkedRangeSet<T> {
+    /// The least value whose place is a multiple of `align` and from which `count` values lie in
+    /// the range, none of them a member. `None` if there is none, or if `align` is 0.
+    ///
+    /// It looks at each gap from the start up to the answer, and takes no memory.
+    pub fn first_fit_aligned(&self, within: Range<T>, count: u128, align: u128) -> Option<T>
+        ensures fits { IfSome result (λ at. IsRow T.cmp T.value false self.now
+            (T.place within.start) (T.place within.end) count (T.place at)) }
+        ensures aligned { IfSome result (λ at. T.place at % align ≡ 0) }
+        ensures least { IfSome result (λ at. (n : ℕ) → n % align ≡ 0 → IsRow T.cmp T.value false
+            self.now (T.place within.start) (T.place within.end) count n → T.place at ≤ n) }
+        ensures none { 0 < align → IfNone result ((n : ℕ) → n % align ≡ 0 →
+            ¬ (IsRow T.cmp T.value false self.now
+            (T.place within.start) (T.place within.end) count n)) }
+        ensures no_align { align ≡ 0 → result ≡ None }
+    {
+        if align == 0 {
+            return None;
+        }
+        T::from_place(self.first_aligned_place(&within.start, &within.end, count, align)?)
+    }
+
+    // The place of that value.
+    fn first_aligned_place(&self, start: &T, end: &T, count: u128, align: u128) -> Option<u128>
+        requires { 0 < align }
+        ensures fits { IfSome result (IsRow T.cmp T.value false self.now
+            (T.place start.now) (T.place end.now) count) }
+        ensures below { IfSome result (λ at. at < T.count) }
+        ensures aligned { IfSome result (λ at. at % align ≡ 0) }
+        ensures least { IfSome result (λ at. (n : ℕ) → n % align ≡ 0 → IsRow T.cmp T.value false
+            self.now (T.place start.now) (T.place end.now) count n → at ≤ n) }
+        ensures none { IfNone result ((n : ℕ) → n % align ≡ 0 → ¬ (IsRow T.cmp T.value false
+            self.now (T.place start.now) (T.place end.now) count n)) }
+    {
+        start.known();
+        end.known();
+        if count == 0 {
+            if !start.cmp(end).is_le() {
+                return None;
+            }
+            return place_in(&(start..end), 0, align);
+        }
+        first_place(self.gaps(start..end), count, align)
     }
 }

@@ -6,7 +6,7 @@ ghost use Rattle.range_collections.specs.Fits.{Fits, IsRow};
 ghost use Rattle.range_chunks.specs.Bounds.{IsBound, IsPast, IsStep};
 
 use crate::gap_bound::{GapBound, first_above, stop_of};
-use crate::reading::{Reading, Step, Until, first_gap};
+use crate::reading::{Reading, Step, Until, first_row};
 use crate::space::ChunkedSpace;
 use range_collections::{Countable, Unsigned};
 use std::ops::Range;
@@ -92,10 +92,10 @@ impl<T: Countable + Copy> ChunkedSpace<T> {
         from.known();
         end.known();
         let until = Until {
-            gaps: GAPS,
+            ranges: GAPS,
             place: stop_of(self.bounds.as_slice(), at, from.place()),
         };
-        match first_gap(self.taken.gaps(&from..&end), count, Some(until)) {
+        match first_row(self.taken.gaps(&from..&end), count, Some(until)) {
             Reading::Found(found) => Step::At(found),
             Reading::Stopped { end: next, most } => {
                 self.note(at, from, next, most);
