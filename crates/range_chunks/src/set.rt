@@ -9,6 +9,7 @@ ghost use Rattle.range_collections.specs.Intersects.{HasMemberWithin};
 ghost use Rattle.range_collections.specs.Ranges.{range_items};
 
 mod asking;
+mod changing;
 mod combining;
 mod counted;
 mod fitting;
