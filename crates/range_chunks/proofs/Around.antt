@@ -2,9 +2,6 @@
 use Rattle.std.proofs.Common.{◌≡◌, sym, ap, ◌∙◌, ℕ, zero, suc, ◌+◌, ◌-◌, ◌≤◌, ◌<◌, List, [], ◌∷◌, length, drop, get_or, arith, refl}
 use Rattle.range_collections.specs.Ranges.{ranges_of}
 use Rattle.range_collections.specs.declared.range_set_range.RangeSetRange.TheVariants.{Range, RangeFrom}
-use Rattle.range_chunks.specs.declared.chunk.Chunk.{Chunk}
-use Rattle.range_chunks.specs.Chunks.{items_of, flat, start_of}
-use Rattle.range_chunks.proofs.Flat.{item-at, start-next}
 
 module _ {K : Type 0} where
   drop-item : (xs : List K) (n : ℕ) (x : K) → n < length xs → x ≡ get_or xs n x → drop n xs ≡ x ∷ drop (suc n) xs
@@ -34,24 +31,3 @@ module _ {K : Type 0} where
     ranges_of-one none =
         ap ranges_of (from-start ∙ ap (λ ys. start ∷ ys) (drop-past n xs none))
         ∙ ap (λ ys. RangeFrom (record { start = start }) ∷ ranges_of ys) (sym (drop-past (n + 1) xs (omega (arith, none))))
-
-module _ {T : Type 0} where
-  -- behind some boundaries, where a chunk starts, there is a chunk before it
-  pub chunk-before : (xs : List (Chunk T)) (k i : ℕ) → 0 < start_of xs k + i → i ≡ 0 → 0 < k
-  chunk-before xs zero i some none = absurd (omega (arith, some, none))
-  chunk-before xs (suc k) i some none = omega arith
-
-  -- the boundary before an index of a chunk
-  pub before-index : (xs : List (Chunk T)) (k i : ℕ) (x : Chunk T) (v : T) → k < length xs → x ≡ get_or xs k x → 0 < i → i ≤ length (items_of x) →
-      ((d : T) → v ≡ get_or (items_of x) (i - 1) d) → (d : T) → v ≡ get_or (flat xs) (start_of xs k + i - 1) d
-  before-index xs k i x v within read some fits last d =
-      let e : start_of xs k + (i - 1) ≡ start_of xs k + i - 1 = omega (arith, some) in
-      last d ∙ sym (item-at xs k (i - 1) x d within read (omega (arith, some, fits))) ∙ ap (λ n. get_or (flat xs) n d) e
-
-  -- the boundary before a chunk
-  pub before-chunk : (xs : List (Chunk T)) (k i b : ℕ) (x : Chunk T) (v : T) → k ≤ length xs → i ≡ 0 → suc b ≡ k → x ≡ get_or xs b x →
-      ((d : T) → v ≡ get_or (items_of x) (length (items_of x) - 1) d) → (d : T) → v ≡ get_or (flat xs) (start_of xs k + i - 1) d
-  before-chunk xs k i b x v within none e read last d =
-      let there : b < length xs = omega (arith, within, e) in
-      let n : start_of xs b + length (items_of x) - 1 ≡ start_of xs k + i - 1 = omega (arith, none, start-next xs b x there read, ap (λ m. start_of xs m) e) in
-      before-index xs b (length (items_of x)) x v there read (omega arith) (omega arith) last d ∙ ap (λ m. get_or (flat xs) m d) n

@@ -1,5 +1,5 @@
 //! The ranges of a set in chunks, from the lowest on and from the highest down.
-ghost use Rattle.std.specs.Prelude.{◌≡◌, ◌≤◌, ◌-◌, ◌++◌, take, drop, length};
+ghost use Rattle.std.specs.Prelude.{◌≡◌, ◌≤◌, ◌-◌, ◌++◌, [], false, take, drop, length};
 ghost use Rattle.std.specs.Cmp.Lexicographic.{pointwise};
 ghost use Rattle.std.specs.Iterator.{YieldsFirstBy, YieldsLastBy, item_count};
 ghost use Rattle.range_merge.specs.Boundaries.{is_odd};
@@ -8,6 +8,7 @@ ghost use Rattle.range_chunks.specs.Chunks.{flat, AreChunks};
 ghost use Rattle.range_chunks.specs.Places.{place_in, IsPlace};
 
 use crate::chunk::Chunk;
+use crate::cutting::is_inside;
 use crate::place::Place;
 use range_collections::RangeSetRange;
 use std::iter::FusedIterator;
@@ -44,6 +45,32 @@ impl<'a, T> Iter<'a, T> {
         Iter {
             unread: Unread::new(chunks),
             endless: is_endless(chunks),
+        }
+    }
+
+    // No range.
+    pub(crate) fn nothing() -> Self
+        ensures { result ≡ [] }
+    {
+        Iter {
+            unread: Unread::new(&[]),
+            endless: false,
+        }
+    }
+
+    // The ranges of the boundaries between two places, of which the first doesn't lie in a range.
+    pub(crate) fn between(chunks: &'a [Chunk<T>], from: Place, to: Place) -> Self
+        requires chunks { AreChunks chunks.now }
+        requires from { IsPlace chunks.now from }
+        requires to { IsPlace chunks.now to }
+        requires ordered { place_in chunks.now from ≤ place_in chunks.now to }
+        requires even { is_odd (place_in chunks.now from) ≡ false }
+        ensures { result ≡ take (place_in chunks.now to - place_in chunks.now from)
+            (drop (place_in chunks.now from) (flat chunks.now)) }
+    {
+        Iter {
+            unread: Unread::between(chunks, from, to),
+            endless: is_inside(chunks, to),
         }
     }
 }

@@ -13,6 +13,7 @@ mod joining;
 mod members;
 mod merging;
 mod moving;
+mod overlapping;
 mod overwriting;
 mod place;
 mod questions;

@@ -37,8 +37,8 @@ pub fn overwrite<T: Drop>(
     }
 }
 
-// The place in the chunk that has the boundary there: the end of a chunk is the next one's start.
-fn item_place<T>(chunks: &[Chunk<T>], at: Place) -> Place
+/// The place in the chunk that has the boundary there: the end of a chunk is the next one's start.
+pub fn item_place<T>(chunks: &[Chunk<T>], at: Place) -> Place
     requires short { AreShort chunks.now }
     requires place { IsPlace chunks.now at }
     requires item { place_in chunks.now at < length (flat chunks.now) }

@@ -7,6 +7,7 @@ ghost use Rattle.range_chunks.specs.Places.{place_in, IsPlace};
 
 use crate::chunk::Chunk;
 use crate::cutting::is_inside;
+use crate::overlapping::place_before;
 use crate::place::Place;
 use crate::questions::{item_at, place_up_to};
 use range_collections::{Comparisons, RangeSetRange};
@@ -55,10 +56,6 @@ fn item_before<T>(chunks: &[Chunk<T>], at: Place) -> &T
     requires some { 0 < place_in chunks.now at }
     ensures { HoldsAt (λ y. result.now ≡ y) (flat chunks.now) (place_in chunks.now at - 1) }
 {
-    if at.index > 0 {
-        return chunks[at.chunk].at(at.index - 1);
-    }
-    let before = at.chunk - 1;
-    let chunk = &chunks[before];
-    chunk.at(chunk.len() - 1)
+    let before = place_before(chunks, at);
+    chunks[before.chunk].at(before.index)
 }

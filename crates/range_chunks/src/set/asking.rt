@@ -1,17 +1,20 @@
-//! How many ranges a set has, the first and the last of them, the one at an element, and the parts
-//! of a range that are in the set or not.
-ghost use Rattle.std.specs.Prelude.{◌≡◌, ◌↔◌, ◌^◌, ◌-◌, ◌<◌, ◌&&◌, not, [], Some, None, true, length, min, Contains, IsTrue, IsSome, IfSome, MatchOption, slice_get};
+//! How many ranges a set has, the first and the last of them, the one at an element, those that
+//! share an element with a range, and the parts of a range that are in the set or not.
+ghost use Rattle.std.specs.Prelude.{◌≡◌, ◌↔◌, ◌^◌, ◌-◌, ◌<◌, ◌&&◌, not, [], Some, None, true, filter, length, min, Contains, IsTrue, IsSome, IfSome, MatchOption, slice_get};
 ghost use Rattle.std.specs.List.{last_or};
 ghost use Rattle.std.specs.Ordering.{is_le, is_lt};
 ghost use Rattle.range_merge.specs.Boundaries.{member};
 ghost use Rattle.range_merge.specs.Connective.{intersection_table, difference_table};
 ghost use Rattle.range_collections.specs.Covered.{covered_of};
 ghost use Rattle.range_collections.specs.Extent.{IsSpan};
+ghost use Rattle.range_collections.specs.Overlapping.{overlaps};
 ghost use Rattle.range_collections.specs.Ranges.{ranges_of, range_now, range_start, IsInRange};
 ghost use Rattle.range_collections.specs.Values.{IsEverything};
 ghost use Rattle.range_collections.specs.Within.{GivesParts};
 
 use crate::counting::{len_of, ranges_len_of};
+use crate::iter::Iter;
+use crate::overlapping::overlapping;
 use crate::ranges::range_at;
 use crate::set::ChunkedRangeSet;
 use crate::values::{count_members, is_everything};
@@ -92,6 +95,17 @@ impl<T: Ord> ChunkedRangeSet<T> {
     {
         let chunks = self.chunks.as_slice();
         parts_within(chunks, within, true, &mut Comparisons::new())
+    }
+
+    /// The ranges of the set that share an element with `range`, whole, from the lowest on and from
+    /// the highest down. An empty or reversed range shares none. It is two searches and takes no
+    /// memory, and a step of the iterator makes no comparison.
+    #[inline]
+    pub fn overlapping(&self, range: Range<&T>) -> Iter<'_, T>
+        ensures { ranges_of result ≡ filter
+            (overlaps T.cmp range.entry.start.now range.entry.end.now) (ranges_of self.now) }
+    {
+        overlapping(self.chunks.as_slice(), range.start, range.end)
     }
 
     /// How many boundaries there are, or `usize::MAX` if there are more. It adds up the chunks.
