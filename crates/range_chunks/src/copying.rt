@@ -1,5 +1,5 @@
 //! Chunks of clones: those of a list in chunks, and those of a slice.
-ghost use Rattle.std.specs.Prelude.{◌≡◌, ◌∷◌, IfOk};
+ghost use Rattle.std.specs.Prelude.{◌≡◌, ◌∷◌, length, IsOk, IfOk};
 ghost use Rattle.std.specs.List.{AllZip};
 ghost use Rattle.range_chunks.specs.Chunks.{items_of, flat, AreChunks};
 
@@ -15,6 +15,7 @@ pub fn clones<T: EntryClone + Drop>(
     requires { AreChunks chunks.now }
     ensures copies { IfOk result (λ copied. AllZip T.is_copy (flat chunks.now) (flat copied.items)) }
     ensures chunks { IfOk result (λ copied. AreChunks copied.items) }
+    ensures succeeds { length chunks.now ≡ 0 → IsOk result }
 {
     let mut copied = Vec::with_capacity(alloc, chunks.len())?;
     for chunk in chunks {

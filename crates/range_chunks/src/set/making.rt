@@ -1,5 +1,5 @@
 //! Sets made from views and other sets, and moved into a set of one list.
-ghost use Rattle.std.specs.Prelude.{◌≡◌, ◌↔◌, IsTrue, IfOk, IfErr};
+ghost use Rattle.std.specs.Prelude.{◌≡◌, ◌↔◌, [], IsTrue, IsOk, IfOk, IfErr};
 ghost use Rattle.std.specs.Cmp.Lexicographic.{pointwise, lists_per, lists_equiv};
 ghost use Rattle.std.specs.List.{AllZip};
 ghost use Rattle.range_merge.specs.Boundaries.{IsAscending, IsSameSet};
@@ -27,10 +27,11 @@ impl<T: EntryClone + Drop> ChunkedRangeSet<T> {
         })
     }
 
-    /// A set of clones of the boundaries.
+    /// A set of clones of the boundaries. Of the empty set it takes no memory.
     pub fn clone(&self) -> Result<Self, AllocError>
         ensures copies { IfOk result (λ set. AllZip T.is_copy self.now set) }
         ensures equal { IfOk result (λ set. AreEqual T.cmp self.now set) }
+        ensures succeeds { self.now ≡ [] → IsOk result }
     {
         Ok(ChunkedRangeSet {
             chunks: clones(*self.chunks.allocator(), self.chunks.as_slice())?,
