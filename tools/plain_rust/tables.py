@@ -72,7 +72,7 @@ NOTHING = {"known", "known_in_range", "keeps_own"}
 HINT = "which the proof cites."
 
 # Files that are left out: laws are found by their form; JSON is read and written by serde; std prints sets of
-# characters and maps, and collects maps; a set of Rattle's own needs numbers other than 0 that have a default; Rust takes
+# characters, sets in chunks and maps, and collects maps; a set of Rattle's own needs numbers other than 0 that have a default; Rust takes
 # ranges out of sets of elements without an order too; Rust's own boxes go to C.
 LEFT_OUT = {
     "range_entry/non_zero",
@@ -80,6 +80,7 @@ LEFT_OUT = {
     "range_collections/json",
     "range_collections/range_set/taking",
     "range_collections/text/chars",
+    "range_chunks/text",
     "range_map/map/building",
     "range_map/map/text",
     "range_c/boxed",

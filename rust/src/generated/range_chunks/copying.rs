@@ -14,6 +14,7 @@ use crate::support::{AllocError, DivUp, Global, Vec};
 /// ensures copies: IfOk result (λ copied. AllZip T.is_copy (flat chunks.now) (flat
 ///     copied.items))
 /// ensures chunks: IfOk result (λ copied. AreChunks copied.items)
+/// ensures succeeds: length chunks.now ≡ 0 → IsOk result
 /// ```
 pub(crate) fn clones<T: EntryClone>(
     alloc: Global,

@@ -2,6 +2,7 @@
 //! The ranges of a set in chunks, from the lowest on and from the highest down.
 
 use crate::generated::range_chunks::chunk::Chunk;
+use crate::generated::range_chunks::cutting::is_inside;
 use crate::generated::range_chunks::place::Place;
 use crate::generated::range_collections::RangeSetRange;
 use core::iter::FusedIterator;
@@ -32,6 +33,22 @@ impl<'a, T> Iter<'a, T> {
         Iter {
             unread: Unread::new(chunks),
             endless: is_endless(chunks),
+        }
+    }
+
+    // No range.
+    pub(crate) fn nothing() -> Self {
+        Iter {
+            unread: Unread::new(&[]),
+            endless: false,
+        }
+    }
+
+    // The ranges of the boundaries between two places, of which the first doesn't lie in a range.
+    pub(crate) fn between(chunks: &'a [Chunk<T>], from: Place, to: Place) -> Self {
+        Iter {
+            unread: Unread::between(chunks, from, to),
+            endless: is_inside(chunks, to),
         }
     }
 }

@@ -13,6 +13,7 @@ pub(crate) mod joining;
 pub(crate) mod members;
 pub(crate) mod merging;
 pub(crate) mod moving;
+pub(crate) mod overlapping;
 pub(crate) mod overwriting;
 pub(crate) mod place;
 pub(crate) mod questions;

@@ -39,8 +39,19 @@ pub(crate) fn overwrite<T>(
     }
 }
 
-// The place in the chunk that has the boundary there: the end of a chunk is the next one's start.
-fn item_place<T>(chunks: &[Chunk<T>], at: Place) -> Place {
+/// The place in the chunk that has the boundary there: the end of a chunk is the next one's start.
+///
+/// # Contract
+///
+/// ```text
+/// requires short: AreShort chunks.now
+/// requires place: IsPlace chunks.now at
+/// requires item: place_in chunks.now at < length (flat chunks.now)
+/// ensures place: IsPlace chunks.now result
+/// ensures item: IsItem chunks.now result
+/// ensures same: place_in chunks.now result ≡ place_in chunks.now at
+/// ```
+pub(crate) fn item_place<T>(chunks: &[Chunk<T>], at: Place) -> Place {
     if at.index < chunks[at.chunk].len() {
         at
     } else {

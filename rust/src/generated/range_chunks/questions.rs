@@ -8,7 +8,6 @@ use crate::generated::range_chunks::searching::find;
 use crate::generated::range_chunks::splicing::is_before;
 use crate::generated::range_collections::Comparisons;
 use crate::generated::range_merge::Compare;
-use core::ops::Range;
 
 /// Whether the element is a member.
 ///
@@ -33,7 +32,7 @@ pub(crate) fn is_member<T: Ord>(chunks: &[Chunk<T>], value: &T, count: &mut Comp
     }
 }
 
-/// Whether every element of the range is a member.
+/// Whether every element from the start on, up to the end, is a member.
 ///
 /// # Contract
 ///
@@ -41,50 +40,51 @@ pub(crate) fn is_member<T: Ord>(chunks: &[Chunk<T>], value: &T, count: &mut Comp
 /// requires sorted: IsAscending T.cmp (flat chunks.now)
 /// requires chunks: AreChunks chunks.now
 /// requires made: count.old < 2 ^ 64
-/// ensures members: IsTrue result ↔ HasAllWithin T.cmp (flat chunks.now) range.start range.end
+/// ensures members: IsTrue result ↔ HasAllWithin T.cmp (flat chunks.now) start.now end.now
 /// ensures comparisons: AddsAtMost count.old count.new (2 * (digits (length chunks.now) +
 ///     digits 512) + 1)
 /// ```
 pub(crate) fn has_all<T: Ord>(
     chunks: &[Chunk<T>],
-    range: Range<T>,
+    start: &T,
+    end: &T,
     count: &mut Comparisons,
 ) -> bool {
-    if !count.compare(&range.start, &range.end).is_lt() {
+    if !count.compare(start, end).is_lt() {
         return true;
     }
     if chunks.is_empty() {
         return false;
     }
-    let from = place_up_to(chunks, &range.start, count);
+    let from = place_up_to(chunks, start, count);
     if !is_inside(chunks, from) {
         return false;
     }
-    let to = place_below(chunks, &range.end, count);
+    let to = place_below(chunks, end, count);
     !is_before(chunks, from, to)
 }
 
-/// Whether some member lies in the range.
+/// Whether some member lies from the start on, up to the end.
 ///
 /// # Contract
 ///
 /// ```text
 /// requires sorted: IsAscending T.cmp (flat chunks.now)
 /// requires chunks: AreChunks chunks.now
-/// ensures IsTrue result ↔ HasMemberWithin T.cmp (flat chunks.now) range.start range.end
+/// ensures IsTrue result ↔ HasMemberWithin T.cmp (flat chunks.now) start.now end.now
 /// ```
-pub(crate) fn has_some<T: Ord>(chunks: &[Chunk<T>], range: Range<T>) -> bool {
+pub(crate) fn has_some<T: Ord>(chunks: &[Chunk<T>], start: &T, end: &T) -> bool {
     if chunks.is_empty() {
         return false;
     }
-    if !range.start.cmp(&range.end).is_lt() {
+    if !start.cmp(end).is_lt() {
         return false;
     }
-    let place = place_up_to(chunks, &range.start, &mut Comparisons::new());
+    let place = place_up_to(chunks, start, &mut Comparisons::new());
     if is_inside(chunks, place) {
         return true;
     }
-    is_item_below(chunks, place, &range.end)
+    is_item_below(chunks, place, end)
 }
 
 /// The least element at or above `from` that is a member, where `inside` is true, or else that is

@@ -3,6 +3,7 @@
 
 use crate::generated::range_chunks::chunk::Chunk;
 use crate::generated::range_chunks::cutting::is_inside;
+use crate::generated::range_chunks::overlapping::place_before;
 use crate::generated::range_chunks::place::Place;
 use crate::generated::range_chunks::questions::{item_at, place_up_to};
 use crate::generated::range_collections::{Comparisons, RangeSetRange};
@@ -47,10 +48,6 @@ fn range_around<T>(chunks: &[Chunk<T>], at: Place) -> RangeSetRange<&T> {
 
 // The boundary before a place.
 fn item_before<T>(chunks: &[Chunk<T>], at: Place) -> &T {
-    if at.index > 0 {
-        return chunks[at.chunk].at(at.index - 1);
-    }
-    let before = at.chunk - 1;
-    let chunk = &chunks[before];
-    chunk.at(chunk.len() - 1)
+    let before = place_before(chunks, at);
+    chunks[before.chunk].at(before.index)
 }

@@ -2,6 +2,7 @@
 //! The set: a list of chunks whose boundaries are strictly sorted, all together.
 
 pub(crate) mod asking;
+pub(crate) mod changing;
 pub(crate) mod combining;
 pub(crate) mod counted;
 pub(crate) mod fitting;
@@ -152,7 +153,7 @@ impl<T: Ord> ChunkedRangeSet<T> {
     /// ```
     #[inline]
     pub fn intersects_range(&self, range: Range<T>) -> bool {
-        has_some(self.chunks.as_slice(), range)
+        has_some(self.chunks.as_slice(), &range.start, &range.end)
     }
 
     /// Adds the elements of the range. An empty or reversed range changes nothing. Of two equal

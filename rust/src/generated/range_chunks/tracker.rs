@@ -138,7 +138,8 @@ impl ChunkedTracker {
     /// ensures IsTrue result ↔ ((n : ℕ) → is_within range n ≡ true → recorded self.now n ≡ true)
     /// ```
     pub fn has(&self, range: Range<u64>) -> bool {
-        has_all(self.there(), range, &mut Comparisons::new())
+        let Range { start, end } = range;
+        has_all(self.there(), &start, &end, &mut Comparisons::new())
     }
 
     /// The offsets below `len` that aren't there. It fails only if memory runs out. `gaps` takes

@@ -35,13 +35,24 @@ pub(crate) fn is_everything<T: RangeSetEntry>(chunks: &[Chunk<T>]) -> bool {
 /// ensures value: result ≡ covered_of T.cmp T.value T.count (flat chunks.now)
 /// ```
 pub(crate) fn count_members<T: Countable>(chunks: &[Chunk<T>]) -> Option<u128> {
-    let mut unread = Unread::new(chunks);
+    match count_ended(Unread::new(chunks)) {
+        (count, None) => Some(count),
+        (_, Some(_)) => None,
+    }
+}
+
+/// How many values lie in the ranges with an end, and where the last range starts if it has none.
+pub(crate) fn count_ended<T: Countable>(boundaries: Unread<'_, T>) -> (u128, Option<&T>) {
+    let mut unread = boundaries;
     let mut count: u128 = 0;
     while let Some(start) = unread.take_first() {
-        let end = unread.take_first()?;
+        let end = match unread.take_first() {
+            Some(end) => end,
+            _ => return (count, Some(start)),
+        };
         count += between(start, end);
     }
-    Some(count)
+    (count, None)
 }
 
 /// How many values lie from one on, up to another, which is out.

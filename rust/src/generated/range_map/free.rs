@@ -107,6 +107,7 @@ pub(crate) fn set_free<K: Ord, V: Eq>(
         &start,
         end.as_ref(),
         &option,
+        &mut Comparisons::new(),
     );
     match make_both_rooms(keys, options, places) {
         Ok(()) => {

@@ -15,7 +15,7 @@ use crate::generated::range_collections::Comparisons;
 use crate::generated::range_map::places::option_before;
 use crate::generated::range_map::replacing::set_range;
 use crate::generated::range_map::value::MapValue;
-use crate::generated::range_merge::count_up_to;
+use crate::generated::range_merge::{count_up_to, Compare};
 use crate::support::{AllocError, Global, Vec};
 use core::ops::{Range, RangeFrom};
 pub use ranges::Stretch;
@@ -70,7 +70,21 @@ impl<K: Ord, V: Eq> RangeMap<K, V> {
     /// ensures option_copied result ≡ value_at K.cmp self.now key.now
     /// ```
     pub fn get(&self, key: &K) -> Option<&V> {
-        let n = count_up_to(self.keys.as_slice(), key, &mut Comparisons::new());
+        self.get_counted(key, &mut Comparisons::new())
+    }
+
+    /// The same, counted: at most as many comparisons as the number of the map's keys has binary
+    /// digits. A range has two keys at most.
+    ///
+    /// # Contract
+    ///
+    /// ```text
+    /// requires count.old < 2 ^ 64
+    /// ensures value: option_copied result ≡ value_at K.cmp self.now key.now
+    /// ensures comparisons: AddsAtMost count.old count.new (digits (length self.now.keys))
+    /// ```
+    pub(crate) fn get_counted(&self, key: &K, count: &mut Comparisons) -> Option<&V> {
+        let n = count_up_to(self.keys.as_slice(), key, count);
         option_before(self.options.as_slice(), n)
     }
 
@@ -142,9 +156,38 @@ impl<K: Ord, V: MapValue> RangeMap<K, V> {
     ///     result
     /// ensures succeeds: FitsAfter K.cmp V.eq range.start (Some range.end) (Some value) self.old →
     ///     IsOk result
+    /// ensures no_change: IsSetTo K.cmp V.eq range.start (Some range.end) (Some value) self.old
+    ///     self.old → IsOk result
     /// ```
     pub fn insert(&mut self, range: Range<K>, value: V) -> Result<(), AllocError> {
-        self.set(range, Some(value))
+        self.insert_counted(range, value, &mut Comparisons::new())
+    }
+
+    /// The same, counted: one comparison of the start with the end, and for each of the two at most
+    /// as many as the number of the map's keys has binary digits.
+    ///
+    /// # Contract
+    ///
+    /// ```text
+    /// requires made: count.old < 2 ^ 64
+    /// ensures values: OnOk result (IsSetTo K.cmp V.eq range.start (Some range.end) (Some value)
+    ///     self.old self.new)
+    /// ensures unchanged: OnErr result (self.new ≡ self.old)
+    /// ensures empty: is_lt (K.cmp range.start range.end) ≡ false → (self.new ≡ self.old) × IsOk
+    ///     result
+    /// ensures succeeds: FitsAfter K.cmp V.eq range.start (Some range.end) (Some value) self.old →
+    ///     IsOk result
+    /// ensures no_change: IsSetTo K.cmp V.eq range.start (Some range.end) (Some value) self.old
+    ///     self.old → IsOk result
+    /// ensures comparisons: AddsAtMost count.old count.new (2 * digits (length self.old.keys) + 1)
+    /// ```
+    pub(crate) fn insert_counted(
+        &mut self,
+        range: Range<K>,
+        value: V,
+        count: &mut Comparisons,
+    ) -> Result<(), AllocError> {
+        self.set(range, Some(value), count)
     }
 
     /// Takes the value of each key of the range away. An empty or reversed range changes nothing.
@@ -162,9 +205,35 @@ impl<K: Ord, V: MapValue> RangeMap<K, V> {
     ///     result
     /// ensures succeeds: FitsAfter K.cmp V.eq range.start (Some range.end) None self.old → IsOk
     ///     result
+    /// ensures free: IsFree K.cmp range.start (Some range.end) self.old → IsOk result
     /// ```
     pub fn remove(&mut self, range: Range<K>) -> Result<(), AllocError> {
-        self.set(range, None)
+        self.remove_counted(range, &mut Comparisons::new())
+    }
+
+    /// The same, counted: one comparison of the start with the end, and for each of the two at most
+    /// as many as the number of the map's keys has binary digits.
+    ///
+    /// # Contract
+    ///
+    /// ```text
+    /// requires made: count.old < 2 ^ 64
+    /// ensures values: OnOk result (IsSetTo K.cmp V.eq range.start (Some range.end) None self.old
+    ///     self.new)
+    /// ensures unchanged: OnErr result (self.new ≡ self.old)
+    /// ensures empty: is_lt (K.cmp range.start range.end) ≡ false → (self.new ≡ self.old) × IsOk
+    ///     result
+    /// ensures succeeds: FitsAfter K.cmp V.eq range.start (Some range.end) None self.old → IsOk
+    ///     result
+    /// ensures free: IsFree K.cmp range.start (Some range.end) self.old → IsOk result
+    /// ensures comparisons: AddsAtMost count.old count.new (2 * digits (length self.old.keys) + 1)
+    /// ```
+    pub(crate) fn remove_counted(
+        &mut self,
+        range: Range<K>,
+        count: &mut Comparisons,
+    ) -> Result<(), AllocError> {
+        self.set(range, None, count)
     }
 
     /// Gives each key from the start on the value, in the place of the one that it had.
@@ -179,6 +248,8 @@ impl<K: Ord, V: MapValue> RangeMap<K, V> {
     ///     self.new)
     /// ensures unchanged: OnErr result (self.new ≡ self.old)
     /// ensures succeeds: FitsAfter K.cmp V.eq range.start None (Some value) self.old → IsOk result
+    /// ensures no_change: IsSetTo K.cmp V.eq range.start None (Some value) self.old self.old → IsOk
+    ///     result
     /// ```
     pub fn insert_from(&mut self, range: RangeFrom<K>, value: V) -> Result<(), AllocError> {
         self.set_from(range.start, Some(value))
@@ -195,6 +266,7 @@ impl<K: Ord, V: MapValue> RangeMap<K, V> {
     /// ensures values: OnOk result (IsSetTo K.cmp V.eq range.start None None self.old self.new)
     /// ensures unchanged: OnErr result (self.new ≡ self.old)
     /// ensures succeeds: FitsAfter K.cmp V.eq range.start None None self.old → IsOk result
+    /// ensures free: IsFree K.cmp range.start None self.old → IsOk result
     /// ```
     pub fn remove_from(&mut self, range: RangeFrom<K>) -> Result<(), AllocError> {
         self.set_from(range.start, None)
@@ -202,16 +274,35 @@ impl<K: Ord, V: MapValue> RangeMap<K, V> {
 
     // Gives each key from the start on an option.
     fn set_from(&mut self, start: K, option: Option<V>) -> Result<(), AllocError> {
-        set_range(&mut self.keys, &mut self.options, start, None, option)
+        set_range(
+            &mut self.keys,
+            &mut self.options,
+            start,
+            None,
+            option,
+            &mut Comparisons::new(),
+        )
     }
 
     // Gives each key of the range an option.
-    fn set(&mut self, range: Range<K>, option: Option<V>) -> Result<(), AllocError> {
+    fn set(
+        &mut self,
+        range: Range<K>,
+        option: Option<V>,
+        count: &mut Comparisons,
+    ) -> Result<(), AllocError> {
         let Range { start, end } = range;
-        if !start.cmp(&end).is_lt() {
+        if !count.compare(&start, &end).is_lt() {
             return Ok(());
         }
-        set_range(&mut self.keys, &mut self.options, start, Some(end), option)
+        set_range(
+            &mut self.keys,
+            &mut self.options,
+            start,
+            Some(end),
+            option,
+            count,
+        )
     }
 }
 

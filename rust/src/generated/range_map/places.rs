@@ -22,8 +22,10 @@ pub struct Places {
 /// ```text
 /// requires ascending: IsAscending K.cmp keys.now
 /// requires one_each: length options.now ≡ length keys.now
-/// ensures ArePlaces K.cmp V.eq (record { keys = keys.now; options = options.now }) start.now
-///     (option_copied end.entry) option.now result
+/// requires made: count.old < 2 ^ 126
+/// ensures places: ArePlaces K.cmp V.eq (record { keys = keys.now; options = options.now })
+///     start.now (option_copied end.entry) option.now result
+/// ensures comparisons: AddsAtMost count.old count.new (2 * digits (length keys.now))
 /// ```
 pub(crate) fn find<K: Ord, V: Eq>(
     keys: &[K],
@@ -31,9 +33,10 @@ pub(crate) fn find<K: Ord, V: Eq>(
     start: &K,
     end: Option<&K>,
     option: &Option<V>,
+    count: &mut Comparisons,
 ) -> Places {
-    let from = count_below(keys, start);
-    let to = count_up_to_end(keys, end);
+    let from = count_below(keys, start, count);
+    let to = count_up_to_end(keys, end, count);
     Places {
         from,
         to,
@@ -47,23 +50,25 @@ pub(crate) fn find<K: Ord, V: Eq>(
 /// # Contract
 ///
 /// ```text
-/// requires IsAscending K.cmp keys.now
+/// requires ascending: IsAscending K.cmp keys.now
+/// requires made: count.old < 2 ^ 127
 /// ensures within: result ≤ length keys.now
 /// ensures below: AllWithin (λ y. K.cmp y key.now ≡ Less) keys.now 0 result
 /// ensures from: AllWithin (λ y. is_le (K.cmp key.now y) ≡ true) keys.now result (length
 ///     keys.now)
+/// ensures comparisons: AddsAtMost count.old count.new (digits (length keys.now))
 /// ```
-pub(crate) fn count_below<K: Ord>(keys: &[K], key: &K) -> usize {
-    match search(keys, key, &mut Comparisons::new()) {
+pub(crate) fn count_below<K: Ord>(keys: &[K], key: &K, count: &mut Comparisons) -> usize {
+    match search(keys, key, count) {
         Ok(i) => i,
         Err(i) => i,
     }
 }
 
 // How many keys are at or below the end: all of them, if there is none.
-fn count_up_to_end<K: Ord>(keys: &[K], end: Option<&K>) -> usize {
+fn count_up_to_end<K: Ord>(keys: &[K], end: Option<&K>, count: &mut Comparisons) -> usize {
     match end {
-        Some(end) => count_up_to(keys, end, &mut Comparisons::new()),
+        Some(end) => count_up_to(keys, end, count),
         None => keys.len(),
     }
 }

@@ -27,7 +27,7 @@ pub(crate) fn overlapping_steps<'a, K: Ord, V: Eq>(
     }
     // The step before the first one above the start may go on into the range.
     let from = count_up_to(keys, start, &mut Comparisons::new()).saturating_sub(1);
-    let to = count_below(keys, end);
+    let to = count_below(keys, end, &mut Comparisons::new());
     steps_between(keys, options, from, to)
 }
 
@@ -50,7 +50,7 @@ pub(crate) fn gaps_between<'a, K: Ord, V: Eq>(
         return gaps_of_steps(None, keys, options, 0, 0, end);
     }
     let from = count_up_to(keys, start, &mut Comparisons::new());
-    let to = count_below(keys, end);
+    let to = count_below(keys, end, &mut Comparisons::new());
     let first = option_before(options, from).is_none().then_some(start);
     gaps_of_steps(first, keys, options, from, to, end)
 }

@@ -39,7 +39,7 @@ impl<T: Ord> ChunkedRangeSet<T> {
     /// ```
     #[inline]
     pub(crate) fn contains_range_counted(&self, range: Range<T>, count: &mut Comparisons) -> bool {
-        has_all(self.chunks.as_slice(), range, count)
+        has_all(self.chunks.as_slice(), &range.start, &range.end, count)
     }
 
     /// `insert`, with a counter.

@@ -24,13 +24,14 @@ impl<T: EntryClone> ChunkedRangeSet<T> {
         })
     }
 
-    /// A set of clones of the boundaries.
+    /// A set of clones of the boundaries. Of the empty set it takes no memory.
     ///
     /// # Contract
     ///
     /// ```text
     /// ensures copies: IfOk result (λ set. AllZip T.is_copy self.now set)
     /// ensures equal: IfOk result (λ set. AreEqual T.cmp self.now set)
+    /// ensures succeeds: self.now ≡ [] → IsOk result
     /// ```
     pub fn try_clone(&self) -> Result<Self, AllocError> {
         Ok(ChunkedRangeSet {

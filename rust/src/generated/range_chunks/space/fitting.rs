@@ -2,7 +2,7 @@
 //! The search for the first fit, which passes over gaps that are known to be too short.
 
 use crate::generated::range_chunks::gap_bound::{first_above, stop_of, GapBound};
-use crate::generated::range_chunks::reading::{first_gap, Reading, Step, Until};
+use crate::generated::range_chunks::reading::{first_row, Reading, Step, Until};
 use crate::generated::range_chunks::space::ChunkedSpace;
 use crate::generated::range_collections::{Countable, Unsigned};
 use core::ops::Range;
@@ -85,10 +85,10 @@ impl<T: Countable + Copy> ChunkedSpace<T> {
             return Step::From(past);
         }
         let until = Until {
-            gaps: GAPS,
+            ranges: GAPS,
             place: stop_of(self.bounds.as_slice(), at, from.place()),
         };
-        match first_gap(self.taken.gaps(&from..&end), count, Some(until)) {
+        match first_row(self.taken.gaps(&from..&end), count, Some(until)) {
             Reading::Found(found) => Step::At(found),
             Reading::Stopped { end: next, most } => {
                 self.note(at, from, next, most);

@@ -54,6 +54,8 @@ impl<K: Ord, V: Eq> RangeMap<K, V> {
     /// ensures unchanged: OnErr result (self.new ≡ self.old)
     /// ensures succeeds: IsFree K.cmp range.start (Some range.end) self.old → FitsAfter K.cmp V.eq
     ///     range.start (Some range.end) (Some value) self.old → IsOk result
+    /// ensures empty: is_lt (K.cmp range.start range.end) ≡ false → (self.new ≡ self.old) × IsOk
+    ///     result
     /// ```
     pub fn insert_free(&mut self, range: Range<K>, value: V) -> Result<(), InsertError<V>> {
         let Range { start, end } = range;

@@ -8,27 +8,64 @@ use crate::generated::range_map::retaining::retain_values;
 use crate::generated::range_map::update::{InRange, MapUpdate};
 use crate::generated::range_map::value::MapValue;
 use crate::support::AllocError;
-use core::ops::Range;
+use core::ops::{Range, RangeFrom};
 
 impl<K: EntryClone, V: MapValue> RangeMap<K, V> {
     /// Gives each key of the range what the update makes of its value, or of none. An empty or
     /// reversed range changes nothing.
     ///
     /// It makes the map anew, so that its time and memory grow with the number of all steps, and
-    /// copies the values outside of the range. If memory runs out, the map is as it was.
+    /// copies the values outside of the range. If memory runs out, the map is as it was. An empty
+    /// or reversed range takes none.
     ///
     /// # Contract
     ///
     /// ```text
-    /// ensures values: OnOk result (IsUpdated K.cmp V.eq range.start range.end (O.gives op.now)
-    ///     self.old self.new)
+    /// ensures values: OnOk result (IsUpdated K.cmp V.eq range.start (Some range.end) (O.gives
+    ///     op.now) self.old self.new)
     /// ensures unchanged: OnErr result (self.new ≡ self.old)
+    /// ensures empty: is_lt (K.cmp range.start range.end) ≡ false → (self.new ≡ self.old) × IsOk
+    ///     result
     /// ```
     pub fn update<O: MapUpdate<V>>(&mut self, range: Range<K>, op: &O) -> Result<(), AllocError> {
-        let alloc = *self.keys.allocator();
-        let mut within = RangeMap::new(alloc);
+        if !range.start.cmp(&range.end).is_lt() {
+            return Ok(());
+        }
+        let mut within = RangeMap::new(*self.keys.allocator());
         within.insert(range, ())?;
-        *self = self.combine(alloc, &within, &InRange(op), &mut Comparisons::new())?;
+        self.update_keys(&within, op)
+    }
+
+    /// Gives each key from the start on what the update makes of its value, or of none.
+    ///
+    /// It makes the map anew, so that its time and memory grow with the number of all steps, and
+    /// copies the values below the start. If memory runs out, the map is as it was.
+    ///
+    /// # Contract
+    ///
+    /// ```text
+    /// ensures values: OnOk result (IsUpdated K.cmp V.eq range.start None (O.gives op.now) self.old
+    ///     self.new)
+    /// ensures unchanged: OnErr result (self.new ≡ self.old)
+    /// ```
+    pub fn update_from<O: MapUpdate<V>>(
+        &mut self,
+        range: RangeFrom<K>,
+        op: &O,
+    ) -> Result<(), AllocError> {
+        let mut within = RangeMap::new(*self.keys.allocator());
+        within.insert_from(range, ())?;
+        self.update_keys(&within, op)
+    }
+
+    // Gives each key that has the unit what the update makes of its value, or of none.
+    fn update_keys<O: MapUpdate<V>>(
+        &mut self,
+        within: &RangeMap<K, ()>,
+        op: &O,
+    ) -> Result<(), AllocError> {
+        let alloc = *self.keys.allocator();
+        *self = self.combine(alloc, within, &InRange(op), &mut Comparisons::new())?;
         Ok(())
     }
 }
