@@ -8,14 +8,13 @@ mod traits;
 
 pub use iter::{Gaps, IntoIter, Iter, RangesWithin};
 pub use members::Members;
-pub use taking::Overlapping;
 
 use self::iter::IntoBoundaries;
 use crate::any_range::AnyRange;
 use crate::array::{Array, List};
 use crate::entry::RangeSetEntry;
 use crate::generated::range_chunks as proved;
-use crate::generated::range_collections::{Countable, Unsigned};
+use crate::generated::range_collections::{Countable, FromPlace, Unsigned};
 use crate::generated::range_entry::EntryClone;
 use crate::memory::{expect_memory, AllocError};
 use crate::range::RangeSetRange;
@@ -249,6 +248,45 @@ impl<T: Ord> ChunkedRangeSet<T> {
         T: Unsigned,
     {
         self.0.first_fit_unchanged(within, len)
+    }
+
+    /// Returns the least value of the range whose place is a multiple of `align`, and from which on `count` values of it
+    /// aren't members. The place of a number is the number, if the type has no sign.
+    ///
+    /// It is `None` if there is none, or if `align` is 0. It takes time for each boundary up to the answer.
+    ///
+    /// # Examples
+    ///
+    /// ```
+    /// use range_sets::ChunkedRangeSet;
+    ///
+    /// let used = ChunkedRangeSet::from_iter([0u64..10, 80..128]);
+    /// assert_eq!(used.first_fit_aligned(0..4096, 16, 16), Some(16));
+    /// ```
+    pub fn first_fit_aligned(&self, within: Range<T>, count: u128, align: u128) -> Option<T>
+    where
+        T: FromPlace,
+    {
+        self.0.first_fit_aligned(within, count, align)
+    }
+
+    /// Returns the least value of the range from which on `count` values of it are members.
+    ///
+    /// It is `None` if there is none. It takes time for each boundary up to the answer.
+    ///
+    /// # Examples
+    ///
+    /// ```
+    /// use range_sets::ChunkedRangeSet;
+    ///
+    /// let free = ChunkedRangeSet::from_iter([0u64..10, 80..128]);
+    /// assert_eq!(free.first_run(0..4096, 16), Some(80));
+    /// ```
+    pub fn first_run(&self, within: Range<T>, count: u128) -> Option<T>
+    where
+        T: Countable + Copy,
+    {
+        self.0.first_run(within, count)
     }
 
     /// Returns `true` if the set has no member.

@@ -66,6 +66,19 @@ fn compare(chunked: &ChunkedRangeSet<u32>, set: &RangeSet2<u32>, random: &mut Ra
     assert_eq!(chunked.ranges_len(), set.iter().len());
     assert_eq!(chunked.prev_member(&value), set.prev_member(&value));
     assert_eq!(chunked.prev_gap(&value), set.prev_gap(&value));
+    assert_eq!(chunked.rank(&value), set.rank(&value));
+    let k = random.below(places).into();
+    assert_eq!(chunked.select(k), set.select(k));
+    let (within, count) = (value / 2..value * 2, random.below(9).into());
+    assert_eq!(
+        chunked.first_run(within.clone(), count),
+        set.first_run(within.clone(), count)
+    );
+    let align = random.below(9).into();
+    assert_eq!(
+        chunked.first_fit_aligned(within.clone(), count, align),
+        set.first_fit_aligned(within, count, align)
+    );
     let ends = &value..&(value + random.below(places) as u32);
     assert!(chunked.overlapping(ends.clone()).eq(set.overlapping(ends)));
 }

@@ -1,7 +1,7 @@
 //! Members of a set in chunks one by one.
 
 use super::{ChunkedRangeSet, Iter};
-use crate::generated::range_collections::FromPlace;
+use crate::generated::range_collections::{Countable, FromPlace};
 use crate::range::RangeSetRange;
 use crate::range_set::RangeSet2;
 use core::iter::{FlatMap, FusedIterator};
@@ -64,6 +64,46 @@ impl<T: Ord> ChunkedRangeSet<T> {
         T: FromPlace,
     {
         self.0.prev_gap(from)
+    }
+
+    /// Returns how many members are below `value`. The set may have no end.
+    ///
+    /// It takes time for each boundary below `value`.
+    ///
+    /// # Examples
+    ///
+    /// ```
+    /// use range_sets::ChunkedRangeSet;
+    ///
+    /// let set = ChunkedRangeSet::from_iter([3..5, 9..12]);
+    /// assert_eq!(set.rank(&4), 1);
+    /// assert_eq!(set.rank(&12), 5);
+    /// ```
+    pub fn rank(&self, value: &T) -> u128
+    where
+        T: Countable,
+    {
+        self.0.rank(value)
+    }
+
+    /// Returns the member that has `k` members below it, or `None` if there are too few.
+    ///
+    /// It takes time for each boundary below the answer.
+    ///
+    /// # Examples
+    ///
+    /// ```
+    /// use range_sets::ChunkedRangeSet;
+    ///
+    /// let set = ChunkedRangeSet::from_iter([3..5, 9..12]);
+    /// assert_eq!(set.select(2), Some(9));
+    /// assert_eq!(set.select(5), None);
+    /// ```
+    pub fn select(&self, k: u128) -> Option<T>
+    where
+        T: FromPlace,
+    {
+        self.0.select(k)
     }
 
     /// Returns the members one by one, from the lowest on or from the highest down.

@@ -1,10 +1,9 @@
 //! Changes that tell whether they did something, whole ranges taken out, and whole ranges that meet another.
 
-use super::{ChunkedRangeSet, RangesWithin};
+use super::{ChunkedRangeSet, Iter};
 use crate::any_range::AnyRange;
 use crate::memory::{expect_memory, AllocError};
 use crate::range::RangeSetRange;
-use core::iter::FusedIterator;
 use core::ops::Range;
 
 impl<T: Ord> ChunkedRangeSet<T> {
@@ -81,11 +80,8 @@ impl<T: Ord> ChunkedRangeSet<T> {
     /// let met: Vec<_> = busy.overlapping(&10..&13).collect();
     /// assert_eq!(met, [(&9..&11).into(), (&12..&15).into()]);
     /// ```
-    pub fn overlapping<'a>(&'a self, range: Range<&'a T>) -> Overlapping<'a, T> {
-        Overlapping {
-            set: self,
-            parts: self.ranges_within(range),
-        }
+    pub fn overlapping(&self, range: Range<&T>) -> Iter<'_, T> {
+        Iter::new(self.0.overlapping(range))
     }
 
     /// [`insert_changed`](Self::insert_changed), or an error if memory runs out.
@@ -93,12 +89,14 @@ impl<T: Ord> ChunkedRangeSet<T> {
         &mut self,
         range: RangeSetRange<T>,
     ) -> Result<bool, AllocError> {
-        let changes = match &range {
-            RangeSetRange::Range(range) => self.gaps(&range.start..&range.end).next().is_some(),
-            RangeSetRange::RangeFrom(range) => self.next_gap(&range.start).is_some(),
-        };
-        self.try_insert(range)?;
-        Ok(changes)
+        match range {
+            RangeSetRange::Range(range) => self.0.insert_changed(range),
+            RangeSetRange::RangeFrom(range) => {
+                let changes = self.next_gap(&range.start).is_some();
+                self.0.insert_from(range)?;
+                Ok(changes)
+            }
+        }
     }
 
     /// [`remove_changed`](Self::remove_changed), or an error if memory runs out.
@@ -106,41 +104,13 @@ impl<T: Ord> ChunkedRangeSet<T> {
         &mut self,
         range: RangeSetRange<T>,
     ) -> Result<bool, AllocError> {
-        let changes = match &range {
-            RangeSetRange::Range(range) => {
-                let mut parts = self.ranges_within(&range.start..&range.end);
-                parts.next().is_some()
+        match range {
+            RangeSetRange::Range(range) => self.0.remove_changed(range),
+            RangeSetRange::RangeFrom(range) => {
+                let changes = self.next_member(&range.start).is_some();
+                self.0.remove_from(range)?;
+                Ok(changes)
             }
-            RangeSetRange::RangeFrom(range) => self.next_member(&range.start).is_some(),
-        };
-        self.try_remove(range)?;
-        Ok(changes)
+        }
     }
 }
-
-/// An iterator over whole ranges of a set in chunks. [`ChunkedRangeSet::overlapping`] makes it.
-///
-/// # Examples
-///
-/// ```
-/// use range_sets::ChunkedRangeSet;
-///
-/// let busy = ChunkedRangeSet::from_iter([9..11]);
-/// let mut met = busy.overlapping(&10..&13);
-/// assert_eq!(met.next(), Some((&9..&11).into()));
-/// assert_eq!(met.next(), None);
-/// ```
-pub struct Overlapping<'a, T: Ord> {
-    set: &'a ChunkedRangeSet<T>,
-    parts: RangesWithin<'a, T>,
-}
-
-impl<'a, T: Ord> Iterator for Overlapping<'a, T> {
-    type Item = RangeSetRange<&'a T>;
-
-    fn next(&mut self) -> Option<Self::Item> {
-        self.set.range_at(self.parts.next()?.start)
-    }
-}
-
-impl<T: Ord> FusedIterator for Overlapping<'_, T> {}
