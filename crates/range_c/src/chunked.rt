@@ -1,8 +1,9 @@
 //! What the exports do with a set in chunks, for numbers of any type.
-ghost use Rattle.std.specs.Prelude.{◌≡◌, ◌+◌, ◌<◌, ◌^◌, ◌∷◌, [], true, false, length, IfSome};
+ghost use Rattle.std.specs.Prelude.{◌≡◌, ◌+◌, ◌<◌, ◌≤◌, ◌^◌, ◌∷◌, [], ℕ, true, false, length, IfSome, IsTrue};
 ghost use Rattle.std.specs.List.{flat_map};
 ghost use Rattle.range_collections.specs.Boundaries.{IsAscending};
 ghost use Rattle.range_collections.specs.Connective.{union_table, difference_table};
+ghost use Rattle.range_collections.specs.Fits.{IsRow};
 ghost use Rattle.range_collections.specs.Insertion.{IsChangedByRange};
 ghost use Rattle.range_collections.specs.Ranges.{range_ends, range_items, range_now, ranges_of};
 ghost use Rattle.range_collections.specs.Sets.{AreEqual};
@@ -10,9 +11,11 @@ ghost use Rattle.range_c.specs.Chunked.{outcome, CopiesTo, TellsNext};
 ghost use Rattle.range_c.specs.Text.{PutsText};
 
 use crate::in_place::overwrite;
-use range_chunks::{ChunkedRangeSet, Iter};
-use range_collections::{EntryClone, RangeSetRange, RangeSetRef};
+use crate::parts::put;
+use range_chunks::{ChunkedRangeSet, ChunkedSpace, Iter};
+use range_collections::{Countable, EntryClone, RangeSetRange, RangeSetRef};
 use std::alloc::{AllocError, Global};
+use std::ops::Range;
 
 // A set with the boundaries of a list, if there is memory for it.
 pub(crate) fn copied<T: EntryClone + Drop>(alloc: Global, a: &[T]) -> Option<ChunkedRangeSet<T>>
@@ -23,7 +26,7 @@ pub(crate) fn copied<T: EntryClone + Drop>(alloc: Global, a: &[T]) -> Option<Chu
 }
 
 // Puts the numbers from `start` to below `end` in, and answers whether there was memory for it.
-pub(crate) fn insert<T: Ord + Drop>(set: &mut ChunkedRangeSet<T>, start: T, end: T) -> bool
+pub(crate) fn insert<T: Countable + Copy>(set: &mut ChunkedSpace<T>, start: T, end: T) -> bool
     ensures { IsChangedByRange T.cmp union_table 0
         set.old (range_items T.cmp start end) set.new (outcome result) }
 {
@@ -31,7 +34,7 @@ pub(crate) fn insert<T: Ord + Drop>(set: &mut ChunkedRangeSet<T>, start: T, end:
 }
 
 // Takes the numbers from `start` to below `end` out, and answers whether there was memory for it.
-pub(crate) fn remove<T: Ord + Drop>(set: &mut ChunkedRangeSet<T>, start: T, end: T) -> bool
+pub(crate) fn remove<T: Countable + Copy>(set: &mut ChunkedSpace<T>, start: T, end: T) -> bool
     ensures { IsChangedByRange T.cmp difference_table 0
         set.old (range_items T.cmp start end) set.new (outcome result) }
 {
@@ -39,7 +42,7 @@ pub(crate) fn remove<T: Ord + Drop>(set: &mut ChunkedRangeSet<T>, start: T, end:
 }
 
 // Puts the numbers from `start` on in, and answers whether there was memory for it.
-pub(crate) fn insert_from<T: Ord + Drop>(set: &mut ChunkedRangeSet<T>, start: T) -> bool
+pub(crate) fn insert_from<T: Countable + Copy>(set: &mut ChunkedSpace<T>, start: T) -> bool
     ensures { IsChangedByRange T.cmp union_table 0
         set.old (start ∷ []) set.new (outcome result) }
 {
@@ -47,7 +50,7 @@ pub(crate) fn insert_from<T: Ord + Drop>(set: &mut ChunkedRangeSet<T>, start: T)
 }
 
 // Takes the numbers from `start` on out, and answers whether there was memory for it.
-pub(crate) fn remove_from<T: Ord + Drop>(set: &mut ChunkedRangeSet<T>, start: T) -> bool
+pub(crate) fn remove_from<T: Countable + Copy>(set: &mut ChunkedSpace<T>, start: T) -> bool
     ensures { IsChangedByRange T.cmp difference_table 0
         set.old (start ∷ []) set.new (outcome result) }
 {
@@ -89,6 +92,26 @@ pub(crate) fn next_gap<T: Ord + Copy>(set: &ChunkedRangeSet<T>, from: T, next: &
         }
         None => false,
     }
+}
+
+// Tells the least number from which on `count` numbers lie in the range and none is a member, where
+// there is one. The set remembers what it learns of its gaps.
+pub(crate) fn first_fit<T: Countable + Copy>(
+    set: &mut ChunkedSpace<T>,
+    within: Range<T>,
+    count: u128,
+    at: &mut T,
+) -> bool
+    ensures fits { IsTrue result → IsRow T.cmp T.value false set.old
+        (T.place within.start) (T.place within.end) count (T.place at.new) }
+    ensures least { IsTrue result → (n : ℕ) → IsRow T.cmp T.value false set.old
+        (T.place within.start) (T.place within.end) count n → T.place at.new ≤ n }
+    ensures none { result ≡ false → (n : ℕ) → ¬ (IsRow T.cmp T.value false set.old
+        (T.place within.start) (T.place within.end) count n) }
+    ensures no_answer { result ≡ false → at.new ≡ at.old }
+    ensures unchanged { set.new ≡ set.old }
+{
+    put(set.first_fit_count(within, count), at)
 }
 
 // Writes the boundaries to the front of `out`, if it has room for them, and answers how many there
