@@ -63,6 +63,7 @@ bool PROVED(chunked_contains_range)(CHUNKED *set, NUMBER start, NUMBER end);
 bool PROVED(chunked_intersects_range)(CHUNKED *set, NUMBER start, NUMBER end);
 bool PROVED(chunked_next_member)(CHUNKED *set, NUMBER from, NUMBER *next);
 bool PROVED(chunked_next_gap)(CHUNKED *set, NUMBER from, NUMBER *next);
+bool PROVED(chunked_first_fit)(CHUNKED *set, NUMBER start, NUMBER end, COUNT count, NUMBER *first);
 size_t PROVED(chunked_ranges_len)(CHUNKED *set);
 size_t PROVED(chunked_boundaries_len)(CHUNKED *set);
 size_t PROVED(chunked_copy)(CHUNKED *set, NUMBER *out, size_t room);
@@ -699,6 +700,15 @@ bool NAME(chunked_next)(CHUNKED set, NUMBER from, RANGE *range)
     bool found = NAME(chunked_next_member)(set, from, &it.start);
     if (found) it.has_end = NAME(chunked_next_gap)(set, it.start, &it.end);
     return NAME(told)(found, it, range);
+}
+
+bool NAME(chunked_first_fit)(CHUNKED *set, NUMBER start, NUMBER end, COUNT count, NUMBER *first)
+{
+    const SET none = {NULL, 0};
+    NUMBER at = 0;
+    if (set == NULL || set->at == NULL) return NAME(first_fit)(none, start, end, count, first);
+    bool fits = PROVED(chunked_first_fit)(set, start, end, count, &at);
+    return NAME(put)(fits, at, first);
 }
 
 size_t NAME(chunked_ranges_len)(CHUNKED set)
