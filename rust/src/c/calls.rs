@@ -19,12 +19,12 @@ macro_rules! calls {
             use super::{operations, texts, Status};
             use crate::generated::range_c::chunked;
             use crate::generated::range_c::generated::$proved::*;
-            use crate::generated::range_chunks::ChunkedRangeSet;
+            use crate::generated::range_chunks::ChunkedSpace;
             use crate::support::Global;
             use std::os::raw::c_uint;
 
             type Numbers = Set<$number>;
-            type Chunks = Held<ChunkedRangeSet<$number>>;
+            type Chunks = Held<ChunkedSpace<$number>>;
 
             // ---- Sets of lists ----
 
@@ -564,7 +564,7 @@ macro_rules! calls {
             unsafe extern "C" fn chunked_new(set: Option<&mut Chunks>) -> Status {
                 match set {
                     Some(set) => {
-                        *set = Chunks::of(ChunkedRangeSet::new(Global));
+                        *set = Chunks::of(ChunkedSpace::new(Global));
                         set.status()
                     }
                     None => Status::BadArgument,
@@ -577,7 +577,7 @@ macro_rules! calls {
                     return Status::BadArgument;
                 }
                 let made = match chunked::copied(Global, unsafe { list.list() }) {
-                    Some(copy) => Chunks::of(copy),
+                    Some(copy) => Chunks::of(ChunkedSpace::from_set(Global, copy)),
                     None => Chunks::NONE,
                 };
                 unsafe { set.write(made) };
@@ -638,7 +638,7 @@ macro_rules! calls {
             #[export_name = concat!("range_set_", $name, "_chunked_contains")]
             unsafe extern "C" fn chunked_contains(set: Chunks, value: $number) -> bool {
                 match unsafe { set.get() } {
-                    Some(set) => set.contains(&value),
+                    Some(set) => set.as_set().contains(&value),
                     None => false,
                 }
             }
@@ -650,7 +650,7 @@ macro_rules! calls {
                 end: $number,
             ) -> bool {
                 match unsafe { set.get() } {
-                    Some(set) => set.contains_range(start..end),
+                    Some(set) => set.as_set().contains_range(start..end),
                     None => end <= start,
                 }
             }
@@ -662,7 +662,7 @@ macro_rules! calls {
                 end: $number,
             ) -> bool {
                 match unsafe { set.get() } {
-                    Some(set) => set.intersects_range(start..end),
+                    Some(set) => set.as_set().intersects_range(start..end),
                     None => false,
                 }
             }
@@ -675,7 +675,7 @@ macro_rules! calls {
             ) -> bool {
                 let mut at = from;
                 let found = match unsafe { set.get() } {
-                    Some(set) => chunked::next_member(set, from, &mut at),
+                    Some(set) => chunked::next_member(set.as_set(), from, &mut at),
                     None => false,
                 };
                 if found {
@@ -692,7 +692,7 @@ macro_rules! calls {
             ) -> bool {
                 let mut at = from;
                 let found = match unsafe { set.get() } {
-                    Some(set) => chunked::next_gap(set, from, &mut at),
+                    Some(set) => chunked::next_gap(set.as_set(), from, &mut at),
                     None => true,
                 };
                 if found {
@@ -716,10 +716,26 @@ macro_rules! calls {
                 }
             }
 
+            #[export_name = concat!("range_set_", $name, "_chunked_first_fit")]
+            unsafe extern "C" fn chunked_first_fit(
+                set: Option<&mut Chunks>,
+                start: $number,
+                end: $number,
+                count: $count,
+                first: *mut $number,
+            ) -> bool {
+                unsafe {
+                    number_told(first, |at| match set.and_then(|set| set.get_mut()) {
+                        Some(set) => chunked::first_fit(set, start..end, count.into(), at),
+                        None => proved_first_fit(&[], start, end, count, at),
+                    })
+                }
+            }
+
             #[export_name = concat!("range_set_", $name, "_chunked_ranges_len")]
             unsafe extern "C" fn chunked_ranges_len(set: Chunks) -> usize {
                 match unsafe { set.get() } {
-                    Some(set) => set.ranges_len(),
+                    Some(set) => set.as_set().ranges_len(),
                     None => 0,
                 }
             }
@@ -727,7 +743,7 @@ macro_rules! calls {
             #[export_name = concat!("range_set_", $name, "_chunked_boundaries_len")]
             unsafe extern "C" fn chunked_boundaries_len(set: Chunks) -> usize {
                 match unsafe { set.get() } {
-                    Some(set) => set.boundaries_len(),
+                    Some(set) => set.as_set().boundaries_len(),
                     None => 0,
                 }
             }
@@ -743,7 +759,7 @@ macro_rules! calls {
                     return Status::BadArgument;
                 }
                 let len = match unsafe { set.get() } {
-                    Some(set) => chunked::copy(set, unsafe { room_at(out, room) }),
+                    Some(set) => chunked::copy(set.as_set(), unsafe { room_at(out, room) }),
                     None => 0,
                 };
                 unsafe { operations::answered(len, out, room, result) }

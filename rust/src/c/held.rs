@@ -55,12 +55,16 @@ impl<T> Held<T> {
         unsafe { self.at.as_ref() }
     }
 
+    pub(super) unsafe fn get_mut<'a>(&mut self) -> Option<&'a mut T> {
+        unsafe { self.at.as_mut() }
+    }
+
     /// Changes it by `change`, which answers whether it had memory.
     pub(super) unsafe fn change(
         held: Option<&mut Self>,
         change: impl FnOnce(&mut T) -> bool,
     ) -> Status {
-        match held.and_then(|held| unsafe { held.at.as_mut() }) {
+        match held.and_then(|held| unsafe { held.get_mut() }) {
             Some(it) => {
                 if change(it) {
                     Status::Done
