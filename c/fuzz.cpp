@@ -165,6 +165,9 @@ template <class T> static void chunked(const std::uint8_t *bytes, std::size_t si
         check(set.contains_range(from, to) == all_of<T>(from, to, is_in));
         check(set.intersects_range(from, to) == first_of<T>(from, to, is_in).has_value());
         check(set.next_member(from) == first_of<T>(from, REACH + 1, is_in) && set.next_gap(from) == first_of<T>(from, REACH + 1, is_out));
+        const T few = static_cast<T>(1 + call);
+        const auto fits = [&](T x) { return few <= to - x && all_of<T>(x, static_cast<T>(x + few), is_out); };
+        check(set.first_fit(from, to, static_cast<std::make_unsigned_t<T>>(few)) == first_of<T>(from, to, fits));
     }
     unsigned at = 0;
     std::size_t ranges = 0;

@@ -164,11 +164,13 @@ template <class T> static void chunked()
     chunked_range_set<T> set;
     check(set.empty() && set.size() == 0 && set.begin() == set.end() && !set.contains(5) && !set.next_member(0) && set.next_gap(5) == T(5),
         "chunked: empty");
+    check(set.first_fit(5, 8, 3) == T(5) && !set.first_fit(5, 8, 4), "chunked: first_fit in the empty set");
     set.insert(9, 17).remove(11, 12).insert_from(20).insert(5, 5);
     check(text<T>(set) == "9..11 12..17 20.." && set.size() == 3 && !set.empty(), "chunked: changes");
     check(set.contains(9) && !set.contains(11) && set.contains_range(12, 17) && !set.contains_range(9, 12), "chunked: contains");
     check(set.intersects_range(11, 13) && !set.intersects_range(11, 12) && !set.intersects_range(17, 20), "chunked: intersects_range");
     check(set.next_member(11) == T(12) && set.next_gap(12) == T(17) && !set.next_gap(20), "chunked: next");
+    check(set.first_fit(9, 40, 1) == T(11) && set.first_fit(9, 40, 3) == T(17) && !set.first_fit(9, 40, 4), "chunked: first_fit");
     check(text<T>(set.set()) == "9..11 12..17 20..", "chunked: set");
     chunked_range_set<T> copy(set), moved(std::move(set)), assigned;
     check(set.empty() && text<T>(copy) == text<T>(moved), "chunked: copy and move");
@@ -185,6 +187,8 @@ template <class T> static void chunked()
         const T start = static_cast<T>(random_below(20000)), end = static_cast<T>(start + static_cast<T>(random_below(4)));
         if (i % 3 == 2) many.remove(start, end), wanted.remove(start, end);
         else many.insert(start, end), wanted.insert(start, end);
+        const auto count = static_cast<std::make_unsigned_t<T>>(1 + random_below(40));
+        if (i % 10 == 0) check(many.first_fit(0, 20000, count) == wanted.first_fit(0, 20000, count), "chunked: first_fit of many");
     }
     check(many.set() == wanted && text<T>(many) == text<T>(wanted) && many.size() == wanted.size(), "chunked: many");
 }

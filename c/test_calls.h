@@ -878,6 +878,20 @@ static void TEST(has_boundaries)(CHUNKED set, const NUMBER *wanted, size_t len)
     free(list);
 }
 
+/* Where so many points in a row, of two numbers each, are no members, from a point on, against trying each point. */
+static void TEST(chunked_fits)(CHUNKED *set, const NUMBER *points, const bool *on, size_t from)
+{
+    NUMBER end = points[POINTS - 1] + 2, at;
+    size_t many, p, free;
+    bool fits;
+    for (many = 1; many <= POINTS; many++) {
+        for (p = from, free = 0; p < POINTS && free < many; p++) free = on[p] ? 0 : free + 1;
+        at = 77;
+        fits = CALL(chunked_first_fit)(set, points[from], end, (COUNT)(2 * many), &at);
+        check(fits == (free == many) && at == (fits ? points[p - many] : 77), "chunked_first_fit");
+    }
+}
+
 /* A set in chunks through some changes, against a bitmap. */
 static void TEST(chunked)(void)
 {
@@ -918,6 +932,7 @@ static void TEST(chunked)(void)
             }
             check(CALL(chunked_next_member)(set, points[p], &next) == (after < POINTS) && (after == POINTS || next == points[after]),
                 "chunked_next_member");
+            TEST(chunked_fits)(&set, points, on, p);
             for (after = p; after < POINTS && on[after]; after++) {
             }
             check(CALL(chunked_next_gap)(set, points[p], &next) == (after < POINTS) && (after == POINTS || next == points[after]),
@@ -935,6 +950,41 @@ static void TEST(chunked)(void)
     check(set.at == NULL, "chunked_free leaves an address");
 }
 
+/* Of ranges with gaps of two between, three numbers fit behind the last alone, again and again; and where a range was. */
+static void TEST(fits_behind)(CHUNKED *set, const NUMBER *boundaries, size_t len)
+{
+    NUMBER first = 0, last = boundaries[len - 1];
+    for (int again = 0; again < 2; again++) {
+        check(CALL(chunked_first_fit)(set, 0, last + 9, 3, &first) && first == last, "chunked_first_fit: behind");
+        check(!CALL(chunked_first_fit)(set, 0, last + 2, 3, &first) && first == last, "chunked_first_fit: nowhere");
+        check(CALL(chunked_first_fit)(set, 0, last + 9, 2, &first) && first == boundaries[1], "chunked_first_fit: the first gap");
+    }
+    check(CALL(chunked_remove)(set, boundaries[len / 2], boundaries[len / 2 + 1]) == RANGE_SET_DONE, "chunked_first_fit: remove");
+    check(CALL(chunked_first_fit)(set, 0, last + 9, 3, &first) && first == boundaries[len / 2 - 1], "chunked_first_fit: where one was");
+    check(CALL(chunked_insert)(set, boundaries[len / 2], boundaries[len / 2 + 1]) == RANGE_SET_DONE, "chunked_first_fit: insert");
+    check(CALL(chunked_first_fit)(set, 0, last + 9, 3, NULL), "chunked_first_fit: a null place");
+    check(CALL(chunked_first_fit)(set, 0, last + 9, 3, &first) && first == last, "chunked_first_fit: behind again");
+}
+
+/* Where many numbers fit in a set in chunks, and numbers on both sides of zero. */
+static void TEST(chunked_fits_far)(void)
+{
+    static const NUMBER both[] = {LEAST, LEAST + 2, MOST - 5, MOST - 3};
+    const COUNT all = (COUNT)((COUNT)MOST - (COUNT)LEAST), between = (COUNT)(all - 7);
+    CHUNKED set = {NULL};
+    NUMBER at = 77;
+    check(CALL(chunked_of)(TEST(set)(both, 4), &set) == RANGE_SET_DONE, "chunked_first_fit: of a list");
+    check(CALL(chunked_first_fit)(&set, LEAST, MOST, between, &at) && at == LEAST + 2, "chunked_first_fit of as many as the gap has");
+    check(!CALL(chunked_first_fit)(&set, LEAST, MOST, (COUNT)(between + 1), NULL), "chunked_first_fit of one more than the gap has");
+    check(CALL(chunked_first_fit)(&set, MOST - 5, MOST, 3, &at) && at == MOST - 3, "chunked_first_fit at the end");
+    check(CALL(chunked_first_fit)(&set, LEAST, LEAST, 0, &at) && at == LEAST, "chunked_first_fit of no number");
+    check(!CALL(chunked_first_fit)(&set, MOST, LEAST, 0, &at) && !CALL(chunked_first_fit)(&set, MOST, LEAST, 1, &at) && at == LEAST,
+        "chunked_first_fit in a reversed range");
+    CALL(chunked_clear)(&set);
+    check(CALL(chunked_first_fit)(&set, LEAST, MOST, all, &at) && at == LEAST, "chunked_first_fit of all numbers but one");
+    CALL(chunked_free)(&set);
+}
+
 /* Many ranges, put in far from each other, so that there are many chunks; and all taken out again. */
 static void TEST(chunked_many)(void)
 {
@@ -949,6 +999,7 @@ static void TEST(chunked_many)(void)
         check(CALL(chunked_insert)(&set, start, start + 1) == RANGE_SET_DONE, "chunked: many: insert");
     }
     TEST(has_boundaries)(set, wanted, 2 * MANY);
+    TEST(fits_behind)(&set, wanted, 2 * MANY);
     for (p = 0; p < MANY / 2; p++)
         check(CALL(chunked_remove)(&set, wanted[2 * p], wanted[2 * p + 1]) == RANGE_SET_DONE, "chunked: many: remove");
     TEST(has_boundaries)(set, wanted + MANY, MANY);
@@ -973,6 +1024,9 @@ static void TEST(chunked_none)(void)
     check(none.at == NULL, "no set: clear");
     check(!CALL(chunked_next_member)(none, 5, &next) && next == 77, "no set: next_member");
     check(CALL(chunked_next_gap)(none, 5, &next) && next == 5 && CALL(chunked_next_gap)(none, 5, NULL), "no set: next_gap");
+    check(CALL(chunked_first_fit)(&none, 5, 8, 3, &next) && next == 5, "no set: first_fit");
+    check(!CALL(chunked_first_fit)(&none, 4, 8, 5, &next) && next == 5, "no set: first_fit of one too many");
+    check(CALL(chunked_first_fit)(NULL, 5, 8, 3, NULL) && !CALL(chunked_first_fit)(NULL, 5, 8, 4, NULL), "null: first_fit");
     check(CALL(chunked_insert)(&none, 5, 6) == RANGE_SET_BAD_ARGUMENT && CALL(chunked_insert)(NULL, 5, 6) == RANGE_SET_BAD_ARGUMENT,
         "no set: insert");
     check(CALL(chunked_remove)(&none, 5, 6) == RANGE_SET_BAD_ARGUMENT && CALL(chunked_remove)(NULL, 5, 6) == RANGE_SET_BAD_ARGUMENT,
@@ -1311,6 +1365,7 @@ static void TEST(all)(long cases)
     TEST(owned_many)();
     TEST(owned_with_its_part)();
     TEST(chunked_many)();
+    TEST(chunked_fits_far)();
     TEST(chunked_none)();
     TEST(parsed_in_any_order)();
     TEST(bad_lists)();

@@ -63,6 +63,21 @@ enum { MANY = 1500 };
         check(range_set_##number##_chunked_copy(set, copy, 2 * MANY, &result) == RANGE_SET_DONE && result.len == 2 * MANY, "the length"); \
         for (p = 0; p < 2 * MANY; p++) check(copy[p] == list[p], "the boundaries"); \
     } \
+    /* With each request met and refused in turn, three more numbers fit behind the last of many ranges, and no more before it. */ \
+    static void fits_##number(range_set_##number##_chunked *set, NUMBER last) \
+    { \
+        NUMBER first = 0; \
+        long k, before; \
+        for (k = 0;; k++) { \
+            before = refused; \
+            left = k; \
+            check(range_set_##number##_chunked_first_fit(set, 0, (NUMBER)(last + 3), 3, &first) && first == last, "first_fit: behind"); \
+            check(!range_set_##number##_chunked_first_fit(set, 0, (NUMBER)(last + 2), 3, &first) && first == last, "first_fit: nowhere"); \
+            left = -1; \
+            if (refused == before) break; \
+        } \
+        check(k > 0, "first_fit: what is remembered takes a request"); \
+    } \
     static void refused_##number(void) \
     { \
         static NUMBER list[2 * MANY]; \
@@ -79,6 +94,8 @@ enum { MANY = 1500 };
         UNTIL_DONE(number, range_set_##number##_chunked_new(&set), 0) \
         check(k == 1, "the empty set takes one request"); \
         for (p = 0; p < MANY; p++) UNTIL_DONE(number, range_set_##number##_chunked_insert(&set, list[2 * p], list[2 * p + 1]), 2 * p) \
+        is_list_##number(set, list); \
+        fits_##number(&set, list[2 * MANY - 1]); \
         is_list_##number(set, list); \
         range_set_##number##_chunked_free(&set); \
         UNTIL_DONE(number, range_set_##number##_chunked_new(&set), 0) \

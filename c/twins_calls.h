@@ -213,6 +213,7 @@ static void TEST(in_chunks)(struct log *log, SET a, NUMBER x, struct input *inpu
         tell(log, CALL(chunked_intersects_range)(set, start, end));
         tell(log, CALL(chunked_next_member)(set, start, &at)), tell(log, (uint64_t)at);
         tell(log, CALL(chunked_next_gap)(set, start, &at)), tell(log, (uint64_t)at);
+        tell(log, CALL(chunked_first_fit)(&set, start, end, (COUNT)x, &at)), tell(log, (uint64_t)at);
         const bool found = CALL(chunked_next)(set, end, &range);
         TEST(tell_range)(log, found, range);
     }
