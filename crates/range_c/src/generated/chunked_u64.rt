@@ -2,6 +2,7 @@
 //! The exports for sets of `u64` in chunks.
 ghost use Rattle.std.specs.Prelude.{◌≡◌, ◌↔◌, ◌<◌, ◌≤◌, ◌^◌, ◌-◌, ℕ, List, [], ◌∷◌, Option, Some, None, IsSome, IsTrue, true, false, min, length, take, drop};
 ghost use Rattle.std.specs.Ordering.{nat_cmp};
+ghost use Rattle.range_collections.specs.Fits.{IsRow};
 ghost use Rattle.range_collections.specs.Boundaries.{IsAscending, member};
 ghost use Rattle.range_collections.specs.Connective.{union_table, difference_table};
 ghost use Rattle.range_collections.specs.Extent.{HasAllWithin};
@@ -13,9 +14,9 @@ ghost use Rattle.range_c.specs.Chunked.{held, outcome, CopiesTo, TellsNext};
 
 use crate::boxed::Parts;
 use crate::chunked::{
-    copied, copy, insert, insert_from, next_gap, next_member, remove, remove_from,
+    copied, copy, first_fit, insert, insert_from, next_gap, next_member, remove, remove_from,
 };
-use range_chunks::ChunkedRangeSet;
+use range_chunks::ChunkedSpace;
 use std::alloc::Global;
 use std::marker::Model;
 use std::mem::replace;
@@ -24,7 +25,7 @@ use std::ptr::null_mut;
 /// A set in chunks, which lies in memory of its own.
 #[derive(Drop)]
 pub struct SetU64 {
-    set: ChunkedRangeSet<u64>,
+    set: ChunkedSpace<u64>,
 }
 
 /// What C keeps of such a set: its address, and null while there is none. A drop leaves the set
@@ -101,7 +102,7 @@ impl ChunkedU64 {
 
     // Puts a set into a box of its own, and that in the place of none. It answers whether there was
     // memory for it.
-    fn fill(&mut self, alloc: Global, set: ChunkedRangeSet<u64>) -> bool
+    fn fill(&mut self, alloc: Global, set: ChunkedSpace<u64>) -> bool
         requires { self.old.set ≡ None }
         ensures full { IsTrue result → self.new.set ≡ Some set }
         ensures refused { result ≡ false → self.new.set ≡ None }
@@ -123,7 +124,7 @@ pub extern "C" fn proved_range_set_u64_chunked_new(set: &mut ChunkedU64, alloc: 
     ensures made { IsTrue result → set.new.set ≡ Some [] }
     ensures refused { result ≡ false → set.new.set ≡ None }
 {
-    set.fill(alloc, ChunkedRangeSet::new(alloc))
+    set.fill(alloc, ChunkedSpace::new(alloc))
 }
 
 /// Makes a set with the boundaries of a list, and answers whether there was memory for it.
@@ -140,7 +141,7 @@ pub extern "C" fn proved_range_set_u64_chunked_of(
     ensures refused { result ≡ false → set.new.set ≡ None }
 {
     match copied(alloc, a) {
-        Some(copy) => set.fill(alloc, copy),
+        Some(copy) => set.fill(alloc, ChunkedSpace::from_set(alloc, copy)),
         None => false,
     }
 }
@@ -251,7 +252,7 @@ pub extern "C" fn proved_range_set_u64_chunked_contains(
     ensures unchanged { set.new.set ≡ set.old.set }
 {
     let taken = set.take(alloc);
-    let answer = taken.set.contains(&value);
+    let answer = taken.set.as_set().contains(&value);
     set.put(taken);
     answer
 }
@@ -269,7 +270,7 @@ pub extern "C" fn proved_range_set_u64_chunked_contains_range(
     ensures unchanged { set.new.set ≡ set.old.set }
 {
     let taken = set.take(alloc);
-    let answer = taken.set.contains_range(start..end);
+    let answer = taken.set.as_set().contains_range(start..end);
     set.put(taken);
     answer
 }
@@ -287,7 +288,7 @@ pub extern "C" fn proved_range_set_u64_chunked_intersects_range(
     ensures unchanged { set.new.set ≡ set.old.set }
 {
     let taken = set.take(alloc);
-    let answer = taken.set.intersects_range(start..end);
+    let answer = taken.set.as_set().intersects_range(start..end);
     set.put(taken);
     answer
 }
@@ -305,7 +306,7 @@ pub extern "C" fn proved_range_set_u64_chunked_next_member(
     ensures unchanged { set.new.set ≡ set.old.set }
 {
     let taken = set.take(alloc);
-    let answer = next_member(&taken.set, from, next);
+    let answer = next_member(taken.set.as_set(), from, next);
     set.put(taken);
     answer
 }
@@ -323,7 +324,30 @@ pub extern "C" fn proved_range_set_u64_chunked_next_gap(
     ensures unchanged { set.new.set ≡ set.old.set }
 {
     let taken = set.take(alloc);
-    let answer = next_gap(&taken.set, from, next);
+    let answer = next_gap(taken.set.as_set(), from, next);
+    set.put(taken);
+    answer
+}
+
+/// Whether there is a number from which on `count` numbers lie between `start` and `end` and none is a member, and then writes the least one. What it learns of gaps stays for the next search.
+#[unsafe(no_mangle)]
+pub extern "C" fn proved_range_set_u64_chunked_first_fit(
+    set: &mut ChunkedU64,
+    alloc: Global,
+    start: u64,
+    end: u64,
+    count: u64,
+    at: &mut u64,
+) -> bool
+    requires { IsSome set.old.set }
+    ensures fits { IsTrue result → IsRow nat_cmp (λ n. n) false (held set.old.set) start end count (at.new) }
+    ensures least { IsTrue result → (n : ℕ) → IsRow nat_cmp (λ n. n) false (held set.old.set) start end count n → at.new ≤ n }
+    ensures none { result ≡ false → (n : ℕ) → ¬ (IsRow nat_cmp (λ n. n) false (held set.old.set) start end count n) }
+    ensures no_answer { result ≡ false → at.new ≡ at.old }
+    ensures unchanged { set.new.set ≡ set.old.set }
+{
+    let mut taken = set.take(alloc);
+    let answer = first_fit(&mut taken.set, start..end, u128::from(count), at);
     set.put(taken);
     answer
 }
@@ -339,7 +363,7 @@ pub extern "C" fn proved_range_set_u64_chunked_ranges_len(
     ensures unchanged { set.new.set ≡ set.old.set }
 {
     let taken = set.take(alloc);
-    let answer = taken.set.ranges_len();
+    let answer = taken.set.as_set().ranges_len();
     set.put(taken);
     answer
 }
@@ -355,7 +379,7 @@ pub extern "C" fn proved_range_set_u64_chunked_boundaries_len(
     ensures unchanged { set.new.set ≡ set.old.set }
 {
     let taken = set.take(alloc);
-    let answer = taken.set.boundaries_len();
+    let answer = taken.set.as_set().boundaries_len();
     set.put(taken);
     answer
 }
@@ -372,7 +396,7 @@ pub extern "C" fn proved_range_set_u64_chunked_copy(
     ensures unchanged { set.new.set ≡ set.old.set }
 {
     let taken = set.take(alloc);
-    let answer = copy(&taken.set, out);
+    let answer = copy(taken.set.as_set(), out);
     set.put(taken);
     answer
 }

@@ -2,9 +2,11 @@
 //! What the exports do with a set in chunks, for numbers of any type.
 
 use crate::generated::range_c::in_place::overwrite;
-use crate::generated::range_chunks::{ChunkedRangeSet, Iter};
-use crate::generated::range_collections::{EntryClone, RangeSetRange, RangeSetRef};
+use crate::generated::range_c::parts::put;
+use crate::generated::range_chunks::{ChunkedRangeSet, ChunkedSpace, Iter};
+use crate::generated::range_collections::{Countable, EntryClone, RangeSetRange, RangeSetRef};
 use crate::support::{AllocError, Global};
+use core::ops::Range;
 
 // A set with the boundaries of a list, if there is memory for it.
 pub(crate) fn copied<T: EntryClone>(alloc: Global, a: &[T]) -> Option<ChunkedRangeSet<T>> {
@@ -12,22 +14,22 @@ pub(crate) fn copied<T: EntryClone>(alloc: Global, a: &[T]) -> Option<ChunkedRan
 }
 
 // Puts the numbers from `start` to below `end` in, and answers whether there was memory for it.
-pub(crate) fn insert<T: Ord>(set: &mut ChunkedRangeSet<T>, start: T, end: T) -> bool {
+pub(crate) fn insert<T: Countable + Copy>(set: &mut ChunkedSpace<T>, start: T, end: T) -> bool {
     is_done(set.insert(start..end))
 }
 
 // Takes the numbers from `start` to below `end` out, and answers whether there was memory for it.
-pub(crate) fn remove<T: Ord>(set: &mut ChunkedRangeSet<T>, start: T, end: T) -> bool {
+pub(crate) fn remove<T: Countable + Copy>(set: &mut ChunkedSpace<T>, start: T, end: T) -> bool {
     is_done(set.remove(start..end))
 }
 
 // Puts the numbers from `start` on in, and answers whether there was memory for it.
-pub(crate) fn insert_from<T: Ord>(set: &mut ChunkedRangeSet<T>, start: T) -> bool {
+pub(crate) fn insert_from<T: Countable + Copy>(set: &mut ChunkedSpace<T>, start: T) -> bool {
     is_done(set.insert_from(start..))
 }
 
 // Takes the numbers from `start` on out, and answers whether there was memory for it.
-pub(crate) fn remove_from<T: Ord>(set: &mut ChunkedRangeSet<T>, start: T) -> bool {
+pub(crate) fn remove_from<T: Countable + Copy>(set: &mut ChunkedSpace<T>, start: T) -> bool {
     is_done(set.remove_from(start..))
 }
 
@@ -60,6 +62,17 @@ pub(crate) fn next_gap<T: Ord + Copy>(set: &ChunkedRangeSet<T>, from: T, next: &
         }
         None => false,
     }
+}
+
+// Tells the least number from which on `count` numbers lie in the range and none is a member, where
+// there is one. The set remembers what it learns of its gaps.
+pub(crate) fn first_fit<T: Countable + Copy>(
+    set: &mut ChunkedSpace<T>,
+    within: Range<T>,
+    count: u128,
+    at: &mut T,
+) -> bool {
+    put(set.first_fit_count(within, count), at)
 }
 
 // Writes the boundaries to the front of `out`, if it has room for them, and answers how many there
