@@ -38,7 +38,7 @@ fn sets_answer_as_one_list_does(rt: HostRuntime) -> Result<(), AllocError> {
 }
 
 // Ends of ranges: at the ends of ranges of a set and beside them, also where a chunk ends.
-const ENDS: [u64; 14] = [
+pub(crate) const ENDS: [u64; 14] = [
     0, 5, 10, 15, 20, 5_109, 5_110, 5_119, 5_120, 5_125, 5_130, 10_240, 59_990, 70_000,
 ];
 
@@ -58,7 +58,30 @@ fn are_the_same<'a>(
     false
 }
 
-// Whether both have the same gaps in a range, and the same parts in it.
+// Whether both give the same ranges, taken in turn from the front and from the back, of which there
+// are at most so many.
+fn overlap_alike<'a>(
+    mut these: range_chunks::Iter<'a, u64>,
+    mut those: range_collections::Iter<'a, u64>,
+    most: usize,
+) -> bool {
+    for step in 0..=most {
+        let pair = if step % 2 == 0 {
+            (these.next(), those.next())
+        } else {
+            (these.next_back(), those.next_back())
+        };
+        match pair {
+            (None, None) => return true,
+            (one, other) if one == other => {}
+            _ => return false,
+        }
+    }
+    false
+}
+
+// Whether both have the same gaps in a range, the same parts in it, and the same ranges that share a
+// number with it.
 fn have_the_same_parts<'a>(
     set: &'a ChunkedRangeSet<u64>,
     flat: &'a RangeSet2<u64>,
@@ -70,6 +93,11 @@ fn have_the_same_parts<'a>(
     let parts = set.ranges_within(start..end);
     are_the_same(gaps, flat.gaps(start..end), most)
         && are_the_same(parts, flat.ranges_within(start..end), most)
+        && overlap_alike(
+            set.overlapping(start..end),
+            flat.overlapping(start..end),
+            most,
+        )
 }
 
 // Whether both have the same parts of each range that starts here.

@@ -17,6 +17,8 @@ mod made_up;
 #[cfg(test)]
 mod making;
 #[cfg(test)]
+mod members;
+#[cfg(test)]
 mod refused;
 #[cfg(test)]
 mod rows;

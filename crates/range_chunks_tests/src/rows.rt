@@ -101,6 +101,21 @@ fn ranges_are_put_in_and_taken_out(rt: HostRuntime) -> Result<(), AllocError> {
     Ok(())
 }
 
+#[test]
+fn changes_say_whether_they_did_something(rt: HostRuntime) -> Result<(), AllocError> {
+    for row in &ROWS {
+        let mut set = set_of(rt.alloc(), row.items)?;
+        let added = set.insert_changed(row.start..row.end)?;
+        assert!(rt; added == (row.inserted != row.items), "{row:?}");
+        assert!(rt; has(&set, row.inserted), "{row:?}");
+        let mut set = set_of(rt.alloc(), row.items)?;
+        let taken = set.remove_changed(row.start..row.end)?;
+        assert!(rt; taken == (row.removed != row.items), "{row:?}");
+        assert!(rt; has(&set, row.removed), "{row:?}");
+    }
+    Ok(())
+}
+
 // Boundaries, a start, and the boundaries with all from the start on put in and taken out.
 #[derive(Clone, Copy, Debug)]
 struct ToTheEnd<'a> {
