@@ -52,6 +52,8 @@ mod refused_advances;
 #[cfg(test)]
 mod rooms;
 #[cfg(test)]
+mod run_lengths;
+#[cfg(test)]
 mod structs;
 #[cfg(test)]
 mod text;
