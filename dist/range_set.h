@@ -521,6 +521,11 @@ bool range_set_i32_chunked_next_gap(range_set_i32_chunked set, int32_t from, int
  */
 bool range_set_i32_chunked_next(range_set_i32_chunked set, int32_t from, range_set_i32_range *range);
 
+/* As `first_fit`, and passes over some 512 gaps at a time where they are known to be too short: the set remembers what a search
+ * learns of them, until something is taken out there. Without memory it remembers less. */
+bool range_set_i32_chunked_first_fit(range_set_i32_chunked *set, int32_t start, int32_t end, uint32_t count,
+                                          int32_t *first);
+
 /* How many ranges the set has, how many boundaries. Adds up the chunks. */
 size_t range_set_i32_chunked_ranges_len(range_set_i32_chunked set);
 size_t range_set_i32_chunked_boundaries_len(range_set_i32_chunked set);
@@ -946,6 +951,11 @@ bool range_set_u32_chunked_next_gap(range_set_u32_chunked set, uint32_t from, ui
  */
 bool range_set_u32_chunked_next(range_set_u32_chunked set, uint32_t from, range_set_u32_range *range);
 
+/* As `first_fit`, and passes over some 512 gaps at a time where they are known to be too short: the set remembers what a search
+ * learns of them, until something is taken out there. Without memory it remembers less. */
+bool range_set_u32_chunked_first_fit(range_set_u32_chunked *set, uint32_t start, uint32_t end, uint32_t count,
+                                          uint32_t *first);
+
 /* How many ranges the set has, how many boundaries. Adds up the chunks. */
 size_t range_set_u32_chunked_ranges_len(range_set_u32_chunked set);
 size_t range_set_u32_chunked_boundaries_len(range_set_u32_chunked set);
@@ -1370,6 +1380,11 @@ bool range_set_i64_chunked_next_gap(range_set_i64_chunked set, int64_t from, int
  *     for (; more; more = range.has_end && range_set_i64_chunked_next(set, range.end, &range)) ..
  */
 bool range_set_i64_chunked_next(range_set_i64_chunked set, int64_t from, range_set_i64_range *range);
+
+/* As `first_fit`, and passes over some 512 gaps at a time where they are known to be too short: the set remembers what a search
+ * learns of them, until something is taken out there. Without memory it remembers less. */
+bool range_set_i64_chunked_first_fit(range_set_i64_chunked *set, int64_t start, int64_t end, uint64_t count,
+                                          int64_t *first);
 
 /* How many ranges the set has, how many boundaries. Adds up the chunks. */
 size_t range_set_i64_chunked_ranges_len(range_set_i64_chunked set);
@@ -1839,6 +1854,11 @@ bool range_set_u64_chunked_next_gap(range_set_u64_chunked set, uint64_t from, ui
  *     for (; more; more = range.has_end && range_set_u64_chunked_next(set, range.end, &range)) ..
  */
 bool range_set_u64_chunked_next(range_set_u64_chunked set, uint64_t from, range_set_u64_range *range);
+
+/* As `first_fit`, and passes over some 512 gaps at a time where they are known to be too short: the set remembers what a search
+ * learns of them, until something is taken out there. Without memory it remembers less. */
+bool range_set_u64_chunked_first_fit(range_set_u64_chunked *set, uint64_t start, uint64_t end, uint64_t count,
+                                          uint64_t *first);
 
 /* How many ranges the set has, how many boundaries. Adds up the chunks. */
 size_t range_set_u64_chunked_ranges_len(range_set_u64_chunked set);

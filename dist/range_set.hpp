@@ -125,6 +125,7 @@ template <class T> struct calls_of;
         static constexpr auto chunked_intersects_range = range_set_##number##_chunked_intersects_range; \
         static constexpr auto chunked_next_member = range_set_##number##_chunked_next_member; \
         static constexpr auto chunked_next_gap = range_set_##number##_chunked_next_gap; \
+        static constexpr auto chunked_first_fit = range_set_##number##_chunked_first_fit; \
         static constexpr auto chunked_next = range_set_##number##_chunked_next; \
         static constexpr auto chunked_ranges_len = range_set_##number##_chunked_ranges_len; \
         static constexpr auto chunked_boundaries_len = range_set_##number##_chunked_boundaries_len; \
@@ -776,6 +777,14 @@ public:
     // The least member at or above a number, the least number that is none, or nothing.
     std::optional<T> next_member(T from) const noexcept { return next(calls::chunked_next_member, from); }
     std::optional<T> next_gap(T from) const noexcept { return next(calls::chunked_next_gap, from); }
+    // The least number from which on `count` numbers lie in `start` to below `end` and none is a member, or nothing. The set
+    // remembers what it learns of its gaps.
+    std::optional<T> first_fit(T start, T end, std::make_unsigned_t<T> count) noexcept
+    {
+        number first = 0;
+        if (!calls::chunked_first_fit(&set_, start, end, count, &first)) return std::nullopt;
+        return static_cast<T>(first);
+    }
 
     // The ranges, and how many there are.
     iterator begin() const noexcept { return iterator(set_, std::numeric_limits<T>::min()); }
