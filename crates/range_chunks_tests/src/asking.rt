@@ -65,16 +65,14 @@ fn overlap_alike<'a>(
     mut those: range_collections::Iter<'a, u64>,
     most: usize,
 ) -> bool {
-    for step in 0..=most {
-        let pair = if step % 2 == 0 {
-            (these.next(), those.next())
-        } else {
-            (these.next_back(), those.next_back())
-        };
-        match pair {
+    for _ in 0..=most {
+        match (these.next(), those.next()) {
             (None, None) => return true,
             (one, other) if one == other => {}
             _ => return false,
+        }
+        if these.next_back() != those.next_back() {
+            return false;
         }
     }
     false
