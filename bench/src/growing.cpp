@@ -22,7 +22,7 @@ constexpr std::size_t asked = 100000;
 constexpr std::size_t rounds = 3;
 
 // Who took longer for a size isn't asked for ten times as many, which may take a hundred times as long.
-constexpr double longest_ns = 1e9;
+constexpr double longest_ns = 5e8;
 
 // Of so many ranges gaps are read where each search reads all.
 constexpr std::size_t most_read = 100000000;
