@@ -141,8 +141,6 @@ MUTANTS = [
            "let (from, to) = (up_to(set, start), up_to(set, last));",
            "let (from, to) = (up_to(set, start), set.boundaries().partition_point(|it| it < last));", "any_range"),
     Mutant("nothing is below the least value, and yet told", "any_range/within.rs", "if self.end.is_min_value() {", "if false {", "any_range"),
-    Mutant("overlapping ranges are cut at the start", "view/parts.rs", "from - from % 2..", "from + from % 2..", "any_range"),
-    Mutant("overlapping ranges lose the last end", "view/parts.rs", "items.len().min(to + to % 2)", "to", "any_range"),
     Mutant("a change is told where there is none", "view/questions.rs",
            "self.gaps(&range.start..&range.end).next().is_some()", "range.start < range.end", "any_range"),
     Mutant("a tracker takes the last number for an offset", "tracker.rs", "range.start..u64::MAX,", "range.start..range.start,", "any_range"),
