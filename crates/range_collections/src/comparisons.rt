@@ -62,6 +62,16 @@ impl<T: Ord> Compare<T> for Comparisons {
         self.made
     }
 
+    #[inline(always)]
+    fn fresh(&self) -> Self {
+        Comparisons::new()
+    }
+
+    #[inline(always)]
+    fn add(&mut self, other: Self) {
+        self.made += other.made;
+    }
+
     ghost total = { T.total };
 }
 
@@ -81,6 +91,11 @@ impl<T: EntryClone> Copier<T> for EntryCopier {
     #[inline(always)]
     fn all_infallible(&self) -> bool {
         T::all_infallible()
+    }
+
+    #[inline(always)]
+    fn is_plain(&self) -> bool {
+        T::is_plain()
     }
 
     #[inline(always)]

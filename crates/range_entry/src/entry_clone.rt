@@ -29,6 +29,16 @@ pub trait EntryClone: Ord {
         false
     }
 
+    /// Whether elements are plain data, as numbers and characters are: a copy never fails, and is the
+    /// element itself. `true` only if the type says so.
+    #[inline(always)]
+    fn is_plain() -> bool
+        ensures infallible { IsTrue result → (x : Self) → is_infallible x }
+        ensures same { IsTrue result → (x y : Self) → is_copy x y → y ≡ x }
+    {
+        false
+    }
+
     /// Appends a copy of each item to the list. If memory runs out it is an error, and the copies
     /// made before stay. It asks for room once.
     fn append_clones(list: &mut Vec<Self>, items: &[Self]) -> Result<(), AllocError>

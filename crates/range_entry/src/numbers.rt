@@ -75,6 +75,13 @@ impl<T: Number> EntryClone for T {
         true
     }
 
+    #[inline(always)]
+    fn is_plain() -> bool
+        ensures { result ≡ true }
+    {
+        true
+    }
+
     /// All at once.
     #[inline(always)]
     fn append_clones(list: &mut Vec<T>, items: &[T]) -> Result<(), AllocError> {

@@ -12,7 +12,7 @@ AllZip-append R [] (y ∷ ys) us vs h k = absurd h
 AllZip-append R (x ∷ xs) [] us vs h k = absurd h
 AllZip-append R (x ∷ xs) (y ∷ ys) us vs h k = (h.0, AllZip-append R xs ys us vs h.1 k)
 
-AreCopies-from_items : {K : Type 0} (alike : K → K → Type 0) (ts : List (Taken K)) (xs : List K) → AllZip alike (taken_items ts) xs → AreCopies alike ts xs
+pub AreCopies-from_items : {K : Type 0} (alike : K → K → Type 0) (ts : List (Taken K)) (xs : List K) → AllZip alike (taken_items ts) xs → AreCopies alike ts xs
 AreCopies-from_items alike [] [] h = h
 AreCopies-from_items alike [] (x ∷ xs) h = h
 AreCopies-from_items alike (t ∷ ts) [] h = h

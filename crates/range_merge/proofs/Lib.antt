@@ -31,3 +31,6 @@ pub mod Exchanges
 pub mod TakenInPlace
 pub mod OwnOrCopies
 pub mod Filled
+pub mod ShortRuns
+pub mod SinglySteps
+pub mod Rounds

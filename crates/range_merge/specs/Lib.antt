@@ -14,3 +14,4 @@ pub mod Copies
 pub mod Building
 pub mod Buffers
 pub mod Filling
+pub mod Singly

@@ -33,6 +33,14 @@ pub record IsTurn (mine : Ordering) (firsts next : Option Ordering) (before afte
   pub shorter : firsts ≡ Some mine → after < before
   pub same : after ≡ before → next ≡ firsts
 
+-- what a step costs, from the weight w0 to w, for first items that stand as `mine` says: where they
+-- do it leaves one comparison, with the one for the next items, and else it does nothing
+pub record Leaves (mine : Ordering) (firsts next : Option Ordering) (count0 w0 count w : ℕ) :
+    Type 0 where
+  pub one : firsts ≡ Some mine → count + 1 + 2 * w ≤ count0 + 2 * w0
+  pub at_most : count + 2 * w ≤ count0 + 2 * w0
+  pub same : (firsts ≡ Some mine → ⊥) → next ≡ firsts
+
 module _ {K : Type 0} (order : K → K → Ordering) where
   -- from l0 and r0, with the sides on as ac0 and bc0, to l and r: what was taken, with what the
   -- walk takes of the rest, is the whole; a state that can stop has taken nothing

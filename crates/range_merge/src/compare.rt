@@ -27,6 +27,15 @@ pub trait Compare<K> {
     fn made(&self) -> u128
         ensures { result ≡ count self.now };
 
+    /// One that compares by the same order, and has made no comparison.
+    fn fresh(&self) -> Self
+        ensures { count result ≡ 0 };
+
+    /// Counts what another made as well.
+    fn add(&mut self, other: Self)
+        requires { count self.old + count other < 2 ^ 128 }
+        ensures { count self.new ≡ count self.old + count other };
+
     // The order is total and transitive.
     ghost total: { IsTotalOrder order };
 }
@@ -49,6 +58,16 @@ pub trait Copier<K> {
     #[inline(always)]
     fn all_infallible(&self) -> bool
         ensures { IsTrue result → (x : K) → is_infallible x }
+    {
+        false
+    }
+
+    /// Whether items are plain data: a copy never fails, and is the item itself. `true` only if
+    /// their type says so. Then a merge may hold copies of items beside the items.
+    #[inline(always)]
+    fn is_plain(&self) -> bool
+        ensures infallible { IsTrue result → (x : K) → is_infallible x }
+        ensures same { IsTrue result → (x y : K) → alike x y → y ≡ x }
     {
         false
     }

@@ -13,6 +13,8 @@ mod operations;
 mod place;
 mod runs;
 mod searching;
+mod short_runs;
+mod singly;
 mod slice_iterator;
 mod turning;
 

@@ -27,6 +27,14 @@ impl Compare<i64> for Numbers {
         self.made
     }
 
+    fn fresh(&self) -> Self {
+        Numbers { made: 0 }
+    }
+
+    fn add(&mut self, other: Self) {
+        self.made += other.made;
+    }
+
     ghost total = { int_cmp_total };
 }
 

@@ -10,12 +10,12 @@ use std::marker::Model;
 /// A state that reads two slices and appends what is taken to an output.
 #[derive(Drop)]
 pub struct SliceMergeState<'a, K, O: Output<K, By>, By = ()> {
-    a: SliceIterator<'a, K>,
-    b: SliceIterator<'a, K>,
-    ac: bool,
-    bc: bool,
-    output: O,
-    by: By,
+    pub(super) a: SliceIterator<'a, K>,
+    pub(super) b: SliceIterator<'a, K>,
+    pub(super) ac: bool,
+    pub(super) bc: bool,
+    pub(super) output: O,
+    pub(super) by: By,
 }
 
 impl<'a, K, O: Output<K, By>, By> Model for SliceMergeState<'a, K, O, By> {

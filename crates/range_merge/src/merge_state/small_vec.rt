@@ -12,6 +12,7 @@ use crate::compare::{Compare, Copier};
 use crate::merge_state::grows_at_end::append_copies;
 use crate::merge_state::output::Output;
 use crate::merge_state::over_slices::SliceMergeState;
+use crate::merge_state::short_runs::Singly;
 use crate::merging;
 use crate::operations::MergeOperation;
 use smallvec::SmallVec;
@@ -143,7 +144,10 @@ impl<'a, K: MadeWith<Global> + Drop, P: Copier<K>, const M: usize> SmallVecMerge
                 at_first: 0,
             },
         );
-        let _went_through = merging::merge(&mut state, op, cmp)?;
+        let _went_through = match Singly::of(copier) {
+            Some(mut reader) => merging::merge_with(&mut state, op, cmp, &mut reader)?,
+            None => merging::merge(&mut state, op, cmp)?,
+        };
         Ok(inline_if_few(state.result()))
     }
 }

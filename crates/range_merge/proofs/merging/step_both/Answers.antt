@@ -1,4 +1,4 @@
-use Rattle.std.proofs.Common.{None, refl, sym, ◌∙◌, arith}
+use Rattle.std.proofs.Common.{true, None, refl, sym, ◌∙◌, arith}
 use Rattle.std.proofs.lemmas.Bool.{false≢true}
 use Rattle.std.specs.declared.cmp.Ordering.TheVariants.{Equal}
 use Rattle.range_merge.specs.declared.runs.Run.TheVariants.{Both}
@@ -7,6 +7,7 @@ use Rattle.range_merge.proofs.Digits.{digits-half}
 use Rattle.range_merge.proofs.FirstRun.{weight-some}
 use Rattle.range_merge.proofs.PartsOfMerge.{front-first, front-one, Part-on, Part-stopped, Part-refused}
 use Rattle.range_merge.proofs.RunsFound.{runs-both}
+use Rattle.range_merge.proofs.Rounds.{front-leaves}
 use Rattle.range_merge.proofs.merging.step_both.Goals as goal
 
 pub returns-in-Ok-false-clause-part : goal.returns-in-Ok-false-clause-part
@@ -70,3 +71,17 @@ returns-in-Err-clause-part g c =
       succeeds = c.in-Err.ensures.succeeds;
       still_infallible = λ _. tt;
     }
+
+pub returns-in-Ok-true-clause-leaves : goal.returns-in-Ok-true-clause-leaves
+returns-in-Ok-true-clause-leaves g c =
+    let went = c.in-Ok-true.ensures in
+    let lefts = went.unread_left c.in-Ok-true.field-0-test in
+    let rights = went.unread_right c.in-Ok-true.field-0-test in
+    let firsts = c.requires.stands in
+    let first = runs-both g.met.C.Compare.total _ _ c.requires.left_ascending c.requires.right_ascending (omega (arith, firsts.0)) (omega (arith, firsts.1)) firsts.2 in
+    let after = rw (lefts, rights) at c.order_at.ensures.firsts in
+    let front =
+    front-first g.met.C.Compare.total _ _ c.requires.left_ascending c.requires.right_ascending Both c.order_at.result true 1 _ _ first after
+    (omega (arith, c.order_at.ensures.comparisons))
+    (omega (arith, c.order_at.ensures.comparisons, ahead_of-le c.order_at.result, digits-half 0 1 (omega arith) (omega arith))) in
+    front-leaves Both front refl lefts rights

@@ -1,6 +1,10 @@
 use Rattle.std.proofs.Common.{arith}
 use Rattle.range_merge.specs.declared.runs.Run.TheVariants.{Left}
 use Rattle.range_merge.proofs.PartsOfMerge.{Part-none, Part-on, Part-stopped}
+use Rattle.std.proofs.Common.{sym, refl, ◌∙◌}
+use Rattle.std.proofs.lemmas.Bool.{false≢true}
+use Rattle.std.specs.declared.cmp.Ordering.TheVariants.{Less}
+use Rattle.range_merge.proofs.Rounds.{Leaves-none, Leaves-one, front-leaves}
 use Rattle.range_merge.proofs.merging.step_left.Goals as goal
 
 pub returns-then-not-stand-clause-part : goal.returns-then-not-stand-clause-part
@@ -19,3 +23,13 @@ returns-clause-part g c =
     let ran = rw (c.in_ok-advance_left.was, c.if-not-branch.false) at c.advance_left.ensures in
     rw (c.stand.ensures.0 c.if-not-stand.false)
     (Part-on g.met.C.Compare.total (Left c.left_front-front.result.len) takes_is c.left_front-front.ensures c.requires.left_ascending c.requires.right_ascending ran)
+
+pub returns-then-not-stand-clause-leaves : goal.returns-then-not-stand-clause-leaves
+returns-then-not-stand-clause-leaves g c =
+    Leaves-none Less c.args.firsts _ _ (λ is. false≢true (sym c.if-not-stand.true ∙ c.stand.ensures.1 is))
+
+pub returns-clause-leaves : goal.returns-clause-leaves
+returns-clause-leaves g c =
+    let ran = rw (c.in_ok-advance_left.was, c.if-not-branch.false) at c.advance_left.ensures in
+    rw (c.stand.ensures.0 c.if-not-stand.false)
+    (Leaves-one Less _ _ _ _ _ (front-leaves (Left c.left_front-front.result.len) c.left_front-front.ensures (sym ran.goes_on) (ran.lefts refl) (ran.rights refl)))

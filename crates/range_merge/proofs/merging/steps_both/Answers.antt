@@ -1,4 +1,5 @@
-use Rattle.std.proofs.Common.{Ok, refl, arith}
+use Rattle.std.proofs.Common.{Ok, refl, sym, ◌∙◌, arith}
+use Rattle.std.proofs.lemmas.Bool.{false≢true}
 use Rattle.range_merge.specs.declared.merging.Went.TheVariants.{On, Stopped}
 use Rattle.range_merge.proofs.Ahead.{ahead_of-le}
 use Rattle.range_merge.proofs.FirstRun.{weight-le}
@@ -10,6 +11,9 @@ loop-firsts-init g c = record {
   part = Part-none g.met.C.Compare.total c.args.state.now c.args.firsts _ _ _ c.requires.left_ascending c.requires.right_ascending c.requires.stands (omega arith) (omega arith);
   no_longer = omega arith;
   same = λ _. refl;
+  at_most = omega arith;
+  one = λ others is. absurd (others is);
+  others = λ _. refl;
 }
 
 pub step_both-requires-clause-made : goal.step_both-requires-clause-made
@@ -36,4 +40,16 @@ loop-firsts-preserved g c =
       part = Part-then g.met.C.Compare.total (Ok (On c.in-On.next)) so_far further.part;
       no_longer = omega (arith, invariant.no_longer, further.shorter.0, further.shorter.1);
       same = λ as_long. absurd (omega (arith, invariant.no_longer, further.shorter.0, further.shorter.1, as_long));
+      at_most = omega (arith, invariant.at_most, further.leaves);
+      one = λ _ _. omega (arith, invariant.at_most, further.leaves);
+      others = λ others. absurd (others (sym (invariant.others others) ∙ c.stand.ensures.0 c.loop-firsts-test.true));
+    }
+
+pub returns-clause-leaves : goal.returns-clause-leaves
+returns-clause-leaves g c =
+    let invariant = c.loop-firsts.invariant in
+    record {
+      one = λ is. invariant.one (λ still. false≢true (sym c.loop-firsts-test.false ∙ c.stand.ensures.1 still)) is;
+      at_most = invariant.at_most;
+      same = invariant.others;
     }

@@ -1,4 +1,6 @@
-use Rattle.std.proofs.Common.{◌≡◌, ◌+◌, ◌≤◌, length, Ok}
+use Rattle.std.proofs.Common.{◌≡◌, ◌+◌, ◌*◌, ◌≤◌, length, Ok, Some}
+use Rattle.std.specs.declared.cmp.Ordering.TheVariants.{Equal}
+use Rattle.range_merge.specs.Runs.{weight}
 use Rattle.range_merge.specs.Parts.{Part}
 use Rattle.range_merge.specs.Steps.{ahead_of}
 use Rattle.range_merge.specs.declared.merging.Went.TheVariants.{On}
@@ -16,6 +18,10 @@ invariant-loop-firsts g l =
           g.C.Compare.order (g.O.MergeOperation.connective l.op) l.fn.state l.state (ahead_of l.fn.firsts) (count l.fn.cmp) (count l.cmp) {E = AllocError} (Ok (On l.firsts));
       no_longer : length (left l.state) + length (right l.state) ≤ length (left l.fn.state) + length (right l.fn.state);
       same : length (left l.state) + length (right l.state) ≡ length (left l.fn.state) + length (right l.fn.state) → l.firsts ≡ l.fn.firsts;
+      at_most : count l.cmp + 2 * weight g.C.Compare.order (left l.state) (right l.state) ≤ count l.fn.cmp + 2 * weight g.C.Compare.order (left l.fn.state) (right l.fn.state);
+      one : (l.firsts ≡ Some Equal → ⊥) → l.fn.firsts ≡ Some Equal
+          → count l.cmp + 1 + 2 * weight g.C.Compare.order (left l.state) (right l.state) ≤ count l.fn.cmp + 2 * weight g.C.Compare.order (left l.fn.state) (right l.fn.state);
+      others : (l.fn.firsts ≡ Some Equal → ⊥) → l.firsts ≡ l.fn.firsts;
     }
 
 abbrev pub decreases-loop-firsts : goal.decreases-loop-firsts

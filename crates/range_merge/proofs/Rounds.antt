@@ -1,0 +1,73 @@
+-- What a round of steps leaves of the comparisons that twice the weight allows.
+use Rattle.std.proofs.Common.{◌≡◌, ℕ, ◌+◌, ◌*◌, ◌≤◌, Bool, true, List, Option, Some, None, Ok, refl, sym, ◌∙◌, arith}
+use Rattle.std.specs.declared.cmp.Ordering.{Ordering}
+use Rattle.std.specs.declared.cmp.Ordering.TheVariants.{Less, Equal, Greater}
+use Rattle.std.specs.Cmp.{IsTotalOrder}
+use Rattle.range_merge.specs.Changes.{Taken}
+use Rattle.range_merge.specs.Connective.{Table}
+use Rattle.range_merge.specs.Parts.{IsFront, Leaves, GoesOn, Part}
+use Rattle.range_merge.specs.declared.merging.Went.TheVariants.{On}
+use Rattle.range_merge.proofs.MergeLoop.{Progress-then}
+use Rattle.range_merge.proofs.PartsOfMerge.{ahead_of-weight}
+use Rattle.range_merge.specs.Runs.{digits, run_len, weight}
+use Rattle.range_merge.specs.Steps.{left_after, right_after}
+use Rattle.range_merge.specs.declared.runs.Run.{Run}
+
+-- nothing was done
+pub Leaves-none : (mine : Ordering) (firsts : Option Ordering) (count w : ℕ) → (firsts ≡ Some mine → ⊥) → Leaves mine firsts firsts count w count w
+Leaves-none mine firsts count w others = record { one = λ is. absurd (others is); at_most = omega arith; same = λ _. refl }
+
+-- a step that took or dropped what stands so
+pub Leaves-one : (mine : Ordering) (next : Option Ordering) (count0 w0 count w : ℕ) → count + 1 + 2 * w ≤ count0 + 2 * w0 → Leaves mine (Some mine) next count0 w0 count w
+Leaves-one mine next count0 w0 count w cost = record { one = λ _. cost; at_most = omega (arith, cost); same = λ others. absurd (others refl) }
+
+-- a run, of which one comparison was made before
+pub front-leaves : {K : Type 0} {order : K → K → Ordering} (run : Run) {l r l' r' : List K} {next : Option Ordering} {goes_on : Bool} {count0 count : ℕ}
+    → IsFront order run l r next goes_on 1 count0 count → goes_on ≡ true → l' ≡ left_after run l → r' ≡ right_after run r
+    → count + 1 + 2 * weight order l' r' ≤ count0 + 2 * weight order l r
+front-leaves run front goes lefts rights = rw (lefts, rights) (omega (arith, front.weighs goes, front.cost goes))
+
+module _ {firsts next1 next2 next3 : Option Ordering} {count0 w0 count1 w1 count2 w2 count3 w3 : ℕ}
+    (first : Leaves Less firsts next1 count0 w0 count1 w1) (second : Leaves Greater next1 next2 count1 w1 count2 w2) (third : Leaves Equal next2 next3 count2 w2 count3 w3) where
+  round-at : (how : Ordering) → firsts ≡ Some how → count3 + 1 + 2 * w3 ≤ count0 + 2 * w0
+  round-at Less is = omega (arith, first.one is, second.at_most, third.at_most)
+  round-at Greater is =
+      let after1 : next1 ≡ Some Greater = first.same (λ less. cc) ∙ is in
+      omega (arith, first.at_most, second.one after1, third.at_most)
+  round-at Equal is =
+      let after1 : next1 ≡ Some Equal = first.same (λ less. cc) ∙ is in
+      let after2 : next2 ≡ Some Equal = second.same (λ greater. cc) ∙ after1 in
+      omega (arith, first.at_most, second.at_most, third.one after2)
+
+-- a round of the three steps
+pub round-leaves : (firsts : Option Ordering) {next1 next2 next3 : Option Ordering} {count0 w0 count1 w1 count2 w2 count3 w3 : ℕ} → (firsts ≡ None → ⊥)
+    → Leaves Less firsts next1 count0 w0 count1 w1 → Leaves Greater next1 next2 count1 w1 count2 w2 → Leaves Equal next2 next3 count2 w2 count3 w3 → count3 + 1 + 2 * w3 ≤ count0 + 2 * w0
+round-leaves None some first second third = absurd (some refl)
+round-leaves (Some how) some first second third = round-at first second third how refl
+
+-- what a read costs beyond the weight of what it read, where six comparisons were left before it
+module _ {K S E : Type 0} {left right : S → List K} {left_on right_on : S → Bool} {output : S → List (Taken K) → Type 0} {fixed : S → ℕ} {is_infallible : S → Type 0} {can_stop : Bool}
+    {order : K → K → Ordering} {f : Table} (o : IsTotalOrder order) {old mid new : S} {how next : Ordering} {known count0 count1 count2 : ℕ} where
+  pub Part-read : Part left right left_on right_on output fixed is_infallible can_stop order f old mid known count0 count1 {E = E} (Ok (On (Some how)))
+      → count1 + 6 + known + 2 * weight order (left mid) (right mid) ≤ count0 + 2 * weight order (left old) (right old) + 1
+      → GoesOn left right left_on right_on output fixed is_infallible can_stop order f mid new (Some next)
+      → count1 ≤ count2 → count2 + 2 * weight order (left new) (right new) ≤ count1 + 2 * weight order (left mid) (right mid) + 6
+      → fixed new ≡ fixed mid → (is_infallible mid → is_infallible new)
+      → Part left right left_on right_on output fixed is_infallible can_stop order f old new known count0 count2 {E = E} (Ok (On (Some next)))
+  Part-read a six b at_least cost stays still =
+      let some = ahead_of-weight o (left new) (right new) b.left_ascends b.right_ascends (Some next) b.stands in
+      record {
+        on = record {
+          progress = Progress-then a.on.progress b.progress;
+          left_ascends = b.left_ascends;
+          right_ascends = b.right_ascends;
+          stands = b.stands;
+        };
+        stops = tt;
+        counted = omega (arith, six, cost);
+        at_least = omega (arith, a.at_least, at_least);
+        at_most = omega (arith, six, cost, some);
+        stays = stays ∙ a.stays;
+        succeeds = λ _. refl;
+        still_infallible = λ holds. still (a.still_infallible holds);
+      }
