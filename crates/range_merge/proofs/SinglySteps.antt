@@ -6,7 +6,8 @@ use Rattle.std.proofs.Common.{◌≡◌, refl, ap, sym, ◌∙◌, ℕ, zero, su
 use Rattle.std.proofs.Math.Bool.{beq}
 use mir.Val.{bool_byte}
 use Rattle.std.proofs.Math.Seq.{drop-cons}
-use Rattle.std.proofs.lemmas.List.{append-nil, drop-drop, length-drop}
+use Rattle.std.proofs.Math.ListN.{set}
+use Rattle.std.proofs.lemmas.List.{append-nil, drop-drop, length-drop, take_more_set}
 use Rattle.std.specs.List.{AllZip}
 use Rattle.std.specs.Cmp.{IsTotalOrder}
 use Rattle.std.specs.Ordering.{is_le, is_ge}
@@ -59,9 +60,9 @@ byte-ge Less = refl
 byte-ge Equal = refl
 byte-ge Greater = refl
 
-pub picked : {R X : Type 0} (b c : Bool) (x y r : R) → r ≡ cond b x y → b ≡ c → (g : R → X) → g r ≡ cond c (g x) (g y)
-picked true c x y r e same g = rw (sym same) (ap g e)
-picked false c x y r e same g = rw (sym same) (ap g e)
+-- the item that was picked, as a list
+pub picked : {X : Type 0} (b c : Bool) (x y : X) {r : X} → r ≡ cond b x y → b ≡ c → cond c x y ∷ [] ≡ r ∷ []
+picked b c x y e same = ap (λ z. z ∷ []) (sym (rw same at e))
 
 differ-answers : (z x y : Bool) → not (beq (differ z y) (differ z x)) ≡ differ x y
 differ-answers true true true = refl
@@ -127,6 +128,15 @@ module _ {K : Type 0} where
   take-first Less a b i j x y z l r x_is y_is e = take-one a i x l x_is ∙ ap (λ w. w ∷ []) (sym e)
   take-first Equal a b i j x y z l r x_is y_is e = take-one a i x l x_is ∙ ap (λ w. w ∷ []) (sym e)
   take-first Greater a b i j x y z l r x_is y_is e = take-one b j y r y_is ∙ ap (λ w. w ∷ []) (sym e)
+
+  -- what is written behind the items that were put out
+  pub IsAppended-set : (alike : K → K → Type 0) (k : ℕ) (x : K) (items : List K) → k < length items → alike x x
+      → IsAppended alike (x ∷ []) (take k items) (take (k + 1) (set items k x))
+  IsAppended-set alike k x items within same = record {
+    copies = x ∷ [];
+    alike_to = (same, tt);
+    appended = take_more_set items k x within;
+  }
 
   -- it is put out, or written over by the next one
   IsAppended-if : (alike : K → K → Type 0) (taken : Bool) (k : ℕ) (items old new : List K) → take k new ≡ take k old → IsAppended alike items (take k old) (take (k + 1) new)
