@@ -1,4 +1,6 @@
 -- Runs that are read item by item, with a look after each four: what they owe, and that they pay.
+--     before run rs               a run that is being read, before the runs of what is unread
+--     grown run how               the run that is being read after one more item
 --     IsOwed m n owed             what is owed where n items of a run are read, m steps after a look
 --     grown-pays                  one comparison for one more item
 --     ended-pays                  a run that has ended at a look
@@ -9,8 +11,35 @@ use Rattle.range_merge.specs.Runs.{digits, run_len, weight_of}
 use Rattle.range_merge.specs.Steps.{one_of_run}
 use Rattle.range_merge.specs.declared.runs.Run.{Run}
 use Rattle.range_merge.specs.declared.runs.Run.TheVariants.{Left, Right, Both}
-use Rattle.range_merge.specs.Singly.{before, grown, read_of, goes_on, lefts_of, rights_of, IsLong}
+use Rattle.range_merge.specs.Singly.{lefts_of, rights_of, IsLong}
 use Rattle.range_merge.proofs.Digits.{digits-mono, digits-pow, weight_of-cons}
+
+-- a run that is being read, before the runs of what is unread: it joins the first where that is of
+-- its side
+abbrev pub before : Option Run → List Run → List Run
+before None rs = rs
+before (Some (Left n)) (Left m ∷ rs) = Left (m + n) ∷ rs
+before (Some (Left n)) rs = Left n ∷ rs
+before (Some (Right n)) (Right m ∷ rs) = Right (m + n) ∷ rs
+before (Some (Right n)) rs = Right n ∷ rs
+before (Some Both) rs = Both ∷ rs
+
+-- the run that is being read after one more item
+abbrev pub grown : Option Run → Ordering → Run
+grown (Some (Left n)) Less = Left (n + 1)
+grown (Some (Right n)) Greater = Right (n + 1)
+grown run how = one_of_run how
+
+-- how many items of it were read
+abbrev pub read_of : Option Run → ℕ
+read_of None = 0
+read_of (Some run) = run_len run
+
+-- the next item is of the run that is being read
+abbrev pub goes_on : Option Run → Ordering → Bool
+goes_on (Some (Left n)) Less = true
+goes_on (Some (Right n)) Greater = true
+goes_on run how = false
 
 -- a run of at most six items pays for one comparison an item
 short-pays : (n : ℕ) → n ≤ 6 → n ≤ 2 * digits n
@@ -232,20 +261,7 @@ IsBack-start (Some (Left n)) = (λ e. refl, λ e. omega arith, λ e. absurd (ome
 IsBack-start (Some (Right n)) = (λ e. refl, λ e. omega arith, λ e. absurd (omega (arith, e)))
 IsBack-start (Some Both) = (λ e. absurd (omega (arith, e)), λ e. absurd (omega (arith, e)))
 
--- four items of one side and the next one
-long-left : (r : Option Run) (di dj : ℕ) (next : Ordering) → dj ≡ 0 → next ≡ Less → IsSince 4 di dj r → (4 ≤ read_of r) × (goes_on r next ≡ true)
-long-left None di dj next none is h = absurd (omega (arith, h.back))
-long-left (Some (Left n)) di dj next none is h = (h.back.1 none, ap (goes_on (Some (Left n))) is)
-long-left (Some (Right n)) di dj next none is h = absurd (omega (arith, none, h.back.2 (omega arith)))
-long-left (Some Both) di dj next none is h = absurd (omega (arith, none, h.back.1 (omega arith)))
-
-long-right : (r : Option Run) (di dj : ℕ) (next : Ordering) → di ≡ 0 → next ≡ Greater → IsSince 4 di dj r → (4 ≤ read_of r) × (goes_on r next ≡ true)
-long-right None di dj next none is h = absurd (omega (arith, h.back))
-long-right (Some (Right n)) di dj next none is h = (h.back.1 none, ap (goes_on (Some (Right n))) is)
-long-right (Some (Left n)) di dj next none is h = absurd (omega (arith, none, h.back.2 (omega arith)))
-long-right (Some Both) di dj next none is h = absurd (omega (arith, none, h.back.0 (omega arith)))
-
--- else a run of four items or more has ended
+-- at a look a run of four items or more has ended, if it isn't long
 not_long : (r : Option Run) (di dj : ℕ) (next : Ordering) → (dj ≡ 0 → next ≡ Less → ⊥) → (di ≡ 0 → next ≡ Greater → ⊥) → IsSince 4 di dj r → 4 ≤ read_of r → goes_on r next ≡ false
 not_long None di dj next left right h four = refl
 not_long (Some (Left n)) di dj Less left right h four = absurd (left (h.back.0 four) refl)
@@ -255,11 +271,6 @@ not_long (Some (Right n)) di dj Less left right h four = refl
 not_long (Some (Right n)) di dj Equal left right h four = refl
 not_long (Some (Right n)) di dj Greater left right h four = absurd (right (h.back.0 four) refl)
 not_long (Some Both) di dj next left right h four = refl
-
-pub long-at : (next : Ordering) (r : Option Run) (di dj i0 j0 i j : ℕ) → i ≡ i0 + di → j ≡ j0 + dj → IsLong next i0 j0 i j → IsSince 4 di dj r → (4 ≤ read_of r) × (goes_on r next ≡ true)
-long-at Less r di dj i0 j0 i j i_is j_is same h = long-left r di dj Less (omega (arith, j_is, same)) refl h
-long-at Equal r di dj i0 j0 i j i_is j_is same h = absurd same
-long-at Greater r di dj i0 j0 i j i_is j_is same h = long-right r di dj Greater (omega (arith, i_is, same)) refl h
 
 pub ended-at : (next : Ordering) (r : Option Run) (di dj i0 j0 i j : ℕ) → i ≡ i0 + di → j ≡ j0 + dj → (IsLong next i0 j0 i j → ⊥) → IsSince 4 di dj r → 4 ≤ read_of r → goes_on r next ≡ false
 ended-at Less r di dj i0 j0 i j i_is j_is ends h four = not_long r di dj Less (λ e _. ends (omega (arith, j_is, e))) (λ _ is. absurd cc) h four

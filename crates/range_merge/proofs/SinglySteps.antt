@@ -1,13 +1,18 @@
 -- One step of a read: what it puts out, and how far the read came.
 --     IsAppended-one              the item that is put out, or none
 --     Reads                       how far a read came, so many steps after a look
---     Reads-more, Reads-looked    after a step, and at a look
-use Rattle.std.proofs.Common.{◌≡◌, refl, ap, sym, ◌∙◌, ℕ, zero, suc, ◌+◌, ◌-◌, ◌*◌, ◌^◌, ◌<◌, ◌≤◌, Bool, true, false, not, cond, List, [], ◌∷◌, ◌++◌, length, map, take, drop, get_or, Option, Some, None, ◌⊎◌, inl, inr, eq-zero-or-pos, arith}
+--     Reads-four, Reads-looked    after four steps, and at a look
+--     Reads-cost, Reads-made      what it cost
+use Rattle.std.proofs.Common.{◌≡◌, refl, ap, sym, ◌∙◌, ℕ, zero, suc, ◌+◌, ◌-◌, ◌*◌, ◌^◌, ◌<◌, ◌≤◌, Bool, true, false, not, cond, List, [], ◌∷◌, ◌++◌, length, map, take, drop, get_or, slice_get, append_assoc, Option, Some, None, ◌⊎◌, inl, inr, eq-zero-or-pos, arith}
 use Rattle.std.proofs.Math.Bool.{beq}
 use mir.Val.{bool_byte}
 use Rattle.std.proofs.Math.Seq.{drop-cons}
 use Rattle.std.proofs.Math.ListN.{set}
-use Rattle.std.proofs.lemmas.List.{append-nil, drop-drop, length-drop, take_more_set}
+use Rattle.std.proofs.Math.Seq.{take-append-add}
+use Rattle.std.proofs.lemmas.List.{append-nil, drop-drop, length-take-le, take-take, take_more_set}
+use Rattle.std.proofs.lemmas.Option.{get_or_from_slice_get, slice_get_within}
+use Rattle.std.proofs.lemmas.Slice.{take-put_mid}
+use borrow.Rule.Slice.PartMut.{put_mid}
 use Rattle.std.specs.List.{AllZip}
 use Rattle.std.specs.Cmp.{IsTotalOrder}
 use Rattle.std.specs.Ordering.{is_le, is_ge}
@@ -20,7 +25,7 @@ use Rattle.range_merge.specs.Copies.{AreCopies, IsAppended, items_if}
 use Rattle.range_merge.specs.Owners.{Owner, left_only, right_only, shared, owners}
 use Rattle.range_merge.specs.Parts.{Progress}
 use Rattle.range_merge.specs.Runs.{joined, runs, runs_of, run_len, weight, weight_of}
-use Rattle.range_merge.specs.Singly.{is_answer, lefts_of, rights_of, before, grown, read_of, goes_on, IsLong, IsReading, IsReadTo}
+use Rattle.range_merge.specs.Singly.{is_answer, table_from, lefts_of, rights_of, IsLong, IsRead}
 use Rattle.range_merge.specs.Steps.{FirstsStand, StandsAtStart, one_of_run, takes, taken_of_run, left_after, right_after, left_on_after, right_on_after}
 use Rattle.range_merge.specs.declared.runs.Run.{Run}
 use Rattle.range_merge.specs.declared.runs.Run.TheVariants.{Left, Right, Both}
@@ -30,9 +35,9 @@ use Rattle.range_merge.proofs.FirstRuns.{first_both}
 use Rattle.range_merge.proofs.MergeLoop.{Progress-none, Progress-run, Progress-then}
 use Rattle.range_merge.proofs.Orders.{Less-from_greater}
 use Rattle.range_merge.proofs.Pairs.{AllPairs-drop}
-use Rattle.range_merge.proofs.Parity.{differ-comm, is_odd-add, is_odd-suc}
+use Rattle.range_merge.proofs.Parity.{differ-comm, differ-not_right, is_odd-add, is_odd-suc}
 use Rattle.range_merge.proofs.RunsFound as found
-use Rattle.range_merge.proofs.ShortRuns.{before-weighs, IsOwed, IsPaid, grown-pays, ended-pays, IsSince, IsSince-more, IsSince-none, IsBack-start, long-at, ended-at}
+use Rattle.range_merge.proofs.ShortRuns.{before, grown, read_of, goes_on, before-weighs, IsOwed, IsPaid, grown-pays, ended-pays, IsSince, IsSince-more, IsSince-none, IsBack-start, ended-at}
 use Rattle.range_merge.proofs.Digits as numbers
 
 pub lefts_of-le : (how : Ordering) → lefts_of how ≤ 1
@@ -118,16 +123,61 @@ drop-rights Equal j j' r e = drop-lefts Equal j j' r e
 drop-rights Greater j j' r e = drop-lefts Less j j' r e
 
 module _ {K : Type 0} where
-  -- the first of the items that are left
-  take-one : (xs : List K) (i : ℕ) (x : K) → i < length xs → x ≡ get_or xs i x → take 1 (drop i xs) ≡ x ∷ []
-  take-one xs i x within is = ap (take 1) (drop-cons xs i x within) ∙ ap (λ y. y ∷ []) (sym is)
-
   -- the item that a step reads, of two that are equal the left's
-  pub take-first : (how : Ordering) (a b : List K) (i j : ℕ) (x y z : K) → i < length a → j < length b → x ≡ get_or a i x → y ≡ get_or b j y
-      → z ≡ cond (is_le how) x y → take 1 (cond (is_le how) (drop i a) (drop j b)) ≡ z ∷ []
-  take-first Less a b i j x y z l r x_is y_is e = take-one a i x l x_is ∙ ap (λ w. w ∷ []) (sym e)
-  take-first Equal a b i j x y z l r x_is y_is e = take-one a i x l x_is ∙ ap (λ w. w ∷ []) (sym e)
-  take-first Greater a b i j x y z l r x_is y_is e = take-one b j y r y_is ∙ ap (λ w. w ∷ []) (sym e)
+  take-one : (xs : List K) (x : K) → slice_get xs 0 ≡ Some x → take 1 xs ≡ x ∷ []
+  take-one xs x is = ap (take 1) (drop-cons xs 0 x (slice_get_within xs 0 x is)) ∙ ap (λ y. y ∷ []) (get_or_from_slice_get xs 0 x x is)
+
+  take-first : (how : Ordering) (l r : List K) (x y : K) → slice_get l 0 ≡ Some x → slice_get r 0 ≡ Some y
+      → cond (is_le how) x y ∷ [] ≡ take 1 (cond (is_le how) l r)
+  take-first Less l r x y x_is y_is = sym (take-one l x x_is)
+  take-first Equal l r x y x_is y_is = sym (take-one l x x_is)
+  take-first Greater l r x y x_is y_is = sym (take-one r y y_is)
+
+  -- how two lists stand, of whose first items it is known
+  FirstsStand-of : (order : K → K → Ordering) (l r : List K) (x y : K) (how : Ordering) → slice_get l 0 ≡ Some x → slice_get r 0 ≡ Some y
+      → order x y ≡ how → FirstsStand order l r (Some how)
+  FirstsStand-of order l r x y how x_is y_is stands = (
+      slice_get_within l 0 x x_is,
+      slice_get_within r 0 y y_is,
+      λ d. rw (get_or_from_slice_get l 0 x d x_is, get_or_from_slice_get r 0 y d y_is) stands,
+  )
+
+  -- an item of a window
+  slice_get-take : (n : ℕ) (xs : List K) (u : ℕ) (x : K) → slice_get (take n xs) u ≡ Some x → slice_get xs u ≡ Some x
+  slice_get-take zero xs u x is = absurd cc
+  slice_get-take (suc n) [] u x is = absurd cc
+  slice_get-take (suc n) (y ∷ xs) zero x is = is
+  slice_get-take (suc n) (y ∷ xs) (suc u) x is = slice_get-take n xs u x is
+
+  slice_get-drop : (xs : List K) (u : ℕ) (x : K) → slice_get xs u ≡ Some x → slice_get (drop u xs) 0 ≡ Some x
+  slice_get-drop xs zero x is = is
+  slice_get-drop [] (suc u) x is = absurd cc
+  slice_get-drop (y ∷ xs) (suc u) x is = slice_get-drop xs u x is
+
+  pub first-of_window : (n i u : ℕ) (xs : List K) (x : K) → slice_get (take n (drop i xs)) u ≡ Some x → slice_get (drop (i + u) xs) 0 ≡ Some x
+  first-of_window n i u xs x is = rw drop-drop at (slice_get-drop (drop i xs) u x (slice_get-take n (drop i xs) u x is))
+
+  pub window-first : (n : ℕ) (xs : List K) (x : K) → 1 ≤ n → slice_get xs 0 ≡ Some x → slice_get (take n xs) 0 ≡ Some x
+  window-first zero xs x some is = absurd (omega (arith, some))
+  window-first (suc n) [] x some is = is
+  window-first (suc n) (y ∷ xs) x some is = is
+
+  -- what was written to the room at k
+  pub take-window : (k n q : ℕ) (out room : List K) → k ≤ length out → q ≤ length room → take (k + q) (put_mid k n out room) ≡ take k out ++ take q room
+  take-window k n q out room before within =
+      sym (take-take (k + q) (k + length room) (put_mid k n out room) (omega (arith, within)))
+      ∙ ap (take (k + q)) (take-put_mid k n out room (k + length room) refl before)
+      ∙ ap (λ m. take (m + q) (take k out ++ room)) (sym (length-take-le k out before))
+      ∙ take-append-add (take k out) room q
+
+  -- the same items behind others
+  IsAppended-behind : {alike : K → K → Type 0} (front : List K) {t t' : Bool} {items items' old new : List K} → t ≡ t' → items ≡ items'
+      → IsAppended alike (items_if t items) old new → IsAppended alike (items_if t' items') (front ++ old) (front ++ new)
+  IsAppended-behind front {old} t_is items_are put = record {
+    copies = put.copies;
+    alike_to = rw (← t_is, ← items_are) put.alike_to;
+    appended = ap (λ l. front ++ l) put.appended ∙ sym (append_assoc front old put.copies);
+  }
 
   -- what is written behind the items that were put out
   pub IsAppended-set : (alike : K → K → Type 0) (k : ℕ) (x : K) (items : List K) → k < length items → alike x x
@@ -219,12 +269,32 @@ module _ {K : Type 0} {order : K → K → Ordering} (o : IsTotalOrder order) (a
       Progress-run (one_of_run how) (one_stands o a b a_ascends b_ascends (one_of_run how) how refl firsts) refl
       (λ earlier holds. rw put.appended (AllZip-append (λ t x. alike (taken_item t) x) earlier old ts put.copies holds copied))
 
+-- a step from where the sides stand as x and y
+takes-from : (f : Table) (x y u v : Bool) (run : Run) → takes (table_from f x y) u v run ≡ takes f (differ x u) (differ y v) run
+takes-from f true y u v (Left n) = differ-comm (f true (differ y v)) (f false (differ y v))
+takes-from f false y u v (Left n) = refl
+takes-from f x true u v (Right n) = differ-comm (f (differ x u) true) (f (differ x u) false)
+takes-from f x false u v (Right n) = refl
+takes-from f x y u v Both =
+    ap (λ ac. differ (f (differ x u) (differ y v)) (f ac (differ y (not v)))) (differ-not_right x u)
+    ∙ ap (λ bc. differ (f (differ x u) (differ y v)) (f (not (differ x u)) bc)) (differ-not_right y v)
+
+takes-at : (f : Table) (i j u v : ℕ) (run : Run) → takes (table_from f (is_odd i) (is_odd j)) (is_odd u) (is_odd v) run ≡ takes f (is_odd (i + u)) (is_odd (j + v)) run
+takes-at f i j u v run =
+    takes-from f (is_odd i) (is_odd j) (is_odd u) (is_odd v) run
+    ∙ ap (λ ac. takes f ac (differ (is_odd j) (is_odd v)) run) (sym (is_odd-add i u))
+    ∙ ap (λ bc. takes f (is_odd (i + u)) bc run) (sym (is_odd-add j v))
+
 module _ {K : Type 0} (alike : K → K → Type 0) (order : K → K → Ordering) (f : Table) (a b : List K) where
-  -- how far a read came, m steps after a look at i1 and j1
-  pub record Reads (i0 j0 : ℕ) (out0 : List K) (count0 m i1 j1 i j : ℕ) (out : List K) (count : ℕ) (next : Ordering) : Type 0 where
+  -- how far a read came, m steps after a look at i1 and j1: what was put out, and that one
+  -- comparison an item, with those that are owed, is within twice the weight, up to the run that is
+  -- being read
+  pub record Reads (count0 m i1 j1 i j : ℕ) (out : List K) (count : ℕ) (next : Ordering) : Type 0 where
+    pub read : IsRead alike order f a b i j out next
     pub run : Option Run
     pub owed : ℕ
-    pub reading : IsReading alike order f a b i0 j0 out0 count0 i j out count next run owed
+    pub at_least : count0 ≤ count
+    pub paid : count + owed + 2 * weight_of (before run (runs order (drop i a) (drop j b))) ≤ count0 + 2 * weight order a b + read_of run
     pub is_owed : IsOwed m (read_of run) owed
     pub lefts : ℕ
     pub rights : ℕ
@@ -233,11 +303,13 @@ module _ {K : Type 0} (alike : K → K → Type 0) (order : K → K → Ordering
     pub since : IsSince m lefts rights run
 
   -- nothing was read yet
-  pub Reads-start : (i j : ℕ) (out : List K) (count : ℕ) (next : Ordering) → FirstsStand order (drop i a) (drop j b) (Some next) → Reads i j out count 0 i j i j out count next
-  Reads-start i j out count next stands = record {
+  pub Reads-start : (count : ℕ) (next : Ordering) → FirstsStand order a b (Some next) → Reads count 0 0 0 0 0 [] count next
+  Reads-start count next stands = record {
+    read = record { progress = Progress-none; stands = stands };
     run = None;
     owed = 0;
-    reading = record { progress = Progress-none; stands = stands; at_least = omega arith; paid = omega arith };
+    at_least = omega arith;
+    paid = omega arith;
     is_owed = record { within = omega arith; late = λ e. absurd (omega (arith, e)); early = λ e. absurd (omega (arith, e)) };
     lefts = 0;
     rights = 0;
@@ -246,75 +318,51 @@ module _ {K : Type 0} (alike : K → K → Type 0) (order : K → K → Ordering
     since = IsSince-none None (IsBack-start None);
   }
 
-  -- it ends at a look
-  pub Reads-short : {i0 j0 : ℕ} {out0 : List K} {count0 i1 j1 i j : ℕ} {out : List K} {count : ℕ} {next : Ordering}
-      → Reads i0 j0 out0 count0 0 i1 j1 i j out count next → IsReadTo alike order f a b i0 j0 out0 count0 i j out count next false
-  Reads-short w = record {
-    run = w.run;
-    owed = w.owed;
-    reading = w.reading;
-    long = λ e. absurd cc;
-    short = λ e. omega (arith, w.is_owed.within);
-  }
-
-  -- it ends at a look in a long run
-  pub Reads-long : {i0 j0 : ℕ} {out0 : List K} {count0 i1 j1 i j : ℕ} {out : List K} {count : ℕ} {next : Ordering}
-      → Reads i0 j0 out0 count0 4 i1 j1 i j out count next → IsLong next i1 j1 i j → IsReadTo alike order f a b i0 j0 out0 count0 i j out count next true
-  Reads-long {i1} {j1} {i} {j} {next} w is_long =
-      let h = long-at next w.run w.lefts w.rights i1 j1 i j w.i_is w.j_is is_long w.since in
-      record {
-        run = w.run;
-        owed = w.owed;
-        reading = w.reading;
-        long = λ e. (h.0, omega (arith, w.is_owed.within), λ seven. w.is_owed.late (omega (arith, seven)), h.1);
-        short = λ e. absurd cc;
-      }
-
   six-more : (n owed : ℕ) → n ≤ 7 → (n ≡ 7 → 1 ≤ owed) → (7 - n ≡ 0) ⊎ (0 < 7 - n) → n ≤ owed + 6
   six-more n owed few late (inl seven) = omega (arith, late (omega (arith, few, seven)), few)
   six-more n owed few late (inr fewer) = omega (arith, fewer)
 
-  -- and costs six comparisons more than twice the weight of what was read, if that
-  pub IsReadTo-cost : {i0 j0 : ℕ} {out0 : List K} {count0 i j : ℕ} {out : List K} {count : ℕ} {next : Ordering} (is_long : Bool)
-      → IsReadTo alike order f a b i0 j0 out0 count0 i j out count next is_long
-      → count + 2 * weight order (drop i a) (drop j b) ≤ count0 + 2 * weight order (drop i0 a) (drop j0 b) + 6
-  IsReadTo-cost {i} {j} true r =
-      let h = r.long refl in
-      omega (arith, r.reading.paid, before-weighs r.run (runs order (drop i a) (drop j b)), six-more (read_of r.run) r.owed h.1 h.2 (eq-zero-or-pos (7 - read_of r.run)))
-  IsReadTo-cost {i} {j} false r = omega (arith, r.reading.paid, before-weighs r.run (runs order (drop i a) (drop j b)), r.short refl)
+  late-at : (m n owed : ℕ) → m ≤ 4 → IsOwed m n owed → n ≡ 7 → 1 ≤ owed
+  late-at m n owed few h seven = h.late (omega (arith, few, h.within, seven))
+
+  -- it costs six comparisons more than twice the weight of what was read, if that
+  pub Reads-cost : {count0 m i1 j1 i j : ℕ} {out : List K} {count : ℕ} {next : Ordering} → m ≤ 4 → Reads count0 m i1 j1 i j out count next
+      → count + 2 * weight order (drop i a) (drop j b) ≤ count0 + 2 * weight order a b + 6
+  Reads-cost {m} {i} {j} few w =
+      omega (arith, w.paid, before-weighs w.run (runs order (drop i a) (drop j b)),
+      six-more (read_of w.run) w.owed (omega (arith, w.is_owed.within, few)) (late-at m (read_of w.run) w.owed few w.is_owed) (eq-zero-or-pos (7 - read_of w.run)))
 
   -- as many comparisons were made as fit the counter, with four more
-  pub Reads-made : {i0 j0 : ℕ} {out0 : List K} {count0 m i1 j1 i j : ℕ} {out : List K} {count : ℕ} {next : Ordering}
-      → m ≤ 4 → length a + length b < 2 ^ 65 → count0 < 2 ^ 127 → Reads i0 j0 out0 count0 m i1 j1 i j out count next → count + 4 < 2 ^ 128 - 1
-  Reads-made {i0} {j0} few fits made w =
-      omega (arith, w.reading.paid, w.is_owed.within, numbers.weight-le order (drop i0 a) (drop j0 b), length-drop i0 a, length-drop j0 b, fits, made, few)
+  pub Reads-made : {count0 m i1 j1 i j : ℕ} {out : List K} {count : ℕ} {next : Ordering}
+      → m ≤ 4 → length a + length b < 2 ^ 65 → count0 < 2 ^ 127 → Reads count0 m i1 j1 i j out count next → count + 4 < 2 ^ 128 - 1
+  Reads-made few fits made w = omega (arith, w.paid, w.is_owed.within, numbers.weight-le order a b, fits, made, few)
 
   module _ (o : IsTotalOrder order) (a_ascends : IsAscending order a) (b_ascends : IsAscending order b) where
     -- one step more
-    pub Reads-more : {i0 j0 : ℕ} {out0 : List K} {count0 m i1 j1 i j : ℕ} {out : List K} {count : ℕ} {how : Ordering} {i' j' : ℕ} {out' : List K} {count' : ℕ} {next : Ordering}
-        → m ≤ 3 → Reads i0 j0 out0 count0 m i1 j1 i j out count how → i' ≡ i + lefts_of how → j' ≡ j + rights_of how
+    Reads-more : {count0 m i1 j1 i j : ℕ} {out : List K} {count : ℕ} {how : Ordering} {i' j' : ℕ} {out' : List K} {count' : ℕ} {next : Ordering}
+        → m ≤ 3 → Reads count0 m i1 j1 i j out count how → i' ≡ i + lefts_of how → j' ≡ j + rights_of how
         → IsAppended alike (items_if (takes f (is_odd i) (is_odd j) (one_of_run how)) (take 1 (cond (is_le how) (drop i a) (drop j b)))) out out'
         → FirstsStand order (drop i' a) (drop j' b) (Some next) → count' ≡ count + 1
-        → Reads i0 j0 out0 count0 (m + 1) i1 j1 i' j' out' count' next
-    Reads-more {i0} {j0} {out0} {count0} {m} {i1} {j1} {i} {j} {out} {count} {how} {i'} {j'} {out'} {count'} {next} few w left right put stands counted =
+        → Reads count0 (m + 1) i1 j1 i' j' out' count' next
+    Reads-more {count0} {m} {i1} {j1} {i} {j} {out} {count} {how} {i'} {j'} {out'} {count'} {next} few w left right put stands counted =
         let l_ascends : IsAscending order (drop i a) = AllPairs-drop (λ x y. order x y ≡ Less) i a a_ascends in
         let r_ascends : IsAscending order (drop j b) = AllPairs-drop (λ x y. order x y ≡ Less) j b b_ascends in
         let rest : List Run = runs order (drop i' a) (drop j' b) in
         let runs_are : runs order (drop i a) (drop j b) ≡ before (Some (one_of_run how)) rest =
-        rw (drop-lefts how i i' a left, drop-rights how j j' b right) (runs-one o (drop i a) (drop j b) l_ascends r_ascends how w.reading.stands) in
-        let spent : count + w.owed + 2 * weight_of (before w.run (before (Some (one_of_run how)) rest)) ≤ count0 + 2 * weight order (drop i0 a) (drop j0 b) + read_of w.run =
-        rw (← runs_are) w.reading.paid in
+        rw (drop-lefts how i i' a left, drop-rights how j j' b right) (runs-one o (drop i a) (drop j b) l_ascends r_ascends how w.read.stands) in
+        let spent : count + w.owed + 2 * weight_of (before w.run (before (Some (one_of_run how)) rest)) ≤ count0 + 2 * weight order a b + read_of w.run =
+        rw (← runs_are) w.paid in
         let paid = grown-pays w.run how rest m w.owed few w.is_owed in
         record {
+          read = record {
+            progress = rw (drop-lefts how i i' a left, drop-rights how j j' b right, odd-lefts how i i' left, odd-rights how j j' right)
+                (Progress-then w.read.progress (Progress-one o (drop i a) (drop j b) l_ascends r_ascends alike f how (is_odd i) (is_odd j) out out' w.read.stands put));
+            stands = stands;
+          };
           run = Some (grown w.run how);
           owed = paid.then_owed;
-          reading = record {
-            progress = rw (drop-lefts how i i' a left, drop-rights how j j' b right, odd-lefts how i i' left, odd-rights how j j' right)
-                (Progress-then w.reading.progress (Progress-one o (drop i a) (drop j b) l_ascends r_ascends alike f how (is_odd i) (is_odd j) out out' w.reading.stands put));
-            stands = stands;
-            at_least = omega (arith, w.reading.at_least, counted);
-            paid = omega (arith, spent, counted, paid.pays);
-          };
+          at_least = omega (arith, w.at_least, counted);
+          paid = omega (arith, spent, counted, paid.pays);
           is_owed = paid.is_owed;
           lefts = w.lefts + lefts_of how;
           rights = w.rights + rights_of how;
@@ -323,13 +371,55 @@ module _ {K : Type 0} (alike : K → K → Type 0) (order : K → K → Ordering
           since = IsSince-more w.run how m w.lefts w.rights refl refl w.since;
         }
 
-    looked-at : {i0 j0 : ℕ} {out0 : List K} {count0 i1 j1 i j : ℕ} {out : List K} {count : ℕ} {next : Ordering}
-        → (w : Reads i0 j0 out0 count0 4 i1 j1 i j out count next) → (4 ≤ read_of w.run → goes_on w.run next ≡ false)
-        → (read_of w.run - 3 ≡ 0) ⊎ (0 < read_of w.run - 3) → Reads i0 j0 out0 count0 0 i j i j out count next
+    -- the same of windows that begin at i and j, where what it puts out comes behind other items
+    Reads-step : (n n' u v : ℕ) (front : List K) {count0 m i j : ℕ} {old : List K} {count : ℕ} {how : Ordering} {x y : K} {u' v' : ℕ} {new : List K} {count' : ℕ} {next : Ordering} {x' y' : K}
+        → m ≤ 3 → Reads count0 m i j (i + u) (j + v) (front ++ old) count how
+        → slice_get (take n (drop i a)) u ≡ Some x → slice_get (take n' (drop j b)) v ≡ Some y → u' ≡ u + lefts_of how → v' ≡ v + rights_of how
+        → IsAppended alike (items_if (takes (table_from f (is_odd i) (is_odd j)) (is_odd u) (is_odd v) (one_of_run how)) (cond (is_le how) x y ∷ [])) old new
+        → slice_get (take n (drop i a)) u' ≡ Some x' → slice_get (take n' (drop j b)) v' ≡ Some y' → order x' y' ≡ next → count' ≡ count + 1
+        → Reads count0 (m + 1) i j (i + u') (j + v') (front ++ new) count' next
+    Reads-step n n' u v front {i} {j} {how} {x} {y} {u'} {v'} {next} {x'} {y'} few w x_is y_is left right put x'_is y'_is stands counted =
+        let first_is = take-first how (drop (i + u) a) (drop (j + v) b) x y (first-of_window n i u a x x_is) (first-of_window n' j v b y y_is) in
+        Reads-more few w (omega (arith, left)) (omega (arith, right)) (IsAppended-behind front (takes-at f i j u v (one_of_run how)) first_is put)
+        (FirstsStand-of order (drop (i + u') a) (drop (j + v') b) x' y' next (first-of_window n i u' a x' x'_is) (first-of_window n' j v' b y' y'_is) stands)
+        counted
+
+    -- four steps from a look on
+    pub Reads-four : (n n' n'' k q : ℕ) (out room : List K) {count0 i j : ℕ} {r1 r2 r3 : List K} {c0 c1 c2 c3 c4 u1 u2 u3 u4 v1 v2 v3 v4 : ℕ} {h0 h1 h2 h3 h4 : Ordering} {x0 x1 x2 x3 x4 y0 y1 y2 y3 y4 : K}
+        → k ≤ length out → q ≤ length room → 1 ≤ n → 1 ≤ n'
+        → Reads count0 0 i j i j (take k out) c0 h0 → slice_get (drop i a) 0 ≡ Some x0 → slice_get (drop j b) 0 ≡ Some y0
+        → u1 ≡ 0 + lefts_of h0 → v1 ≡ 0 + rights_of h0
+        → IsAppended alike (items_if (takes (table_from f (is_odd i) (is_odd j)) (is_odd 0) (is_odd 0) (one_of_run h0)) (cond (is_le h0) x0 y0 ∷ [])) [] r1
+        → slice_get (take n (drop i a)) u1 ≡ Some x1 → slice_get (take n' (drop j b)) v1 ≡ Some y1 → order x1 y1 ≡ h1 → c1 ≡ c0 + 1
+        → u2 ≡ u1 + lefts_of h1 → v2 ≡ v1 + rights_of h1
+        → IsAppended alike (items_if (takes (table_from f (is_odd i) (is_odd j)) (is_odd u1) (is_odd v1) (one_of_run h1)) (cond (is_le h1) x1 y1 ∷ [])) r1 r2
+        → slice_get (take n (drop i a)) u2 ≡ Some x2 → slice_get (take n' (drop j b)) v2 ≡ Some y2 → order x2 y2 ≡ h2 → c2 ≡ c1 + 1
+        → u3 ≡ u2 + lefts_of h2 → v3 ≡ v2 + rights_of h2
+        → IsAppended alike (items_if (takes (table_from f (is_odd i) (is_odd j)) (is_odd u2) (is_odd v2) (one_of_run h2)) (cond (is_le h2) x2 y2 ∷ [])) r2 r3
+        → slice_get (take n (drop i a)) u3 ≡ Some x3 → slice_get (take n' (drop j b)) v3 ≡ Some y3 → order x3 y3 ≡ h3 → c3 ≡ c2 + 1
+        → u4 ≡ u3 + lefts_of h3 → v4 ≡ v3 + rights_of h3
+        → IsAppended alike (items_if (takes (table_from f (is_odd i) (is_odd j)) (is_odd u3) (is_odd v3) (one_of_run h3)) (cond (is_le h3) x3 y3 ∷ [])) r3 (take q room)
+        → slice_get (take n (drop i a)) u4 ≡ Some x4 → slice_get (take n' (drop j b)) v4 ≡ Some y4 → order x4 y4 ≡ h4 → c4 ≡ c3 + 1
+        → Reads count0 4 i j (i + u4) (j + v4) (take (k + q) (put_mid k n'' out room)) c4 h4
+    Reads-four n n' n'' k q out room {count0} {i} {j} {c0} {u1} {u2} {u3} {v1} {v2} {v3} {h0} {x0} {y0} in_out in_room some some' w x0_is y0_is
+        l1 r1 p1 x1_is y1_is s1 k1 l2 r2 p2 x2_is y2_is s2 k2 l3 r3 p3 x3_is y3_is s3 k3 l4 r4 p4 x4_is y4_is s4 k4 =
+        let i_is : i + 0 ≡ i = omega arith in
+        let j_is : j + 0 ≡ j = omega arith in
+        let start : Reads count0 0 i j (i + 0) (j + 0) (take k out ++ []) c0 h0 = rw (append-nil (take k out), i_is, j_is) w in
+        let one = Reads-step n n' 0 0 (take k out) (omega arith) start (window-first n (drop i a) x0 some x0_is) (window-first n' (drop j b) y0 some' y0_is) l1 r1 p1 x1_is y1_is s1 k1 in
+        let two = Reads-step n n' u1 v1 (take k out) (omega arith) one x1_is y1_is l2 r2 p2 x2_is y2_is s2 k2 in
+        let three = Reads-step n n' u2 v2 (take k out) (omega arith) two x2_is y2_is l3 r3 p3 x3_is y3_is s3 k3 in
+        rw (take-window k n'' q out room in_out in_room) (Reads-step n n' u3 v3 (take k out) (omega arith) three x3_is y3_is l4 r4 p4 x4_is y4_is s4 k4)
+
+    looked-at : {count0 i1 j1 i j : ℕ} {out : List K} {count : ℕ} {next : Ordering}
+        → (w : Reads count0 4 i1 j1 i j out count next) → (4 ≤ read_of w.run → goes_on w.run next ≡ false)
+        → (read_of w.run - 3 ≡ 0) ⊎ (0 < read_of w.run - 3) → Reads count0 0 i j i j out count next
     looked-at w ends (inl few) = record {
+      read = w.read;
       run = w.run;
       owed = w.owed;
-      reading = w.reading;
+      at_least = w.at_least;
+      paid = w.paid;
       is_owed = record { within = omega (arith, few); late = λ e. w.is_owed.early (omega (arith, e)); early = λ e. absurd (omega (arith, e)) };
       lefts = 0;
       rights = 0;
@@ -337,20 +427,17 @@ module _ {K : Type 0} (alike : K → K → Type 0) (order : K → K → Ordering
       j_is = omega arith;
       since = IsSince-none w.run (IsBack-start w.run);
     }
-    looked-at {i0} {j0} {out0} {count0} {i1} {j1} {i} {j} {out} {count} {next} w ends (inr many) =
+    looked-at {count0} {i1} {j1} {i} {j} {out} {count} {next} w ends (inr many) =
         let l_ascends : IsAscending order (drop i a) = AllPairs-drop (λ x y. order x y ≡ Less) i a a_ascends in
         let r_ascends : IsAscending order (drop j b) = AllPairs-drop (λ x y. order x y ≡ Less) j b b_ascends in
         let ended : 2 * weight order (drop i a) (drop j b) + read_of w.run ≤ 2 * weight_of (before w.run (runs order (drop i a) (drop j b))) + w.owed =
-        rw (runs-one o (drop i a) (drop j b) l_ascends r_ascends next w.reading.stands) (ended-pays w.run next _ w.owed (ends (omega (arith, many))) w.is_owed) in
+        rw (runs-one o (drop i a) (drop j b) l_ascends r_ascends next w.read.stands) (ended-pays w.run next _ w.owed (ends (omega (arith, many))) w.is_owed) in
         record {
+          read = w.read;
           run = None;
           owed = 0;
-          reading = record {
-            progress = w.reading.progress;
-            stands = w.reading.stands;
-            at_least = w.reading.at_least;
-            paid = omega (arith, w.reading.paid, ended);
-          };
+          at_least = w.at_least;
+          paid = omega (arith, w.paid, ended);
           is_owed = record { within = omega arith; late = λ e. absurd (omega (arith, e)); early = λ e. absurd (omega (arith, e)) };
           lefts = 0;
           rights = 0;
@@ -359,8 +446,13 @@ module _ {K : Type 0} (alike : K → K → Type 0) (order : K → K → Ordering
           since = IsSince-none None (IsBack-start None);
         }
 
+    IsLong-from : (next : Ordering) (i j u v : ℕ) → IsLong next i j (i + u) (j + v) → IsLong next 0 0 u v
+    IsLong-from Less i j u v long = omega (arith, long)
+    IsLong-from Equal i j u v long = long
+    IsLong-from Greater i j u v long = omega (arith, long)
+
     -- it goes on after a look
-    pub Reads-looked : {i0 j0 : ℕ} {out0 : List K} {count0 i1 j1 i j : ℕ} {out : List K} {count : ℕ} {next : Ordering}
-        → Reads i0 j0 out0 count0 4 i1 j1 i j out count next → (IsLong next i1 j1 i j → ⊥) → Reads i0 j0 out0 count0 0 i j i j out count next
-    Reads-looked {i1} {j1} {i} {j} {next} w ends =
-        looked-at w (ended-at next w.run w.lefts w.rights i1 j1 i j w.i_is w.j_is ends w.since) (eq-zero-or-pos (read_of w.run - 3))
+    pub Reads-looked : (u v : ℕ) {count0 i j : ℕ} {out : List K} {count : ℕ} {next : Ordering}
+        → Reads count0 4 i j (i + u) (j + v) out count next → (IsLong next 0 0 u v → ⊥) → Reads count0 0 (i + u) (j + v) (i + u) (j + v) out count next
+    Reads-looked u v {i} {j} {next} w ends =
+        looked-at w (ended-at next w.run w.lefts w.rights i j (i + u) (j + v) w.i_is w.j_is (λ long. ends (IsLong-from next i j u v long)) w.since) (eq-zero-or-pos (read_of w.run - 3))

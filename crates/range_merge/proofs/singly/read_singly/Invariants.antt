@@ -1,0 +1,15 @@
+use Rattle.std.proofs.Common.{◌≡◌, ◌+◌, ◌-◌, ◌≤◌, length, take, drop, slice_get, Some}
+use Rattle.range_merge.proofs.SinglySteps.{Reads}
+use Rattle.range_merge.proofs.singly.read_singly.Given as goal
+
+abbrev pub invariant-loop-left : goal.invariant-loop-left
+invariant-loop-left g l = record {
+  reads : Reads g.P.Copier.alike g.C.Compare.order (g.O.MergeOperation.connective l.op) l.a l.b (g.C.Compare.count l.fn.cmp)
+      0 l.here.i l.here.j l.here.i l.here.j (take l.here.k l.out) (g.C.Compare.count l.cmp) l.here.next;
+  left_is : slice_get (drop l.here.i l.a) 0 ≡ Some l.firsts.left;
+  right_is : slice_get (drop l.here.j l.b) 0 ≡ Some l.firsts.right;
+  within : l.here.k ≤ length l.out;
+}
+
+abbrev pub decreases-loop-left : goal.decreases-loop-left
+decreases-loop-left g l = (length l.a + length l.b) - (l.here.i + l.here.j)
