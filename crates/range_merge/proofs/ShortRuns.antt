@@ -4,7 +4,7 @@
 --     IsOwed m n owed             what is owed where n items of a run are read, m steps after a look
 --     grown-pays                  one comparison for one more item
 --     ended-pays                  a run that has ended at a look
-use Rattle.std.proofs.Common.{◌≡◌, refl, ap, sym, ◌∙◌, ℕ, zero, suc, ◌+◌, ◌*◌, ◌^◌, ◌<◌, ◌≤◌, Bool, true, false, List, [], ◌∷◌, Option, Some, None, arith}
+use Rattle.std.proofs.Common.{◌≡◌, refl, ap, ◌∙◌, ℕ, zero, suc, ◌+◌, ◌*◌, ◌≤◌, Bool, true, false, List, [], ◌∷◌, Option, Some, None, arith}
 use Rattle.std.specs.declared.cmp.Ordering.{Ordering}
 use Rattle.std.specs.declared.cmp.Ordering.TheVariants.{Less, Equal, Greater}
 use Rattle.range_merge.specs.Runs.{digits, run_len, weight_of}
@@ -186,90 +186,57 @@ ended-pays (Some (Right n)) Equal rs owed ends h = ended_at_look (Right n) _ _ o
 ended-pays (Some (Right n)) Greater rs owed ends h = absurd cc
 ended-pays (Some Both) next rs owed ends h = ended_at_look Both _ _ owed refl h
 
--- where the items since a look, so many left and so many right, were read
+-- the items since a look, so many left and so many right: where all of them are of the run that is
+-- being read, the other side has none
 abbrev pub IsBack : ℕ → ℕ → ℕ → Option Run → Type 0
-IsBack m di dj None = m ≡ 0
-IsBack m di dj (Some (Left n)) = (m ≤ n → dj ≡ 0) × (dj ≡ 0 → m ≤ n) × (1 ≤ m → 1 ≤ di)
-IsBack m di dj (Some (Right n)) = (m ≤ n → di ≡ 0) × (di ≡ 0 → m ≤ n) × (1 ≤ m → 1 ≤ dj)
-IsBack m di dj (Some Both) = (1 ≤ m → 1 ≤ di) × (1 ≤ m → 1 ≤ dj)
+IsBack m di dj None = Unit {0}
+IsBack m di dj (Some (Left n)) = m ≤ n → dj ≡ 0
+IsBack m di dj (Some (Right n)) = m ≤ n → di ≡ 0
+IsBack m di dj (Some Both) = Unit {0}
 
 pub record IsSince (m di dj : ℕ) (run : Option Run) : Type 0 where
   pub none : m ≡ 0 → di + dj ≡ 0
   pub back : IsBack m di dj run
 
-IsBack-left : (how : Ordering) (m di dj n : ℕ) → (m ≡ 0 → di + dj ≡ 0) → IsBack m di dj (Some (Left n)) → IsBack (m + 1) (di + lefts_of how) (dj + rights_of how) (Some (grown (Some (Left n)) how))
-IsBack-left Less m di dj n none h =
-    (λ e. omega (arith, h.0 (omega (arith, e))), λ e. omega (arith, h.1 (omega (arith, e))), λ e. omega arith)
-IsBack-left Equal m di dj n none h = (λ e. omega arith, λ e. omega arith)
-IsBack-left Greater m di dj n none h =
-    (λ e. omega (arith, none (omega (arith, e))), λ e. left-first m di (omega (arith, e)) h.2, λ e. omega arith)
-  where
-    left-first : (m di : ℕ) → di ≡ 0 → (1 ≤ m → 1 ≤ di) → m + 1 ≤ 1
-    left-first zero di e h = omega arith
-    left-first (suc m) di e h = absurd (omega (arith, e, h (omega arith)))
-
-IsBack-right : (how : Ordering) (m di dj n : ℕ) → (m ≡ 0 → di + dj ≡ 0) → IsBack m di dj (Some (Right n)) → IsBack (m + 1) (di + lefts_of how) (dj + rights_of how) (Some (grown (Some (Right n)) how))
-IsBack-right Greater m di dj n none h =
-    (λ e. omega (arith, h.0 (omega (arith, e))), λ e. omega (arith, h.1 (omega (arith, e))), λ e. omega arith)
-IsBack-right Equal m di dj n none h = (λ e. omega arith, λ e. omega arith)
-IsBack-right Less m di dj n none h =
-    (λ e. omega (arith, none (omega (arith, e))), λ e. right-first m dj (omega (arith, e)) h.2, λ e. omega arith)
-  where
-    right-first : (m dj : ℕ) → dj ≡ 0 → (1 ≤ m → 1 ≤ dj) → m + 1 ≤ 1
-    right-first zero dj e h = omega arith
-    right-first (suc m) dj e h = absurd (omega (arith, e, h (omega arith)))
-
-IsBack-both : (how : Ordering) (m di dj : ℕ) → (m ≡ 0 → di + dj ≡ 0) → IsBack m di dj (Some Both) → IsBack (m + 1) (di + lefts_of how) (dj + rights_of how) (Some (grown (Some Both) how))
-IsBack-both Equal m di dj none h = (λ e. omega arith, λ e. omega arith)
-IsBack-both Less m di dj none h =
-    (λ e. omega (arith, none (omega (arith, e))), λ e. first m dj (omega (arith, e)) h.1, λ e. omega arith)
-  where
-    first : (m d : ℕ) → d ≡ 0 → (1 ≤ m → 1 ≤ d) → m + 1 ≤ 1
-    first zero d e h = omega arith
-    first (suc m) d e h = absurd (omega (arith, e, h (omega arith)))
-IsBack-both Greater m di dj none h =
-    (λ e. omega (arith, none (omega (arith, e))), λ e. first m di (omega (arith, e)) h.0, λ e. omega arith)
-  where
-    first : (m d : ℕ) → d ≡ 0 → (1 ≤ m → 1 ≤ d) → m + 1 ≤ 1
-    first zero d e h = omega arith
-    first (suc m) d e h = absurd (omega (arith, e, h (omega arith)))
-
-IsBack-none : (how : Ordering) (m di dj : ℕ) → (m ≡ 0 → di + dj ≡ 0) → m ≡ 0 → IsBack (m + 1) (di + lefts_of how) (dj + rights_of how) (Some (grown None how))
-IsBack-none Less m di dj none h = (λ e. omega (arith, none h), λ e. omega (arith, h), λ e. omega arith)
-IsBack-none Equal m di dj none h = (λ e. omega arith, λ e. omega arith)
-IsBack-none Greater m di dj none h = (λ e. omega (arith, none h), λ e. omega (arith, h), λ e. omega arith)
-
 IsBack-more : (r : Option Run) (how : Ordering) (m di dj : ℕ) → (m ≡ 0 → di + dj ≡ 0) → IsBack m di dj r → IsBack (m + 1) (di + lefts_of how) (dj + rights_of how) (Some (grown r how))
-IsBack-more None how m di dj none h = IsBack-none how m di dj none h
-IsBack-more (Some (Left n)) how m di dj none h = IsBack-left how m di dj n none h
-IsBack-more (Some (Right n)) how m di dj none h = IsBack-right how m di dj n none h
-IsBack-more (Some Both) how m di dj none h = IsBack-both how m di dj none h
+IsBack-more None Less m di dj none h = λ e. omega (arith, none (omega (arith, e)))
+IsBack-more None Equal m di dj none h = tt
+IsBack-more None Greater m di dj none h = λ e. omega (arith, none (omega (arith, e)))
+IsBack-more (Some (Left n)) Less m di dj none h = λ e. omega (arith, h (omega (arith, e)))
+IsBack-more (Some (Left n)) Equal m di dj none h = tt
+IsBack-more (Some (Left n)) Greater m di dj none h = λ e. omega (arith, none (omega (arith, e)))
+IsBack-more (Some (Right n)) Less m di dj none h = λ e. omega (arith, none (omega (arith, e)))
+IsBack-more (Some (Right n)) Equal m di dj none h = tt
+IsBack-more (Some (Right n)) Greater m di dj none h = λ e. omega (arith, h (omega (arith, e)))
+IsBack-more (Some Both) Less m di dj none h = λ e. omega (arith, none (omega (arith, e)))
+IsBack-more (Some Both) Equal m di dj none h = tt
+IsBack-more (Some Both) Greater m di dj none h = λ e. omega (arith, none (omega (arith, e)))
 
-pub IsSince-more : (r : Option Run) (how : Ordering) (m di dj : ℕ) {di' dj' : ℕ} → di' ≡ di + lefts_of how → dj' ≡ dj + rights_of how → IsSince m di dj r → IsSince (m + 1) di' dj' (Some (grown r how))
-IsSince-more r how m di dj i j h = record {
+pub IsSince-more : (r : Option Run) (how : Ordering) (m di dj : ℕ) → IsSince m di dj r → IsSince (m + 1) (di + lefts_of how) (dj + rights_of how) (Some (grown r how))
+IsSince-more r how m di dj h = record {
   none = λ e. absurd (omega (arith, e));
-  back = rw (i, j) (IsBack-more r how m di dj h.none h.back);
+  back = IsBack-more r how m di dj h.none h.back;
 }
 
 -- at a look: nothing was read since
-pub IsSince-none : (r : Option Run) → IsBack 0 0 0 r → IsSince 0 0 0 r
-IsSince-none r h = record { none = λ e. omega arith; back = h }
+IsBack-none : (r : Option Run) → IsBack 0 0 0 r
+IsBack-none None = tt
+IsBack-none (Some (Left n)) = λ e. refl
+IsBack-none (Some (Right n)) = λ e. refl
+IsBack-none (Some Both) = tt
 
-pub IsBack-start : (r : Option Run) → IsBack 0 0 0 r
-IsBack-start None = refl
-IsBack-start (Some (Left n)) = (λ e. refl, λ e. omega arith, λ e. absurd (omega (arith, e)))
-IsBack-start (Some (Right n)) = (λ e. refl, λ e. omega arith, λ e. absurd (omega (arith, e)))
-IsBack-start (Some Both) = (λ e. absurd (omega (arith, e)), λ e. absurd (omega (arith, e)))
+pub IsSince-none : (r : Option Run) → IsSince 0 0 0 r
+IsSince-none r = record { none = λ e. omega arith; back = IsBack-none r }
 
 -- at a look a run of four items or more has ended, if it isn't long
 not_long : (r : Option Run) (di dj : ℕ) (next : Ordering) → (dj ≡ 0 → next ≡ Less → ⊥) → (di ≡ 0 → next ≡ Greater → ⊥) → IsSince 4 di dj r → 4 ≤ read_of r → goes_on r next ≡ false
 not_long None di dj next left right h four = refl
-not_long (Some (Left n)) di dj Less left right h four = absurd (left (h.back.0 four) refl)
+not_long (Some (Left n)) di dj Less left right h four = absurd (left (h.back four) refl)
 not_long (Some (Left n)) di dj Equal left right h four = refl
 not_long (Some (Left n)) di dj Greater left right h four = refl
 not_long (Some (Right n)) di dj Less left right h four = refl
 not_long (Some (Right n)) di dj Equal left right h four = refl
-not_long (Some (Right n)) di dj Greater left right h four = absurd (right (h.back.0 four) refl)
+not_long (Some (Right n)) di dj Greater left right h four = absurd (right (h.back four) refl)
 not_long (Some Both) di dj next left right h four = refl
 
 pub ended-at : (next : Ordering) (r : Option Run) (di dj i0 j0 i j : ℕ) → i ≡ i0 + di → j ≡ j0 + dj → (IsLong next i0 j0 i j → ⊥) → IsSince 4 di dj r → 4 ≤ read_of r → goes_on r next ≡ false

@@ -13,7 +13,6 @@ use Rattle.std.proofs.lemmas.List.{append-nil, drop-drop, length-take-le, take-t
 use Rattle.std.proofs.lemmas.Option.{get_or_from_slice_get, slice_get_within}
 use Rattle.std.proofs.lemmas.Slice.{take-put_mid}
 use borrow.Rule.Slice.PartMut.{put_mid}
-use Rattle.std.specs.List.{AllZip}
 use Rattle.std.specs.Cmp.{IsTotalOrder}
 use Rattle.std.specs.Ordering.{is_le, is_ge}
 use Rattle.std.specs.declared.cmp.Ordering.{Ordering}
@@ -22,11 +21,11 @@ use Rattle.range_merge.specs.Boundaries.{IsAscending, is_odd}
 use Rattle.range_merge.specs.Changes.{Taken, taken_item, taken_items}
 use Rattle.range_merge.specs.Connective.{Table, differ}
 use Rattle.range_merge.specs.Copies.{AreCopies, IsAppended, items_if}
-use Rattle.range_merge.specs.Owners.{Owner, left_only, right_only, shared, owners}
+use Rattle.range_merge.specs.Owners.{Owner, left_only, right_only, shared}
 use Rattle.range_merge.specs.Parts.{Progress}
-use Rattle.range_merge.specs.Runs.{joined, runs, runs_of, run_len, weight, weight_of}
+use Rattle.range_merge.specs.Runs.{joined, runs, runs_of, weight, weight_of}
 use Rattle.range_merge.specs.Singly.{is_answer, table_from, lefts_of, rights_of, IsLong, IsRead}
-use Rattle.range_merge.specs.Steps.{FirstsStand, StandsAtStart, one_of_run, takes, taken_of_run, left_after, right_after, left_on_after, right_on_after}
+use Rattle.range_merge.specs.Steps.{FirstsStand, one_of_run, takes, taken_of_run, left_after, right_after, left_on_after, right_on_after}
 use Rattle.range_merge.specs.declared.runs.Run.{Run}
 use Rattle.range_merge.specs.declared.runs.Run.TheVariants.{Left, Right, Both}
 use Rattle.range_merge.proofs.CopiesLemmas.{AllZip-append, AreCopies-from_items, taken_items-taken_left, taken_items-taken_right}
@@ -37,23 +36,8 @@ use Rattle.range_merge.proofs.Orders.{Less-from_greater}
 use Rattle.range_merge.proofs.Pairs.{AllPairs-drop}
 use Rattle.range_merge.proofs.Parity.{differ-comm, differ-not_right, is_odd-add, is_odd-suc}
 use Rattle.range_merge.proofs.RunsFound as found
-use Rattle.range_merge.proofs.ShortRuns.{before, grown, read_of, goes_on, before-weighs, IsOwed, IsPaid, grown-pays, ended-pays, IsSince, IsSince-more, IsSince-none, IsBack-start, ended-at}
+use Rattle.range_merge.proofs.ShortRuns.{before, grown, read_of, goes_on, before-weighs, IsOwed, grown-pays, ended-pays, IsSince, IsSince-more, IsSince-none, ended-at}
 use Rattle.range_merge.proofs.Digits as numbers
-
-pub lefts_of-le : (how : Ordering) → lefts_of how ≤ 1
-lefts_of-le Less = omega arith
-lefts_of-le Equal = omega arith
-lefts_of-le Greater = omega arith
-
-pub rights_of-le : (how : Ordering) → rights_of how ≤ 1
-rights_of-le Less = omega arith
-rights_of-le Equal = omega arith
-rights_of-le Greater = omega arith
-
-pub some_of : (how : Ordering) → 1 ≤ lefts_of how + rights_of how
-some_of Less = omega arith
-some_of Equal = omega arith
-some_of Greater = omega arith
 
 pub byte-le : (how : Ordering) → bool_byte (is_le how) ≡ lefts_of how
 byte-le Less = refl
@@ -137,9 +121,9 @@ module _ {K : Type 0} where
   FirstsStand-of : (order : K → K → Ordering) (l r : List K) (x y : K) (how : Ordering) → slice_get l 0 ≡ Some x → slice_get r 0 ≡ Some y
       → order x y ≡ how → FirstsStand order l r (Some how)
   FirstsStand-of order l r x y how x_is y_is stands = (
-      slice_get_within l 0 x x_is,
-      slice_get_within r 0 y y_is,
-      λ d. rw (get_or_from_slice_get l 0 x d x_is, get_or_from_slice_get r 0 y d y_is) stands,
+    slice_get_within l 0 x x_is,
+    slice_get_within r 0 y y_is,
+    λ d. rw (get_or_from_slice_get l 0 x d x_is, get_or_from_slice_get r 0 y d y_is) stands,
   )
 
   -- an item of a window
@@ -315,7 +299,7 @@ module _ {K : Type 0} (alike : K → K → Type 0) (order : K → K → Ordering
     rights = 0;
     i_is = omega arith;
     j_is = omega arith;
-    since = IsSince-none None (IsBack-start None);
+    since = IsSince-none None;
   }
 
   six-more : (n owed : ℕ) → n ≤ 7 → (n ≡ 7 → 1 ≤ owed) → (7 - n ≡ 0) ⊎ (0 < 7 - n) → n ≤ owed + 6
@@ -329,8 +313,12 @@ module _ {K : Type 0} (alike : K → K → Type 0) (order : K → K → Ordering
   pub Reads-cost : {count0 m i1 j1 i j : ℕ} {out : List K} {count : ℕ} {next : Ordering} → m ≤ 4 → Reads count0 m i1 j1 i j out count next
       → count + 2 * weight order (drop i a) (drop j b) ≤ count0 + 2 * weight order a b + 6
   Reads-cost {m} {i} {j} few w =
-      omega (arith, w.paid, before-weighs w.run (runs order (drop i a) (drop j b)),
-      six-more (read_of w.run) w.owed (omega (arith, w.is_owed.within, few)) (late-at m (read_of w.run) w.owed few w.is_owed) (eq-zero-or-pos (7 - read_of w.run)))
+      omega (
+        arith,
+        w.paid,
+        before-weighs w.run (runs order (drop i a) (drop j b)),
+        six-more (read_of w.run) w.owed (omega (arith, w.is_owed.within, few)) (late-at m (read_of w.run) w.owed few w.is_owed) (eq-zero-or-pos (7 - read_of w.run)),
+      )
 
   -- as many comparisons were made as fit the counter, with four more
   pub Reads-made : {count0 m i1 j1 i j : ℕ} {out : List K} {count : ℕ} {next : Ordering}
@@ -368,7 +356,7 @@ module _ {K : Type 0} (alike : K → K → Type 0) (order : K → K → Ordering
           rights = w.rights + rights_of how;
           i_is = omega (arith, w.i_is, left);
           j_is = omega (arith, w.j_is, right);
-          since = IsSince-more w.run how m w.lefts w.rights refl refl w.since;
+          since = IsSince-more w.run how m w.lefts w.rights w.since;
         }
 
     -- the same of windows that begin at i and j, where what it puts out comes behind other items
@@ -425,7 +413,7 @@ module _ {K : Type 0} (alike : K → K → Type 0) (order : K → K → Ordering
       rights = 0;
       i_is = omega arith;
       j_is = omega arith;
-      since = IsSince-none w.run (IsBack-start w.run);
+      since = IsSince-none w.run;
     }
     looked-at {count0} {i1} {j1} {i} {j} {out} {count} {next} w ends (inr many) =
         let l_ascends : IsAscending order (drop i a) = AllPairs-drop (λ x y. order x y ≡ Less) i a a_ascends in
@@ -443,7 +431,7 @@ module _ {K : Type 0} (alike : K → K → Type 0) (order : K → K → Ordering
           rights = 0;
           i_is = omega arith;
           j_is = omega arith;
-          since = IsSince-none None (IsBack-start None);
+          since = IsSince-none None;
         }
 
     IsLong-from : (next : Ordering) (i j u v : ℕ) → IsLong next i j (i + u) (j + v) → IsLong next 0 0 u v

@@ -1,7 +1,7 @@
 -- Short runs of two slices that are read item by item.
 --     is_answer f ac bc             the answer differs from the one where both sides are off
---     lefts_of how, rights_of how   how many items of each side one step reads
 --     table_from f ac bc            a connective from where the sides stand so on
+--     lefts_of how, rights_of how   how many items of each side one step reads
 --     IsLong next i0 j0 i j         a run is long: it took all items since a look, and goes on
 --     IsRead .. i j out next        what was put out up to these items, and how the next ones stand
 use Rattle.std.specs.Prelude.{◌≡◌, ℕ, Bool, false, List, [], drop, Some}

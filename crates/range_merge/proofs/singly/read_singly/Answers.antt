@@ -46,8 +46,18 @@ returns-then-is_long-clause-read g c =
     let room_is : length (take (c.loop-left.here.k + 4 - c.loop-left.here.k) (drop c.loop-left.here.k c.loop-left.out)) ≡ 4 =
     length-room c.loop-left.here.k c.loop-left.out c.loop-left.invariant.within (omega (arith, c.loop-left-test.ensures.room refl)) in
     let in_room : c.step-four.result.k ≤ length c.step-four.new.out =
-    omega (arith, room_is, c.step-one.ensures.within, c.step-two.ensures.within, c.step-three.ensures.within, c.step-four.ensures.within,
-    c.step-one.ensures.len, c.step-two.ensures.len, c.step-three.ensures.len, c.step-four.ensures.len) in
+    omega (
+      arith,
+      room_is,
+      c.step-one.ensures.within,
+      c.step-two.ensures.within,
+      c.step-three.ensures.within,
+      c.step-four.ensures.within,
+      c.step-one.ensures.len,
+      c.step-two.ensures.len,
+      c.step-three.ensures.len,
+      c.step-four.ensures.len,
+    ) in
     let four = Reads-four g.P.Copier.alike g.C.Compare.order (g.O.MergeOperation.connective c.args.op.now) c.args.a.now c.args.b.now
     g.met.C.Compare.total c.requires.left_ascending c.requires.right_ascending _ _ (c.loop-left.here.k + 4 - c.loop-left.here.k) c.loop-left.here.k c.step-four.result.k c.loop-left.out c.step-four.new.out
     c.loop-left.invariant.within in_room (omega arith) (omega arith) c.loop-left.invariant.reads c.loop-left.invariant.left_is c.loop-left.invariant.right_is
@@ -62,8 +72,18 @@ returns-then-is_long-clause-comparisons g c =
     let room_is : length (take (c.loop-left.here.k + 4 - c.loop-left.here.k) (drop c.loop-left.here.k c.loop-left.out)) ≡ 4 =
     length-room c.loop-left.here.k c.loop-left.out c.loop-left.invariant.within (omega (arith, c.loop-left-test.ensures.room refl)) in
     let in_room : c.step-four.result.k ≤ length c.step-four.new.out =
-    omega (arith, room_is, c.step-one.ensures.within, c.step-two.ensures.within, c.step-three.ensures.within, c.step-four.ensures.within,
-    c.step-one.ensures.len, c.step-two.ensures.len, c.step-three.ensures.len, c.step-four.ensures.len) in
+    omega (
+      arith,
+      room_is,
+      c.step-one.ensures.within,
+      c.step-two.ensures.within,
+      c.step-three.ensures.within,
+      c.step-four.ensures.within,
+      c.step-one.ensures.len,
+      c.step-two.ensures.len,
+      c.step-three.ensures.len,
+      c.step-four.ensures.len,
+    ) in
     let four = Reads-four g.P.Copier.alike g.C.Compare.order (g.O.MergeOperation.connective c.args.op.now) c.args.a.now c.args.b.now
     g.met.C.Compare.total c.requires.left_ascending c.requires.right_ascending _ _ (c.loop-left.here.k + 4 - c.loop-left.here.k) c.loop-left.here.k c.step-four.result.k c.loop-left.out c.step-four.new.out
     c.loop-left.invariant.within in_room (omega arith) (omega arith) c.loop-left.invariant.reads c.loop-left.invariant.left_is c.loop-left.invariant.right_is
@@ -82,8 +102,18 @@ loop-left-preserved g c =
     let room_is : length (take (c.loop-left.here.k + 4 - c.loop-left.here.k) (drop c.loop-left.here.k c.loop-left.out)) ≡ 4 =
     length-room c.loop-left.here.k c.loop-left.out c.loop-left.invariant.within (omega (arith, c.loop-left-test.ensures.room refl)) in
     let in_room : c.step-four.result.k ≤ length c.step-four.new.out =
-    omega (arith, room_is, c.step-one.ensures.within, c.step-two.ensures.within, c.step-three.ensures.within, c.step-four.ensures.within,
-    c.step-one.ensures.len, c.step-two.ensures.len, c.step-three.ensures.len, c.step-four.ensures.len) in
+    omega (
+      arith,
+      room_is,
+      c.step-one.ensures.within,
+      c.step-two.ensures.within,
+      c.step-three.ensures.within,
+      c.step-four.ensures.within,
+      c.step-one.ensures.len,
+      c.step-two.ensures.len,
+      c.step-three.ensures.len,
+      c.step-four.ensures.len,
+    ) in
     let kept : length (put_mid c.loop-left.here.k (c.loop-left.here.k + 4 - c.loop-left.here.k) c.loop-left.out c.step-four.new.out) ≡ length c.loop-left.out =
     same_len_mid c.loop-left.here.k (c.loop-left.here.k + 4 - c.loop-left.here.k) c.loop-left.out c.step-four.new.out
     (c.step-four.ensures.len ∙ c.step-three.ensures.len ∙ c.step-two.ensures.len ∙ c.step-one.ensures.len) in

@@ -1,4 +1,4 @@
-use Rattle.std.proofs.Common.{◌≡◌, ◌+◌, ap, ◌∙◌, refl, arith}
+use Rattle.std.proofs.Common.{◌+◌, ap, ◌∙◌, refl}
 use mir.Val.{bool_byte}
 use Rattle.std.proofs.lemmas.List.{take-set}
 use Rattle.range_merge.proofs.SinglySteps.{IsAppended-one, IsAppended-set, byte-le, byte-ge, picked}
