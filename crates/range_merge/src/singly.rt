@@ -1,7 +1,7 @@
 //! Short runs of two slices, read item by item, without a branch on what is compared.
 //!
-//! From where it began, a side changed if its place is odd, and the answer if the output's is. So no
-//! truth is carried from step to step.
+//! From where it began, a side changed if its place is odd, and the answer if the output's is. So
+//! no truth is carried from step to step.
 ghost use Rattle.std.specs.Prelude.{◌≡◌, ◌↔◌, IsTrue, ◌+◌, ◌-◌, ◌*◌, ◌^◌, ◌<◌, ◌≤◌, [], ◌∷◌, length, take, drop, Some, slice_get, if◌then◌else◌};
 ghost use Rattle.std.specs.Ordering.{is_le};
 ghost use Rattle.range_merge.specs.Boundaries.{IsAscending, is_odd};
@@ -124,7 +124,8 @@ fn step<K: Drop, P: Copier<K>, O: MergeOperation, C: Compare<K>>(
     ensures rights { result.j ≡ at.j + rights_of at.next }
     ensures left_is { slice_get a.now result.i ≡ Some firsts.new.left }
     ensures right_is { slice_get b.now result.j ≡ Some firsts.new.right }
-    ensures answered { is_odd result.k ≡ is_answer (O.connective op.now) (is_odd result.i) (is_odd result.j) }
+    ensures answered { is_odd result.k
+        ≡ is_answer (O.connective op.now) (is_odd result.i) (is_odd result.j) }
     ensures put { IsAppended P.alike
         (items_if (takes (O.connective op.now) (is_odd at.i) (is_odd at.j) (one_of_run at.next))
         ((if is_le at.next then firsts.old.left else firsts.old.right) ∷ []))
@@ -194,7 +195,8 @@ pub(crate) fn read_singly<K: Drop, P: Copier<K>, O: MergeOperation, C: Compare<K
         result.i result.j (take result.k out.new) result.next }
 
     // Six more than twice the weight of what was read, if that.
-    ensures comparisons { C.count cmp.new + 2 * weight C.order (drop result.i a.now) (drop result.j b.now)
+    ensures comparisons { C.count cmp.new
+        + 2 * weight C.order (drop result.i a.now) (drop result.j b.now)
         ≤ C.count cmp.old + 2 * weight C.order a.now b.now + 6 }
     ensures made { C.count cmp.old ≤ C.count cmp.new }
     ensures within { result.k ≤ length out.new }
