@@ -1,11 +1,11 @@
 -- What a round of steps leaves of the comparisons that twice the weight allows.
-use Rattle.std.proofs.Common.{◌≡◌, ℕ, ◌+◌, ◌*◌, ◌≤◌, Bool, true, List, Option, Some, None, Ok, refl, sym, ◌∙◌, arith}
+use Rattle.std.proofs.Common.{◌≡◌, ℕ, ◌+◌, ◌*◌, ◌<◌, ◌≤◌, Bool, true, List, Option, Some, None, Ok, refl, sym, ◌∙◌, arith}
 use Rattle.std.specs.declared.cmp.Ordering.{Ordering}
 use Rattle.std.specs.declared.cmp.Ordering.TheVariants.{Less, Equal, Greater}
 use Rattle.std.specs.Cmp.{IsTotalOrder}
 use Rattle.range_merge.specs.Changes.{Taken}
 use Rattle.range_merge.specs.Connective.{Table}
-use Rattle.range_merge.specs.Parts.{IsFront, Leaves, GoesOn, Part}
+use Rattle.range_merge.specs.Parts.{IsFront, IsTurn, Leaves, GoesOn, Part}
 use Rattle.range_merge.specs.declared.merging.Went.TheVariants.{On}
 use Rattle.range_merge.proofs.MergeLoop.{Progress-then}
 use Rattle.range_merge.proofs.PartsOfMerge.{ahead_of-weight}
@@ -44,6 +44,26 @@ pub round-leaves : (firsts : Option Ordering) {next1 next2 next3 : Option Orderi
     → Leaves Less firsts next1 count0 w0 count1 w1 → Leaves Greater next1 next2 count1 w1 count2 w2 → Leaves Equal next2 next3 count2 w2 count3 w3 → count3 + 1 + 2 * w3 ≤ count0 + 2 * w0
 round-leaves None some first second third = absurd (some refl)
 round-leaves (Some how) some first second third = round-at first second third how refl
+
+module _ {firsts next1 next2 next3 : Option Ordering} {count0 w0 count1 w1 count2 w2 len0 len1 len2 len3 : ℕ}
+    (first : Leaves Less firsts next1 count0 w0 count1 w1) (second : Leaves Greater next1 next2 count1 w1 count2 w2)
+    (turn1 : IsTurn Less firsts next1 len0 len1) (turn2 : IsTurn Greater next1 next2 len1 len2) (turn3 : IsTurn Equal next2 next3 len2 len3) where
+  shorter-at : (how : Ordering) → firsts ≡ Some how → len3 < len0
+  shorter-at Less is = omega (arith, turn1.shorter is, turn2.no_longer, turn3.no_longer)
+  shorter-at Greater is =
+      let after1 : next1 ≡ Some Greater = first.same (λ less. cc) ∙ is in
+      omega (arith, turn1.no_longer, turn2.shorter after1, turn3.no_longer)
+  shorter-at Equal is =
+      let after1 : next1 ≡ Some Equal = first.same (λ less. cc) ∙ is in
+      let after2 : next2 ≡ Some Equal = second.same (λ greater. cc) ∙ after1 in
+      omega (arith, turn1.no_longer, turn2.no_longer, turn3.shorter after2)
+
+-- a round makes the lists shorter
+pub round-shorter : (firsts : Option Ordering) {next1 next2 next3 : Option Ordering} {count0 w0 count1 w1 count2 w2 len0 len1 len2 len3 : ℕ} → (firsts ≡ None → ⊥)
+    → Leaves Less firsts next1 count0 w0 count1 w1 → Leaves Greater next1 next2 count1 w1 count2 w2
+    → IsTurn Less firsts next1 len0 len1 → IsTurn Greater next1 next2 len1 len2 → IsTurn Equal next2 next3 len2 len3 → len3 < len0
+round-shorter None some first second turn1 turn2 turn3 = absurd (some refl)
+round-shorter (Some how) some first second turn1 turn2 turn3 = shorter-at first second turn1 turn2 turn3 how refl
 
 -- what a read costs beyond the weight of what it read, where six comparisons were left before it
 module _ {K S E : Type 0} {left right : S → List K} {left_on right_on : S → Bool} {output : S → List (Taken K) → Type 0} {fixed : S → ℕ} {is_infallible : S → Type 0} {can_stop : Bool}

@@ -1,4 +1,4 @@
-use Rattle.std.proofs.Common.{◌+◌, ◌*◌, ◌^◌, ◌<◌, ◌≤◌, length, Ok}
+use Rattle.std.proofs.Common.{◌≡◌, ℕ, ◌+◌, ◌*◌, ◌^◌, ◌<◌, ◌≤◌, length, Ok, Some, None}
 use Rattle.range_merge.specs.Parts.{Part}
 use Rattle.range_merge.specs.Runs.{weight}
 use Rattle.range_merge.specs.Steps.{ahead_of}
@@ -6,8 +6,8 @@ use Rattle.range_merge.specs.declared.merging.Went.TheVariants.{On}
 use Rattle.std.specs.declared.alloc.AllocError.{AllocError}
 use Rattle.range_merge.proofs.merging.take_rounds.Given as goal
 
-abbrev pub invariant-loop-firsts : goal.invariant-loop-firsts
-invariant-loop-firsts g l =
+abbrev pub invariant-loop-left : goal.invariant-loop-left
+invariant-loop-left g l =
     let left = g.S.MergeState.left in
     let right = g.S.MergeState.right in
     let state = g.S.MergeStateMut in
@@ -17,9 +17,13 @@ invariant-loop-firsts g l =
           g.C.Compare.order (g.O.MergeOperation.connective l.op) l.fn.state l.state (ahead_of l.fn.firsts) (count l.fn.cmp) (count l.cmp) {E = AllocError} (Ok (On l.firsts));
       fits : length (left l.fn.state) + length (right l.fn.state) < 2 ^ 65;
       no_longer : length (left l.state) + length (right l.state) ≤ length (left l.fn.state) + length (right l.fn.state);
-      leaves : count l.cmp + l.rounds + 2 * weight g.C.Compare.order (left l.state) (right l.state)
-          ≤ count l.fn.cmp + l.left + 2 * weight g.C.Compare.order (left l.fn.state) (right l.fn.state);
+      same : length (left l.state) + length (right l.state) ≡ length (left l.fn.state) + length (right l.fn.state)
+          → (l.firsts ≡ l.fn.firsts) × (l.left ≡ l.fn.rounds);
+      leaves : (n : ℕ) → l.fn.rounds ≡ Some n → (m : ℕ) × (l.left ≡ Some m)
+          × (count l.cmp + n + 2 * weight g.C.Compare.order (left l.state) (right l.state)
+          ≤ count l.fn.cmp + m + 2 * weight g.C.Compare.order (left l.fn.state) (right l.fn.state));
+      uncounted : l.fn.rounds ≡ None → l.left ≡ None;
     }
 
-abbrev pub decreases-loop-firsts : goal.decreases-loop-firsts
-decreases-loop-firsts g l = l.left
+abbrev pub decreases-loop-left : goal.decreases-loop-left
+decreases-loop-left g l = length (g.S.MergeState.left l.state) + length (g.S.MergeState.right l.state)

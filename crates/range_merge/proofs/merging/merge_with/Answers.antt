@@ -1,7 +1,7 @@
 use Rattle.std.proofs.Common.{None}
 use Rattle.range_merge.proofs.EndOfMerge.{end-taken, end-stopped, end-not_stopped}
 use Rattle.range_merge.proofs.FirstRun.{changes-walk}
-use Rattle.range_merge.proofs.merging.merge.Goals as goal
+use Rattle.range_merge.proofs.merging.merge_with.Goals as goal
 
 pub returns-in-Stopped-clause-stopped : goal.returns-in-Stopped-clause-stopped
 returns-in-Stopped-clause-stopped g c =
