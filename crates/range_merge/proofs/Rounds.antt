@@ -1,5 +1,5 @@
 -- What a round of steps leaves of the comparisons that twice the weight allows.
-use Rattle.std.proofs.Common.{◌≡◌, ℕ, ◌+◌, ◌*◌, ◌<◌, ◌≤◌, Bool, true, List, Option, Some, None, Ok, refl, sym, ◌∙◌, arith}
+use Rattle.std.proofs.Common.{◌≡◌, ℕ, ◌+◌, ◌*◌, ◌<◌, ◌≤◌, Bool, true, List, Option, Some, None, Ok, IfSome, refl, sym, ◌∙◌, arith}
 use Rattle.std.specs.declared.cmp.Ordering.{Ordering}
 use Rattle.std.specs.declared.cmp.Ordering.TheVariants.{Less, Equal, Greater}
 use Rattle.std.specs.Cmp.{IsTotalOrder}
@@ -65,16 +65,24 @@ pub round-shorter : (firsts : Option Ordering) {next1 next2 next3 : Option Order
 round-shorter None some first second turn1 turn2 turn3 = absurd (some refl)
 round-shorter (Some how) some first second turn1 turn2 turn3 = shorter-at first second turn1 turn2 turn3 how refl
 
+-- rounds that ended before a list was used up were counted
+pub counted-rounds : (rounds : Option ℕ) (next : Option Ordering) (how : Ordering) → IfSome rounds (λ n. 6 ≤ n) → (rounds ≡ None → next ≡ None) → next ≡ Some how
+    → (n : ℕ) × (rounds ≡ Some n) × (6 ≤ n)
+counted-rounds None next how six whole is =
+    let none : Some how ≡ None = sym is ∙ whole refl in
+    absurd cc
+counted-rounds (Some n) next how six whole is = (n, refl, six)
+
 -- what a read costs beyond the weight of what it read, where six comparisons were left before it
 module _ {K S E : Type 0} {left right : S → List K} {left_on right_on : S → Bool} {output : S → List (Taken K) → Type 0} {fixed : S → ℕ} {is_infallible : S → Type 0} {can_stop : Bool}
-    {order : K → K → Ordering} {f : Table} (o : IsTotalOrder order) {old mid new : S} {how next : Ordering} {known count0 count1 count2 : ℕ} where
-  pub Part-read : Part left right left_on right_on output fixed is_infallible can_stop order f old mid known count0 count1 {E = E} (Ok (On (Some how)))
+    {order : K → K → Ordering} {f : Table} (o : IsTotalOrder order) {old mid new : S} {known count0 count1 count2 : ℕ} where
+  pub Part-read : {how next : Ordering} → Part left right left_on right_on output fixed is_infallible can_stop order f old mid known count0 count1 {E = E} (Ok (On (Some how)))
       → count1 + 6 + known + 2 * weight order (left mid) (right mid) ≤ count0 + 2 * weight order (left old) (right old) + 1
       → GoesOn left right left_on right_on output fixed is_infallible can_stop order f mid new (Some next)
       → count1 ≤ count2 → count2 + 2 * weight order (left new) (right new) ≤ count1 + 2 * weight order (left mid) (right mid) + 6
       → fixed new ≡ fixed mid → (is_infallible mid → is_infallible new)
       → Part left right left_on right_on output fixed is_infallible can_stop order f old new known count0 count2 {E = E} (Ok (On (Some next)))
-  Part-read a six b at_least cost stays still =
+  Part-read {how} {next} a six b at_least cost stays still =
       let some = ahead_of-weight o (left new) (right new) b.left_ascends b.right_ascends (Some next) b.stands in
       record {
         on = record {
@@ -91,3 +99,18 @@ module _ {K S E : Type 0} {left right : S → List K} {left_on right_on : S → 
         succeeds = λ _. refl;
         still_infallible = λ holds. still (a.still_infallible holds);
       }
+
+  -- the same where a list may be used up, and then nothing is read
+  pub Part-read_on : (firsts after : Option Ordering) → Part left right left_on right_on output fixed is_infallible can_stop order f old mid known count0 count1 {E = E} (Ok (On firsts))
+      → ((first : Ordering) → firsts ≡ Some first → count1 + 6 + known + 2 * weight order (left mid) (right mid) ≤ count0 + 2 * weight order (left old) (right old) + 1)
+      → (firsts ≡ None → (after ≡ None) × (count2 ≡ count1) × (new ≡ mid)) → ((first : Ordering) → firsts ≡ Some first → (then_ : Ordering) × (after ≡ Some then_))
+      → GoesOn left right left_on right_on output fixed is_infallible can_stop order f mid new after
+      → count1 ≤ count2 → count2 + 2 * weight order (left new) (right new) ≤ count1 + 2 * weight order (left mid) (right mid) + 6
+      → fixed new ≡ fixed mid → (is_infallible mid → is_infallible new)
+      → Part left right left_on right_on output fixed is_infallible can_stop order f old new known count0 count2 {E = E} (Ok (On after))
+  Part-read_on None after a six ended some b at_least cost stays still =
+      let nothing = ended refl in
+      rw (nothing.0, nothing.1, nothing.2) a
+  Part-read_on (Some first) after a six ended some b at_least cost stays still =
+      let is = some first refl in
+      rw is.1 (Part-read a (six first refl) (rw is.1 at b) at_least cost stays still)
