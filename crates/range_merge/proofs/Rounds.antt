@@ -9,7 +9,7 @@ use Rattle.range_merge.specs.Parts.{IsFront, IsTurn, Leaves, GoesOn, Part}
 use Rattle.range_merge.specs.declared.merging.Went.TheVariants.{On}
 use Rattle.range_merge.proofs.MergeLoop.{Progress-then}
 use Rattle.range_merge.proofs.PartsOfMerge.{ahead_of-weight}
-use Rattle.range_merge.specs.Runs.{digits, run_len, weight}
+use Rattle.range_merge.specs.Runs.{weight}
 use Rattle.range_merge.specs.Steps.{left_after, right_after}
 use Rattle.range_merge.specs.declared.runs.Run.{Run}
 

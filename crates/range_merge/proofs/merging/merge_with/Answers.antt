@@ -1,4 +1,3 @@
-use Rattle.std.proofs.Common.{None}
 use Rattle.range_merge.proofs.EndOfMerge.{end-taken, end-stopped, end-not_stopped}
 use Rattle.range_merge.proofs.FirstRun.{changes-walk}
 use Rattle.range_merge.proofs.merging.merge_with.Goals as goal
