@@ -82,7 +82,7 @@ module _ {K S E : Type 0} {left right : S → List K} {left_on right_on : S → 
       → count1 ≤ count2 → count2 + 2 * weight order (left new) (right new) ≤ count1 + 2 * weight order (left mid) (right mid) + 6
       → fixed new ≡ fixed mid → (is_infallible mid → is_infallible new)
       → Part left right left_on right_on output fixed is_infallible can_stop order f old new known count0 count2 {E = E} (Ok (On (Some next)))
-  Part-read {how} {next} a six b at_least cost stays still =
+  Part-read {next = next} a six b at_least cost stays still =
       let some = ahead_of-weight o (left new) (right new) b.left_ascends b.right_ascends (Some next) b.stands in
       record {
         on = record {
@@ -103,7 +103,7 @@ module _ {K S E : Type 0} {left right : S → List K} {left_on right_on : S → 
   -- the same where a list may be used up, and then nothing is read
   pub Part-read_on : (firsts after : Option Ordering) → Part left right left_on right_on output fixed is_infallible can_stop order f old mid known count0 count1 {E = E} (Ok (On firsts))
       → ((first : Ordering) → firsts ≡ Some first → count1 + 6 + known + 2 * weight order (left mid) (right mid) ≤ count0 + 2 * weight order (left old) (right old) + 1)
-      → (firsts ≡ None → (after ≡ None) × (count2 ≡ count1) × (new ≡ mid)) → ((first : Ordering) → firsts ≡ Some first → (then_ : Ordering) × (after ≡ Some then_))
+      → (firsts ≡ None → (after ≡ None) × (count2 ≡ count1) × (new ≡ mid)) → ((first : Ordering) → firsts ≡ Some first → (next : Ordering) × (after ≡ Some next))
       → GoesOn left right left_on right_on output fixed is_infallible can_stop order f mid new after
       → count1 ≤ count2 → count2 + 2 * weight order (left new) (right new) ≤ count1 + 2 * weight order (left mid) (right mid) + 6
       → fixed new ≡ fixed mid → (is_infallible mid → is_infallible new)

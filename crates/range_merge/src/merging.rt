@@ -167,8 +167,10 @@ fn read_on<S: MergeStateMut, O: MergeOperation, C: Compare<S::Item>, R: ShortRun
         ≤ length (S.left state.old) + length (S.right state.old) }
     ensures fixed { S.fixed state.new ≡ S.fixed state.old }
     ensures still_infallible { S.is_infallible state.old → S.is_infallible state.new }
-    ensures ended { firsts ≡ None → (result ≡ None) × (C.count cmp.new ≡ C.count cmp.old) × (state.new ≡ state.old) }
-    ensures some { (how : Ordering) → firsts ≡ Some how → (next : Ordering) × (result ≡ Some next) }
+    ensures ended { firsts ≡ None →
+        (result ≡ None) × (C.count cmp.new ≡ C.count cmp.old) × (state.new ≡ state.old) }
+    ensures some { (how : Ordering) → firsts ≡ Some how →
+        (next : Ordering) × (result ≡ Some next) }
     ensures comparisons { C.count cmp.new + 2 * weight C.order (S.left state.new) (S.right state.new)
         ≤ C.count cmp.old + 2 * weight C.order (S.left state.old) (S.right state.old) + 6 }
     ensures made { C.count cmp.old ≤ C.count cmp.new }
@@ -200,10 +202,12 @@ fn take_rounds<S: MergeStateMut, O: MergeOperation, C: Compare<S::Item>>(
     ensures no_longer { IfOk result (IfOn (λ _.
         length (S.left state.new) + length (S.right state.new)
         ≤ length (S.left state.old) + length (S.right state.old))) }
-    ensures shorter { (how : Ordering) → firsts ≡ Some how → IfSome rounds (λ n. 1 ≤ n) → IfOk result (IfOn (λ _.
+    ensures shorter { (how : Ordering) → firsts ≡ Some how → IfSome rounds (λ n. 1 ≤ n) →
+        IfOk result (IfOn (λ _.
         length (S.left state.new) + length (S.right state.new)
         < length (S.left state.old) + length (S.right state.old))) }
-    ensures leaves { (n : ℕ) → rounds ≡ Some n → IfOk result (IfOn (λ next. (how : Ordering) → next ≡ Some how →
+    ensures leaves { (n : ℕ) → rounds ≡ Some n → IfOk result (IfOn (λ next.
+        (how : Ordering) → next ≡ Some how →
         C.count cmp.new + n + 2 * weight C.order (S.left state.new) (S.right state.new)
         ≤ C.count cmp.old + 2 * weight C.order (S.left state.old) (S.right state.old))) }
     ensures whole { rounds ≡ None → IfOk result (IfOn (λ next. next ≡ None)) }
@@ -234,7 +238,8 @@ fn take_rounds<S: MergeStateMut, O: MergeOperation, C: Compare<S::Item>>(
 fn one_less(rounds: Option<u32>) -> Option<u32>
     requires { IfSome rounds (λ n. 1 ≤ n) }
     ensures none { rounds ≡ None → result ≡ None }
-    ensures some { (n : ℕ) → rounds ≡ Some n → (left : ℕ) × (result ≡ Some left) × (left + 1 ≡ n) }
+    ensures some { (n : ℕ) → rounds ≡ Some n →
+        (left : ℕ) × (result ≡ Some left) × (left + 1 ≡ n) }
 {
     match rounds {
         Some(n) => Some(n - 1),

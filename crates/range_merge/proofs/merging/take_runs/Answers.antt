@@ -47,8 +47,8 @@ loop-state-preserved g c =
     record {
       part = Part-read_on g.met.C.Compare.total c.in-On.next c.read_on-firsts.result so_far
           (λ first is.
-            let counted = counted-rounds c.rounds.result c.in-On.next first c.rounds.ensures rounds.whole is in
-            omega (arith, counted.2, rounds.leaves counted.0 counted.1 first is, c.loop-state.invariant.part.counted, ahead_of-le c.loop-state.firsts))
+          let counted = counted-rounds c.rounds.result c.in-On.next first c.rounds.ensures rounds.whole is in
+          omega (arith, counted.2, rounds.leaves counted.0 counted.1 first is, c.loop-state.invariant.part.counted, ahead_of-le c.loop-state.firsts))
           read.ended read.some read.goes_on read.made read.comparisons read.fixed read.still_infallible;
       fits = c.loop-state.invariant.fits;
       no_longer = omega (arith, c.loop-state.invariant.no_longer, rounds.no_longer, read.no_longer);
