@@ -36,6 +36,12 @@ impl<T: Clone> Copier<T> for ByClone {
         !mem::needs_drop::<T>()
     }
 
+    /// Of short elements without a drop, which may be copied again from a copy.
+    #[inline(always)]
+    fn is_plain(&self) -> bool {
+        !mem::needs_drop::<T>() && mem::size_of::<T>() <= mem::size_of::<u64>()
+    }
+
     #[inline(always)]
     fn append(&self, list: &mut Vec<T>, items: &[T]) -> Result<(), AllocError> {
         list.reserve(items.len())?;

@@ -373,31 +373,31 @@ module _ {K : Type 0} (alike : K → K → Type 0) (order : K → K → Ordering
         counted
 
     -- four steps from a look on
-    pub Reads-four : (n n' n'' k q : ℕ) (out room : List K) {count0 i j : ℕ} {r1 r2 r3 : List K} {c0 c1 c2 c3 c4 u1 u2 u3 u4 v1 v2 v3 v4 : ℕ} {h0 h1 h2 h3 h4 : Ordering} {x0 x1 x2 x3 x4 y0 y1 y2 y3 y4 : K}
-        → k ≤ length out → q ≤ length room → 1 ≤ n → 1 ≤ n'
+    pub Reads-four : (n n' n'' k q : ℕ) (out room wa wb : List K) {count0 i j : ℕ} {r1 r2 r3 : List K} {c0 c1 c2 c3 c4 u1 u2 u3 u4 v1 v2 v3 v4 : ℕ} {h0 h1 h2 h3 h4 : Ordering} {x0 x1 x2 x3 x4 y0 y1 y2 y3 y4 : K}
+        → k ≤ length out → q ≤ length room → 1 ≤ n → 1 ≤ n' → wa ≡ take n (drop i a) → wb ≡ take n' (drop j b)
         → Reads count0 0 i j i j (take k out) c0 h0 → slice_get (drop i a) 0 ≡ Some x0 → slice_get (drop j b) 0 ≡ Some y0
         → u1 ≡ 0 + lefts_of h0 → v1 ≡ 0 + rights_of h0
         → IsAppended alike (items_if (takes (table_from f (is_odd i) (is_odd j)) (is_odd 0) (is_odd 0) (one_of_run h0)) (cond (is_le h0) x0 y0 ∷ [])) [] r1
-        → slice_get (take n (drop i a)) u1 ≡ Some x1 → slice_get (take n' (drop j b)) v1 ≡ Some y1 → order x1 y1 ≡ h1 → c1 ≡ c0 + 1
+        → slice_get wa u1 ≡ Some x1 → slice_get wb v1 ≡ Some y1 → order x1 y1 ≡ h1 → c1 ≡ c0 + 1
         → u2 ≡ u1 + lefts_of h1 → v2 ≡ v1 + rights_of h1
         → IsAppended alike (items_if (takes (table_from f (is_odd i) (is_odd j)) (is_odd u1) (is_odd v1) (one_of_run h1)) (cond (is_le h1) x1 y1 ∷ [])) r1 r2
-        → slice_get (take n (drop i a)) u2 ≡ Some x2 → slice_get (take n' (drop j b)) v2 ≡ Some y2 → order x2 y2 ≡ h2 → c2 ≡ c1 + 1
+        → slice_get wa u2 ≡ Some x2 → slice_get wb v2 ≡ Some y2 → order x2 y2 ≡ h2 → c2 ≡ c1 + 1
         → u3 ≡ u2 + lefts_of h2 → v3 ≡ v2 + rights_of h2
         → IsAppended alike (items_if (takes (table_from f (is_odd i) (is_odd j)) (is_odd u2) (is_odd v2) (one_of_run h2)) (cond (is_le h2) x2 y2 ∷ [])) r2 r3
-        → slice_get (take n (drop i a)) u3 ≡ Some x3 → slice_get (take n' (drop j b)) v3 ≡ Some y3 → order x3 y3 ≡ h3 → c3 ≡ c2 + 1
+        → slice_get wa u3 ≡ Some x3 → slice_get wb v3 ≡ Some y3 → order x3 y3 ≡ h3 → c3 ≡ c2 + 1
         → u4 ≡ u3 + lefts_of h3 → v4 ≡ v3 + rights_of h3
         → IsAppended alike (items_if (takes (table_from f (is_odd i) (is_odd j)) (is_odd u3) (is_odd v3) (one_of_run h3)) (cond (is_le h3) x3 y3 ∷ [])) r3 (take q room)
-        → slice_get (take n (drop i a)) u4 ≡ Some x4 → slice_get (take n' (drop j b)) v4 ≡ Some y4 → order x4 y4 ≡ h4 → c4 ≡ c3 + 1
+        → slice_get wa u4 ≡ Some x4 → slice_get wb v4 ≡ Some y4 → order x4 y4 ≡ h4 → c4 ≡ c3 + 1
         → Reads count0 4 i j (i + u4) (j + v4) (take (k + q) (put_mid k n'' out room)) c4 h4
-    Reads-four n n' n'' k q out room {count0} {i} {j} {c0} {u1} {u2} {u3} {v1} {v2} {v3} {h0} {x0} {y0} in_out in_room some some' w x0_is y0_is
+    Reads-four n n' n'' k q out room wa wb {count0} {i} {j} {c0} {u1} {u2} {u3} {v1} {v2} {v3} {h0} {x0} {y0} in_out in_room some some' wa_is wb_is w x0_is y0_is
         l1 r1 p1 x1_is y1_is s1 k1 l2 r2 p2 x2_is y2_is s2 k2 l3 r3 p3 x3_is y3_is s3 k3 l4 r4 p4 x4_is y4_is s4 k4 =
         let i_is : i + 0 ≡ i = omega arith in
         let j_is : j + 0 ≡ j = omega arith in
         let start : Reads count0 0 i j (i + 0) (j + 0) (take k out ++ []) c0 h0 = rw (append-nil (take k out), i_is, j_is) w in
-        let one = Reads-step n n' 0 0 (take k out) (omega arith) start (window-first n (drop i a) x0 some x0_is) (window-first n' (drop j b) y0 some' y0_is) l1 r1 p1 x1_is y1_is s1 k1 in
-        let two = Reads-step n n' u1 v1 (take k out) (omega arith) one x1_is y1_is l2 r2 p2 x2_is y2_is s2 k2 in
-        let three = Reads-step n n' u2 v2 (take k out) (omega arith) two x2_is y2_is l3 r3 p3 x3_is y3_is s3 k3 in
-        rw (take-window k n'' q out room in_out in_room) (Reads-step n n' u3 v3 (take k out) (omega arith) three x3_is y3_is l4 r4 p4 x4_is y4_is s4 k4)
+        let one = Reads-step n n' 0 0 (take k out) (omega arith) start (window-first n (drop i a) x0 some x0_is) (window-first n' (drop j b) y0 some' y0_is) l1 r1 p1 (rw wa_is at x1_is) (rw wb_is at y1_is) s1 k1 in
+        let two = Reads-step n n' u1 v1 (take k out) (omega arith) one (rw wa_is at x1_is) (rw wb_is at y1_is) l2 r2 p2 (rw wa_is at x2_is) (rw wb_is at y2_is) s2 k2 in
+        let three = Reads-step n n' u2 v2 (take k out) (omega arith) two (rw wa_is at x2_is) (rw wb_is at y2_is) l3 r3 p3 (rw wa_is at x3_is) (rw wb_is at y3_is) s3 k3 in
+        rw (take-window k n'' q out room in_out in_room) (Reads-step n n' u3 v3 (take k out) (omega arith) three (rw wa_is at x3_is) (rw wb_is at y3_is) l4 r4 p4 (rw wa_is at x4_is) (rw wb_is at y4_is) s4 k4)
 
     looked-at : {count0 i1 j1 i j : ℕ} {out : List K} {count : ℕ} {next : Ordering}
         → (w : Reads count0 4 i1 j1 i j out count next) → (4 ≤ read_of w.run → goes_on w.run next ≡ false)

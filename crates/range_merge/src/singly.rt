@@ -156,16 +156,14 @@ fn is_long(from: Place, at: Place) -> bool
     (at.next.is_lt() & (at.j == from.j)) | (at.next.is_gt() & (at.i == from.i))
 }
 
-// Whether four steps can be made, of lists and an output of these lengths.
+// Whether four steps can be made, where so many items are unread and so many have room.
 #[inline(always)]
-fn has_four(lefts: usize, rights: usize, room: usize, at: Place) -> bool
-    ensures lefts { IsTrue result → at.i + 4 < lefts }
-    ensures rights { IsTrue result → at.j + 4 < rights }
-    ensures room { IsTrue result → at.k + 4 ≤ room }
+fn has_four(lefts: usize, rights: usize, room: usize) -> bool
+    ensures lefts { IsTrue result → 5 ≤ lefts }
+    ensures rights { IsTrue result → 5 ≤ rights }
+    ensures room { IsTrue result → 4 ≤ room }
 {
-    at.i < lefts.saturating_sub(4)
-        && at.j < rights.saturating_sub(4)
-        && at.k < room.saturating_sub(3)
+    lefts >= 5 && rights >= 5 && room >= 4
 }
 
 /// Reads items of both slices, one or both at a step, from their starts on, until a run is long, a
@@ -212,10 +210,12 @@ pub(crate) fn read_singly<K: Drop, P: Copier<K>, O: MergeOperation, C: Compare<K
         left: copied(&a[0], by),
         right: copied(&b[0], by),
     };
-    while has_four(a.len(), b.len(), out.len(), here) {
+    let mut lefts = a;
+    let mut rights = b;
+    while has_four(lefts.len(), rights.len(), out.len() - here.k) {
         // The lengths of these are known, so each index is seen to be within them.
-        let left = &a[here.i..here.i + 5];
-        let right = &b[here.j..here.j + 5];
+        let left = &lefts[..5];
+        let right = &rights[..5];
         let room = &mut out[here.k..here.k + 4];
         let op = &Relative {
             op,
@@ -232,6 +232,8 @@ pub(crate) fn read_singly<K: Drop, P: Copier<K>, O: MergeOperation, C: Compare<K
         let two = step(left, right, one, &mut firsts, op, by, cmp, room);
         let three = step(left, right, two, &mut firsts, op, by, cmp, room);
         let four = step(left, right, three, &mut firsts, op, by, cmp, room);
+        lefts = &lefts[four.i..];
+        rights = &rights[four.j..];
         here = Place {
             i: here.i + four.i,
             j: here.j + four.j,

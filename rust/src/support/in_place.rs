@@ -75,5 +75,7 @@ fn merge_opened<K, R: Supply<Slot<K>>, O: MergeOperation, C: Compare<K>, const N
     cmp: &mut C,
 ) {
     let state = PlacingMergeState::<Slot<K>, N, R, _>::over(Opened::over(a), right, extra);
-    state.merged(op, &mut BySlots(cmp)).close();
+    let mut by = BySlots(cmp.fresh());
+    state.merged(op, &mut by).close();
+    cmp.add(by.0);
 }

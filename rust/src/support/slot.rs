@@ -38,14 +38,25 @@ impl<K> Slot<K> {
 }
 
 /// Compares slots by the items in them. A merge compares those that are unread, each of which has one.
-pub struct BySlots<'c, C>(pub &'c mut C);
+pub struct BySlots<C>(pub C);
 
-impl<K, C: Compare<K>> Compare<Slot<K>> for BySlots<'_, C> {
+impl<K, C: Compare<K>> Compare<Slot<K>> for BySlots<C> {
     #[inline(always)]
     fn compare(&mut self, a: &Slot<K>, b: &Slot<K>) -> Ordering {
         // SAFETY: a merge reads its sides by `Indexed::at`, which gives slots with an item alone.
         unsafe { self.0.compare(a.item(), b.item()) }
     }
+
+    #[inline(always)]
+    fn fresh(&self) -> Self {
+        BySlots(self.0.fresh())
+    }
+
+    #[inline(always)]
+    fn add(&mut self, other: Self) {
+        self.0.add(other.0);
+    }
+
 }
 
 /// Copies the items of slots.

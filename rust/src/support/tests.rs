@@ -57,6 +57,18 @@ impl Compare<Item> for ByKey {
         assert!(self.made != self.panics_at, "a comparison panics");
         a.key.cmp(&b.key)
     }
+
+    /// It panics at the same comparison.
+    fn fresh(&self) -> Self {
+        ByKey {
+            made: 0,
+            panics_at: self.panics_at - self.made,
+        }
+    }
+
+    fn add(&mut self, other: Self) {
+        self.made += other.made;
+    }
 }
 
 /// Copies an item of the right side, before the merge or as it is taken, and panics at the copy with this number.

@@ -49,6 +49,16 @@ impl<T: Ord> Compare<T> for Comparisons {
         self.made += 1;
         a.cmp(b)
     }
+
+    #[inline(always)]
+    fn fresh(&self) -> Self {
+        Comparisons::new()
+    }
+
+    #[inline(always)]
+    fn add(&mut self, other: Self) {
+        self.made += other.made;
+    }
 }
 
 /// Copies elements by their own clones.
@@ -63,6 +73,11 @@ impl<T: EntryClone> Copier<T> for EntryCopier {
     #[inline(always)]
     fn all_infallible(&self) -> bool {
         T::all_infallible()
+    }
+
+    #[inline(always)]
+    fn is_plain(&self) -> bool {
+        T::is_plain()
     }
 
     #[inline(always)]

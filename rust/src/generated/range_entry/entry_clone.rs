@@ -29,6 +29,20 @@ pub trait EntryClone: Ord + Sized {
         false
     }
 
+    /// Whether elements are plain data, as numbers and characters are: a copy never fails, and is the
+    /// element itself. `true` only if the type says so.
+    ///
+    /// # Contract
+    ///
+    /// ```text
+    /// ensures infallible: IsTrue result → (x : Self) → is_infallible x
+    /// ensures same: IsTrue result → (x y : Self) → is_copy x y → y ≡ x
+    /// ```
+    #[inline(always)]
+    fn is_plain() -> bool {
+        false
+    }
+
     /// Appends a copy of each item to the list. If memory runs out it is an error, and the copies
     /// made before stay. It asks for room once.
     ///

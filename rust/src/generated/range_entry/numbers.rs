@@ -23,6 +23,11 @@ impl<T: Number> EntryClone for T {
         true
     }
 
+    #[inline(always)]
+    fn is_plain() -> bool {
+        true
+    }
+
     /// All at once.
     #[inline(always)]
     fn append_clones(list: &mut Vec<T>, items: &[T]) -> Result<(), AllocError> {

@@ -6,7 +6,7 @@ use crate::support::{AllocError, Vec};
 use core::cmp::Ordering;
 
 /// Compares items by one lawful order, and counts how often it did.
-pub trait Compare<K> {
+pub trait Compare<K>: Sized {
     /// Compares `a` with `b`, and counts one comparison.
     ///
     /// # Contract
@@ -17,6 +17,25 @@ pub trait Compare<K> {
     /// ensures counted: count self.new ≡ count self.old + 1
     /// ```
     fn compare(&mut self, a: &K, b: &K) -> Ordering;
+
+    /// One that compares by the same order, and has made no comparison.
+    ///
+    /// # Contract
+    ///
+    /// ```text
+    /// ensures count result ≡ 0
+    /// ```
+    fn fresh(&self) -> Self;
+
+    /// Counts what another made as well.
+    ///
+    /// # Contract
+    ///
+    /// ```text
+    /// requires count self.old + count other < 2 ^ 128
+    /// ensures count self.new ≡ count self.old + count other
+    /// ```
+    fn add(&mut self, other: Self);
 }
 
 /// Copies items into a result.
@@ -41,6 +60,20 @@ pub trait Copier<K> {
     /// ```
     #[inline(always)]
     fn all_infallible(&self) -> bool {
+        false
+    }
+
+    /// Whether items are plain data: a copy never fails, and is the item itself. `true` only if
+    /// their type says so. Then a merge may hold copies of items beside the items.
+    ///
+    /// # Contract
+    ///
+    /// ```text
+    /// ensures infallible: IsTrue result → (x : K) → is_infallible x
+    /// ensures same: IsTrue result → (x y : K) → alike x y → y ≡ x
+    /// ```
+    #[inline(always)]
+    fn is_plain(&self) -> bool {
         false
     }
 

@@ -7,6 +7,7 @@ use crate::generated::range_merge::galloping::{gallop, Front};
 use crate::generated::range_merge::merge_state::MergeStateMut;
 use crate::generated::range_merge::operations::MergeOperation;
 use crate::generated::range_merge::runs::{order_at, reversed, LeftOf, RightOf};
+use crate::generated::range_merge::short_runs::{RunsAlone, ShortRuns};
 use crate::support::AllocError;
 use core::cmp::Ordering;
 
@@ -57,7 +58,23 @@ pub(crate) fn merge<S: MergeStateMut, O: MergeOperation, C: Compare<S::Item>>(
     op: &O,
     cmp: &mut C,
 ) -> Result<bool, AllocError> {
-    match take_runs(state, op, cmp)? {
+    merge_with(state, op, cmp, &mut RunsAlone)
+}
+
+/// The same merge, which lets `reader` read short runs.
+#[inline(always)]
+pub(crate) fn merge_with<
+    S: MergeStateMut,
+    O: MergeOperation,
+    C: Compare<S::Item>,
+    R: ShortRuns<S, O, C>,
+>(
+    state: &mut S,
+    op: &O,
+    cmp: &mut C,
+    reader: &mut R,
+) -> Result<bool, AllocError> {
+    match take_runs(state, op, cmp, reader)? {
         Went::Stopped => Ok(false),
         Went::On(_) => take_rest(state, op),
     }
@@ -72,16 +89,57 @@ pub(crate) enum Went {
     On(Option<Ordering>),
 }
 
-// Takes runs or drops them, while both lists have items. The steps follow one another, so that each
-// knows how the first items stand.
+// Takes runs or drops them, while both lists have items: whole runs for some rounds, then what the
+// reader reads of short ones, and so by turns.
 #[inline(always)]
-fn take_runs<S: MergeStateMut, O: MergeOperation, C: Compare<S::Item>>(
+fn take_runs<S: MergeStateMut, O: MergeOperation, C: Compare<S::Item>, R: ShortRuns<S, O, C>>(
     state: &mut S,
     op: &O,
     cmp: &mut C,
+    reader: &mut R,
 ) -> Result<Went, AllocError> {
     let mut firsts = order_at(state, 0, cmp);
     while firsts.is_some() {
+        let next = match take_rounds(state, op, firsts, reader.rounds(), cmp)? {
+            Went::On(next) => next,
+            _ => return Ok(Went::Stopped),
+        };
+        firsts = read_on(state, op, next, cmp, reader);
+    }
+    Ok(Went::On(firsts))
+}
+
+// Lets the reader read short runs, if both lists have items.
+#[inline(always)]
+fn read_on<S: MergeStateMut, O: MergeOperation, C: Compare<S::Item>, R: ShortRuns<S, O, C>>(
+    state: &mut S,
+    op: &O,
+    firsts: Option<Ordering>,
+    cmp: &mut C,
+    reader: &mut R,
+) -> Option<Ordering> {
+    match firsts {
+        Some(next) => Some(reader.read(state, op, next, cmp)),
+        None => None,
+    }
+}
+
+// Takes runs or drops them, for so many rounds, or fewer if a list is used up; for `None`, until
+// then. Each round leaves one comparison of those that twice the weight allows.
+#[inline(always)]
+fn take_rounds<S: MergeStateMut, O: MergeOperation, C: Compare<S::Item>>(
+    state: &mut S,
+    op: &O,
+    firsts: Option<Ordering>,
+    rounds: Option<u32>,
+    cmp: &mut C,
+) -> Result<Went, AllocError> {
+    let mut firsts = firsts;
+    let mut left = rounds;
+    while firsts.is_some() {
+        if left == Some(0) {
+            return Ok(Went::On(firsts));
+        }
         let next = match step_left(state, op, firsts, cmp)? {
             Went::On(next) => next,
             _ => return Ok(Went::Stopped),
@@ -95,8 +153,18 @@ fn take_runs<S: MergeStateMut, O: MergeOperation, C: Compare<S::Item>>(
             _ => return Ok(Went::Stopped),
         };
         firsts = next;
+        left = one_less(left);
     }
     Ok(Went::On(firsts))
+}
+
+// One round less, if they are counted.
+#[inline(always)]
+fn one_less(rounds: Option<u32>) -> Option<u32> {
+    match rounds {
+        Some(n) => Some(n - 1),
+        None => None,
+    }
 }
 
 // Takes or drops the first run, where it is of the left list.

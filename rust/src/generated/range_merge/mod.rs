@@ -12,6 +12,8 @@ pub(crate) mod operations;
 pub(crate) mod place;
 pub(crate) mod runs;
 pub(crate) mod searching;
+pub(crate) mod short_runs;
+pub(crate) mod singly;
 pub(crate) mod slice_iterator;
 pub(crate) mod turning;
 

@@ -2,14 +2,16 @@ use Rattle.std.proofs.Common.{◌≡◌, ◌+◌, ◌-◌, ◌≤◌, length, ta
 use Rattle.range_merge.proofs.SinglySteps.{Reads}
 use Rattle.range_merge.proofs.singly.read_singly.Given as goal
 
-abbrev pub invariant-loop-left : goal.invariant-loop-left
-invariant-loop-left g l = record {
+abbrev pub invariant-loop-lefts : goal.invariant-loop-lefts
+invariant-loop-lefts g l = record {
   reads : Reads g.P.Copier.alike g.C.Compare.order (g.O.MergeOperation.connective l.op) l.a l.b (g.C.Compare.count l.fn.cmp)
       0 l.here.i l.here.j l.here.i l.here.j (take l.here.k l.out) (g.C.Compare.count l.cmp) l.here.next;
   left_is : slice_get (drop l.here.i l.a) 0 ≡ Some l.firsts.left;
   right_is : slice_get (drop l.here.j l.b) 0 ≡ Some l.firsts.right;
   within : l.here.k ≤ length l.out;
+  lefts_are : l.lefts ≡ drop l.here.i l.a;
+  rights_are : l.rights ≡ drop l.here.j l.b;
 }
 
-abbrev pub decreases-loop-left : goal.decreases-loop-left
-decreases-loop-left g l = (length l.a + length l.b) - (l.here.i + l.here.j)
+abbrev pub decreases-loop-lefts : goal.decreases-loop-lefts
+decreases-loop-lefts g l = (length l.a + length l.b) - (l.here.i + l.here.j)

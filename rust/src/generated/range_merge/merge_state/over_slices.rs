@@ -8,12 +8,12 @@ use crate::support::AllocError;
 
 /// A state that reads two slices and appends what is taken to an output.
 pub struct SliceMergeState<'a, K, O: Output<K, By>, By = ()> {
-    a: SliceIterator<'a, K>,
-    b: SliceIterator<'a, K>,
-    ac: bool,
-    bc: bool,
-    output: O,
-    by: By,
+    pub(super) a: SliceIterator<'a, K>,
+    pub(super) b: SliceIterator<'a, K>,
+    pub(super) ac: bool,
+    pub(super) bc: bool,
+    pub(super) output: O,
+    pub(super) by: By,
 }
 
 impl<'a, K, O: Output<K, By>, By> SliceMergeState<'a, K, O, By> {

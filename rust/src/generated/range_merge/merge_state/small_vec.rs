@@ -5,6 +5,7 @@ use crate::generated::range_merge::compare::{Compare, Copier};
 use crate::generated::range_merge::merge_state::grows_at_end::append_copies;
 use crate::generated::range_merge::merge_state::output::Output;
 use crate::generated::range_merge::merge_state::over_slices::SliceMergeState;
+use crate::generated::range_merge::merge_state::short_runs::Singly;
 use crate::generated::range_merge::merging;
 use crate::generated::range_merge::operations::MergeOperation;
 use crate::support::{AllocError, SmallVec, Vec};
@@ -80,7 +81,10 @@ impl<'a, K, P: Copier<K>, const M: usize> SmallVecMergeState<'a, K, P, M> {
         // Where there is no room for both at once, the list grows run by run.
         let _asked = list.reserve(a.len().saturating_add(b.len()));
         let mut state = SliceMergeState::over(a, b, list, Copying { copier });
-        let _went_through = merging::merge(&mut state, op, cmp)?;
+        let _went_through = match Singly::of(copier) {
+            Some(mut reader) => merging::merge_with(&mut state, op, cmp, &mut reader)?,
+            None => merging::merge(&mut state, op, cmp)?,
+        };
         Ok(inline_if_few(state.result()))
     }
 }
