@@ -195,7 +195,8 @@ fn read_into<K: Drop, P: Copier<K>, O: MergeOperation, C: Compare<K>>(
     requires fits { length a.now + length b.now < 2 ^ 65 }
     requires made { C.count cmp < 2 ^ 126 }
     ensures kept { take (length list.items) result.list.items ≡ list.items }
-    ensures read { IsRead P.alike C.order (table_from (O.connective op.op.now) op.ac op.bc) a.now b.now
+    ensures read { IsRead P.alike C.order
+        (table_from (O.connective op.entry.op.now) op.entry.ac op.entry.bc) a.now b.now
         result.at.i result.at.j (drop (length list.items) result.list.items) result.at.next }
     ensures comparisons { C.count result.cmp + 2 * weight C.order (drop result.at.i a.now) (drop result.at.j b.now)
         ≤ C.count cmp + 2 * weight C.order a.now b.now + 6 }
