@@ -34,3 +34,4 @@ pub mod Filled
 pub mod ShortRuns
 pub mod SinglySteps
 pub mod Rounds
+pub mod ReadInto
