@@ -48,7 +48,7 @@ module _ {K : Type 0} (alike : K → K → Type 0) where
   length-appended xs old new h =
       ap length h.appended ∙ length-append old h.copies ∙ ap (λ n. length old + n) (sym (length_all_zip alike xs h.copies h.alike_to))
 
-  AreCopies-items : (ts : List (Taken K)) (xs : List K) → AreCopies alike ts xs → AllZip alike (taken_items ts) xs
+  pub AreCopies-items : (ts : List (Taken K)) (xs : List K) → AreCopies alike ts xs → AllZip alike (taken_items ts) xs
   AreCopies-items [] [] h = h
   AreCopies-items [] (x ∷ xs) h = h
   AreCopies-items (t ∷ ts) [] h = h

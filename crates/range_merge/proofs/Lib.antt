@@ -35,3 +35,4 @@ pub mod ShortRuns
 pub mod SinglySteps
 pub mod Rounds
 pub mod ReadInto
+pub mod Relative
