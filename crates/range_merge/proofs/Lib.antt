@@ -30,6 +30,7 @@ pub mod Moves
 pub mod Exchanges
 pub mod TakenInPlace
 pub mod OwnOrCopies
+pub mod Apart
 pub mod Filled
 pub mod ShortRuns
 pub mod SinglySteps

@@ -1,5 +1,5 @@
 //! A merge into its own left list, which takes copies of the items of a right list that it borrows.
-ghost use Rattle.std.specs.Prelude.{◌≡◌, ◌+◌, ◌*◌, ◌^◌, ◌<◌, ◌≤◌, false, [], length, All, IsOk, IfOk, IfErr, OnOk, OnErr};
+ghost use Rattle.std.specs.Prelude.{◌≡◌, ◌+◌, ◌*◌, ◌^◌, ◌<◌, ◌≤◌, false, [], length, All, IsTrue, IsOk, IfOk, IfErr, IfSome, Ok, None, OnOk, OnErr};
 ghost use Rattle.std.specs.List.{AllZip};
 ghost use Rattle.range_merge.specs.Boundaries.{IsAscending};
 ghost use Rattle.range_merge.specs.Changes.{changes};
@@ -12,6 +12,7 @@ use crate::in_place_memory::{prepared, prepared_copies};
 use crate::indexed::Indexed;
 use crate::merge_state::in_place::OwnedRight;
 use crate::merge_state::placing::PlacingMergeState;
+use crate::merge_state::small_vec::{SmallVecMergeState, fit_together};
 use crate::merge_state::supply::Supply;
 use crate::operations::MergeOperation;
 use crate::place::{Exchanges, Slots};
@@ -68,8 +69,9 @@ impl<'a, K: MadeWith<Global> + Drop, P: Copier<K>, const N: usize> InPlaceMergeS
     /// stays.
     ///
     /// It asks for room in `a` for the items of `b`, and, unless copies never fail, for a copy of
-    /// each item of `b`, before it changes anything. It succeeds if both lengths together are at
-    /// most `N` and no copy fails. If it fails, the items of `a` are as they were. It makes at most
+    /// each item of `b`, before it changes anything. Long lists of plain data it merges into a list
+    /// of their own, if there is memory for that. It succeeds if both lengths together are at most
+    /// `N` and no copy fails. If it fails, the items of `a` are as they were. It makes at most
     /// twice the weight of the two lists in comparisons.
     pub fn merge<O: MergeOperation, C: Compare<K>>(
         a: &mut SmallVec<K, N>,
@@ -87,6 +89,10 @@ impl<'a, K: MadeWith<Global> + Drop, P: Copier<K>, const N: usize> InPlaceMergeS
         ensures comparisons { AddsAtMost (C.count cmp.old) (C.count cmp.new) (2 * weight C.order a.old.items b.now) }
     {
         let alloc = *a.allocator();
+        if let Some(merged) = merged_apart(a, b, copier, op, cmp)? {
+            *a = merged;
+            return Ok(());
+        }
         if copier.all_infallible() {
             prepared(a, b.len())?;
             let right = BorrowedRight::over(b, copier);
@@ -103,6 +109,54 @@ impl<'a, K: MadeWith<Global> + Drop, P: Copier<K>, const N: usize> InPlaceMergeS
         *a = kept;
         Ok(())
     }
+}
+
+// So many items of each list are many.
+const MANY: usize = 32;
+// So many times as long a list is much longer.
+const MUCH: usize = 8;
+
+// Whether both lists are so long, of lengths so alike, that a merge into a list of its own is faster
+// than one in place. It never is if the items fit inline.
+fn are_long(a: usize, b: usize, inline: usize) -> bool
+    ensures { IsTrue result → inline < a + b }
+{
+    a >= MANY && b >= MANY && a / MUCH <= b && !fit_together(a, b, inline)
+}
+
+/// Merges long lists of plain data into a list of their own, which `None` isn't: then the items had
+/// better be moved in place, or there is no memory for that list, and nothing was compared.
+pub(crate) fn merged_apart<
+    K: MadeWith<Global> + Drop,
+    P: Copier<K>,
+    O: MergeOperation,
+    C: Compare<K>,
+    const N: usize,
+>(
+    a: &SmallVec<K, N>,
+    b: &[K],
+    copier: &P,
+    op: &O,
+    cmp: &mut C,
+) -> Result<Option<SmallVec<K, N>>, AllocError>
+    requires left_ascending { IsAscending C.order a.now.items }
+    requires right_ascending { IsAscending C.order b.now }
+    requires made { C.count cmp.old < 2 ^ 64 }
+    ensures taken { IfOk result (λ merged. IfSome merged (λ list.
+        AreOwnOrCopies P.alike (changes C.order (O.connective op.now) a.now.items b.now) list.items)) }
+    ensures none { IfOk result (λ merged. merged ≡ None → C.count cmp.new ≡ C.count cmp.old) }
+    ensures few { length a.now.items + length b.now ≤ N → result ≡ Ok None }
+    ensures comparisons { AddsAtMost (C.count cmp.old) (C.count cmp.new) (2 * weight C.order a.now.items b.now) }
+{
+    if !copier.is_plain() || !are_long(a.len(), b.len(), N) {
+        return Ok(None);
+    }
+    let mut list = Vec::new(*a.allocator());
+    if list.reserve(a.len().saturating_add(b.len())).is_err() {
+        return Ok(None);
+    }
+    let merged = SmallVecMergeState::merge_into(list, a.as_slice(), b, copier, op, cmp)?;
+    Ok(Some(merged))
 }
 
 /// A right slice that is borrowed: its unread items, and a copy of each.

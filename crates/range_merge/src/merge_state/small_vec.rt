@@ -135,6 +135,28 @@ impl<'a, K: MadeWith<Global> + Drop, P: Copier<K>, const M: usize> SmallVecMerge
         let mut list = r.into_vec()?;
         // Where there is no room for both at once, the list grows run by run.
         let _asked = list.reserve(a.len().saturating_add(b.len()));
+        Self::merge_into(list, a, b, copier, op, cmp)
+    }
+
+    /// Appends to the empty list. It asks for no memory where there is room for both lengths (seen
+    /// by reading).
+    pub(crate) fn merge_into<O: MergeOperation, C: Compare<K>>(
+        list: Vec<K>,
+        a: &'a [K],
+        b: &'a [K],
+        copier: &'a P,
+        op: &O,
+        cmp: &mut C,
+    ) -> Result<SmallVec<K, M>, AllocError>
+        requires empty { list.items ≡ [] }
+        requires left_ascending { IsAscending C.order a.now }
+        requires right_ascending { IsAscending C.order b.now }
+        requires made { C.count cmp.old < 2 ^ 64 }
+
+        // It may need memory, so nothing is said of when it succeeds.
+        ensures gives { GivesCopies P.alike C.order (O.connective op.now) a.now b.now ⊥ result }
+        ensures comparisons { AddsAtMost (C.count cmp.old) (C.count cmp.new) (2 * weight C.order a.now b.now) }
+    {
         let mut state = SliceMergeState::over(
             a,
             b,
@@ -166,8 +188,8 @@ fn inline_if_few<K: MadeWith<Global> + Drop, const M: usize>(items: Vec<K>) -> S
     list
 }
 
-// Whether so many items of two lists are together at most `room`.
-fn fit_together(a: usize, b: usize, room: usize) -> bool
+/// Whether so many items of two lists are together at most `room`.
+pub(crate) fn fit_together(a: usize, b: usize, room: usize) -> bool
     ensures { IsTrue result ↔ (a + b ≤ room) }
 {
     a <= room && b <= room - a

@@ -1,14 +1,14 @@
 use Rattle.std.proofs.Common.{◌≡◌, [], ap, ◌∙◌}
 use Rattle.range_merge.proofs.Testing.{went_through}
 use Rattle.range_merge.proofs.CopiesLemmas.{AreKeptThenCopies-first, AreCopies-kept}
-use Rattle.range_merge.proofs.merge_state.small_vec.SmallVecMergeState+K+P+M.merge_many.Goals.{in-Some+in_ok-_went_through-in-Some, in-None+in_ok-_went_through-in-None}
-use Rattle.range_merge.proofs.merge_state.small_vec.SmallVecMergeState+K+P+M.merge_many.Goals as goal
+use Rattle.range_merge.proofs.merge_state.small_vec.SmallVecMergeState+K+P+M.merge_into.Goals.{in-Some+in_ok-_went_through-in-Some, in-None+in_ok-_went_through-in-None}
+use Rattle.range_merge.proofs.merge_state.small_vec.SmallVecMergeState+K+P+M.merge_into.Goals as goal
 
 pub returns-clause-gives : goal.returns-clause-gives
 returns-clause-gives g c =
     let alike = g.P.Copier.alike in
     let empty : c.over-state.result.taken.items ≡ [] =
-    ap (λ list. list.items) c.over-state.ensures.taken ∙ c.reserve-asked.ensures.items ∙ c.in_ok-list.ensures.ok ∙ c.requires.empty in
+    ap (λ list. list.items) c.over-state.ensures.taken ∙ c.requires.empty in
     let items : c.inline_if_few.result.items ≡ c.match-of.state.taken.items = c.inline_if_few.ensures ∙ ap (λ list. list.items) c.result.ensures in
     elim c.match-of.branch [
       in-Some+in_ok-_went_through-in-Some w ↦

@@ -1,0 +1,7 @@
+use Rattle.std.proofs.Common.{refl}
+use Rattle.range_merge.proofs.Apart.{AreOwnOrCopies-plain}
+use Rattle.range_merge.proofs.merge_state.in_place_ref.merged_apart.Goals as goal
+
+pub returns-clause-taken : goal.returns-clause-taken
+returns-clause-taken g c =
+    AreOwnOrCopies-plain g.P.Copier.alike (c.if-not-is_plain.ensures.same refl) _ _ c.in_ok-merged.ensures.gives.copied
