@@ -1,5 +1,5 @@
 -- What a read appended to a list: it was written to the end of the filled list, which was then cut.
-use Rattle.std.proofs.Common.{◌≡◌, ℕ, ◌+◌, ◌≤◌, List, ◌++◌, length, take, drop, refl, ap, sym, ◌∙◌, arith, append_assoc}
+use Rattle.std.proofs.Common.{◌≡◌, ℕ, ◌+◌, ◌≤◌, List, ◌++◌, length, take, drop, ap, sym, ◌∙◌, append_assoc}
 use Rattle.std.proofs.lemmas.List.{drop-take, drop_at, length-take-le, take-append-le, take-take}
 
 -- of a list whose end was overwritten by `out`, cut so far: what stands after its first n items

@@ -2,11 +2,11 @@
 --     walk-from                   the walk, with each side changed so often since
 --     Progress-from               what was read and copied, after what was kept
 --     GoesOn-read                 a merge goes on after a read
-use Rattle.std.proofs.Common.{◌≡◌, ℕ, Bool, true, false, not, List, [], ◌∷◌, ◌++◌, length, take, drop, Some, refl, sym, ap, ◌∙◌}
+use Rattle.std.proofs.Common.{◌≡◌, ℕ, Bool, false, not, List, [], ◌∷◌, ◌++◌, length, take, drop, Some, refl, sym, ap, ◌∙◌}
 use Rattle.std.specs.declared.cmp.Ordering.{Ordering}
 use Rattle.std.specs.declared.cmp.Ordering.TheVariants.{Less}
 use Rattle.range_merge.specs.Boundaries.{IsAscending, is_odd}
-use Rattle.range_merge.specs.Changes.{Taken, taken_items}
+use Rattle.range_merge.specs.Changes.{taken_items}
 use Rattle.range_merge.specs.Connective.{Table, differ}
 use Rattle.range_merge.specs.Copies.{AreCopies, AreKeptThenCopies}
 use Rattle.range_merge.specs.Owners.{Owner, left_only, right_only, shared, owners}

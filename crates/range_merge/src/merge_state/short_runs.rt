@@ -1,5 +1,5 @@
 //! Short runs of two slices of plain data, read into the room of a list.
-ghost use Rattle.std.specs.Prelude.{◌≡◌, ◌+◌, ◌*◌, ◌^◌, ◌<◌, ◌≤◌, length, take, drop, min, Some};
+ghost use Rattle.std.specs.Prelude.{◌≡◌, ◌+◌, ◌*◌, ◌^◌, ◌<◌, ◌≤◌, length, take, drop, Some};
 ghost use Rattle.std.specs.Vec.{vec_capacity};
 ghost use Rattle.range_merge.specs.Boundaries.{IsAscending, is_odd};
 ghost use Rattle.range_merge.specs.Connective.{differ};
@@ -137,8 +137,10 @@ impl<'a, K: Drop, P: Copier<K>> ListMergeState<'a, K, P> {
         ensures left_on { self.new.left_on ≡ differ self.old.left_on (is_odd result.i) }
         ensures right_on { self.new.right_on ≡ differ self.old.right_on (is_odd result.j) }
         ensures fixed { self.new.fixed ≡ self.old.fixed }
-        ensures kept { take (length self.old.taken.items) self.new.taken.items ≡ self.old.taken.items }
-        ensures read { IsRead P.alike C.order (table_from (O.connective op.now) self.old.left_on self.old.right_on)
+        ensures kept { take (length self.old.taken.items) self.new.taken.items
+            ≡ self.old.taken.items }
+        ensures read { IsRead P.alike C.order
+            (table_from (O.connective op.now) self.old.left_on self.old.right_on)
             self.old.left self.old.right result.i result.j
             (drop (length self.old.taken.items) self.new.taken.items) result.next }
         ensures comparisons { C.count cmp.new + 2 * weight C.order self.new.left self.new.right
@@ -198,7 +200,8 @@ fn read_into<K: Drop, P: Copier<K>, O: MergeOperation, C: Compare<K>>(
     ensures read { IsRead P.alike C.order
         (table_from (O.connective op.entry.op.now) op.entry.ac op.entry.bc) a.now b.now
         result.at.i result.at.j (drop (length list.items) result.list.items) result.at.next }
-    ensures comparisons { C.count result.cmp + 2 * weight C.order (drop result.at.i a.now) (drop result.at.j b.now)
+    ensures comparisons { C.count result.cmp
+        + 2 * weight C.order (drop result.at.i a.now) (drop result.at.j b.now)
         ≤ C.count cmp + 2 * weight C.order a.now b.now + 6 }
     ensures made { C.count cmp ≤ C.count result.cmp }
 {

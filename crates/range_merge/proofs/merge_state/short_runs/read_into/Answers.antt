@@ -1,6 +1,5 @@
 use Rattle.std.proofs.Common.{◌≡◌, ◌≤◌, ◌+◌, ◌-◌, ◌++◌, length, take, drop, ap, ◌∙◌, arith}
 use Rattle.std.proofs.lemmas.List.{length-drop, length-take-le}
-use Rattle.range_merge.specs.Singly.{IsRead, table_from}
 use Rattle.range_merge.proofs.ReadInto.{drop-cut}
 use Rattle.range_merge.proofs.merge_state.short_runs.read_into.Goals as goal
 

@@ -11,16 +11,16 @@ returns-clause-gives g c =
     ap (λ list. list.items) c.over-state.ensures.taken ∙ c.requires.empty in
     let items : c.inline_if_few.result.items ≡ c.match-of.state.taken.items = c.inline_if_few.ensures ∙ ap (λ list. list.items) c.result.ensures in
     elim c.match-of.branch [
-      in-Some+in_ok-_went_through-in-Some w ↦
-        let merged = rw (c.over-state.ensures.left, c.over-state.ensures.right) at w.in_ok-_went_through-in-Some.ensures in
-        let went = went_through w.in_ok-_went_through-in-Some._went_through merged.stopped in
-        let kept = merged.taken went [] (rw (empty, c.over-state.ensures.fixed) (AreKeptThenCopies-first alike [])) in
-        let copies = AreCopies-kept alike _ _ (rw (merged.fixed, c.over-state.ensures.fixed) at kept) in
-        record { copied = rw (items, w.state-is) copies; succeeds = absurd }
-    | in-None+in_ok-_went_through-in-None w ↦
-        let merged = rw (c.over-state.ensures.left, c.over-state.ensures.right) at w.in_ok-_went_through-in-None.ensures in
-        let went = went_through w.in_ok-_went_through-in-None._went_through merged.stopped in
-        let kept = merged.taken went [] (rw (empty, c.over-state.ensures.fixed) (AreKeptThenCopies-first alike [])) in
-        let copies = AreCopies-kept alike _ _ (rw (merged.fixed, c.over-state.ensures.fixed) at kept) in
-        record { copied = rw (items, w.state-is) copies; succeeds = absurd }
+      | in-Some+in_ok-_went_through-in-Some w ↦
+          let merged = rw (c.over-state.ensures.left, c.over-state.ensures.right) at w.in_ok-_went_through-in-Some.ensures in
+          let went = went_through w.in_ok-_went_through-in-Some._went_through merged.stopped in
+          let kept = merged.taken went [] (rw (empty, c.over-state.ensures.fixed) (AreKeptThenCopies-first alike [])) in
+          let copies = AreCopies-kept alike _ _ (rw (merged.fixed, c.over-state.ensures.fixed) at kept) in
+          record { copied = rw (items, w.state-is) copies; succeeds = absurd }
+      | in-None+in_ok-_went_through-in-None w ↦
+          let merged = rw (c.over-state.ensures.left, c.over-state.ensures.right) at w.in_ok-_went_through-in-None.ensures in
+          let went = went_through w.in_ok-_went_through-in-None._went_through merged.stopped in
+          let kept = merged.taken went [] (rw (empty, c.over-state.ensures.fixed) (AreKeptThenCopies-first alike [])) in
+          let copies = AreCopies-kept alike _ _ (rw (merged.fixed, c.over-state.ensures.fixed) at kept) in
+          record { copied = rw (items, w.state-is) copies; succeeds = absurd }
     ]
