@@ -26,7 +26,7 @@ pub trait EntryClone: Ord {
     fn all_infallible() -> bool
         ensures { IsTrue result → (x : Self) → is_infallible x }
     {
-        false
+        Self::is_plain()
     }
 
     /// Whether elements are plain data, as numbers and characters are: a copy never fails, and is the

@@ -72,7 +72,7 @@ impl<T: Number> EntryClone for T {
     fn all_infallible() -> bool
         ensures { result ≡ true }
     {
-        true
+        Self::is_plain()
     }
 
     #[inline(always)]

@@ -1,5 +1,5 @@
 -- Copies that are the items themselves.
-use Rattle.std.proofs.Common.{◌≡◌, List, [], ◌∷◌, refl}
+use Rattle.std.proofs.Common.{◌≡◌, List, [], ◌∷◌}
 use Rattle.range_merge.specs.Changes.{Taken, from_left, from_right}
 use Rattle.range_merge.specs.Copies.{AreCopies, AreOwnOrCopies}
 

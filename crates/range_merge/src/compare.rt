@@ -59,7 +59,7 @@ pub trait Copier<K> {
     fn all_infallible(&self) -> bool
         ensures { IsTrue result → (x : K) → is_infallible x }
     {
-        false
+        self.is_plain()
     }
 
     /// Whether items are plain data: a copy never fails, and is the item itself. `true` only if

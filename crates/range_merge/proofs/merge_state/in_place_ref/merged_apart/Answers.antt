@@ -4,4 +4,4 @@ use Rattle.range_merge.proofs.merge_state.in_place_ref.merged_apart.Goals as goa
 
 pub returns-clause-taken : goal.returns-clause-taken
 returns-clause-taken g c =
-    AreOwnOrCopies-plain g.P.Copier.alike (c.if-not-is_plain.ensures.same refl) _ _ c.in_ok-merged.ensures.gives.copied
+    AreOwnOrCopies-plain g.P.Copier.alike (c.if-not-is_plain.ensures.same refl) _ _ (rw c.as_slice.ensures at c.in_ok-merged.ensures.gives.copied)
