@@ -7,7 +7,7 @@ use super::slot::{BySlots, OfSlots, Slot};
 use super::{AllocError, SmallVec};
 use crate::generated::range_merge::in_place_memory::{prepared, prepared_copies};
 use crate::generated::range_merge::merge_state::in_place::OwnedRight;
-use crate::generated::range_merge::merge_state::in_place_ref::{BorrowedRight, CopiedRight};
+use crate::generated::range_merge::merge_state::in_place_ref::{merged_apart, BorrowedRight, CopiedRight};
 use crate::generated::range_merge::merge_state::placing::PlacingMergeState;
 use crate::generated::range_merge::merge_state::supply::Supply;
 use crate::generated::range_merge::{Compare, Copier, MergeOperation};
@@ -42,7 +42,7 @@ impl<K, const N: usize> InPlaceMergeState<K, N> {
 impl<K, P: Copier<K>, const N: usize> InPlaceMergeStateRef<K, P, N> {
     /// Leaves in `a` the items at which the connective of `op` changes between two strictly sorted lists: its own, and copies of those of `b`. Of two equal items it is the one of `a` that stays.
     ///
-    /// It asks for room in `a` for the items of `b`, and, unless copies never fail, for a copy of each item of `b`, before it changes anything. Where one is refused, `a` is as it was.
+    /// It asks for room in `a` for the items of `b`, and, unless copies never fail, for a copy of each item of `b`, before it changes anything. Long lists of plain data it merges into a list of their own, if there is memory for that. Where one is refused, `a` is as it was.
     pub fn merge<O: MergeOperation, C: Compare<K>>(
         a: &mut SmallVec<K, N>,
         b: &[K],
@@ -50,6 +50,10 @@ impl<K, P: Copier<K>, const N: usize> InPlaceMergeStateRef<K, P, N> {
         op: &O,
         cmp: &mut C,
     ) -> Result<(), AllocError> {
+        if let Some(merged) = merged_apart(a, b, copier, op, cmp)? {
+            *a = merged;
+            return Ok(());
+        }
         let slots = Slot::slots(b);
         if copier.all_infallible() {
             prepared(a, b.len())?;

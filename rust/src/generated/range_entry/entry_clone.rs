@@ -26,7 +26,7 @@ pub trait EntryClone: Ord + Sized {
     /// ```
     #[inline(always)]
     fn all_infallible() -> bool {
-        false
+        Self::is_plain()
     }
 
     /// Whether elements are plain data, as numbers and characters are: a copy never fails, and is the

@@ -20,7 +20,7 @@ impl<T: Number> EntryClone for T {
 
     #[inline(always)]
     fn all_infallible() -> bool {
-        true
+        Self::is_plain()
     }
 
     #[inline(always)]

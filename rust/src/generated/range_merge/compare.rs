@@ -60,7 +60,7 @@ pub trait Copier<K> {
     /// ```
     #[inline(always)]
     fn all_infallible(&self) -> bool {
-        false
+        self.is_plain()
     }
 
     /// Whether items are plain data: a copy never fails, and is the item itself. `true` only if

@@ -80,6 +80,19 @@ impl<'a, K, P: Copier<K>, const M: usize> SmallVecMergeState<'a, K, P, M> {
         let mut list = r.into_vec()?;
         // Where there is no room for both at once, the list grows run by run.
         let _asked = list.reserve(a.len().saturating_add(b.len()));
+        Self::merge_into(list, a, b, copier, op, cmp)
+    }
+
+    /// Appends to the empty list. It asks for no memory where there is room for both lengths (seen
+    /// by reading).
+    pub(crate) fn merge_into<O: MergeOperation, C: Compare<K>>(
+        list: Vec<K>,
+        a: &'a [K],
+        b: &'a [K],
+        copier: &'a P,
+        op: &O,
+        cmp: &mut C,
+    ) -> Result<SmallVec<K, M>, AllocError> {
         let mut state = SliceMergeState::over(a, b, list, Copying { copier });
         let _went_through = match Singly::of(copier) {
             Some(mut reader) => merging::merge_with(&mut state, op, cmp, &mut reader)?,
@@ -101,8 +114,8 @@ fn inline_if_few<K, const M: usize>(items: Vec<K>) -> SmallVec<K, M> {
     list
 }
 
-// Whether so many items of two lists are together at most `room`.
-fn fit_together(a: usize, b: usize, room: usize) -> bool {
+/// Whether so many items of two lists are together at most `room`.
+pub(crate) fn fit_together(a: usize, b: usize, room: usize) -> bool {
     a <= room && b <= room - a
 }
 
