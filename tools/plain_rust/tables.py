@@ -73,8 +73,10 @@ HINT = "which the proof cites."
 
 # Files that are left out: laws are found by their form; JSON is read and written by serde; std prints sets of
 # characters, sets in chunks and maps, and collects maps; a set of Rattle's own needs numbers other than 0 that have a default; Rust takes
-# ranges out of sets of elements without an order too; Rust's own boxes go to C.
+# ranges out of sets of elements without an order too; std turns a list by two places without a buffer; Rust's own
+# boxes go to C.
 LEFT_OUT = {
+    "range_merge/turning",
     "range_entry/non_zero",
     "range_entry/non_zero_std",
     "range_collections/json",
@@ -137,7 +139,7 @@ UNCALLED = {
 # Fields that clauses alone read, by their file.
 FIELDS_LEFT_OUT = {"range_merge/merge_state/small_vec": {"at_first"}}
 # Names that support has in place of what is left out.
-BY_SUPPORT = {"InPlaceMergeState", "InPlaceMergeStateRef"}
+BY_SUPPORT = {"InPlaceMergeState", "InPlaceMergeStateRef", "move_last_two"}
 # Traits whose impls are left out: the crate has a trait of its own for its users, and one impl for all of them.
 IMPLS_LEFT_OUT = {"MadeWith", "Model", "RangeSetEntry"}
 # Private fields and functions that support and the layer use, by their file.

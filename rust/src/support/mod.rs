@@ -15,6 +15,7 @@ mod small_vec;
 mod sorting;
 #[cfg(test)]
 mod tests;
+mod turning;
 mod vec;
 
 pub use alloc_error::{AllocError, AllocFailed, Global};
@@ -27,4 +28,5 @@ pub use in_place::{InPlaceMergeState, InPlaceMergeStateRef};
 pub use since::{select_unpredictable, DivUp, Log2Down, NextMultipleUp};
 pub use small_vec::SmallVec;
 pub use sorting::SortIn;
+pub use turning::move_last_two;
 pub use vec::{CollectIn, Vec};

@@ -3,8 +3,7 @@
 //!
 //! The first boundary lies in the chunk itself, so that a search among chunks reads no list.
 
-use crate::generated::range_merge::move_last_two;
-use crate::support::{AllocError, Vec};
+use crate::support::{move_last_two, AllocError, Vec};
 use core::mem;
 
 /// Some boundaries that follow one another, at least one and at most `MOST`.

@@ -15,8 +15,8 @@ pub(crate) mod searching;
 pub(crate) mod short_runs;
 pub(crate) mod singly;
 pub(crate) mod slice_iterator;
-pub(crate) mod turning;
 
+pub use crate::support::move_last_two;
 pub use crate::support::{InPlaceMergeState, InPlaceMergeStateRef};
 pub use compare::{Compare, Copier};
 pub use in_place_builder::InPlaceBuilder;
@@ -31,4 +31,3 @@ pub(crate) use runs::run_length;
 pub use runs::Run;
 pub(crate) use searching::{count_up_to, search};
 pub use slice_iterator::SliceIterator;
-pub(crate) use turning::move_last_two;

@@ -5,8 +5,8 @@
 use crate::generated::range_collections::comparisons::Comparisons;
 use crate::generated::range_collections::lists::is_odd;
 use crate::generated::range_collections::range_set_range::has_elements;
-use crate::generated::range_merge::{move_last_two, search};
-use crate::support::{AllocError, SmallVec};
+use crate::generated::range_merge::search;
+use crate::support::{move_last_two, AllocError, SmallVec};
 use core::mem;
 use core::ops::Range;
 
