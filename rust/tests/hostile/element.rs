@@ -53,13 +53,18 @@ impl Drop for Hostile {
     }
 }
 
+/// Panics if the plan has a clone panic now.
+pub fn before_clone() {
+    PLAN.with(|plan| match plan.get() {
+        Plan::PanicAtClone(0) => panic!("a clone"),
+        Plan::PanicAtClone(left) => plan.set(Plan::PanicAtClone(left - 1)),
+        _ => {}
+    });
+}
+
 impl Clone for Hostile {
     fn clone(&self) -> Self {
-        PLAN.with(|plan| match plan.get() {
-            Plan::PanicAtClone(0) => panic!("a clone"),
-            Plan::PanicAtClone(left) => plan.set(Plan::PanicAtClone(left - 1)),
-            _ => {}
-        });
+        before_clone();
         Hostile::of(*self.0)
     }
 }
@@ -70,24 +75,29 @@ impl fallible::EntryClone for Hostile {
     }
 }
 
+/// Compares two numbers by the plan.
+pub fn compare(a: u16, b: u16) -> Ordering {
+    PLAN.with(|plan| match plan.get() {
+        Plan::PanicAtComparison(0) => panic!("a comparison"),
+        Plan::PanicAtComparison(left) => plan.set(Plan::PanicAtComparison(left - 1)),
+        Plan::Lie(seed) => {
+            let next = seed ^ seed << 13;
+            let next = next ^ next >> 7;
+            plan.set(Plan::Lie(next ^ next << 17));
+        }
+        _ => {}
+    });
+    match PLAN.with(Cell::get) {
+        Plan::Lie(seed) => {
+            [Ordering::Less, Ordering::Equal, Ordering::Greater][(seed >> 20) as usize % 3]
+        }
+        _ => a.cmp(&b),
+    }
+}
+
 impl Ord for Hostile {
     fn cmp(&self, other: &Self) -> Ordering {
-        PLAN.with(|plan| match plan.get() {
-            Plan::PanicAtComparison(0) => panic!("a comparison"),
-            Plan::PanicAtComparison(left) => plan.set(Plan::PanicAtComparison(left - 1)),
-            Plan::Lie(seed) => {
-                let next = seed ^ seed << 13;
-                let next = next ^ next >> 7;
-                plan.set(Plan::Lie(next ^ next << 17));
-            }
-            _ => {}
-        });
-        match PLAN.with(Cell::get) {
-            Plan::Lie(seed) => {
-                [Ordering::Less, Ordering::Equal, Ordering::Greater][(seed >> 20) as usize % 3]
-            }
-            _ => self.0.cmp(&other.0),
-        }
+        compare(*self.0, *other.0)
     }
 }
 

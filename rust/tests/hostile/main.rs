@@ -9,6 +9,7 @@ mod chunked;
 mod common;
 mod element;
 mod map;
+mod plain;
 
 use calls::{calls, Call};
 use changes::{changes, fallible_changes, members, CallOn, Changes};
@@ -225,49 +226,6 @@ fn a_set_whose_change_panicked_is_empty_and_of_use() {
             assert!(a.is_empty());
             a |= set(&[4, 6]);
             assert_eq!(read(&a), 10);
-        }
-    });
-}
-
-/// Without a drop, and cloned as it is taken: the clone panics before which so many were made.
-#[derive(PartialEq, Eq, PartialOrd, Ord)]
-struct Undropped(u8);
-
-impl Clone for Undropped {
-    fn clone(&self) -> Self {
-        PLAN.with(|plan| match plan.get() {
-            Plan::PanicAtClone(0) => panic!("a clone"),
-            Plan::PanicAtClone(left) => plan.set(Plan::PanicAtClone(left - 1)),
-            _ => {}
-        });
-        Undropped(self.0)
-    }
-}
-
-impl range_sets::RangeSetEntry for Undropped {
-    fn min_value() -> Self {
-        Undropped(0)
-    }
-
-    fn is_min_value(&self) -> bool {
-        self.0 == 0
-    }
-}
-
-#[test]
-fn a_set_in_which_a_clone_without_a_drop_panicked_is_empty_and_of_use() {
-    let set = |numbers: &[u8]| -> RangeSet<[Undropped; 2]> {
-        RangeSet::new(numbers.iter().map(|&n| Undropped(n)).collect()).expect("they are sorted")
-    };
-    without_messages(|| {
-        for turn in 0..3 {
-            let (mut a, b) = (set(&[1, 5, 9]), set(&[2, 6, 7]));
-            PLAN.with(|plan| plan.set(Plan::PanicAtClone(turn)));
-            assert!(catch_unwind(AssertUnwindSafe(|| a ^= &b)).is_err());
-            PLAN.with(|plan| plan.set(Plan::Honest));
-            assert!(a.is_empty());
-            a |= &b;
-            assert!(a == b);
         }
     });
 }
