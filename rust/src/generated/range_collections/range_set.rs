@@ -65,7 +65,7 @@ use crate::support::{AllocError, Global, SmallVec, Vec};
 /// | `insert`, `remove` | `2 d(n) + 1` | if the list grows beyond its room |
 /// | `insert_changed`, `remove_changed` | `4 d(n) + 2` | the same |
 /// | `bitor_assign` and the like, `merge_owned` | `2 w` | room for the right side |
-/// | `union_with` and the like, `merge_ref` | `2 w` | the same, and copies of the right side where a copy may fail |
+/// | `union_with` and the like, `merge_ref` | `2 w` | a list for both, if they are long and hold numbers or characters; else the same, and copies of the right side where a copy may fail |
 /// | `union` and the like, operators, `merge_new`, `combine` | `2 w` | the result |
 /// | `merge_into` a slice | `2 w` | |
 /// | `!` | one `is_min_value` | one boundary; of a reference the result |
