@@ -7,7 +7,9 @@ use super::slot::{BySlots, OfSlots, Slot};
 use super::{AllocError, SmallVec};
 use crate::generated::range_merge::in_place_memory::{prepared, prepared_copies};
 use crate::generated::range_merge::merge_state::in_place::OwnedRight;
-use crate::generated::range_merge::merge_state::in_place_ref::{merged_apart, BorrowedRight, CopiedRight};
+use crate::generated::range_merge::merge_state::in_place_ref::{
+    merged_apart, BorrowedRight, CopiedRight,
+};
 use crate::generated::range_merge::merge_state::placing::PlacingMergeState;
 use crate::generated::range_merge::merge_state::supply::Supply;
 use crate::generated::range_merge::{Compare, Copier, MergeOperation};

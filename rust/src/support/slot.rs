@@ -56,7 +56,6 @@ impl<K, C: Compare<K>> Compare<Slot<K>> for BySlots<C> {
     fn add(&mut self, other: Self) {
         self.0.add(other.0);
     }
-
 }
 
 /// Copies the items of slots.

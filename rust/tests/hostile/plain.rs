@@ -80,7 +80,13 @@ fn sides(runs: &[u16]) -> (Vec<u16>, Vec<u16>) {
 }
 
 /// Short runs, with longer ones between them.
-const RUNS: [&[u16]; 5] = [&[1], &[2, 1], &[3, 1, 1, 4], &[1, 1, 1, 1, 9, 1], &[4, 7, 5, 2]];
+const RUNS: [&[u16]; 5] = [
+    &[1],
+    &[2, 1],
+    &[3, 1, 1, 4],
+    &[1, 1, 1, 1, 9, 1],
+    &[4, 7, 5, 2],
+];
 
 type Call = fn(&Set, &Set) -> Set;
 
@@ -212,4 +218,3 @@ fn a_set_in_which_a_clone_without_a_drop_panicked_is_empty_and_of_use() {
         }
     });
 }
-
