@@ -18,7 +18,7 @@ use crate::generated::range_collections::{Countable, FromPlace, Unsigned};
 use crate::generated::range_entry::EntryClone;
 use crate::memory::{expect_memory, AllocError};
 use crate::range::RangeSetRange;
-use crate::range_set::RangeSet;
+use crate::range_set::{RangeSet, RangeSetRef};
 use crate::support::Global;
 use core::ops::Range;
 
@@ -27,7 +27,8 @@ use core::ops::Range;
 /// A [`RangeSet`] keeps its boundaries in one list, so a change moves all that come after it. Here they lie in chunks
 /// of at most 512, and a change moves those of one chunk, and now and then the list of chunks. Take a `RangeSet` for
 /// operations on whole sets, views and text, and up to some 10,000 ranges; take this one for the pieces of a download
-/// or the blocks of an allocator beyond that.
+/// or the blocks of an allocator beyond that. [`ChunkedSpace`](crate::ChunkedSpace) is faster where room between the
+/// ranges is looked for again and again.
 ///
 /// # Examples
 ///
@@ -43,6 +44,16 @@ use core::ops::Range;
 /// assert_eq!(pieces.to_string(), "10..12, 15..20, 40..50");
 /// ```
 ///
+/// A sorted list of boundaries is looked over and copied, without a sort:
+///
+/// ```
+/// use range_sets::{ChunkedRangeSet, RangeSetRef};
+///
+/// let load = |list: &[u64]| RangeSetRef::new(list).map(ChunkedRangeSet::from);
+/// assert_eq!(load(&[10, 20, 40, 50]).unwrap().to_string(), "10..20, 40..50");
+/// assert!(load(&[10, 40, 20, 50]).is_none());
+/// ```
+///
 /// # Comparisons
 ///
 /// Among *c* chunks a search makes at most as many comparisons as *c* has binary digits, and ten more. A question with
@@ -56,7 +67,6 @@ use core::ops::Range;
 /// # Panics in elements
 ///
 /// If a comparison or a drop panics, the set is as it was, changed as asked, or empty.
-///
 pub struct ChunkedRangeSet<T: Ord>(proved::ChunkedRangeSet<T>);
 
 impl<T: Ord> ChunkedRangeSet<T> {
@@ -232,7 +242,8 @@ impl<T: Ord> ChunkedRangeSet<T> {
 
     /// Returns the least number of the range from which on `len` numbers of it are free, that is, not members.
     ///
-    /// It is `None` if there is no such stretch. It takes time for each boundary up to the answer.
+    /// It is `None` if there is no such stretch. It takes time for each boundary up to the answer; for repeated searches
+    /// there is [`ChunkedSpace::first_fit`](crate::ChunkedSpace::first_fit).
     ///
     /// # Examples
     ///
@@ -516,6 +527,14 @@ impl<T: Ord> ChunkedRangeSet<T> {
 
     pub(crate) fn of_proved(set: proved::ChunkedRangeSet<T>) -> Self {
         ChunkedRangeSet(set)
+    }
+
+    /// The set of copies of a view's boundaries.
+    pub(crate) fn try_from_view(view: &RangeSetRef<T>) -> Result<Self, AllocError>
+    where
+        T: EntryClone,
+    {
+        proved::ChunkedRangeSet::from_view(Global, view.proved()).map(ChunkedRangeSet)
     }
 
     /// The proved set, for an operation with a view.

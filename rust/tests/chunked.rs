@@ -118,6 +118,11 @@ fn made_up(seed: u64, places: u64, changes: usize, puts_in_ten: u64) {
     }
     assert_eq!(chunked.to_string(), set.to_string());
     assert!(chunked == ChunkedRangeSet::from(set.clone()) && chunked == chunked.clone());
+    assert_eq!(ChunkedRangeSet::from(&*set), chunked);
+    assert_eq!(
+        *fallible::ChunkedRangeSet::try_from(&*set).unwrap(),
+        chunked
+    );
     assert_eq!(RangeSet2::from(chunked.clone()), set);
     assert!(chunked.into_iter().eq(set.into_iter()));
 }

@@ -4,7 +4,7 @@ use super::{ChunkedRangeSet, IntoIter, Iter};
 use crate::array::Array;
 use crate::memory::expect_memory;
 use crate::range::RangeSetRange;
-use crate::range_set::{RangeSet, RangeSet2};
+use crate::range_set::{RangeSet, RangeSet2, RangeSetRef};
 use crate::text::padded;
 use crate::WholeNumber;
 use core::cmp::Ordering;
@@ -37,6 +37,22 @@ impl<T: Ord + Clone> Clone for ChunkedRangeSet<T> {
 impl<T: Ord, A: Array<Item = T>> From<RangeSet<A>> for ChunkedRangeSet<T> {
     fn from(set: RangeSet<A>) -> Self {
         expect_memory::<T, _, _>(Self::try_from_set(set))
+    }
+}
+
+/// The set of clones of a view's boundaries.
+///
+/// # Examples
+///
+/// ```
+/// use range_sets::{ChunkedRangeSet, RangeSetRef};
+///
+/// let view = RangeSetRef::new(&[9, 11, 15, 18]).unwrap();
+/// assert_eq!(ChunkedRangeSet::from(view).to_string(), "9..11, 15..18");
+/// ```
+impl<T: Ord + Clone> From<&RangeSetRef<T>> for ChunkedRangeSet<T> {
+    fn from(view: &RangeSetRef<T>) -> Self {
+        RangeSet2::from(view).into()
     }
 }
 

@@ -28,6 +28,18 @@ use core::ops::Deref;
 /// assert_eq!(pieces.to_string(), "10..12, 15..20, 40..50");
 /// # Ok::<(), AllocError>(())
 /// ```
+///
+/// A sorted list of boundaries is looked over and copied, without a sort:
+///
+/// ```
+/// use range_sets::fallible::{AllocError, ChunkedRangeSet};
+/// use range_sets::RangeSetRef;
+///
+/// let view = RangeSetRef::new(&[10, 20, 40, 50]).expect("they are sorted");
+/// let pieces = ChunkedRangeSet::try_from(view)?;
+/// assert_eq!(pieces.to_string(), "10..20, 40..50");
+/// # Ok::<(), AllocError>(())
+/// ```
 pub struct ChunkedRangeSet<T: Ord>(chunked::ChunkedRangeSet<T>);
 
 impl<T: Ord> ChunkedRangeSet<T> {
@@ -390,6 +402,15 @@ impl<T: Ord, A: Array<Item = T>> TryFrom<RangeSet<A>> for ChunkedRangeSet<T> {
 
     fn try_from(set: RangeSet<A>) -> Result<Self, AllocError> {
         chunked::ChunkedRangeSet::try_from_set(set.into()).map(ChunkedRangeSet)
+    }
+}
+
+/// The set of copies of a view's boundaries.
+impl<T: EntryClone> TryFrom<&RangeSetRef<T>> for ChunkedRangeSet<T> {
+    type Error = AllocError;
+
+    fn try_from(view: &RangeSetRef<T>) -> Result<Self, AllocError> {
+        chunked::ChunkedRangeSet::try_from_view(view).map(ChunkedRangeSet)
     }
 }
 

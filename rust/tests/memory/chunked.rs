@@ -134,6 +134,10 @@ fn copies_and_moves_are_refused_and_leave_the_set_as_it_was() {
         };
         let requests = each_refusal("try_from", list, chunked, |_, _| true);
         assert_eq!(requests > 0, asks, "{ranges} ranges");
+        let loaded =
+            |list: &mut RangeSet2<u32>| ChunkedRangeSet::try_from(&**list).map(|it| listed(&it));
+        let requests = each_refusal("try_from a view", list, loaded, |_, _| true);
+        assert_eq!(requests > 0, asks, "{ranges} ranges");
     }
 }
 
