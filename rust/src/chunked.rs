@@ -67,6 +67,7 @@ use core::ops::Range;
 /// # Panics in elements
 ///
 /// If a comparison or a drop panics, the set is as it was, changed as asked, or empty.
+#[repr(transparent)]
 pub struct ChunkedRangeSet<T: Ord>(proved::ChunkedRangeSet<T>);
 
 impl<T: Ord> ChunkedRangeSet<T> {
@@ -487,6 +488,14 @@ impl<T: Ord> ChunkedRangeSet<T> {
 
     pub(crate) fn into_boundaries(self) -> IntoBoundaries<T> {
         IntoBoundaries::new(self.0.chunks.into_inner())
+    }
+
+    #[allow(unsafe_code)]
+    #[inline(always)]
+    pub(crate) fn over(set: &proved::ChunkedRangeSet<T>) -> &Self {
+        // SAFETY: the struct is a proved set and nothing else (`repr(transparent)`), so a pointer to the one is a pointer to
+        // the other. Every proved set is a valid value: nothing more is asked of it.
+        unsafe { &*(set as *const proved::ChunkedRangeSet<T> as *const Self) }
     }
 
     /// The proved set.

@@ -3,8 +3,10 @@
 use crate::array::{Array, List};
 use crate::chunked::ChunkedRangeSet;
 use crate::fallible;
+use crate::generated::range_collections::Countable;
 use crate::memory::{expect_memory, AllocError};
 use crate::range_set::{RangeSet, RangeSet2};
+use crate::space::ChunkedSpace;
 use crate::view::RangeSetRef;
 use core::fmt;
 use core::marker::PhantomData;
@@ -50,6 +52,20 @@ impl<T: Ord + Serialize> Serialize for fallible::ChunkedRangeSet<T> {
     }
 }
 
+/// A sequence of the boundaries of what is taken.
+impl<T: Countable + Copy + Serialize> Serialize for ChunkedSpace<T> {
+    fn serialize<S: Serializer>(&self, serializer: S) -> Result<S::Ok, S::Error> {
+        self.as_set().serialize(serializer)
+    }
+}
+
+/// A sequence of the boundaries of what is taken.
+impl<T: Countable + Copy + Serialize> Serialize for fallible::ChunkedSpace<T> {
+    fn serialize<S: Serializer>(&self, serializer: S) -> Result<S::Ok, S::Error> {
+        (**self).serialize(serializer)
+    }
+}
+
 /// Reads a sequence of boundaries in any order. Of those that come twice one stays, so no list of elements is refused.
 ///
 /// To refuse a damaged list, read a `Vec` and use [`RangeSetRef::new`], which answers `None` for
@@ -86,7 +102,23 @@ impl<'de, T: Deserialize<'de> + Ord, A: Array<Item = T>> Deserialize<'de>
     }
 }
 
-/// Reads a sequence of boundaries in any order and with repeats.
+/// Reads a sequence of boundaries in any order, as a `RangeSet` does. Of those that come twice one stays, so no list of
+/// elements is refused.
+///
+/// To refuse a damaged list, read a `Vec`, use [`RangeSetRef::new`], and make the set of that view.
+///
+/// # Examples
+///
+/// ```
+/// use range_sets::{ChunkedRangeSet, RangeSetRef};
+///
+/// let set: ChunkedRangeSet<i64> = serde_json::from_str("[20, 0, 10, 0]")?;
+/// assert_eq!(set.to_string(), "0..10, 20..");
+///
+/// let list: Vec<i64> = serde_json::from_str("[20, 0, 10, 0]")?;
+/// assert!(RangeSetRef::new(&list).map(ChunkedRangeSet::from).is_none());
+/// # Ok::<(), serde_json::Error>(())
+/// ```
 impl<'de, T: Deserialize<'de> + Ord> Deserialize<'de> for ChunkedRangeSet<T> {
     fn deserialize<D: Deserializer<'de>>(deserializer: D) -> Result<Self, D::Error> {
         RangeSet2::deserialize(deserializer).map(Self::from)
@@ -98,6 +130,21 @@ impl<'de, T: Deserialize<'de> + Ord> Deserialize<'de> for fallible::ChunkedRange
     fn deserialize<D: Deserializer<'de>>(deserializer: D) -> Result<Self, D::Error> {
         let set = fallible::RangeSet2::deserialize(deserializer)?;
         Self::try_from(set).map_err(D::Error::custom)
+    }
+}
+
+/// Reads a sequence of boundaries in any order and with repeats, as [`ChunkedRangeSet`] does. To refuse a damaged list,
+/// read a `Vec`, use [`RangeSetRef::new`], and make the set of that view and the space of that set.
+impl<'de, T: Deserialize<'de> + Countable + Copy> Deserialize<'de> for ChunkedSpace<T> {
+    fn deserialize<D: Deserializer<'de>>(deserializer: D) -> Result<Self, D::Error> {
+        ChunkedRangeSet::deserialize(deserializer).map(Self::from)
+    }
+}
+
+/// Reads a sequence of boundaries in any order and with repeats. An allocation failure of the space is an error.
+impl<'de, T: Deserialize<'de> + Countable + Copy> Deserialize<'de> for fallible::ChunkedSpace<T> {
+    fn deserialize<D: Deserializer<'de>>(deserializer: D) -> Result<Self, D::Error> {
+        fallible::ChunkedRangeSet::deserialize(deserializer).map(Self::from)
     }
 }
 

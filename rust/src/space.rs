@@ -3,7 +3,7 @@
 use crate::any_range::AnyRange;
 use crate::chunked::{ChunkedRangeSet, Gaps, Iter};
 use crate::generated::range_chunks as proved;
-use crate::generated::range_collections::{Countable, Unsigned};
+use crate::generated::range_collections::{Countable, Unsigned, WholeNumber};
 use crate::memory::{expect_memory, AllocError};
 use crate::range::RangeSetRange;
 use crate::support::Global;
@@ -15,6 +15,9 @@ use core::ops::Range;
 /// It is a [`ChunkedRangeSet`] of what is taken that also remembers how long the gaps are, for some 512 of them at a
 /// time. So [`first_fit`](Self::first_fit) passes over those that are too short. What it remembers of gaps stays until
 /// one of their neighbours is freed; they are read again by the next search that comes by.
+///
+/// [`as_set`](Self::as_set) lends the set, for all its questions. Blocks that touch become one range: where each must be
+/// told from the next, keep a second set of the values at which they start.
 ///
 /// # Examples
 ///
@@ -50,6 +53,25 @@ impl<T: Countable + Copy> ChunkedSpace<T> {
         ChunkedSpace(proved::ChunkedSpace::new(Global))
     }
 
+    /// Returns the space where the values are taken that lie in one of the ranges at least, which stand in any order.
+    /// `collect` does the same.
+    ///
+    /// # Examples
+    ///
+    /// ```
+    /// use range_sets::ChunkedSpace;
+    ///
+    /// let mut used = ChunkedSpace::from_ranges([80u64..128, 0..64]);
+    /// assert_eq!(used.first_fit(0..4096, 16), Some(64));
+    /// ```
+    #[must_use]
+    pub fn from_ranges<R>(ranges: impl IntoIterator<Item = R>) -> Self
+    where
+        R: Into<RangeSetRange<T>>,
+    {
+        ranges.into_iter().collect()
+    }
+
     /// Takes the values of a range [of any kind](AnyRange). An empty or a reversed range changes nothing.
     ///
     /// # Examples
@@ -66,6 +88,8 @@ impl<T: Countable + Copy> ChunkedSpace<T> {
     }
 
     /// Frees the values of a range [of any kind](AnyRange). An empty or a reversed range changes nothing.
+    ///
+    /// It takes memory only if it cuts a range in two, or ends one that had no end.
     ///
     /// # Examples
     ///
@@ -98,7 +122,11 @@ impl<T: Countable + Copy> ChunkedSpace<T> {
     }
 
     /// Returns the least number of the range from which on `len` numbers of it are free, or `None` if there is no such
-    /// stretch.
+    /// stretch. The type's greatest number is never in one, as a range leaves its end out.
+    ///
+    /// Up to the answer it takes one step for some 512 gaps that it remembers to be too short, and reads the others:
+    /// after a load all of them, after changes those nearby. Among a million ranges it takes 61 microseconds to free one
+    /// and to place one lowest, by bench/README.md.
     ///
     /// # Examples
     ///
@@ -118,7 +146,7 @@ impl<T: Countable + Copy> ChunkedSpace<T> {
     }
 
     /// Returns the least value of the range from which on `count` values of it are free, or `None` if there is no such
-    /// stretch.
+    /// stretch. It costs what [`first_fit`](Self::first_fit) does, and leaves out the type's greatest value too.
     ///
     /// # Examples
     ///
@@ -133,6 +161,23 @@ impl<T: Countable + Copy> ChunkedSpace<T> {
         self.0.first_fit_count(within, count)
     }
 
+    /// Returns the set of what is taken.
+    ///
+    /// # Examples
+    ///
+    /// ```
+    /// use range_sets::ChunkedSpace;
+    ///
+    /// let used = ChunkedSpace::from_ranges([0u64..10, 80..128]);
+    /// assert!(used.as_set().contains_range(80..=127));
+    /// assert_eq!(used.as_set().next_gap(&90), Some(&128));
+    /// assert_eq!(used.as_set().first_fit_aligned(0..4096, 16, 16), Some(16));
+    /// ```
+    #[inline(always)]
+    pub fn as_set(&self) -> &ChunkedRangeSet<T> {
+        ChunkedRangeSet::over(self.0.as_set())
+    }
+
     /// Returns `true` if this value is taken.
     ///
     /// # Examples
@@ -144,7 +189,7 @@ impl<T: Countable + Copy> ChunkedSpace<T> {
     /// assert!(used.contains(&63) && !used.contains(&64));
     /// ```
     pub fn contains(&self, value: &T) -> bool {
-        self.0.as_set().contains(value)
+        self.as_set().contains(value)
     }
 
     /// Returns `true` if some value of a range is taken.
@@ -158,7 +203,7 @@ impl<T: Countable + Copy> ChunkedSpace<T> {
     /// assert!(used.intersects_range(60..70) && !used.intersects_range(64..70));
     /// ```
     pub fn intersects_range(&self, range: Range<T>) -> bool {
-        self.0.as_set().intersects_range(range)
+        self.as_set().intersects_range(range)
     }
 
     /// Returns `true` if nothing is taken.
@@ -171,7 +216,7 @@ impl<T: Countable + Copy> ChunkedSpace<T> {
     /// assert!(ChunkedSpace::<u32>::new().is_empty());
     /// ```
     pub fn is_empty(&self) -> bool {
-        self.0.as_set().is_empty()
+        self.as_set().is_empty()
     }
 
     /// Returns how many values are taken, or `None` if what is taken has no end. It looks at each boundary.
@@ -185,7 +230,7 @@ impl<T: Countable + Copy> ChunkedSpace<T> {
     /// assert_eq!(used.covered(), Some(112));
     /// ```
     pub fn covered(&self) -> Option<u128> {
-        self.0.as_set().covered()
+        self.as_set().covered()
     }
 
     /// Returns an iterator over the ranges that are taken, from the lowest on.
@@ -199,7 +244,7 @@ impl<T: Countable + Copy> ChunkedSpace<T> {
     /// assert_eq!(used.iter().next(), Some((&0..&64).into()));
     /// ```
     pub fn iter(&self) -> Iter<'_, T> {
-        Iter::new(self.0.as_set().iter())
+        self.as_set().iter()
     }
 
     /// Returns an iterator over the parts of a range that are free, from the lowest on.
@@ -214,7 +259,7 @@ impl<T: Countable + Copy> ChunkedSpace<T> {
     /// assert_eq!(free, [&64..&80, &128..&256]);
     /// ```
     pub fn gaps<'a>(&'a self, within: Range<&'a T>) -> Gaps<'a, T> {
-        self.0.as_set().gaps(within)
+        self.as_set().gaps(within)
     }
 
     #[inline(always)]
@@ -237,6 +282,13 @@ impl<T: Countable + Copy> ChunkedSpace<T> {
 impl<T: Countable + Copy> Default for ChunkedSpace<T> {
     fn default() -> Self {
         Self::new()
+    }
+}
+
+/// A space where the same values are taken. What is remembered of gaps isn't copied.
+impl<T: Countable + Copy> Clone for ChunkedSpace<T> {
+    fn clone(&self) -> Self {
+        self.as_set().clone().into()
     }
 }
 
@@ -264,8 +316,46 @@ impl<T: Countable + Copy> From<ChunkedSpace<T>> for ChunkedRangeSet<T> {
     }
 }
 
+impl<T: Countable + Copy> AsRef<ChunkedRangeSet<T>> for ChunkedSpace<T> {
+    fn as_ref(&self) -> &ChunkedRangeSet<T> {
+        self.as_set()
+    }
+}
+
+/// The space where the union of the ranges is taken, which stand in any order.
+impl<T: Countable + Copy, R: Into<RangeSetRange<T>>> FromIterator<R> for ChunkedSpace<T> {
+    fn from_iter<I: IntoIterator<Item = R>>(ranges: I) -> Self {
+        ChunkedRangeSet::from_ranges(ranges).into()
+    }
+}
+
+/// Takes the values of the ranges one after the other, which stand in any order.
+impl<T: Countable + Copy, R: Into<RangeSetRange<T>>> Extend<R> for ChunkedSpace<T> {
+    fn extend<I: IntoIterator<Item = R>>(&mut self, ranges: I) {
+        for range in ranges {
+            self.insert(range.into());
+        }
+    }
+}
+
+/// Two spaces are equal if the same values are taken.
+impl<T: Countable + Copy> PartialEq for ChunkedSpace<T> {
+    fn eq(&self, that: &Self) -> bool {
+        self.as_set() == that.as_set()
+    }
+}
+
+impl<T: Countable + Copy> Eq for ChunkedSpace<T> {}
+
 impl<T: Countable + Copy + fmt::Debug> fmt::Debug for ChunkedSpace<T> {
     fn fmt(&self, f: &mut fmt::Formatter<'_>) -> fmt::Result {
         f.debug_set().entries(self.iter()).finish()
+    }
+}
+
+/// What is taken, as `0..10, 20..`: the text of the set.
+impl<T: Countable + Copy + WholeNumber> fmt::Display for ChunkedSpace<T> {
+    fn fmt(&self, f: &mut fmt::Formatter<'_>) -> fmt::Result {
+        self.as_set().fmt(f)
     }
 }

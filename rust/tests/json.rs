@@ -4,7 +4,7 @@
 mod common;
 
 use common::{boundaries, pairs, set};
-use range_sets::{fallible, RangeSet, RangeSet2, RangeSetRef};
+use range_sets::{fallible, ChunkedRangeSet, ChunkedSpace, RangeSet, RangeSet2, RangeSetRef};
 use serde::de::{value, DeserializeSeed, Deserializer, SeqAccess, Visitor};
 use serde::Deserialize;
 use serde_json::{from_str, to_string};
@@ -26,6 +26,36 @@ fn what_is_written_is_read_back() {
             set
         );
     }
+}
+
+/// Sets in chunks and spaces are written as a set is, and read from a list in any order, or from one that is sorted alone.
+#[test]
+fn sets_in_chunks_and_spaces() {
+    for (a, _) in pairs().step_by(11) {
+        let list = boundaries(a);
+        let chunked = ChunkedRangeSet::from(RangeSetRef::new(&list).unwrap());
+        let space = ChunkedSpace::from(chunked.clone());
+        let text = to_string(&list).unwrap();
+        assert_eq!(to_string(&chunked).unwrap(), text);
+        assert_eq!(to_string(&space).unwrap(), text);
+        let refusing = fallible::ChunkedSpace::from(space.clone());
+        assert_eq!(to_string(&refusing).unwrap(), text);
+
+        let mixed: Vec<u8> = list.iter().rev().chain(&list).copied().collect();
+        assert!(list.is_empty() || RangeSetRef::new(&mixed).is_none());
+        for text in [text, to_string(&mixed).unwrap()] {
+            assert_eq!(from_str::<ChunkedRangeSet<u8>>(&text).unwrap(), chunked);
+            assert_eq!(from_str::<ChunkedSpace<u8>>(&text).unwrap(), space);
+            assert_eq!(
+                from_str::<fallible::ChunkedSpace<u8>>(&text).unwrap(),
+                refusing
+            );
+        }
+    }
+    let said = |error: serde_json::Error| error.to_string();
+    let set = from_str::<ChunkedRangeSet<u8>>("[1, 256]").map_err(said);
+    let space = from_str::<ChunkedSpace<u8>>("[1, 256]").map_err(said);
+    assert_eq!(set.unwrap_err(), space.unwrap_err());
 }
 
 /// A set as pairs, both ways, with and without an allocation failure.

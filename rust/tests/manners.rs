@@ -4,7 +4,9 @@
 mod common;
 
 use common::{bitmap, boundaries, one_in, pairs, set, Bitmap, Operation, OPERATIONS};
-use range_sets::{fallible, ChunkedRangeSet, RangeSet, RangeSet2, RangeSetRange, RangeSetRef};
+use range_sets::{
+    fallible, ChunkedRangeSet, ChunkedSpace, RangeSet, RangeSet2, RangeSetRange, RangeSetRef,
+};
 use std::fmt::Debug;
 
 static NOTHING: RangeSet<[String; 4]> = RangeSet::empty();
@@ -125,6 +127,25 @@ fn iterators_are_cloned_and_shown() {
     let texts: RangeSet2<String> = ("a".to_string()..).into();
     assert_eq!(format!("{:?}", texts.iter()), r#"["a"..]"#);
     assert_eq!(format!("{:?}", texts.into_iter()), r#"["a"..]"#);
+}
+
+#[test]
+fn spaces_are_collected_extended_and_compared() {
+    for (a, b) in pairs().step_by(5) {
+        let (left, right): (RangeSet2<u8>, RangeSet2<u8>) = (set(a), set(b));
+        let mut space: ChunkedSpace<u8> = left.clone().into_iter().collect();
+        let mut same = fallible::ChunkedSpace::from_ranges(left.clone()).unwrap();
+        assert_eq!(same, ChunkedSpace::from_ranges(left.clone()).into());
+        assert_eq!(space.to_string(), left.to_string());
+        assert_eq!(space == ChunkedSpace::from_ranges(right.clone()), a == b);
+
+        let (before, kept) = (space.clone(), same.try_clone().unwrap());
+        space.extend(right.clone());
+        same.extend(right.clone()).unwrap();
+        assert_eq!(*space.as_set(), ChunkedRangeSet::from(&left | &right));
+        assert_eq!((&*same, same == kept), (&space, space == before));
+        assert_eq!((before.as_set(), &*kept), (&left.into(), &before));
+    }
 }
 
 #[test]

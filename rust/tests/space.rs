@@ -92,6 +92,16 @@ fn follow(random: &mut Random, shape: &Shape) {
     }
     assert!(space.iter().eq(set.iter()));
     assert_eq!(space.covered(), set.covered());
+    let mut copy = space.clone();
+    for len in 0..shape.longest {
+        let within = any_within(random, shape);
+        assert_eq!(
+            copy.first_fit(within.clone(), len),
+            space.first_fit(within, len)
+        );
+    }
+    copy.remove(..);
+    assert_eq!((space.as_set(), copy.is_empty()), (&set, true));
     assert_eq!(ChunkedRangeSet::from(space), set);
 }
 
@@ -109,6 +119,35 @@ fn long_sequences_find_alike() {
     for _ in (0..4).step_by(one_in()) {
         follow(&mut random, &LONG);
     }
+}
+
+/// What asks for a set takes a space too.
+fn lowest(set: impl AsRef<ChunkedRangeSet<u64>>) -> Option<u64> {
+    set.as_ref().first().map(|range| **range.start())
+}
+
+#[test]
+fn a_space_answers_what_its_set_does() {
+    let mut space = ChunkedSpace::from_ranges([20u64..30, 3..5]);
+    space.insert(250..);
+    let set = space.as_set();
+    assert_eq!(set.to_string(), "3..5, 20..30, 250..");
+    assert_eq!((set.next_gap(&22), set.next_gap(&260)), (Some(&30), None));
+    assert!(set.contains_range(250..) && !set.intersects_range(5..=19));
+    assert_eq!((set.rank(&25), set.ranges_len()), (7, 3));
+    assert_eq!(set.first_fit_aligned(0..100, 8, 8), Some(8));
+    assert!(set.gaps(&0..&20).eq([&0..&3, &5..&20]));
+    let fallible = fallible::ChunkedSpace::from(space.clone());
+    assert_eq!((lowest(fallible), lowest(space)), (Some(3), Some(3)));
+}
+
+/// A range leaves its end out, so the greatest value lies in none.
+#[test]
+fn the_greatest_value_is_not_found() {
+    let mut space = ChunkedSpace::from_ranges([0u8..250]);
+    assert_eq!(space.first_fit(0..255, 5), Some(250));
+    assert_eq!(space.first_fit(0..255, 6), None);
+    assert_eq!(space.first_fit_count(0..255, 6), None);
 }
 
 #[test]

@@ -1,8 +1,9 @@
 //! A space whose calls return an error if memory runs out.
 
 use crate::any_range::AnyRange;
-use crate::fallible::{AllocError, ChunkedRangeSet};
+use crate::fallible::{AllocError, ChunkedRangeSet, EntryClone};
 use crate::generated::range_collections::{Countable, Unsigned};
+use crate::range::RangeSetRange;
 use crate::{chunked, space};
 use core::fmt;
 use core::ops::{Deref, Range};
@@ -38,6 +39,28 @@ impl<T: Countable + Copy> ChunkedSpace<T> {
         ChunkedSpace(space::ChunkedSpace::new())
     }
 
+    /// Returns the space where the values are taken that lie in one of the ranges at least, which stand in any order.
+    ///
+    /// # Errors
+    ///
+    /// If memory runs out.
+    ///
+    /// # Examples
+    ///
+    /// ```
+    /// use range_sets::fallible::{AllocError, ChunkedSpace};
+    ///
+    /// let mut used = ChunkedSpace::from_ranges([80u64..128, 0..64])?;
+    /// assert_eq!(used.first_fit(0..4096, 16), Some(64));
+    /// # Ok::<(), AllocError>(())
+    /// ```
+    pub fn from_ranges<R>(ranges: impl IntoIterator<Item = R>) -> Result<Self, AllocError>
+    where
+        R: Into<RangeSetRange<T>>,
+    {
+        ChunkedRangeSet::from_ranges(ranges).map(Self::from)
+    }
+
     /// Takes the values of a range [of any kind](AnyRange). An empty or a reversed range changes nothing.
     ///
     /// # Errors
@@ -62,7 +85,8 @@ impl<T: Countable + Copy> ChunkedSpace<T> {
     ///
     /// # Errors
     ///
-    /// If memory runs out. The same values are then taken as before.
+    /// If memory runs out, which is asked for only to cut a range in two, or to end one that had no end. The same values
+    /// are then taken as before.
     ///
     /// # Examples
     ///
@@ -96,8 +120,58 @@ impl<T: Countable + Copy> ChunkedSpace<T> {
         self.0.clear();
     }
 
+    /// Takes the values of the ranges one after the other, which stand in any order.
+    ///
+    /// # Errors
+    ///
+    /// If memory runs out. The ranges before the one that failed are then taken.
+    ///
+    /// # Examples
+    ///
+    /// ```
+    /// use range_sets::fallible::{AllocError, ChunkedSpace};
+    ///
+    /// let mut used = ChunkedSpace::new();
+    /// used.extend([80u64..128, 0..64])?;
+    /// assert_eq!(used.to_string(), "0..64, 80..128");
+    /// # Ok::<(), AllocError>(())
+    /// ```
+    pub fn extend<R>(&mut self, ranges: impl IntoIterator<Item = R>) -> Result<(), AllocError>
+    where
+        R: Into<RangeSetRange<T>>,
+    {
+        ranges
+            .into_iter()
+            .try_for_each(|range| self.0.try_insert(range.into()))
+    }
+
+    /// Returns a space where the same values are taken. What is remembered of gaps isn't copied.
+    ///
+    /// # Errors
+    ///
+    /// If memory runs out or a copy of a boundary fails.
+    ///
+    /// # Examples
+    ///
+    /// ```
+    /// use range_sets::fallible::{AllocError, ChunkedSpace};
+    ///
+    /// let used = ChunkedSpace::from_ranges([0u64..64])?;
+    /// assert_eq!(used.try_clone()?, used);
+    /// # Ok::<(), AllocError>(())
+    /// ```
+    pub fn try_clone(&self) -> Result<Self, AllocError>
+    where
+        T: EntryClone,
+    {
+        let taken = self.as_set().try_copied()?;
+        Ok(ChunkedSpace(taken.into()))
+    }
+
     /// Returns the least number of the range from which on `len` numbers of it are free, or `None` if there is no such
-    /// stretch. Without memory it remembers less.
+    /// stretch. The type's greatest number is never in one, as a range leaves its end out.
+    ///
+    /// It costs what [that of the other space](crate::ChunkedSpace::first_fit) does. Without memory it remembers less.
     ///
     /// # Examples
     ///
@@ -117,7 +191,7 @@ impl<T: Countable + Copy> ChunkedSpace<T> {
     }
 
     /// Returns the least value of the range from which on `count` values of it are free, or `None` if there is no such
-    /// stretch. Without memory it remembers less.
+    /// stretch. It costs what [`first_fit`](Self::first_fit) does, and leaves out the type's greatest value too.
     ///
     /// # Examples
     ///
@@ -176,6 +250,21 @@ impl<T: Countable + Copy> From<ChunkedSpace<T>> for ChunkedRangeSet<T> {
         chunked::ChunkedRangeSet::from(space.0).into()
     }
 }
+
+impl<T: Countable + Copy> AsRef<chunked::ChunkedRangeSet<T>> for ChunkedSpace<T> {
+    fn as_ref(&self) -> &chunked::ChunkedRangeSet<T> {
+        self.as_set()
+    }
+}
+
+/// Two spaces are equal if the same values are taken.
+impl<T: Countable + Copy> PartialEq for ChunkedSpace<T> {
+    fn eq(&self, that: &Self) -> bool {
+        self.0 == that.0
+    }
+}
+
+impl<T: Countable + Copy> Eq for ChunkedSpace<T> {}
 
 impl<T: Countable + Copy + fmt::Debug> fmt::Debug for ChunkedSpace<T> {
     fn fmt(&self, f: &mut fmt::Formatter<'_>) -> fmt::Result {

@@ -54,6 +54,34 @@ fn changes_are_refused_and_leave_the_space_as_it_was() {
 }
 
 #[test]
+fn new_spaces_are_refused_and_leave_the_old_one_as_it_was() {
+    let same = |space: &ChunkedSpace<u64>, before: &_| listed(space) == listed(before);
+    for (ranges, asks) in [(0, false), (3, true), (300, true), (3000, true)] {
+        let copied = |space: &mut ChunkedSpace<u64>| space.try_clone().map(|it| listed(&it));
+        let requests = each_refusal("try_clone", || space(ranges), copied, same);
+        assert_eq!(requests > 0, asks, "{ranges} ranges");
+        let made = |_: &mut ChunkedSpace<u64>| {
+            let all = (0..ranges).map(|i| 10 * i..10 * i + 5);
+            ChunkedSpace::from_ranges(all).map(|it| listed(&it))
+        };
+        let requests = each_refusal("from_ranges", || space(0), made, same);
+        assert_eq!(requests > 0, asks, "{ranges} ranges");
+    }
+}
+
+#[test]
+fn what_a_space_took_before_a_refusal_stays() {
+    let mut space = space(0);
+    let (refused, _) = refusing(Refusal::From(40), || {
+        space.extend((0..100_000).map(|i| 10 * i..10 * i + 5))
+    });
+    assert_eq!(refused, Err(AllocError));
+    assert!(space.contains(&4) && !space.contains(&999_990));
+    let taken = 5 * space.as_set().ranges_len() as u128;
+    assert_eq!(space.covered(), Some(taken));
+}
+
+#[test]
 fn searches_that_cannot_remember_find_the_same_place() {
     let mut space = space(3000);
     for (len, place) in [(5, 0), (10, 0), (11, 30_005), (6, 0)] {
