@@ -144,7 +144,8 @@ fn a_space_answers_what_its_set_does() {
 /// A range leaves its end out, so the greatest value lies in none.
 #[test]
 fn the_greatest_value_is_not_found() {
-    let mut space = ChunkedSpace::from_ranges([0u8..250]);
+    let mut space = ChunkedSpace::new();
+    space.insert(0u8..250);
     assert_eq!(space.first_fit(0..255, 5), Some(250));
     assert_eq!(space.first_fit(0..255, 6), None);
     assert_eq!(space.first_fit_count(0..255, 6), None);
