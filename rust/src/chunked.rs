@@ -243,8 +243,8 @@ impl<T: Ord> ChunkedRangeSet<T> {
 
     /// Returns the least number of the range from which on `len` numbers of it are free, that is, not members.
     ///
-    /// It is `None` if there is no such stretch. It takes time for each boundary up to the answer; for repeated searches
-    /// there is [`ChunkedSpace::first_fit`](crate::ChunkedSpace::first_fit).
+    /// It is `None` if there is no such stretch. It takes time for each boundary up to the answer; for repeated
+    /// searches there is [`ChunkedSpace::first_fit`](crate::ChunkedSpace::first_fit).
     ///
     /// # Examples
     ///
@@ -493,8 +493,8 @@ impl<T: Ord> ChunkedRangeSet<T> {
     #[allow(unsafe_code)]
     #[inline(always)]
     pub(crate) fn over(set: &proved::ChunkedRangeSet<T>) -> &Self {
-        // SAFETY: the struct is a proved set and nothing else (`repr(transparent)`), so a pointer to the one is a pointer to
-        // the other. Every proved set is a valid value: nothing more is asked of it.
+        // SAFETY: the struct is a proved set and nothing else (`repr(transparent)`), so a pointer to the one is a
+        // pointer to the other. Every proved set is a valid value: nothing more is asked of it.
         unsafe { &*(set as *const proved::ChunkedRangeSet<T> as *const Self) }
     }
 

@@ -16,8 +16,8 @@ use core::ops::Range;
 /// time. So [`first_fit`](Self::first_fit) passes over those that are too short. What it remembers of gaps stays until
 /// one of their neighbours is freed; they are read again by the next search that comes by.
 ///
-/// [`as_set`](Self::as_set) lends the set, for all its questions. Blocks that touch become one range: where each must be
-/// told from the next, keep a second set of the values at which they start.
+/// [`as_set`](Self::as_set) lends the set, for all its questions. Blocks that touch become one range: where each must
+/// be told from the next, keep a second set of the values at which they start.
 ///
 /// # Examples
 ///
@@ -125,8 +125,8 @@ impl<T: Countable + Copy> ChunkedSpace<T> {
     /// stretch. The type's greatest number is never in one, as a range leaves its end out.
     ///
     /// Up to the answer it takes one step for some 512 gaps that it remembers to be too short, and reads the others:
-    /// after a load all of them, after changes those nearby. Among a million ranges it takes 61 microseconds to free one
-    /// and to place one lowest, by bench/README.md.
+    /// after a load all of them, after changes those nearby. Among a million ranges it takes 61 microseconds to free
+    /// one and to place one lowest, by bench/README.md.
     ///
     /// # Examples
     ///

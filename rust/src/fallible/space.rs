@@ -85,8 +85,8 @@ impl<T: Countable + Copy> ChunkedSpace<T> {
     ///
     /// # Errors
     ///
-    /// If memory runs out, which is asked for only to cut a range in two, or to end one that had no end. The same values
-    /// are then taken as before.
+    /// If memory runs out, which is asked for only to cut a range in two, or to end one that had no end. The same
+    /// values are then taken as before.
     ///
     /// # Examples
     ///

@@ -7,8 +7,8 @@ use core::ops::Range;
 impl<T: Ord> RangeSetRef<T> {
     /// Returns the least number of the range from which on `len` numbers of it are free, that is, not members.
     ///
-    /// It is `None` if there is no such stretch. It takes time for each boundary up to the answer; for repeated searches
-    /// there is [`ChunkedSpace`](crate::ChunkedSpace::first_fit).
+    /// It is `None` if there is no such stretch. It takes time for each boundary up to the answer; for repeated
+    /// searches there is [`ChunkedSpace`](crate::ChunkedSpace::first_fit).
     ///
     /// # Examples
     ///
