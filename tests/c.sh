@@ -222,6 +222,12 @@ is_found_by_cmake() {
     rm -rf "$work/by cmake" && mkdir "$work/by cmake" && cp c/example.c "$work/by cmake" && cat >"$work/by cmake/CMakeLists.txt" <<END || return
 cmake_minimum_required(VERSION 3.10)
 project(example C)
+find_package(range_set 0.1 QUIET)
+if(range_set_FOUND)
+    message(FATAL_ERROR "an older minor version, which had other calls, is met by this one")
+endif()
+find_package(range_set 0 REQUIRED)
+find_package(range_set ${version%.*} REQUIRED)
 find_package(range_set $version REQUIRED)
 foreach(kind IN ITEMS range_set static)
     add_executable(by_\${kind} example.c)
