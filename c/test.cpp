@@ -1,6 +1,7 @@
 // Tests of range_set.hpp: each call on rows with their answers written out, and the operators against std::set on made-up cases.
 #include "range_set.hpp"
 
+#include <algorithm>
 #include <cstdio>
 #include <cstdlib>
 #include <iterator>
@@ -8,6 +9,7 @@
 #include <map>
 #include <set>
 #include <sstream>
+#include <stdexcept>
 #include <string>
 #include <type_traits>
 #include <unordered_set>
@@ -141,10 +143,26 @@ template <class T> static void rows()
     check(range_set<T>::parse(open->text()) == range_set<T>(*open), "parse of an open range");
     check(!range_set<T>::parse("1..99999999999999999999", &fault) && fault == 77, "parse of a number that doesn't fit");
     check(!range_set<T>::parse("1..2;3..4", &fault) && fault == 4, "parse of no text of ranges");
+    range_set_status status = RANGE_SET_NO_MEMORY;
+    check(!range_set<T>::parse("1..2;", nullptr, &status) && status == RANGE_SET_MALFORMED, "parse says that it is no text of ranges");
+    check(!range_set<T>::parse("1..99999999999999999999", nullptr, &status) && status == RANGE_SET_OUT_OF_RANGE,
+        "parse says what doesn't fit");
+    check(range_set<T>::parse("1..2", nullptr, &status) && status == RANGE_SET_DONE, "parse says that it has read a set");
     check(range_set<T>::combine(day, busy, RANGE_SET_NEITHER | RANGE_SET_RIGHT) == ~day, "combine");
     check(range_set<T>::union_all(std::vector<range_set<T>>{busy, range_set<T>{{10, 13}}, nothing}) == range_set<T>{{9, 15}}, "union_all");
     check(range_set<T>::union_all(std::vector<range_set_view<T>>{busy, *open, day}) == (day | *open), "union_all of views");
     check(range_set<T>::union_all(std::vector<range_set<T>>()).empty(), "union_all of nothing");
+    const std::vector<range_set<T>> several = {day, range_set<T>(*open), {{8, 12}, {15, 30}}};
+    check(text<T>(range_set<T>::intersection_all(several)) == "9..10", "intersection_all");
+    check(range_set<T>::intersection_all(std::vector<range_set_view<T>>{*open}) == *open, "intersection_all of one");
+    check(range_set<T>::intersection_all(std::vector<range_set<T>>()).is_all(), "intersection_all of nothing");
+    check(text<T>(busy.ranges_within(10, 13)) == "10..11 12..13" && text<T>(open->ranges_within(5, 22)) == "5..10 20..22", "ranges_within");
+    check(busy.ranges_within(13, 10).empty() && busy.ranges_within(11, 12).empty() && nothing.ranges_within(0, 40).empty(),
+        "ranges_within of none");
+    check(text<T>(busy.gaps(10, 13)) == "11..12" && busy.gaps(13, 10).empty() && text<T>(open->gaps(5, 22)) == "10..20", "gaps of a part");
+    const auto [below, from] = busy.split(12);
+    check(text<T, range_set_view<T>>(below) == "9..11" && text<T, range_set_view<T>>(from) == "12..15", "split");
+    check(text<T, range_set_view<T>>(open->split(5).first) == "0.." && open->split(5).second == *open, "split within a range");
     range_set<T> changed(busy), moved;
     changed.insert(11, 12).remove(13, 14);
     check(text<T>(changed) == "9..13 14..15" && text<T>(busy) == "9..11 12..15", "insert and remove");
@@ -156,6 +174,125 @@ template <class T> static void rows()
     check((changed |= day) == day && (changed &= busy) == busy && (changed -= busy).empty() && (changed ^= day) == day, "assigned");
     changed.clear();
     check(changed.empty() && changed.insert(1, 2).contains(1), "clear");
+    changed.insert(range<T>{4, 6, true}).insert(range<T>{9, 0, false});
+    check(text<T>(changed) == "1..2 4..6 9..", "insert of a range");
+    check(text<T>(changed.remove(range<T>{1, 5, true}).remove(range<T>{12, 0, false})) == "5..6 9..12", "remove of a range");
+}
+
+// What a set is made of beside a std::vector and a std::map of pairs.
+template <class T> static void sources()
+{
+    using pair = std::pair<T, T>;
+    const range_set<T> busy = {{9, 11}, {12, 15}};
+    const pair pairs[] = {{12, 15}, {9, 10}, {10, 11}};
+    const range<T> ranges[] = {{12, 15, true}, {9, 11, true}};
+    check(range_set<T>(pairs) == busy && range_set<T>(ranges) == busy, "a set of an array");
+    check(range_set<T>(std::vector<range<T>>(busy.begin(), busy.end())) == busy, "a set of ranges");
+    check(range_set<T>(busy.begin() + 1, busy.end()) == range_set<T>{{12, 15}}, "a set of what iterators of a set have");
+    const std::vector<range<T>> open = {{30, 0, false}, {9, 11, true}, {20, 0, false}, {12, 4, true}};
+    check(text<T>(range_set<T>(open)) == "9..11 20..", "a set of ranges without an end");
+    std::vector<pair> changing(std::begin(pairs), std::end(pairs));
+    check(range_set<T>(changing) == busy && range_set<T>(std::move(changing)) == busy, "a set of a list that isn't const");
+    using other = std::conditional_t<std::is_same_v<T, unsigned>, int, unsigned>;
+    static_assert(!std::is_constructible_v<range_set<T>, range_set<other>>, "a set of other numbers, whose ranges may have other ends");
+    static_assert(
+        !std::is_constructible_v<range_set<T>, std::optional<pair>, int> && !std::is_constructible_v<range_set<T>, T, T>, "no iterators");
+    static_assert(!std::is_convertible_v<std::vector<pair>, range_set<T>>, "a set of a list is asked for");
+#if defined(__cpp_lib_ranges) && (!defined(__clang__) || __clang_major__ >= 16)
+    namespace views = std::views;
+    const std::vector<T> starts = {12, 9, 11};
+    check(range_set<T>(starts | views::transform([](T it) { return pair(it, it + 2); })) == range_set<T>{{9, 14}}, "a set of a view");
+    check(range_set<T>(pairs | views::filter([](const pair &it) { return it.first > 9; })) == range_set<T>{{10, 11}, {12, 15}},
+        "a set of some pairs");
+    check(
+        range_set<T>(busy | views::take_while([](range<T> it) { return it.start < 12; })) == range_set<T>{{9, 11}}, "a set of some ranges");
+    check(range_set<T>(views::iota(0, 3) | views::transform([](int it) { return std::pair(it, it + 1); })) == range_set<T>{{0, 3}},
+        "a set of ints");
+#endif
+}
+
+// Whether a call says that a number doesn't fit.
+template <class Call> static bool doesnt_fit(Call call)
+{
+    try {
+        call();
+    } catch (const std::out_of_range &) {
+        return true;
+    }
+    return false;
+}
+
+// Numbers of other types, which are refused where they don't fit.
+template <class T> static void other_numbers()
+{
+    using limits = std::numeric_limits<T>;
+    using signed_pair = std::pair<std::int64_t, std::int64_t>;
+    using unsigned_pair = std::pair<std::uint64_t, std::uint64_t>;
+    check(range_set<T>(std::vector<signed_pair>{{9, 11}}) == range_set<T>{{9, 11}}, "a set of pairs of another type");
+    check(range_set<T>(std::vector<std::pair<char, short>>{{9, 11}}) == range_set<T>{{9, 11}}, "a set of pairs of narrower types");
+    const std::int64_t below = limits::min() == 0 ? -1 : std::int64_t(limits::min()) - (sizeof(T) < 8);
+    check(doesnt_fit([&] {
+        range_set<T>(std::vector<signed_pair>{{below, 5}});
+    }) == (sizeof(T) < 8 || limits::min() == 0),
+        "a start that doesn't fit");
+    const std::uint64_t greatest = static_cast<std::uint64_t>(limits::max()), above = greatest + 1;
+    check(doesnt_fit([&] { range_set<T>(std::vector<unsigned_pair>{{0, above}}); }) == (above != 0), "an end that doesn't fit");
+    check(range_set<T>(std::vector<unsigned_pair>{{0, greatest}}) == range_set<T>{{0, limits::max()}}, "an end that just fits");
+    check(doesnt_fit([&] { range_set<T>::from_values(std::vector<std::uint64_t>{above}); }) == (above != 0), "a value that doesn't fit");
+}
+
+// A set keeps room for at most twice its boundaries, or for eight.
+template <class T> static bool is_close(const range_set<T> &set)
+{
+    return set.capacity() <= std::max<std::size_t>(4, 2 * set.size());
+}
+
+template <class T> static void room()
+{
+    std::vector<std::pair<T, T>> pairs;
+    for (T i = 0; i < 1000; i++) pairs.emplace_back(static_cast<T>(10 * i), static_cast<T>(10 * i + 5));
+    const range_set<T> many(pairs), few = {{7, 12}, {500, 503}}, one = {{0, 20000}};
+    check(is_close(many) && is_close(many & few) && is_close(many - one) && is_close(few - many) && is_close(many ^ many),
+        "the room of a result");
+    check(
+        is_close(many | one) && is_close(many.gaps(0, 40)) && is_close(many.ranges_within(0, 40)) && is_close(~many), "the room of others");
+    check((many & few) == range_set<T>{{10, 12}, {500, 503}} && (many | one) == one && (many - one).capacity() == 0, "what has less room");
+    check(is_close(range_set<T>::union_all(std::vector<range_set<T>>{many, one, many})), "the room of union_all");
+    check(is_close(range_set<T>(std::vector<std::pair<T, T>>(100, {1, 2}))) && is_close(range_set<T>::from_values(std::vector<T>(100, 5))),
+        "the room of a list whose ranges join");
+    range_set<T> set(many), empty;
+    check((set &= few) == (many & few) && is_close(set), "the room of a set that is cut down");
+    set = many;
+    set.remove(100, 20000);
+    check(set.size() == 10 && set.capacity() == 1000, "a set whose numbers are taken out one by one keeps its room");
+    set.shrink_to_fit();
+    check(set.size() == 10 && set.capacity() == 10 && set == many.ranges_within(0, 100), "shrink_to_fit");
+    set.clear();
+    check(set.empty() && set.capacity() == 10, "clear keeps the room");
+    set.shrink_to_fit();
+    check(set.empty() && set.capacity() == 0 && set.insert(1, 2).size() == 1, "shrink_to_fit of no number");
+    empty.reserve(500);
+    empty.reserve(20);
+    check(empty.empty() && empty.capacity() == 500, "reserve");
+    left = 0;
+    for (const auto &[start, end] : pairs) {
+        if (empty.size() < 500) empty.insert(start, end);
+    }
+    const bool cut = (empty.shrink_to_fit(), true);
+    left = -1;
+    check(cut && empty == range_set<T>(pairs.begin(), pairs.begin() + 500), "changes within the room take no memory");
+    bool thrown = false;
+    try {
+        empty.reserve(std::numeric_limits<std::size_t>::max() / 2 + 2);
+    } catch (const std::bad_alloc &) {
+        thrown = true;
+    }
+    check(thrown && empty.size() == 500, "more room than there is");
+    // The result stands in the longer buffer where there is no memory for a shorter one.
+    left = 1;
+    const range_set<T> kept = many & few;
+    left = -1;
+    check(kept.size() == 2 && kept.capacity() == 1002, "a result whose room can't be given back");
 }
 
 // A set in chunks: rows, copies and moves, and many ranges beside a range_set.
@@ -191,16 +328,46 @@ template <class T> static void chunked()
         if (i % 10 == 0) check(many.first_fit(0, 20000, count) == wanted.first_fit(0, 20000, count), "chunked: first_fit of many");
     }
     check(many.set() == wanted && text<T>(many) == text<T>(wanted) && many.size() == wanted.size(), "chunked: many");
+    chunked_range_set<T> same(many);
+    std::ostringstream out;
+    check(same == many && !(same != many) && many.covered() == wanted.covered() && (out << many) && out.str() == wanted.text(),
+        "chunked: as a set");
+    same.insert(range<T>{30000, 0, false});
+    check(same != many && !same.covered() && same.size() == many.size() + 1, "chunked: insert of a range");
+    check(same.remove(range<T>{20100, 0, false}) == many && same.remove(range<T>{0, 20100, true}).empty(), "chunked: remove of a range");
+    check(chunked_range_set<T>() == same && same.covered() == 0u, "chunked: two without a member");
 }
 
 // Whether there is a view of what has this type: of a set with a name, and not of a temporary, which would be gone.
 template <class Set, class = void> constexpr bool has_view = false;
 template <class Set> constexpr bool has_view<Set, std::void_t<decltype(std::declval<Set>().view())>> = true;
 
+// Whether one can go over what has this type, and cut it.
+template <class Set, class = void> constexpr bool has_begin = false;
+template <class Set> constexpr bool has_begin<Set, std::void_t<decltype(std::declval<Set>().begin())>> = true;
+template <class Set, class = void> constexpr bool has_end = false;
+template <class Set> constexpr bool has_end<Set, std::void_t<decltype(std::declval<Set>().end())>> = true;
+template <class Set, class = void> constexpr bool has_split = false;
+template <class Set> constexpr bool has_split<Set, std::void_t<decltype(std::declval<Set>().split(0))>> = true;
+
+template <class Set> static void iterators_of_temporaries()
+{
+    static_assert(has_begin<Set &> && has_begin<const Set &> && !has_begin<Set> && !has_begin<const Set>, "begin()");
+    static_assert(has_end<Set &> && has_end<const Set &> && !has_end<Set> && !has_end<const Set>, "end()");
+}
+
 template <class T> static void views_of_temporaries()
 {
     using view = range_set_view<T>;
     using set = range_set<T>;
+    iterators_of_temporaries<set>();
+    iterators_of_temporaries<chunked_range_set<T>>();
+    static_assert(has_begin<view> && has_end<view> && has_split<view>, "a view is borrowed, also a temporary one");
+    static_assert(has_split<set &> && has_split<const set &> && !has_split<set> && !has_split<const set>, "split");
+    T starts = 0;
+    for (const auto &it : set{{9, 10}} | set{{20, 30}}) starts += it.start;
+    for (const auto &it : chunked_range_set<T>(set{{3, 4}})) starts += it.start;
+    check(starts == 32, "a for over the ranges of a temporary");
     static_assert(has_view<set &> && has_view<const set &> && !has_view<set> && !has_view<const set>, "view()");
     static_assert(std::is_constructible_v<view, set &> && std::is_constructible_v<view, const set &>, "a view of a set with a name");
     static_assert(!std::is_constructible_v<view, set> && !std::is_constructible_v<view, const set>, "a view of a temporary");
@@ -307,9 +474,9 @@ template <class T> static void iterators()
     const iterator first = set.begin(), last = set.end();
     check(last - first == 4 && first - last == -4 && first + 4 == last && 4 + first == last && last - 4 == first, "places of iterators");
     check(first[2] == range<T>{9, 11, true} && last[-1] == range<T>{12, 15, true} && (first + 1)->start == 4, "[] and ->");
-    iterator it = first;
-    check((it += 3)->end == 15 && (it -= 2)->end == 6 && (++it)->end == 11 && (--it)->end == 6, "an iterator that moves");
-    check((it++)->end == 6 && it->end == 11 && (it--)->end == 11 && it->end == 6, "an iterator, read before it moves");
+    iterator at = first;
+    check((at += 3)->end == 15 && (at -= 2)->end == 6 && (++at)->end == 11 && (--at)->end == 6, "an iterator that moves");
+    check((at++)->end == 6 && at->end == 11 && (at--)->end == 11 && at->end == 6, "an iterator, read before it moves");
     check(first < last && last > first && first <= first && last >= first && !(last < first) && !(first > first), "the order of iterators");
     check(!(last <= first) && !(first >= last) && iterator() == iterator() && first != last, "iterators that aren't in order");
     const auto found = [](iterator from, iterator to) { return std::find_if(from, to, [](range<T> it) { return it.start > 8; }); };
@@ -413,6 +580,9 @@ template <class T> static void all()
 {
     widest<T>();
     rows<T>();
+    sources<T>();
+    other_numbers<T>();
+    room<T>();
     chunked<T>();
     views_of_temporaries<T>();
     order<T>();

@@ -121,7 +121,14 @@ compiles_as_cpp() {
 
 # The tests of the header for C++17.
 tests_cpp() {
-    g++ -std=c++17 -O1 -g $strict c/test.cpp "$archive" -o "$work/test.cpp" && "$work/test.cpp"
+    g++ -std=c++17 -O1 -g $strict -Wshadow c/test.cpp "$archive" -o "$work/test.cpp" && "$work/test.cpp"
+}
+
+# Whether the header says in one sentence that a language is too old for it.
+says_that_cpp_is_too_old() {
+    echo '#include "range_set.hpp"' >"$work/old.cpp"
+    ! g++ -std=c++14 -Ic/include -c "$work/old.cpp" -o "$work/old.o" 2>"$work/said" && [ "$(grep -c 'error:' "$work/said")" = 1 ] &&
+        grep -q 'range_set.hpp is for C++17 and later' "$work/said"
 }
 
 # Installs the library into a folder with a blank in its name.
@@ -380,6 +387,7 @@ step_by g++ g++ "the statements in c/README.md" compiles_statements c/README.md
 step_by objcopy binutils "the sanitizers" is_sane
 step_by g++ g++ "C++11" compiles_as_cpp
 step_by g++ g++ "the header for C++17" tests_cpp
+step_by g++ g++ "C++14" says_that_cpp_is_too_old
 step_by g++ g++ "the lines in C++ of c/README.md" runs_cpp_page c/README.md
 archive=dist/librange_set.a
 step_by make make "make install" installs
