@@ -179,6 +179,16 @@ template <class T> static void rows()
     check(text<T>(changed.remove(range<T>{1, 5, true}).remove(range<T>{12, 0, false})) == "5..6 9..12", "remove of a range");
 }
 
+// The end of a list, which is another one after so many questions.
+template <class T> struct fickle {
+    const std::pair<T, T> *first, *later;
+    unsigned *asked, turn;
+    friend bool operator!=(const std::pair<T, T> *it, const fickle &end)
+    {
+        return it != ((*end.asked)++ < end.turn ? end.first : end.later);
+    }
+};
+
 // What a set is made of beside a std::vector and a std::map of pairs.
 template <class T> static void sources()
 {
@@ -193,6 +203,10 @@ template <class T> static void sources()
     check(text<T>(range_set<T>(open)) == "9..11 20..", "a set of ranges without an end");
     std::vector<pair> changing(std::begin(pairs), std::end(pairs));
     check(range_set<T>(changing) == busy && range_set<T>(std::move(changing)) == busy, "a set of a list that isn't const");
+    unsigned asked = 0;
+    check(range_set<T>(pairs, fickle<T>{pairs + 1, pairs + 3, &asked, 2}) == range_set<T>{{12, 15}}, "what has more the second time");
+    asked = 0;
+    check(range_set<T>(pairs, fickle<T>{pairs + 2, pairs + 1, &asked, 3}) == range_set<T>{{12, 15}}, "what has less the second time");
     using other = std::conditional_t<std::is_same_v<T, unsigned>, int, unsigned>;
     static_assert(!std::is_constructible_v<range_set<T>, range_set<other>>, "a set of other numbers, whose ranges may have other ends");
     static_assert(

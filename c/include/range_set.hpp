@@ -565,7 +565,8 @@ public:
     explicit range_set(Ranges &&ranges) : range_set(std::begin(ranges), std::end(ranges))
     {
     }
-    // The same of what stands between two places. It is gone over twice, so the iterators are forward ones or better.
+    // The same of what stands between two places. It is gone over twice, so the iterators are forward ones or better. Where the
+    // second time has more, as by a filter that changes its mind, the rest is left out.
     template <class Iterator, class End, class = decltype(std::declval<Iterator &>() != std::declval<End &>()),
               class = std::enable_if_t<detail::is_range<T, detail::item_of<Iterator>> && detail::is_multipass<Iterator>>>
     range_set(Iterator first, End last)
@@ -573,9 +574,9 @@ public:
         std::size_t count = 0;
         for (Iterator it = first; it != last; ++it) count++;
         auto items = room_for(2 * count);
-        number *next = items.get();
+        number *next = items.get(), *const after = next + 2 * count;
         std::optional<T> open;
-        for (; first != last; ++first) {
+        for (; next != after && first != last; ++first) {
             const auto &it = *first;
             if constexpr (std::is_same_v<detail::item_of<Iterator>, range<T>>) {
                 if (!it.has_end) open = open ? std::min(*open, it.start) : it.start;
@@ -586,8 +587,9 @@ public:
                 *next++ = detail::fitting<T>(it.second);
             }
         }
+        const auto read = static_cast<std::size_t>(next - items.get()) / 2;
         typename calls::set set = {};
-        if (calls::from_ranges(items.get(), count, &set) == RANGE_SET_DONE) keep(std::move(items), 2 * count, set.len);
+        if (calls::from_ranges(items.get(), read, &set) == RANGE_SET_DONE) keep(std::move(items), 2 * count, set.len);
         if (open) insert_from(*open);
     }
     // A copy of a borrowed set.
@@ -734,10 +736,12 @@ public:
     // so where it needs less than half.
     void shrink_to_fit() noexcept
     {
-        const std::size_t len = in_.set.len;
-        if (len == in_.room) return;
-        array fewer(len > 0 ? new (std::nothrow) number[len] : nullptr);
-        if (len == 0 || fewer) move_to(std::move(fewer), len);
+        if (in_.set.len == in_.room) return;
+        try {
+            move_to(room_for(in_.set.len), in_.set.len);
+        } catch (const std::bad_alloc &) {
+            // It is as it was.
+        }
     }
 
     range_set &operator|=(detail::operand<T> other) { return *this = combine(*this, other, RANGE_SET_UNION); }
