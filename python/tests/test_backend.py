@@ -3,6 +3,7 @@
 import importlib.util
 import os
 import pathlib
+import sys
 import sysconfig
 import tarfile
 import tempfile
@@ -29,6 +30,13 @@ class Missing(unittest.TestCase):
         with self.assertRaises(SystemExit) as raised:
             call()
         self.assertEqual(str(raised.exception), text)
+
+    def test_a_later_python(self):
+        with mock.patch.dict(sys.modules, tomllib=None), mock.patch.object(sys, "version", "3.10.13 (main)"):
+            self.refused(
+                lambda: SPEC.loader.exec_module(importlib.util.module_from_spec(SPEC)),
+                "range_sets: Python 3.11 or later is wanted, not 3.10.13",
+            )
 
     def test_a_compiler(self):
         with mock.patch.dict(os.environ, CC="no-such-compiler -m64"):
