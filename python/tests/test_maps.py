@@ -235,6 +235,42 @@ class MadeUp(unittest.TestCase):
             self.assertEqual(list(filled.items()), self.expected(expected), case)
 
 
+class Depths(unittest.TestCase):
+    def plain(self, sets, keys):
+        """How many of the sets have each of some keys."""
+        return {key: found for key in keys if (found := sum(key in it for it in sets))}
+
+    def test_made_up_sets(self):
+        some = random.Random(2026)
+        for case in range(200):
+            unsigned = case % 2 == 1
+            sets = [
+                RangeSet.from_boundaries(sorted(some.sample(range(30), some.randrange(9))), unsigned=unsigned)
+                for _ in range(some.randrange(9))
+            ]
+            made = RangeMap.depth(iter(sets), unsigned=unsigned)
+            self.assertEqual({key: made[key] for key in range(40) if key in made}, self.plain(sets, range(40)), case)
+            items = list(made.items())
+            self.assertTrue(all(a[0][1] < b[0][0] or a[1] != b[1] for a, b in zip(items, items[1:])))
+            self.assertEqual((made.kind, made), ("unsigned" if unsigned else "int", RangeMap(items, unsigned=unsigned)))
+            made[5:9] = 1
+            self.assertEqual([made[key] for key in range(5, 9)], [1] * 4)
+
+    def test_other_sets(self):
+        self.assertEqual((RangeMap.depth([]), RangeMap.depth([]).kind, RangeMap.depth([()]).kind), (RangeMap(), None, None))
+        self.assertEqual(RangeMap.depth([], kind="date").kind, "date")
+        both = RangeMap.depth([(None, None), (5, None), [(7, 9), (8, 12)], range(7, 10), (9, 3), (LEAST, LEAST)])
+        self.assertEqual(list(both.items()), [((LEAST, 5), 1), ((5, 7), 2), ((7, 10), 4), ((10, 12), 3), ((12, None), 2)])
+        days = [(date(2026, 5, 1), date(2026, 5, 4)), RangeSet([(date(2026, 5, 3), None)]), RangeSet()]
+        self.assertEqual(
+            list(RangeMap.depth(days).items()),
+            [((date(2026, 5, 1), date(2026, 5, 3)), 1), ((date(2026, 5, 3), date(2026, 5, 4)), 2), ((date(2026, 5, 4), None), 1)],
+        )
+        self.assertEqual(RangeMap.depth(days).find(2), RangeSet([days[0]]) & days[1])
+        for bad in ([RangeSet([(0, 5)]), days[1]], [5], ["0..5"]):
+            self.assertRaises(TypeError, RangeMap.depth, bad)
+
+
 class Interned(unittest.TestCase):
     def tearDown(self):
         Watched.raises = False

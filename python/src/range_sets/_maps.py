@@ -3,6 +3,7 @@
 from __future__ import annotations
 
 from array import array
+from collections import Counter
 from ipaddress import IPv4Network
 from typing import Any, Callable, Generic, Iterable, Iterator, Mapping, Self, TypeVar, Union
 
@@ -11,7 +12,7 @@ from ._core import Steps
 from ._kinds import UNSIGNED, UNTOLD, Element, Kind, Told, mixed, of_some, told
 from ._numbers import code_of, least
 from ._sets import RangeSet
-from ._sources import codes_of, range_of
+from ._sources import Source, codes_of, gather, of_one_kind, range_of
 from ._values import Values
 
 V = TypeVar("V")
@@ -246,7 +247,32 @@ class RangeMap(Generic[V]):
         if kind is not self._kind and self._kind is not UNTOLD:
             raise TypeError(mixed(self._kind, kind))
 
-    # ---- Two maps ----
+    # ---- Many sets, two maps ----
+
+    @staticmethod
+    def depth(sets: Iterable[Source], *, unsigned: bool | None = None, kind: Told = None) -> RangeMap[int]:
+        """How many of some sets have each key; a key that none has gets no value. A set may be a pair, or anything that makes one.
+
+        It takes n log n steps for n boundaries, whereas `combine` goes through both maps each time.
+
+        >>> RangeMap.depth([(0, 5), (3, 9), RangeSet([(4, 6), (20, None)])])
+        RangeMap([((0, 3), 1), ((3, 4), 2), ((4, 5), 3), ((5, 6), 2), ((6, 9), 1), ((20, None), 1)])
+        """
+        wanted = told(kind, unsigned)
+        lists, found = of_one_kind([gather(it, wanted) for it in sets], wanted)
+        changes: Counter[int] = Counter()
+        for boundaries in lists:
+            changes.update(boundaries[::2])
+            changes.subtract(boundaries[1::2])
+        result: RangeMap[int] = RangeMap(kind=None if found is UNTOLD else found.name)
+        depth, used, places = 0, [], [at for at in sorted(changes) if changes[at]]
+        for start, end in zip(places, [*places[1:], None]):
+            depth += changes[start]
+            if depth:
+                used.append(result._values.number_of(depth))
+                result._steps.insert(start, end, used[-1])
+        result._values.replace([], used)
+        return result
 
     def combine(self, other: RangeMap[V], how: Callable[[V, V], V], missing: V = _NOTHING) -> RangeMap[V]:
         """The map of what `how` makes of the values of both maps. Where one alone has a value, it stays, or with `missing` this stands

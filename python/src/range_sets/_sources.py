@@ -99,20 +99,20 @@ def gather(source: Any, kind: Kind | None) -> Now:
 
 def union_of(sets: list[Now], kind: Kind | None = None) -> Now:
     """The union of many sets. Without one it is the set of nothing."""
-    lists, found = _of_one_kind(sets, kind)
+    lists, found = of_one_kind(sets, kind)
     return _two_by_two(_core.union, lists) if lists else found.nothing, found
 
 
 def intersection_of(sets: list[Now], kind: Kind | None = None) -> Now:
     """The intersection of many sets. Without one it is the set of all elements."""
-    lists, found = _of_one_kind(sets, kind)
+    lists, found = of_one_kind(sets, kind)
     if not lists:
         found = SIGNED if found is UNTOLD else found
         return found.all(), found
     return _two_by_two(_core.intersection, lists), found
 
 
-def _of_one_kind(sets: list[Now], kind: Kind | None) -> tuple[list[memoryview], Kind]:
+def of_one_kind(sets: list[Now], kind: Kind | None) -> tuple[list[memoryview], Kind]:
     """The lists of sets of one kind, which a set of nothing takes if its own isn't known."""
     if kind is None:
         kind = next((it for _, it in sets if it is not UNTOLD), UNTOLD)
