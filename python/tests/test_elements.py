@@ -168,6 +168,10 @@ class Addresses(unittest.TestCase):
             list(RangeSet((IPv4Network("10.0.0.0/31"), IPv4Network("10.0.0.3/32")))),
             [(IPv4Address("10.0.0.0"), IPv4Address("10.0.0.2")), (IPv4Address("10.0.0.3"), IPv4Address("10.0.0.4"))],
         )
+        for network in ("255.0.0.0/8", "255.255.255.255/32", "0.0.0.0/0", "10.0.0.0/8"):
+            self.assertEqual(RangeSet(IPv4Network(network)).covered(), IPv4Network(network).num_addresses)
+        self.assertEqual(RangeSet([IPv4Network("10.0.0.0/30"), IPv4Network("255.255.255.252/30")]).covered(), 8)
+        self.assertEqual(RangeSet(kind=IPv4Address).covered(), 0)
         taken = MutableRangeSet(IPv4Network("10.0.0.0/24"))
         taken.discard(IPv4Network("10.0.0.0/30"))
         taken.add(IPv4Address("255.255.255.255"))

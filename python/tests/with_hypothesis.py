@@ -241,7 +241,10 @@ class EachKind(unittest.TestCase):
         pairs = list(made)
         ends = [end for _, end in pairs]
         nothing = {"float": 0.0, "IPv4Address": 0}.get(name, timedelta(0))
-        lengths = [int(end) - int(start) if name == "IPv4Address" else end - start for start, end in pairs if end is not None]
+        if name == "IPv4Address":
+            pairs = [(int(start), 2**32 if end is None else int(end)) for start, end in pairs]
+            ends = [end for _, end in pairs]
+        lengths = [end - start for start, end in pairs if end is not None]
         self.assertEqual(made.covered(), None if None in ends else math.inf if math.inf in lengths else sum(lengths, nothing))
         made._repr_svg_()
 

@@ -333,6 +333,11 @@ class Addresses(Kind):
     def value(self, code: int) -> IPv4Address:
         return IPv4Address(code)
 
+    def covered(self, boundaries: memoryview) -> Any:
+        # There are none above the greatest address, so that each set of them has an end.
+        whole = len(boundaries) - len(boundaries) % 2
+        return (_core.covered(boundaries[:whole]) or 0) + sum(self.most + 1 - it for it in boundaries[whole:])
+
 
 SIGNED, UNSIGNED = Whole("int", False), Whole("unsigned", True)
 # That of an empty set whose kind isn't known yet. Until it meets a set or an element of another kind it is one of signed numbers.

@@ -231,8 +231,8 @@ class AnyRangeSet(Operators):
         return self._over(items[begins : ends + ends % 2], kind)
 
     def covered(self) -> Any:
-        """How many numbers, dates or addresses are members, or None if the set has no end. Of times and dates it is a `timedelta`, and
-        of floats the sum of the lengths of the ranges.
+        """How many numbers or addresses are members. Of times and dates it is a `timedelta`, and of floats the sum of the lengths of
+        the ranges. It is None if the last range has no end, as has one up to the greatest number or time. Addresses always have one.
 
         >>> RangeSet([(0, 10), (20, 25)]).covered()
         15
