@@ -16,6 +16,7 @@ from functools import partial
 from ipaddress import IPv4Address
 from operator import attrgetter
 from pathlib import Path
+from unittest import mock
 
 import range_sets as sets
 from range_sets import MutableRangeSet, NoRoom, NotSorted, ParseError, RangeSet, _core
@@ -40,6 +41,7 @@ PAIR = "a pair (start, end), a range or a set is wanted, not"
 ENDS = "a number, a start and an end, a pair or a range is wanted, not"
 FLOAT = "'float' object cannot be interpreted as an integer"
 TABLE = "a table with two columns is wanted; RangeSet.from_boundaries reads a list of boundaries"
+TEXT = "a text is no element of a set: parse numbers and dates first, or give the place of each in a sorted list of texts"
 A = RangeSet([(0, 10)])
 
 
@@ -80,7 +82,8 @@ class Texts(unittest.TestCase):
                 (lambda: RangeSet([(0, 2.5)]), TypeError, FLOAT),
                 (lambda: RangeSet([(0.5, 2)], kind=int), TypeError, FLOAT),
                 (lambda: RangeSet([(float("nan"), None)]), ValueError, NAN),
-                (lambda: RangeSet([("0", 2)]), TypeError, "a text is no element of a set: give the place of each in a sorted list of them"),
+                (lambda: RangeSet([("0", 2)]), TypeError, TEXT),
+                (lambda: RangeSet([("2026-05-04 09:00", "2026-05-04 10:00")]), TypeError, TEXT),
                 (lambda: RangeSet([(0, "2")]), TypeError, "'str' object cannot be interpreted as an integer"),
                 (lambda: RangeSet([(0, 2**63)]), OverflowError, SIGNED),
                 (lambda: RangeSet([(-(2**63) - 1, None)]), OverflowError, SIGNED),
@@ -173,6 +176,27 @@ class Texts(unittest.TestCase):
                 (lambda: hash(MutableRangeSet()), TypeError, "unhashable type: 'MutableRangeSet'"),
             )
         )
+
+    def test_kinds_of_numpy(self):
+        self.tell(
+            (
+                (
+                    lambda: RangeSet(kind="datetime64[ns, UTC]"),
+                    TypeError,
+                    "times with a time zone have the kind 'datetime[UTC]', and not 'datetime64[ns, UTC]'",
+                ),
+            )
+        )
+        packed = pickle.dumps(RangeSet([(date(2026, 5, 1), None)])).replace(b"\x8c\x04date\x94", b"\x8c\x0ddatetime64[D]\x94")
+        packed = packed.replace(packed[3:11], (len(packed) - 12).to_bytes(8, "little"))
+        without = "numpy is wanted, whose times are the elements of the kind datetime64[D]"
+        with mock.patch.dict(sys.modules, numpy=None):
+            self.tell(
+                (
+                    (lambda: pickle.loads(packed), ModuleNotFoundError, without),
+                    (lambda: RangeSet(kind="datetime64[D]"), ModuleNotFoundError, without),
+                )
+            )
 
     def test_texts(self):
         for text, expected, position in (

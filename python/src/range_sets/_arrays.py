@@ -56,7 +56,7 @@ def codes_of_each(kind: Kind, values: Any) -> Any:
     elements = found.reshape(-1).tolist()
     # As which numpy has times of units that Python has no type for.
     if found.dtype.kind in "mM" and any(isinstance(it, int) for it in elements):
-        raise TypeError(f"{kind.element} each is wanted, not an array of numpy's {found.dtype.name}")
+        raise kind.wrong_array(found.dtype)
     return numpy.array([kind.number(it) for it in elements], dtype="i8").reshape(found.shape)
 
 

@@ -15,7 +15,7 @@ from operator import index
 from typing import Any, Iterable, Iterator, Protocol, SupportsIndex, Union
 
 from . import _core
-from ._numbers import empty_list, least, most, range_list, wanted
+from ._numbers import code_of, empty_list, least, most, range_list, wanted
 
 
 class Scalar(Protocol):
@@ -65,6 +65,16 @@ class Kind:
 
     def wrong(self, value: Any) -> TypeError:
         return TypeError(f"{self.element} is wanted, as the set has, not {_named(value)}")
+
+    def wrong_array(self, dtype: Any) -> TypeError:
+        """The error of an array of times or lengths of numpy's that the kind doesn't have."""
+        hint = _of_timestamps(dtype.name) if self is NAIVE and dtype.name.startswith("datetime64[") else ""
+        return TypeError(f"{self.element} each is wanted, not an array of numpy's {dtype.name}{hint}")
+
+    def has(self, boundaries: memoryview) -> bool:
+        """Whether sorted numbers are all of the kind."""
+        ends = *boundaries[:1], *boundaries[-1:]
+        return boundaries.format == code_of(self.unsigned) and all(self.least <= it <= self.most for it in ends)
 
     def within(self, code: int) -> int:
         if not self.least <= code <= self.most:
@@ -382,8 +392,12 @@ def _named_kind(kind: Any) -> Kind | None:
     except TypeError:
         pass
     if str(kind).startswith("datetime64["):
-        import numpy
-
+        if "," in str(kind):
+            raise TypeError(f"times with a time zone have the kind 'datetime[UTC]', and not {str(kind)!r}")
+        try:
+            import numpy
+        except ImportError:
+            raise ModuleNotFoundError(f"numpy is wanted, whose times are the elements of the kind {kind}", name="numpy") from None
         return of_dtype(numpy.dtype(kind))
     raise TypeError(f"a kind is one of {', '.join(sorted(it.name for it in set(_TOLD.values())))} and datetime64[..], not {kind!r}")
 
@@ -438,7 +452,13 @@ def agreed(left: Now, right: Now) -> tuple[memoryview, memoryview, Kind]:
 def mixed(kind: Kind, other: Kind) -> str:
     if isinstance(kind, Whole) and isinstance(other, Whole):
         return "signed and unsigned numbers don't mix: both sets have to be of one kind"
-    return f"two kinds of elements don't mix: one set has the kind {kind.name}, and the other {other.name}"
+    numpys = next((it for it in (kind, other) if isinstance(it, Numpys)), None)
+    hint = _of_timestamps(numpys.name) if numpys and NAIVE in (kind, other) else ""
+    return f"two kinds of elements don't mix: one set has the kind {kind.name}, and the other {other.name}{hint}"
+
+
+def _of_timestamps(name: str) -> str:
+    return f"; with kind={name!r} pandas' Timestamps make such a set"
 
 
 def _exact_float(value: Any, kind: Kind) -> float:
@@ -480,7 +500,9 @@ def _named(value: Any) -> str:
 
 def _no_element(value: Any) -> TypeError:
     if isinstance(value, (str, bytes)):
-        return TypeError("a text is no element of a set: give the place of each in a sorted list of them")
+        return TypeError(
+            "a text is no element of a set: parse numbers and dates first, or give the place of each in a sorted list of texts"
+        )
     if isinstance(value, IPv6Address):
         return TypeError("an IPv6 address is no element of a set, since it has 128 bits: sets of the Rust crate have u128")
     return TypeError(f"{type(value).__name__!r} object cannot be interpreted as an integer")
