@@ -106,6 +106,16 @@ class Texts(unittest.TestCase):
                 ),
                 (lambda: RangeSet.from_boundaries(array("u", "a")), TypeError, f"{OF_SETS} 'w'"),
                 (lambda: RangeSet.from_boundaries(q(1), unsigned=True), TypeError, f"{MIXED}: a set of unsigned ones is wanted"),
+                (
+                    lambda: RangeSet.from_boundaries(memoryview(q(0, 2**40)), kind="date"),
+                    OverflowError,
+                    "the boundaries of a set of the kind date are wanted, and these lie beyond",
+                ),
+                (
+                    lambda: RangeSet.from_boundaries(memoryview(array("Q", [5])), kind="date"),
+                    TypeError,
+                    "two kinds of elements don't mix: one set has the kind date, and the other unsigned",
+                ),
                 (lambda: RangeSet.from_values([0, 1.5]), TypeError, FLOAT),
                 (lambda: RangeSet.from_values([2**63]), OverflowError, SIGNED),
                 (lambda: RangeSet.from_values(array("b", [-1]), unsigned=True), OverflowError, UNSIGNED),

@@ -181,6 +181,15 @@ class EachKind(unittest.TestCase):
                 self.assertEqual((list(made[part]), made[part].kind), (sorted(ranges[part]), name))
             self.assertEqual([made[i] for i in range(len(made))], ranges)
 
+    def test_boundaries_and_the_kind_make_the_set_again(self):
+        for name, elements in self.each():
+            for count in range(len(elements) + 1):
+                made = RangeSet.from_boundaries(elements[:count], kind=name)
+                for it in (made, MutableRangeSet(made)):
+                    again = RangeSet.from_boundaries(it.boundaries, kind=it.kind)
+                    self.assertEqual((again, again.kind, list(again)), (made, name, list(made)))
+        self.assertEqual(RangeSet.from_boundaries(RangeSet().boundaries, kind=RangeSet().kind), RangeSet())
+
     def test_kinds_do_not_mix(self):
         made = {name: RangeSet((elements[1], elements[2]), kind=name) for name, elements in ELEMENTS.items()}
         for (name, a), (other, b) in itertools.permutations(made.items(), 2):

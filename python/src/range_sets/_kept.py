@@ -124,7 +124,7 @@ def _unpacked(cls: type[Kept], memory: Any, name: str | None = None) -> Kept:
     """The set of a pickle, whose boundaries are checked anew."""
     boundaries = _core.unpack(memory)
     kind = told(name) or _kind_of(boundaries)
-    if boundaries.format != code_of(kind.unsigned) or any(not kind.least <= it <= kind.most for it in (*boundaries[:1], *boundaries[-1:])):
+    if not kind.has(boundaries):
         raise ValueError(f"the bytes are no set of the kind {kind.name}")
     return cls._over(boundaries, kind)
 

@@ -42,7 +42,7 @@ class AnyRangeSet(Operators):
     def from_boundaries(cls, items: Any, *, unsigned: bool | None = None, kind: Told = None) -> Self:
         """The set with these boundaries, from a buffer, such as a numpy array, or an iterable: at each the set begins or ends.
 
-        They have to be strictly sorted, which is checked.
+        They have to be strictly sorted, which is checked. With its kind they may be what `boundaries` has of a set.
 
         >>> RangeSet.from_boundaries([0, 10, 20])
         RangeSet([(0, 10), (20, None)])

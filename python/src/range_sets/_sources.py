@@ -129,6 +129,12 @@ def _two_by_two(call: Callable[[memoryview, memoryview], memoryview], lists: lis
 
 def boundaries_of(items: Any, kind: Kind | None) -> Now:
     """The set of the boundaries in a buffer or an iterable, which are checked to be strictly sorted."""
+    if type(items) is memoryview and items.format == "q" and not (kind is None or kind.is_whole):
+        # What `boundaries` gives of a set of the kind.
+        boundaries = _core.from_boundaries(items)
+        if not kind.has(boundaries):
+            raise OverflowError(f"the boundaries of a set of the kind {kind.name} are wanted, and these lie beyond")
+        return boundaries, kind
     numbers, kind = _numbers_of(items, kind)
     return _core.from_boundaries(numbers), kind
 
