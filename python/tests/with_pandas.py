@@ -8,11 +8,13 @@ import unittest
 from collections import Counter
 from datetime import date, timedelta
 from pathlib import Path
+from unittest import mock
 
 import numpy
 import pandas
 
 from range_sets import MutableRangeSet, RangeSet
+from range_sets._kinds import Times
 
 
 class Frames(unittest.TestCase):
@@ -31,6 +33,9 @@ class Frames(unittest.TestCase):
             RangeSet(self.frame[["start", "end", "other"]])
         with self.assertRaisesRegex(TypeError, "a table with two columns is wanted"):
             RangeSet(self.frame["start"])
+        for names in (["start", "closed"], ["array", "end"], ["closed", "unit"]):
+            named = self.frame[["start", "end"]].set_axis(names, axis=1)
+            self.assertEqual(list(RangeSet(named)), [(0, 8), (20, 30)])
 
     def test_one_column(self):
         made = RangeSet.from_values(self.frame["start"].to_numpy())
@@ -72,6 +77,7 @@ class Frames(unittest.TestCase):
             aware = RangeSet(table)
             self.assertEqual((aware.kind, aware[0]), ("datetime[UTC]", (zoned["start"][0], zoned["end"][1])))
         self.assertEqual([*RangeSet.from_values(zoned["start"]).members()], list(zoned["start"]))
+        self.assertEqual([*RangeSet.from_values(frame["start"]).members()], list(frame["start"]))
         self.assertEqual(RangeSet([(frame["start"][0], frame["end"][1])]).kind, "datetime")
         self.check_timestamps(made, frame)
         for value in (pandas.Timestamp(1), pandas.Timedelta(1), pandas.Timestamp(1, tz="UTC")):
@@ -80,6 +86,93 @@ class Frames(unittest.TestCase):
         for pair in ((pandas.NaT, None), (frame["start"][0], pandas.NaT), (date(2026, 5, 1), pandas.NaT), (timedelta(1), pandas.NaT)):
             with self.assertRaisesRegex(ValueError, "NaT is in no order"):
                 RangeSet([pair])
+
+    def test_columns_with_a_time_zone(self):
+        some, hour = random.Random(7), 3_600_000_000_000
+        for zone in ("UTC", "Europe/Berlin", "America/New_York"):
+            starts = [some.randrange(-(10**4), 10**5) * hour + some.randrange(10**6) * 1000 for _ in range(200)]
+            zoned = pandas.DataFrame(
+                {
+                    "start": pandas.to_datetime(starts, utc=True).tz_convert(zone),
+                    "end": pandas.to_datetime([it + some.randrange(-5, 50) * hour for it in starts], utc=True).tz_convert("Asia/Tokyo"),
+                }
+            )
+            one_by_one = RangeSet([*zip(zoned["start"], zoned["end"])])
+            intervals = pandas.arrays.IntervalArray.from_arrays(zoned["start"], zoned["start"] + pandas.Timedelta(hours=3), closed="left")
+            with mock.patch.object(Times, "code", side_effect=AssertionError("one by one")):
+                made, also = RangeSet(zoned), RangeSet(zoned, kind="datetime[UTC]")
+                of_intervals = RangeSet(intervals), RangeSet(pandas.Series(intervals)), RangeSet(pandas.IntervalIndex(intervals))
+                values = RangeSet.from_values(zoned["start"])
+                found = [made.contains(it).tolist() for it in (zoned["start"], zoned["start"].array, pandas.DatetimeIndex(zoned["end"]))]
+            self.assertEqual((made, also, made.kind, list(made)), (one_by_one, one_by_one, "datetime[UTC]", list(one_by_one)))
+            self.assertEqual({*of_intervals}, {RangeSet([*intervals])})
+            self.assertEqual(values, RangeSet.from_values([*zoned["start"]]))
+            self.assertEqual(found[0], found[1])
+            self.assertEqual(found[1:], [[it in made for it in zoned["start"]], [it in made for it in zoned["end"]]])
+        other = pandas.arrays.IntervalArray.from_arrays(zoned["start"][:0], zoned["start"][:0], closed="right")
+        self.assertEqual(RangeSet(pandas.Series(other)), RangeSet())
+        self.assertEqual((RangeSet(zoned[:0]).kind, RangeSet.from_values(zoned["start"][:0]).kind), (None, None))
+        self.assertEqual(made.contains(zoned["start"][:0]).tolist(), [])
+        for call in (
+            lambda: RangeSet(zoned, kind="datetime"),
+            lambda: RangeSet([(zoned["start"][0].tz_localize(None), None)]).contains(zoned["start"]),
+            lambda: RangeSet(zoned.assign(end=zoned["end"].dt.tz_localize(None))),
+            lambda: RangeSet([(0, 5)]).contains(zoned["start"]),
+        ):
+            self.assertRaises(TypeError, call)
+        finer = zoned.assign(end=zoned["end"] + pandas.Timedelta(nanoseconds=1))
+        for call in (lambda: RangeSet(finer), lambda: made.contains(finer["end"]), lambda: RangeSet.from_values(finer["end"])):
+            with self.assertRaisesRegex(ValueError, "microseconds are wanted"):
+                call()
+
+    def test_rows_without_an_end(self):
+        naive = pandas.DataFrame(
+            {"start": pandas.to_datetime(["2026-05-01", "2026-05-03"]), "end": pandas.to_datetime(["2026-05-04", None])}
+        )
+        for frame in (naive, naive.apply(lambda it: it.dt.tz_localize("Europe/Berlin"))):
+            with self.assertRaisesRegex(ValueError, "NaT is in no order.* in row 1, counted from 0; an end None says that there is none"):
+                RangeSet(frame)
+            made = RangeSet(frame.dropna()).insert(frame["start"][1], None)
+            self.assertEqual((len(made), made[0][1], made.range_at(frame["start"][1])), (1, None, made[0]))
+            for call in (lambda: made.contains(frame["end"]), lambda: RangeSet.from_values(frame["end"])):
+                with self.assertRaisesRegex(ValueError, "NaT is in no order.* it stands at 1, counted from 0"):
+                    call()
+
+    def test_kinds_that_meet(self):
+        frame = pandas.DataFrame({"start": pandas.to_datetime(["2026-05-01"]), "end": pandas.to_datetime(["2026-05-04"])})
+        pair = frame["start"][0], frame["end"][0]
+        made, of_frame = RangeSet([pair]), RangeSet(frame)
+        hint = "; with kind='datetime64.ns.' pandas' Timestamps make such a set$"
+        for call in (
+            lambda: made | of_frame,
+            lambda: of_frame | made,
+            lambda: made.contains(frame["start"]),
+            lambda: RangeSet(frame, kind="datetime"),
+        ):
+            with self.assertRaisesRegex(TypeError, hint):
+                call()
+        self.assertEqual(RangeSet([pair], kind="datetime64[ns]") | of_frame, of_frame)
+        intervals = pandas.arrays.IntervalArray.from_arrays(frame["start"], frame["end"], closed="left")
+        self.assertEqual((RangeSet(intervals).kind, RangeSet(pandas.Series(intervals)).kind), ("datetime64[ns]", "datetime"))
+        self.assertEqual(RangeSet(pandas.Series(intervals), kind="datetime64[ns]"), of_frame)
+
+    def test_back_to_a_frame(self):
+        day = pandas.Timestamp("2026-05-01")
+        for made in (
+            RangeSet([(0, 10), (20, 2**60 + 1)]),
+            RangeSet([(0, 10), (2**60 + 1, None)]),
+            RangeSet([(day, day + pandas.Timedelta(days=1)), (day + pandas.Timedelta(days=2), None)], kind="datetime64[ns]"),
+            RangeSet([(day.tz_localize("UTC"), None)]),
+            RangeSet([(date(2026, 5, 1), date(2026, 5, 2)), (date(2026, 5, 3), None)]),
+            RangeSet([(0.5, 1.5)]),
+            RangeSet(),
+        ):
+            frame = pandas.DataFrame(list(made), columns=["start", "end"], dtype=object)
+            self.assertEqual((list(frame.columns), len(frame)), (["start", "end"], len(made)))
+            pairs = [(start, None if pandas.isna(end) else end) for start, end in zip(frame["start"], frame["end"])]
+            self.assertEqual((RangeSet(pairs, kind=made.kind), pairs), (made, list(made)))
+        frame = pandas.DataFrame(list(made := RangeSet([(day, None)], kind="datetime64[ns]")), columns=["start", "end"])
+        self.assertEqual((frame["start"].dtype, frame["start"][0], frame["end"].isna()[0]), ("M8[ns]", day, True))
 
     def check_timestamps(self, made, frame):
         """Pandas' own times, asked of the set of a data frame's times, which are numpy's."""

@@ -6,7 +6,7 @@ from operator import index
 from typing import Any
 
 from . import _core
-from ._kinds import DELTA, FLOAT, Kind, Now, of_some
+from ._kinds import AWARE, DELTA, FLOAT, NAT, UNTOLD, Kind, Now, of_some
 from ._numbers import code_of, least, most
 
 
@@ -48,16 +48,45 @@ def codes_of_each(kind: Kind, values: Any) -> Any:
     """The numbers of the elements in an array of numpy, or in what it makes one of."""
     import numpy
 
-    found = numpy.asarray(values)
+    in_utc = times_in_utc(values, kind)
+    found = numpy.asarray(values) if in_utc is None else in_utc
     if kind.dtype is not None and found.dtype == numpy.dtype(kind.dtype):
-        if numpy.isnat(found).any():
-            raise ValueError("NaT is in no order, and no element of a set")
+        see_no_nat(found)
         return found.astype(kind.dtype).view("i8")
     elements = found.reshape(-1).tolist()
     # As which numpy has times of units that Python has no type for.
     if found.dtype.kind in "mM" and any(isinstance(it, int) for it in elements):
         raise kind.wrong_array(found.dtype)
     return numpy.array([kind.number(it) for it in elements], dtype="i8").reshape(found.shape)
+
+
+def times_in_utc(column: Any, kind: Kind | None) -> Any:
+    """A column of pandas with a time zone, as microseconds in UTC, if its times may be of the kind. None for another, for one of
+    nothing, and where a time has nanoseconds or is out of range: one by one they say which."""
+    dtype: Any = getattr(column, "dtype", None)
+    if getattr(dtype, "tz", None) is None or kind not in (None, UNTOLD, AWARE) or not len(column):
+        return None
+    import numpy
+
+    found = numpy.asarray(column, dtype=f"M8[{dtype.unit}]")
+    times = found.astype(AWARE.dtype)
+    there = ~numpy.isnat(found)
+    numbers = times[there].view("i8")
+    if (times.astype(found.dtype) != found)[there].any() or (numbers < AWARE.least).any() or (numbers > AWARE.most).any():
+        return None
+    return times
+
+
+def see_no_nat(times: Any) -> None:
+    """Refuses numpy's times if one is NaT, and says which, or in which row of a table of starts and ends."""
+    import numpy
+
+    at = numpy.flatnonzero(numpy.isnat(times))
+    if len(at):
+        if times.ndim != 2:
+            raise ValueError(f"{NAT}: it stands at {at[0]}, counted from 0")
+        wanted = "an end None says that there is none, as insert(start, None) into the set of the other rows"
+        raise ValueError(f"{NAT}: it stands in row {at[0] // 2}, counted from 0; {wanted}")
 
 
 def array_of(now: Now) -> Any:

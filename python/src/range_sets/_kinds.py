@@ -35,6 +35,7 @@ _DAY, _MICROSECOND = timedelta(days=1), timedelta(microseconds=1)
 _FIRST_DAY = date(1970, 1, 1).toordinal()
 # The numbers of 64 bits with a sign.
 _LEAST, _MOST = least(unsigned=False), most(unsigned=False)
+NAT = "NaT is in no order, and no element of a set"
 
 
 class Kind:
@@ -288,7 +289,7 @@ class Numpys(Kind):
             raise self.wrong(value)
         code = int(value.view("i8"))
         if code == _LEAST:
-            raise ValueError("NaT is in no order, and no element of a set")
+            raise ValueError(NAT)
         return code
 
     def value(self, code: int) -> Any:
@@ -488,7 +489,7 @@ def _see_no_loss(value: Any, part: str) -> None:
 
 def _see_no_nat(value: Any) -> None:
     if value != value:
-        raise ValueError("NaT is in no order, and no element of a set")
+        raise ValueError(NAT)
 
 
 def _named(value: Any) -> str:

@@ -10,7 +10,8 @@ from itertools import chain
 from typing import Any, Callable, Iterable, Union
 
 from . import _core, _ranges
-from ._kinds import DELTA, FLOAT, SIGNED, UNSIGNED, UNTOLD, Element, Kind, Now, mixed, of, of_dtype, of_some, whole
+from ._arrays import see_no_nat, times_in_utc
+from ._kinds import AWARE, DELTA, FLOAT, SIGNED, UNSIGNED, UNTOLD, Element, Kind, Now, mixed, of, of_dtype, of_some, whole
 from ._numbers import code_of, range_list
 
 # The start and the end of a range. None as a start is the least element, and as an end says that there is none.
@@ -85,7 +86,7 @@ def gather(source: Any, kind: Kind | None) -> Now:
     if isinstance(source, (range, IPv4Network, IPv6Network)) or _is_pair(source):
         source = (source,)
     elif not isinstance(source, (list, tuple)):
-        table = _table_of(source) if _has_intervals(source) else source.to_numpy() if hasattr(source, "to_numpy") else source
+        table, kind = _table_of(source, kind)
         if getattr(getattr(table, "dtype", None), "kind", "") == "O" and hasattr(table, "tolist") and not _has_mask(table):
             table = table.tolist()
         if _is_buffer(table):
@@ -163,6 +164,9 @@ def _ranges_of_buffer(items: Any, kind: Kind | None) -> Now:
 def _numbers_of(items: Any, kind: Kind | None) -> tuple[Any, Kind]:
     """The numbers of elements in a buffer or an iterable, and their kind."""
     if not _is_buffer(items):
+        times = times_in_utc(items, kind)
+        if times is not None:
+            return _numbers_of_times(times, AWARE)
         values = list(items)
         kind = kind or of_some(values) or UNTOLD
         return _array_of(values, kind), kind
@@ -206,7 +210,9 @@ def _numbers_of_floats(floats: Any, kind: Kind | None) -> tuple[Any, Kind]:
 
 
 def _has_mask(items: Any) -> bool:
-    return getattr(items, "mask", None) is not None
+    # A column of pandas has a method of that name.
+    mask = getattr(items, "mask", None)
+    return mask is not None and not callable(mask)
 
 
 def _has_times(items: Any) -> bool:
@@ -223,9 +229,8 @@ def _numbers_of_times(items: Any, kind: Kind | None) -> tuple[Any, Kind]:
     if kind is None or kind is UNTOLD:
         kind = DELTA if found.dtype == numpy.dtype(DELTA.dtype) else of_dtype(found.dtype)
     elif kind.dtype is None or numpy.dtype(kind.dtype) != found.dtype:
-        raise TypeError(f"{kind.element} each is wanted, not an array of numpy's {found.dtype.name}")
-    if numpy.isnat(found).any():
-        raise ValueError("NaT is in no order, and no element of a set")
+        raise kind.wrong_array(found.dtype)
+    see_no_nat(found)
     numbers = found.view("i8")
     for it in (numbers.min(), numbers.max()) if numbers.size else ():
         kind.within(int(it))
@@ -241,11 +246,27 @@ def _has_intervals(item: Any) -> bool:
     return True
 
 
-def _table_of(intervals: Any) -> Any:
-    """The starts and the ends of an array of intervals, or of one."""
+def _table_of(source: Any, kind: Kind | None) -> tuple[Any, Kind | None]:
+    """The starts and the ends of a data frame or of intervals side by side, or another source as it is; and their kind, if it is known."""
+    columns = _columns_of(source)
+    in_utc = [it for it in (times_in_utc(it, kind) for it in columns) if it is not None]
+    if len(in_utc) == 2:
+        columns, kind = tuple(in_utc), AWARE
+    elif not _has_intervals(source):
+        return source.to_numpy() if hasattr(source, "to_numpy") else source, kind
     import numpy
 
-    return numpy.stack([intervals.left, intervals.right], axis=-1).reshape(-1, 2)
+    return numpy.stack(columns, axis=-1).reshape(-1, 2), kind
+
+
+def _columns_of(source: Any) -> tuple[Any, ...]:
+    """The starts and the ends of intervals, or the columns of a data frame with two."""
+    if hasattr(source, "iloc") and getattr(source, "shape", ())[1:] == (2,):
+        return source.iloc[:, 0], source.iloc[:, 1]
+    # A column of intervals has such an array.
+    intervals: Any = source if _has_intervals(source) else getattr(source, "array", None)
+    closed = getattr(intervals, "closed", None)
+    return (intervals.left, intervals.right) if isinstance(closed, str) and closed == "left" else ()
 
 
 def _is_pair(source: Any) -> bool:
