@@ -62,6 +62,8 @@ class Help(unittest.TestCase):
         text = pydoc.plain(pydoc.render_doc(range_sets.RangeSet))
         self.assertTrue(text.startswith("Python Library Documentation: class RangeSet in module range_sets"))
         self.assertIn("covers(self, start: 'Any', end: 'Any' = Ellipsis)", text)
+        for name in ("Source", "Element", "OneRange", "Told"):
+            self.assertIn(f"`{name}`", text)
 
 
 if __name__ == "__main__":

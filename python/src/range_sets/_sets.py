@@ -33,6 +33,9 @@ class RangeSet(AnyRangeSet):
     times with or without a time zone, dates, `timedelta`, IPv4 addresses, or numpy's datetime64 of one unit. The first element
     or `kind=` decides the kind of a set. Two kinds don't mix, and are never equal.
 
+    In the signatures below `Source` is what a set is made of, `Element` an element, `OneRange` a pair, a `range`, a network or one
+    element, and `Told` what `kind` takes: the name of a kind as the attribute `kind` has it, or a type of Python's.
+
     >>> list(RangeSet([(0, 10), (20, None)], unsigned=True))
     [(0, 10), (20, None)]
     >>> from datetime import datetime
