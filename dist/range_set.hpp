@@ -8,11 +8,18 @@
 //     if (free.contains(16)) std::cout << "free at four\n";
 //
 // range_set owns its boundaries. range_set_view borrows them: it is cheap to copy, and takes any range_set of its type that has a
-// name. What it borrows from has to outlive it. A view of a temporary set doesn't compile, but each call takes such a set. Where
-// memory is refused std::bad_alloc is thrown, and a set that was to change is as it was. Nothing else is thrown, but by the stream
-// of a <<. std::format doesn't take sets: gcc 12 and clang 14 don't have it.
+// name. What it borrows from has to outlive it. A view of a temporary set doesn't compile, nor do its iterators, but each call
+// takes such a set, and so does a for over its ranges. Where memory is refused std::bad_alloc is thrown, and a set that was to change
+// is as it was. Nothing else is thrown, but by the stream of a <<, and std::out_of_range where a number of a wider type doesn't fit.
+// std::format doesn't take sets: gcc 12 and clang 14 don't have it.
+//
+// Several threads may ask one set at a time, and none may change it then; a chunked_range_set only one thread at a time may use.
 #ifndef RANGE_SET_HPP
 #define RANGE_SET_HPP
+
+#if __cplusplus < 201703L && (!defined(_MSVC_LANG) || _MSVC_LANG < 201703L)
+#error "range_set.hpp is for C++17 and later: compile with -std=c++17"
+#else
 
 #include "range_set.h"
 
@@ -27,6 +34,7 @@
 #include <new>
 #include <optional>
 #include <ostream>
+#include <stdexcept>
 #include <string>
 #include <string_view>
 #include <type_traits>
@@ -100,6 +108,7 @@ template <class T> struct calls_of;
         static constexpr auto is_disjoint = range_set_##number##_is_disjoint; \
         static constexpr auto is_subset = range_set_##number##_is_subset; \
         static constexpr auto equal = range_set_##number##_equal; \
+        static constexpr auto split = range_set_##number##_split; \
         static constexpr auto combine = range_set_##number##_combine; \
         static constexpr auto union_all = range_set_##number##_union_all; \
         static constexpr auto negation = range_set_##number##_negation; \
@@ -151,6 +160,41 @@ using number_of = std::conditional_t<sizeof(T) == 4, std::conditional_t<std::is_
 template <class T> struct calls : calls_of<number_of<T>> {
     static_assert(is_number<T>, "there are sets of integers of 32 and of 64 bits");
 };
+
+// The number as one of the type. An integer of another type is refused where it doesn't fit.
+template <class T, class Number> constexpr T fitting(const Number &number)
+{
+    if constexpr (std::is_integral_v<Number> && !std::is_same_v<Number, T>) {
+        const T it = static_cast<T>(number);
+        if (static_cast<Number>(it) == number && (it < T()) == (number < Number())) return it;
+        throw std::out_of_range("range_set: a number doesn't fit the type");
+    } else {
+        return number;
+    }
+}
+
+// What an iterator leads to, and the iterator that a range begins with.
+template <class Iterator> using item_of = std::decay_t<decltype(*std::declval<Iterator &>())>;
+template <class Items> using iterator_over = decltype(std::begin(std::declval<Items &>()));
+
+// Whether a set is made of such items: of ranges, or of pairs.
+template <class T, class Item, class = void> constexpr bool is_range = std::is_same_v<Item, range<T>>;
+template <class T, class Item>
+constexpr bool is_range<T, Item, std::void_t<decltype(std::declval<const Item &>().first), decltype(std::declval<const Item &>().second)>> = true;
+
+// Whether one can go twice over what an iterator goes over. Those that make what they lead to say so by C++20's concept alone.
+template <class Iterator, class = void> constexpr bool has_concept = false;
+template <class Iterator>
+constexpr bool has_concept<Iterator, std::void_t<typename Iterator::iterator_concept>> =
+    std::is_base_of_v<std::forward_iterator_tag, typename Iterator::iterator_concept>;
+template <class Iterator, class = void> constexpr bool is_multipass = has_concept<Iterator>;
+template <class Iterator>
+constexpr bool is_multipass<Iterator, std::void_t<typename std::iterator_traits<Iterator>::iterator_category>> =
+    has_concept<Iterator> || std::is_base_of_v<std::forward_iterator_tag, typename std::iterator_traits<Iterator>::iterator_category>;
+
+// Whether it is a set of either kind.
+template <class T, class Set>
+constexpr bool is_set = std::is_same_v<std::decay_t<Set>, range_set<T>> || std::is_convertible_v<std::decay_t<Set> &, range_set_view<T>>;
 
 // A set of either kind that a call takes. It may be a temporary, which lives until the call has ended.
 template <class T> struct operand {
@@ -405,9 +449,20 @@ public:
     iterator end() const noexcept { return iterator(set_, size()); }
     std::size_t size() const noexcept { return calls::ranges_len(set_); }
 
-    // The numbers from `start` to below `end` that are no members, and all that are none.
+    // The numbers from `start` to below `end` that are no members, those that are, and all that are none. The first two pass over
+    // the rest of the set by a search, as `week - busy` and `week & busy` do of a week.
     range_set<T> gaps(T start, T end) const;
+    range_set<T> ranges_within(T start, T end) const;
     range_set<T> negation() const;
+
+    // Two parts of the set's own list: one has its members below `at`, and one those from `at` on. A range that goes over `at` has no
+    // end in the first, and its start in the second.
+    std::pair<range_set_view, range_set_view> split(T at) const noexcept
+    {
+        typename calls::set below = {}, from = {};
+        calls::split(set_, at, &below, &from);
+        return {range_set_view(below), range_set_view(from)};
+    }
 
     // The least number at or above `from` that is a member, that isn't one, or nothing.
     std::optional<T> next_member(T from) const noexcept
@@ -448,7 +503,7 @@ public:
         return told(calls::first_fit(set_, start, end, count, &first), first);
     }
     // The same, but only where as many numbers of the type are below the first as a multiple of `align`: the first itself is one
-    // where the type has no sign or `align` is a power of two.
+    // where the type has no sign or `align` is a power of two. For quarters of an hour in seconds take an unsigned type.
     std::optional<T> first_fit_aligned(T start, T end, std::make_unsigned_t<T> count, std::make_unsigned_t<T> align) const noexcept
     {
         number first = start;
@@ -504,26 +559,38 @@ public:
     // The numbers in some of these ranges, each a start and an end, which is out. They may come in any order and overlap; one whose
     // end isn't above its start holds no number.
     range_set(std::initializer_list<std::pair<T, T>> ranges) : range_set(ranges.begin(), ranges.end()) {}
-    // The same of any range of pairs, as a std::vector or a std::map.
-    template <class Pairs, class = std::enable_if_t<!std::is_convertible_v<const Pairs &, range_set_view<T>>>,
-              class = decltype(std::declval<const Pairs &>().begin()->first)>
-    explicit range_set(const Pairs &pairs) : range_set(pairs.begin(), pairs.end())
+    // The same of any range of pairs or of ranges: an array, a std::vector, a std::map, a view of C++20.
+    template <class Ranges, class = std::enable_if_t<!detail::is_set<T, Ranges>>, class Iterator = detail::iterator_over<Ranges>,
+              class = std::enable_if_t<detail::is_range<T, detail::item_of<Iterator>> && detail::is_multipass<Iterator>>>
+    explicit range_set(Ranges &&ranges) : range_set(std::begin(ranges), std::end(ranges))
     {
     }
-    // The same of what stands between two iterators over pairs. It is gone over twice, so they are forward iterators or better.
-    template <class Iterator, class = decltype(std::declval<Iterator>()->first),
-              class = std::enable_if_t<std::is_base_of_v<std::forward_iterator_tag, typename std::iterator_traits<Iterator>::iterator_category>>>
-    range_set(Iterator first, Iterator last)
+    // The same of what stands between two places. It is gone over twice, so the iterators are forward ones or better. Where the
+    // second time has more, as by a filter that changes its mind, the rest is left out.
+    template <class Iterator, class End, class = decltype(std::declval<Iterator &>() != std::declval<End &>()),
+              class = std::enable_if_t<detail::is_range<T, detail::item_of<Iterator>> && detail::is_multipass<Iterator>>>
+    range_set(Iterator first, End last)
     {
-        const auto count = static_cast<std::size_t>(std::distance(first, last));
+        std::size_t count = 0;
+        for (Iterator it = first; it != last; ++it) count++;
         auto items = room_for(2 * count);
-        number *next = items.get();
-        for (; first != last; ++first) {
-            *next++ = first->first;
-            *next++ = first->second;
+        number *next = items.get(), *const after = next + 2 * count;
+        std::optional<T> open;
+        for (; next != after && first != last; ++first) {
+            const auto &it = *first;
+            if constexpr (std::is_same_v<detail::item_of<Iterator>, range<T>>) {
+                if (!it.has_end) open = open ? std::min(*open, it.start) : it.start;
+                *next++ = it.start;
+                *next++ = it.has_end ? it.end : it.start;
+            } else {
+                *next++ = detail::fitting<T>(it.first);
+                *next++ = detail::fitting<T>(it.second);
+            }
         }
+        const auto read = static_cast<std::size_t>(next - items.get()) / 2;
         typename calls::set set = {};
-        if (calls::from_ranges(items.get(), count, &set) == RANGE_SET_DONE) adopt(std::move(items), 2 * count, set.len);
+        if (calls::from_ranges(items.get(), read, &set) == RANGE_SET_DONE) keep(std::move(items), 2 * count, set.len);
+        if (open) insert_from(*open);
     }
     // A copy of a borrowed set.
     explicit range_set(range_set_view<T> view) : range_set(combine(view, range_set_view<T>(), RANGE_SET_UNION)) {}
@@ -555,22 +622,34 @@ public:
         }
         return written(room, [&](number *out, std::size_t of, auto *set) { return calls::union_all(each.get(), count, out, of, set); });
     }
+    // The numbers in each of these sets: all numbers where there is none.
+    template <class Sets> static range_set intersection_all(const Sets &sets)
+    {
+        auto it = sets.begin();
+        if (it == sets.end()) return range_set().negation();
+        range_set all = combine(*it, range_set_view<T>(), RANGE_SET_UNION);
+        for (++it; it != sets.end(); ++it) all &= *it;
+        return all;
+    }
     // The set of these numbers, as a std::vector has them, in any order, some of them more than once.
     template <class Values> static range_set from_values(const Values &values)
     {
         const auto count = static_cast<std::size_t>(std::distance(values.begin(), values.end()));
         const auto items = room_for(count);
-        std::copy(values.begin(), values.end(), items.get());
+        std::transform(values.begin(), values.end(), items.get(), [](const auto &it) { return detail::fitting<T>(it); });
         return written(2 * count, [&](number *out, std::size_t room, auto *set) { return calls::from_values(items.get(), count, out, room, set); });
     }
     static range_set from_values(std::initializer_list<T> values) { return from_values<std::initializer_list<T>>(values); }
     // The set of a text of ranges, "0..10, 20..", or nothing where it isn't one or a number doesn't fit the type. `fault`, where it
     // isn't null, is then the byte at which the text stops being one of ranges; of a number that doesn't fit it is as it was.
-    static std::optional<range_set> parse(std::string_view text, std::size_t *fault = nullptr)
+    // `status`, where it isn't null, says which: RANGE_SET_MALFORMED, RANGE_SET_OUT_OF_RANGE, or of a set RANGE_SET_DONE.
+    static std::optional<range_set> parse(std::string_view text, std::size_t *fault = nullptr, range_set_status *status = nullptr)
     {
         typename calls::set set = {};
-        const auto status = calls::parse(text.data(), text.size(), nullptr, 0, &set, fault);
-        if (status == RANGE_SET_MALFORMED || status == RANGE_SET_OUT_OF_RANGE) return std::nullopt;
+        const auto told = calls::parse(text.data(), text.size(), nullptr, 0, &set, fault);
+        const bool is_bad = told == RANGE_SET_MALFORMED || told == RANGE_SET_OUT_OF_RANGE;
+        if (status != nullptr) *status = is_bad ? told : RANGE_SET_DONE;
+        if (is_bad) return std::nullopt;
         return written(set.len, [&](number *out, std::size_t room, auto *result) { return calls::parse(text.data(), text.size(), out, room, result, fault); });
     }
     // The numbers that `keep` names of two sets, as RANGE_SET_LEFT | RANGE_SET_BOTH.
@@ -615,8 +694,10 @@ public:
     std::optional<T> select(std::uint64_t k) const noexcept { return view().select(k); }
     std::optional<range<T>> first() const noexcept { return view().first(); }
     std::optional<range<T>> last() const noexcept { return view().last(); }
-    iterator begin() const noexcept { return view().begin(); }
-    iterator end() const noexcept { return view().end(); }
+    iterator begin() const & noexcept { return view().begin(); }
+    iterator begin() const && = delete;
+    iterator end() const & noexcept { return view().end(); }
+    iterator end() const && = delete;
     std::size_t size() const noexcept { return view().size(); }
     std::optional<T> first_fit(T start, T end, std::make_unsigned_t<T> count) const noexcept { return view().first_fit(start, end, count); }
     std::optional<T> first_fit_aligned(T start, T end, std::make_unsigned_t<T> count, std::make_unsigned_t<T> align) const noexcept
@@ -626,6 +707,9 @@ public:
     std::optional<T> first_run(T start, T end, std::make_unsigned_t<T> count) const noexcept { return view().first_run(start, end, count); }
     std::string text() const { return view().text(); }
     range_set gaps(T start, T end) const { return view().gaps(start, end); }
+    range_set ranges_within(T start, T end) const { return view().ranges_within(start, end); }
+    std::pair<range_set_view<T>, range_set_view<T>> split(T at) const & noexcept { return view().split(at); }
+    std::pair<range_set_view<T>, range_set_view<T>> split(T at) const && = delete;
     range_set negation() const { return view().negation(); }
 
     // Puts the numbers from `start` to below `end` in, takes them out, where the set lies.
@@ -634,7 +718,31 @@ public:
     // The same of all numbers from `start` on.
     range_set &insert_from(T start) { return *this |= *range_set_view<T>::of(&start, 1); }
     range_set &remove_from(T start) { return *this -= *range_set_view<T>::of(&start, 1); }
+    // The same of a range, which may have no end.
+    range_set &insert(const range<T> &it) { return it.has_end ? insert(it.start, it.end) : insert_from(it.start); }
+    range_set &remove(const range<T> &it) { return it.has_end ? remove(it.start, it.end) : remove_from(it.start); }
+    // Takes all numbers out, and keeps the room for them.
     void clear() noexcept { in_.set.len = 0; }
+
+    // For how many ranges there is room; sees that there is room for so many, until which `insert` and `remove` take no memory.
+    std::size_t capacity() const noexcept { return in_.room / 2; }
+    void reserve(std::size_t ranges)
+    {
+        constexpr auto most = std::numeric_limits<std::size_t>::max();
+        const std::size_t room = ranges > most / 2 ? most : 2 * ranges;
+        if (room > in_.room) move_to(room_for(room), room);
+    }
+    // Gives back the room that the set doesn't need, if there is memory for the shorter buffer. Operators, and what makes a set, do
+    // so where it needs less than half.
+    void shrink_to_fit() noexcept
+    {
+        if (in_.set.len == in_.room) return;
+        try {
+            move_to(room_for(in_.set.len), in_.set.len);
+        } catch (const std::bad_alloc &) {
+            // It is as it was.
+        }
+    }
 
     range_set &operator|=(detail::operand<T> other) { return *this = combine(*this, other, RANGE_SET_UNION); }
     range_set &operator&=(detail::operand<T> other) { return *this = combine(*this, other, RANGE_SET_INTERSECTION); }
@@ -645,15 +753,25 @@ private:
     friend class range_set_view<T>;
     friend class chunked_range_set<T>;
 
-    using items = std::unique_ptr<number[]>;
+    using array = std::unique_ptr<number[]>;
 
-    static items room_for(std::size_t len) { return items(len > 0 ? new number[len] : nullptr); }
+    // A set keeps room for at most twice its boundaries, or for these.
+    static constexpr std::size_t least_room = 8;
 
-    void adopt(items from, std::size_t room, std::size_t len) noexcept
+    static array room_for(std::size_t len) { return array(len > 0 ? new number[len] : nullptr); }
+
+    void adopt(array from, std::size_t room, std::size_t len) noexcept
     {
         items_ = std::move(from);
         in_ = calls::buffer_of(items_.get(), room);
         in_.set.len = len;
+    }
+
+    // What stands at the front of a new buffer, which goes where most of it is unused.
+    void keep(array from, std::size_t room, std::size_t len) noexcept
+    {
+        adopt(std::move(from), room, len);
+        if (room > least_room && room > 2 * len) shrink_to_fit();
     }
 
     // What a call writes into a new buffer with room for so many boundaries, which is enough.
@@ -662,28 +780,39 @@ private:
         auto items = room_for(room);
         typename calls::set set = {};
         range_set result;
-        if (call(items.get(), room, &set) == RANGE_SET_DONE) result.adopt(std::move(items), room, set.len);
+        if (call(items.get(), room, &set) == RANGE_SET_DONE) result.keep(std::move(items), room, set.len);
         return result;
+    }
+
+    // Moves to another buffer.
+    void move_to(array more, std::size_t room) noexcept
+    {
+        std::copy_n(in_.set.boundaries, in_.set.len, more.get());
+        adopt(std::move(more), room, in_.set.len);
     }
 
     template <class Call> range_set &change(Call call, T start, T end)
     {
         if (call(&in_, start, end) != RANGE_SET_NO_ROOM) return *this;
-        const std::size_t len = in_.set.len, room = std::max<std::size_t>(8, 2 * in_.needed);
-        auto more = room_for(room);
-        std::copy_n(in_.set.boundaries, len, more.get());
-        adopt(std::move(more), room, len);
+        const std::size_t room = std::max(least_room, 2 * in_.needed);
+        move_to(room_for(room), room);
         static_cast<void>(call(&in_, start, end));
         return *this;
     }
 
-    items items_;
+    array items_;
     typename calls::buffer in_ = calls::buffer_of(nullptr, 0);
 };
 
 template <class T> range_set<T> range_set_view<T>::gaps(T start, T end) const
 {
     return range_set<T>::written(set_.len + 2, [&](number *out, std::size_t room, auto *set) { return calls::gaps(set_, start, end, out, room, set); });
+}
+
+template <class T> range_set<T> range_set_view<T>::ranges_within(T start, T end) const
+{
+    const T window[] = {start, end};
+    return *this & range_set_view::of(window, 2).value_or(range_set_view());
 }
 
 template <class T> range_set<T> range_set_view<T>::negation() const
@@ -768,6 +897,10 @@ public:
     chunked_range_set &remove(T start, T end) { return change(calls::chunked_remove, start, end); }
     chunked_range_set &insert_from(T start) { return change(calls::chunked_insert_from, start); }
     chunked_range_set &remove_from(T start) { return change(calls::chunked_remove_from, start); }
+    // The same of a range, which may have no end.
+    chunked_range_set &insert(const range<T> &it) { return it.has_end ? insert(it.start, it.end) : insert_from(it.start); }
+    chunked_range_set &remove(const range<T> &it) { return it.has_end ? remove(it.start, it.end) : remove_from(it.start); }
+    // Takes all numbers out, and gives all memory back.
     void clear() noexcept { calls::chunked_free(&set_); }
 
     bool contains(T value) const noexcept { return calls::chunked_contains(set_, value); }
@@ -786,9 +919,11 @@ public:
         return static_cast<T>(first);
     }
 
-    // The ranges, and how many there are.
-    iterator begin() const noexcept { return iterator(set_, std::numeric_limits<T>::min()); }
-    iterator end() const noexcept { return iterator(); }
+    // The ranges, and how many there are. To go over all of a large set, go over `set()`, which is much faster.
+    iterator begin() const & noexcept { return iterator(set_, std::numeric_limits<T>::min()); }
+    iterator begin() const && = delete;
+    iterator end() const & noexcept { return iterator(); }
+    iterator end() const && = delete;
     std::size_t size() const noexcept { return calls::chunked_ranges_len(set_); }
 
     // The same set as one list.
@@ -798,6 +933,12 @@ public:
             return calls::chunked_copy(set_, out, room, set);
         });
     }
+
+    // As of a range_set, which each of these makes.
+    std::optional<std::uint64_t> covered() const { return set().covered(); }
+    friend bool operator==(const chunked_range_set &a, const chunked_range_set &b) { return a.size() == b.size() && a.set() == b.set(); }
+    friend bool operator!=(const chunked_range_set &a, const chunked_range_set &b) { return !(a == b); }
+    friend std::ostream &operator<<(std::ostream &out, const chunked_range_set &a) { return out << a.set(); }
 
 private:
     static void made(range_set_status status)
@@ -840,4 +981,5 @@ template <class T> inline constexpr bool std::ranges::enable_view<range_sets::ra
 template <class T> inline constexpr bool std::ranges::enable_borrowed_range<range_sets::range_set_view<T>> = true;
 #endif
 
+#endif
 #endif
