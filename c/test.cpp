@@ -2,6 +2,7 @@
 #include "range_set.hpp"
 
 #include <algorithm>
+#include <cstddef>
 #include <cstdio>
 #include <cstdlib>
 #include <iterator>
@@ -26,7 +27,9 @@ static long left = -1;
 
 [[gnu::noinline]] void *operator new(std::size_t size)
 {
-    void *const memory = left == 0 ? nullptr : std::malloc(size > 0 ? size : 1);
+    // The malloc of a sanitizer ends the process where more is asked for than there can be.
+    const bool refused = left == 0 || size > std::size_t(std::numeric_limits<std::ptrdiff_t>::max());
+    void *const memory = refused ? nullptr : std::malloc(size > 0 ? size : 1);
     if (memory == nullptr) throw std::bad_alloc();
     if (left > 0) left--;
     return memory;
