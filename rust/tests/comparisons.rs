@@ -1,6 +1,6 @@
 //! How many comparisons calls make: what the pages say of it.
 
-use range_sets::{RangeSet, RangeSet2};
+use range_sets::{ChunkedRangeSet, RangeSet, RangeSet2};
 use std::cell::Cell;
 use std::cmp::Ordering;
 
@@ -213,4 +213,37 @@ fn sorted_and_unsorted_ranges() {
     let per_range = 2 * digits(2 * n) + 8;
     assert!(count(|| sorted().collect::<RangeSet2<Counted>>()) <= n * per_range);
     assert!(count(|| sorted().rev().collect::<RangeSet2<Counted>>()) <= n * 4 * digits(2 * n));
+}
+
+#[test]
+fn a_range_near_one_boundary_of_a_set_in_chunks_is_searched_once() {
+    let n = 2000;
+    let mut chunked = ChunkedRangeSet::new();
+    for i in 0..n {
+        chunked.insert(Counted(10 * i)..Counted(10 * i + 5));
+    }
+    let a_search = digits(2 * n as usize / 128 + 1) + 10;
+    let rows = [
+        ("put between two", 6, 8, true),
+        ("put at the end of one", 5, 8, true),
+        ("put from one to the next", 5, 10, true),
+        ("put behind all", 10 * n, 10 * n + 1, true),
+        ("taken out", 0, 5, false),
+        ("taken out of one", 1, 4, false),
+    ];
+    for (name, from, to, put) in rows {
+        let places = (0..n).step_by(5);
+        let all = places.len();
+        let made: usize = places
+            .map(|i| {
+                let range = Counted(10 * i + from)..Counted(10 * i + to);
+                let mut changed = chunked.clone();
+                count(|| match put {
+                    true => changed.insert(range),
+                    false => changed.remove(range),
+                })
+            })
+            .sum();
+        assert!(made <= all * (a_search + 2), "{name}: {made} comparisons");
+    }
 }

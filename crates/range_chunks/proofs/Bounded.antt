@@ -1,13 +1,13 @@
 -- What is remembered of gaps stays true of a set that takes more values, and of one that frees some
 -- outside.
-use Rattle.std.proofs.Common.{◌≡◌, refl, sym, ap, ap₂, ◌∙◌, subst, ℕ, inl, inr, ◌<◌, ◌≤◌, ◌+◌, ◌-◌, Bool, true, false, not, ◌&&◌, ◌||◌, Option, Some, None, IfSome, List, [], ◌∷◌, filter, take, drop, cond, nat_le, nat_lt, All, arith}
+use Rattle.std.proofs.Common.{◌≡◌, refl, sym, ap, ap₂, ◌∙◌, subst, ℕ, inl, inr, ◌<◌, ◌≤◌, ◌+◌, Bool, true, false, not, ◌&&◌, ◌||◌, List, [], ◌∷◌, filter, take, drop, cond, nat_le, nat_lt, All, arith}
 use Rattle.std.specs.Cmp.{IsTotalOrder, ranks}
 use Rattle.std.specs.List.{insert}
 use Rattle.std.specs.Prelude.{Result, Ok, Err, OnOk, OnErr}
 use Rattle.std.specs.declared.alloc.AllocError.{AllocError}
 use Rattle.std.specs.Ordering.{is_le, is_lt, nat_cmp}
 use Rattle.std.specs.declared.cmp.Ordering.{Ordering}
-use Rattle.std.specs.declared.cmp.Ordering.TheVariants.{Less, Equal, Greater}
+use Rattle.std.specs.declared.cmp.Ordering.TheVariants.{Equal}
 use Rattle.std.proofs.lemmas.Bool.{cases_lt, true≢false}
 use Rattle.std.proofs.lemmas.Bool.Decides.{nat_tests}
 use Rattle.std.proofs.lemmas.Cmp.{by_ranked, alike_right, nat_cmp_total}
@@ -17,7 +17,7 @@ use Rattle.range_merge.specs.Connective.{differ}
 use Rattle.range_merge.proofs.Orders.{Equal-self}
 use Rattle.range_merge.proofs.Members.{member-cons, member-nil}
 use Rattle.range_collections.specs.Fits.{IsRow}
-use Rattle.range_collections.proofs.Counted.{le-value, Greater-value}
+use Rattle.range_collections.proofs.Counted.{Greater-value}
 use Rattle.range_chunks.specs.Bounds.{IsBound, IsPast, is_apart}
 use Rattle.range_chunks.specs.declared.gap_bound.GapBound.{GapBound}
 

@@ -1,5 +1,6 @@
 -- A range set by a splice between two cuts, as a change by a range.
-use Rattle.std.proofs.Common.{◌≡◌, ◌≢◌, refl, sym, ap, ◌∙◌, subst, ⊎_elim, ℕ, ◌≤◌, Option, Some, None, Bool, true, false, List, [], ◌∷◌, length, arith, All, true≢false, Result, Ok, OnOk, OnErr, IsOk}
+use Rattle.std.proofs.Common.{◌≡◌, ◌≢◌, refl, sym, ap, ◌∙◌, subst, ⊎_elim, ℕ, ◌+◌, ◌<◌, ◌≤◌, Option, Some, None, Bool, true, false, List, [], ◌∷◌, length, get_or, arith, All, HoldsAt, true≢false, Result, Ok, Err, OnOk, OnErr, IsOk, IfOk, IfErr, MatchResult}
+use Rattle.std.specs.List.{AllWithin}
 use Rattle.std.specs.Cmp.{IsTotalOrder}
 use Rattle.std.specs.Ordering.{is_lt}
 use Rattle.std.proofs.lemmas.Result.{on_ok_weaker, on_err_weaker}
@@ -10,7 +11,14 @@ use Rattle.range_merge.specs.Boundaries.{IsAscending}
 use Rattle.range_collections.specs.Insertion.{IsChangedByRange}
 use Rattle.range_collections.specs.Ranges.{range_items}
 use Rattle.range_collections.specs.Splicing.{range_table, spliced, IsCut}
+use Rattle.std.proofs.lemmas.List.{get_or_default}
 use Rattle.std.proofs.lemmas.List.Elements.{All-nil, All-cons}
+use Rattle.range_merge.proofs.Fronts.{below_through}
+use Rattle.range_merge.proofs.Orders.{Less-from_equal, Less-trans}
+use Rattle.range_chunks.specs.declared.chunk.Chunk.{Chunk}
+use Rattle.range_chunks.specs.declared.place.Place.{Place}
+use Rattle.range_chunks.specs.Chunks.{flat}
+use Rattle.range_chunks.specs.Places.{place_in}
 use Rattle.range_collections.proofs.Ascending.{IsAscending-nil}
 use Rattle.range_collections.proofs.Insertion.{IsAscending-spliced, Means-spliced, length-meant, AreOwnElseOf-spliced, Means-no_range, AreOwnElseOf-unchanged, IsAscending-answer, not_less-from_no_items}
 
@@ -92,3 +100,20 @@ module _ {K : Type 0} {order : K → K → Ordering} (o : IsTotalOrder order) (i
 
   pub ascending-none : (a : List K) → a ≡ [] → IsAscending order a
   ascending-none a none = subst (λ b. IsAscending order b) (sym none) (IsAscending-nil order)
+
+-- ---- two ends in order
+
+module _ {K : Type 0} {order : K → K → Ordering} (o : IsTotalOrder order) (xs : List (Chunk K)) (start end : K) (up : IsAscending order (flat xs)) (less : order start end ≡ Less) where
+  -- what stands before the place above the start is below the end
+  pub below-above : (found : Result Place Place) (above : Place) →
+      MatchResult found (λ p. place_in xs above ≡ place_in xs p + 1) (λ p. above ≡ p) →
+      IfOk found (λ p. place_in xs p < length (flat xs)) →
+      IfOk found (λ p. HoldsAt (λ y. order y start ≡ Equal) (flat xs) (place_in xs p)) →
+      IfErr found (λ p. AllWithin (λ y. order y start ≡ Less) (flat xs) 0 (place_in xs p)) →
+      AllWithin (λ y. order y end ≡ Less) (flat xs) 0 (place_in xs above)
+  below-above (Ok p) above next within equal before k d low high =
+      let at : K = get_or (flat xs) (place_in xs p) start in
+      below_through order o (flat xs) end up (place_in xs p) at within (get_or_default (flat xs) (place_in xs p) start at within)
+      (Less-from_equal o at start end (equal start) less) k d low (omega (arith, high, next))
+  below-above (Err p) above same within equal before k d low high =
+      Less-trans o (get_or (flat xs) k d) start end (before k d low (omega (arith, high, ap (λ (q : Place). place_in xs q) same))) less

@@ -8,11 +8,31 @@ use Rattle.std.proofs.lemmas.List.{length-append, get_or_default, get_or-append-
 use Rattle.std.specs.declared.cmp.Ordering.{Ordering}
 use Rattle.std.specs.declared.cmp.Ordering.TheVariants.{Less, Equal, Greater}
 use Rattle.range_merge.specs.Boundaries.{IsAscending}
+use Rattle.range_merge.specs.Runs.{digits}
+use Rattle.range_merge.proofs.Digits.{digits-pow, digits-zero, digits-double_and_one}
 use Rattle.range_merge.proofs.Fronts.{below_through, above_from}
 use Rattle.range_chunks.specs.declared.chunk.Chunk.{Chunk}
 use Rattle.range_chunks.specs.Chunks.{items_of, flat, start_of}
 use Rattle.range_chunks.specs.Places.{firsts}
 use Rattle.range_chunks.proofs.Flat.{start-within, start-next, start-mono, item-at}
+
+-- a chunk's rest has fewer digits than 512
+pub digits-rest : digits 511 + 1 ≤ digits 512
+digits-rest =
+    omega (
+      arith,
+      digits-pow 9 512 (omega arith),
+      digits-double_and_one 255,
+      digits-double_and_one 127,
+      digits-double_and_one 63,
+      digits-double_and_one 31,
+      digits-double_and_one 15,
+      digits-double_and_one 7,
+      digits-double_and_one 3,
+      digits-double_and_one 1,
+      digits-double_and_one 0,
+      digits-zero,
+    )
 
 module _ {T : Type 0} where
   pub length-firsts : (xs : List (Chunk T)) → length (firsts xs) ≡ length xs

@@ -14,7 +14,7 @@ use Rattle.range_chunks.specs.declared.place.Place.{Place}
 use Rattle.range_chunks.specs.Chunks.{items_of, flat, start_of}
 use Rattle.range_chunks.specs.Places.{place_in, IsPlace, IsItem, HasPlacesOf}
 use Rattle.range_chunks.proofs.Flat.{flat-at, flat-set, start-within, start-next, start-mono, item-at}
-use Rattle.range_chunks.proofs.Found.{read-again, start-less_end}
+use Rattle.range_chunks.proofs.Found.{read-again}
 
 module _ {T : Type 0} where
   pub index-at : (xs : List (Chunk T)) (p : Place) (x : Chunk T) → IsPlace xs p → x ≡ get_or xs p.chunk x → p.index ≤ length (items_of x)
@@ -64,17 +64,6 @@ module _ {T : Type 0} where
   at-end xs p x here read end =
       let one : p.chunk + 1 ≡ suc p.chunk = omega arith in
       omega (arith, start-next xs p.chunk x here.chunk read, index-at xs p x here read, ap (λ n. start_of xs n) one)
-
-  -- behind a chunk's end is the first boundary of the next one
-  pub next-item : (xs : List (Chunk T)) (p : Place) (x y : Chunk T) (v : T) → IsPlace xs p → x ≡ get_or xs p.chunk x → length (items_of x) ≤ p.index →
-      p.chunk + 1 < length xs → y ≡ get_or xs (p.chunk + 1) y → ((d : T) → v ≡ get_or (items_of y) 0 d) →
-      (place_in xs p < length (flat xs)) × ((d : T) → v ≡ get_or (flat xs) (place_in xs p) d)
-  next-item xs p x y v here read end there next first =
-      let e : place_in xs p ≡ start_of xs (p.chunk + 1) = at-end xs p x here read end in
-      let none : start_of xs (p.chunk + 1) + 0 ≡ place_in xs p = omega (arith, e) in (
-        omega (arith, e, start-less_end xs (p.chunk + 1) there),
-        λ d. first d ∙ sym (item-at xs (p.chunk + 1) 0 y d there next (omega arith)) ∙ ap (λ n. get_or (flat xs) n d) none,
-      )
 
   -- a boundary at a place
   pub item-here : (xs : List (Chunk T)) (p : Place) (x : Chunk T) (v : T) → IsPlace xs p → x ≡ get_or xs p.chunk x → p.index < length (items_of x) →

@@ -1,5 +1,5 @@
 -- A walk through gaps, of which those that are read are too short.
-use Rattle.std.proofs.Common.{◌≡◌, refl, sym, ap, subst, ℕ, inl, inr, ◌<◌, ◌≤◌, ◌+◌, ◌-◌, ◌%◌, suc, ◌&&◌, ◌∙◌, true, false, not, cond, List, [], ◌∷◌, Option, Some, None, IfNone, arith}
+use Rattle.std.proofs.Common.{◌≡◌, refl, sym, subst, ℕ, inl, inr, ◌<◌, ◌≤◌, ◌+◌, ◌-◌, suc, ◌&&◌, ◌∙◌, true, false, not, cond, List, [], ◌∷◌, Option, Some, None, IfNone, arith}
 use Rattle.std.specs.Cmp.{IsTotalOrder, ranks}
 use Rattle.std.proofs.lemmas.Cmp.{by_ranked}
 use Rattle.std.specs.Ordering.{is_le, is_lt, nat_cmp, ord_max}

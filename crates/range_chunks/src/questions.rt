@@ -9,7 +9,7 @@ ghost use Rattle.range_merge.specs.Runs.{digits};
 ghost use Rattle.range_collections.specs.Extent.{HasAllWithin, IsNext};
 ghost use Rattle.range_collections.specs.Intersects.{HasMemberWithin, IsItemBelow};
 ghost use Rattle.range_chunks.specs.Chunks.{flat, AreShort, AreChunks};
-ghost use Rattle.range_chunks.specs.Places.{place_in, IsPlace};
+ghost use Rattle.range_chunks.specs.Places.{place_in, IsPlace, IsItem};
 
 use crate::chunk::Chunk;
 use crate::cutting::{is_inside, place_after};
@@ -166,10 +166,28 @@ pub fn item_at<'a, T>(chunks: &'a [Chunk<T>], at: Place) -> Option<&'a T>
         (λ x. (place_in chunks.now at < length (flat chunks.now)) ×
         HoldsAt (λ y. x.now ≡ y) (flat chunks.now) (place_in chunks.now at)) }
 {
-    let chunk = &chunks[at.chunk];
-    if at.index < chunk.len() {
-        return Some(chunk.at(at.index));
+    let at = settled(chunks, at)?;
+    Some(chunks[at.chunk].at(at.index))
+}
+
+/// The place as that of a boundary, if it isn't the end: a chunk's end is the start of the next one.
+#[inline(always)]
+pub fn settled<T>(chunks: &[Chunk<T>], at: Place) -> Option<Place>
+    requires short { AreShort chunks.now }
+    requires place { IsPlace chunks.now at }
+    ensures end { IfNone result (length (flat chunks.now) ≤ place_in chunks.now at) }
+    ensures place { IfSome result (IsPlace chunks.now) }
+    ensures item { IfSome result (IsItem chunks.now) }
+    ensures same { IfSome result (λ p. place_in chunks.now p ≡ place_in chunks.now at) }
+{
+    if at.index < chunks[at.chunk].len() {
+        return Some(at);
     }
-    let next = chunks.get(at.chunk + 1)?;
-    Some(next.at(0))
+    if at.chunk + 1 < chunks.len() {
+        return Some(Place {
+            chunk: at.chunk + 1,
+            index: 0,
+        });
+    }
+    None
 }

@@ -30,7 +30,7 @@ pub fn find<T, C: Compare<T>>(chunks: &[Chunk<T>], key: &T, cmp: &mut C) -> Resu
     ensures missing_from { IfErr result (λ p. AllWithin (λ y. C.order y key.now ≡ Greater)
         (flat chunks.now) (place_in chunks.now p) (length (flat chunks.now))) }
     ensures comparisons { AddsAtMost (C.count cmp.old) (C.count cmp.new)
-        (digits (length chunks.now) + digits 512) }
+        (digits (length chunks.now) + digits 511) }
 {
     match find_chunk(chunks, key, cmp) {
         Ok(chunk) => Ok(Place { chunk, index: 0 }),
@@ -93,7 +93,7 @@ fn find_behind<T, C: Compare<T>>(
         AllWithin (λ y. C.order y key.now ≡ Less) (flat chunks.now) 0 (place_in chunks.now p)) }
     ensures missing_from { IfErr result (λ p. AllWithin (λ y. C.order y key.now ≡ Greater)
         (flat chunks.now) (place_in chunks.now p) (length (flat chunks.now))) }
-    ensures comparisons { AddsAtMost (C.count cmp.old) (C.count cmp.new) (digits 512) }
+    ensures comparisons { AddsAtMost (C.count cmp.old) (C.count cmp.new) (digits 511) }
 {
     match search(chunks[chunk].rest.as_slice(), key, cmp) {
         Ok(i) => Ok(Place {

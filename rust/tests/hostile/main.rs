@@ -8,6 +8,7 @@ mod chunked;
 #[path = "../common/mod.rs"]
 mod common;
 mod element;
+mod made_up;
 mod map;
 mod plain;
 

@@ -5,11 +5,13 @@
 use crate::generated::range_chunks::chunk::Chunk;
 use crate::generated::range_chunks::inserting::push_first;
 use crate::generated::range_chunks::place::Place;
+use crate::generated::range_chunks::questions::settled;
 use crate::generated::range_chunks::searching::find;
 use crate::generated::range_chunks::splicing::splice;
 use crate::generated::range_collections::Comparisons;
 use crate::generated::range_merge::Compare;
 use crate::support::{AllocError, Vec};
+use core::cmp::Ordering;
 use core::ops::Range;
 
 /// Leaves the boundaries of the same members, but that the elements of the range are members where
@@ -54,8 +56,12 @@ fn set_between<T: Ord>(
     inside: bool,
     count: &mut Comparisons,
 ) -> Result<(), AllocError> {
-    let (from, start) = cut_at(chunks.as_slice(), start, inside, count);
-    let (to, end) = cut_at(chunks.as_slice(), end, inside, count);
+    let list = chunks.as_slice();
+    let found = find(list, &start, count);
+    let above = place_above(list, found);
+    let (from, start) = cut(list, found, start, inside);
+    let found = find_from(list, above, &end, count);
+    let (to, end) = cut(list, found, end, inside);
     splice(chunks, from, to, start, end)
 }
 
@@ -94,11 +100,49 @@ pub(crate) fn cut_at<T: Ord>(
     inside: bool,
     count: &mut Comparisons,
 ) -> (Place, Option<T>) {
-    match find(chunks, &at, count) {
+    let found = find(chunks, &at, count);
+    cut(chunks, found, at, inside)
+}
+
+// The same, where the element was found or would go.
+fn cut<T: Ord>(
+    chunks: &[Chunk<T>],
+    found: Result<Place, Place>,
+    at: T,
+    inside: bool,
+) -> (Place, Option<T>) {
+    match found {
         Ok(p) if is_inside(chunks, p) == inside => (p, None),
         Ok(p) => (place_after(chunks, p), None),
         Err(p) if is_inside(chunks, p) == inside => (p, None),
         Err(p) => (p, Some(at)),
+    }
+}
+
+// The place above an element that was found or would go there.
+fn place_above<T>(chunks: &[Chunk<T>], found: Result<Place, Place>) -> Place {
+    match found {
+        Ok(p) => place_after(chunks, p),
+        Err(p) => p,
+    }
+}
+
+// `find` for a key above all boundaries that stand before a place. Mostly none lies between the
+// two, and then it searches nothing.
+fn find_from<T, C: Compare<T>>(
+    chunks: &[Chunk<T>],
+    from: Place,
+    key: &T,
+    cmp: &mut C,
+) -> Result<Place, Place> {
+    let next = match settled(chunks, from) {
+        Some(next) => next,
+        _ => return Err(from),
+    };
+    match cmp.compare(chunks[next.chunk].at(next.index), key) {
+        Ordering::Less => find(chunks, key, cmp),
+        Ordering::Equal => Ok(next),
+        Ordering::Greater => Err(from),
     }
 }
 

@@ -196,10 +196,32 @@ fn is_item_below<T: Ord>(chunks: &[Chunk<T>], at: Place, end: &T) -> bool {
 ///     chunks.now) (place_in chunks.now at))
 /// ```
 pub(crate) fn item_at<'a, T>(chunks: &'a [Chunk<T>], at: Place) -> Option<&'a T> {
-    let chunk = &chunks[at.chunk];
-    if at.index < chunk.len() {
-        return Some(chunk.at(at.index));
+    let at = settled(chunks, at)?;
+    Some(chunks[at.chunk].at(at.index))
+}
+
+/// The place as that of a boundary, if it isn't the end: a chunk's end is the start of the next one.
+///
+/// # Contract
+///
+/// ```text
+/// requires short: AreShort chunks.now
+/// requires place: IsPlace chunks.now at
+/// ensures end: IfNone result (length (flat chunks.now) ≤ place_in chunks.now at)
+/// ensures place: IfSome result (IsPlace chunks.now)
+/// ensures item: IfSome result (IsItem chunks.now)
+/// ensures same: IfSome result (λ p. place_in chunks.now p ≡ place_in chunks.now at)
+/// ```
+#[inline(always)]
+pub(crate) fn settled<T>(chunks: &[Chunk<T>], at: Place) -> Option<Place> {
+    if at.index < chunks[at.chunk].len() {
+        return Some(at);
     }
-    let next = chunks.get(at.chunk + 1)?;
-    Some(next.at(0))
+    if at.chunk + 1 < chunks.len() {
+        return Some(Place {
+            chunk: at.chunk + 1,
+            index: 0,
+        });
+    }
+    None
 }

@@ -25,7 +25,7 @@ use core::cmp::Ordering;
 /// ensures missing_from: IfErr result (λ p. AllWithin (λ y. C.order y key.now ≡ Greater) (flat
 ///     chunks.now) (place_in chunks.now p) (length (flat chunks.now)))
 /// ensures comparisons: AddsAtMost (C.count cmp.old) (C.count cmp.new) (digits (length
-///     chunks.now) + digits 512)
+///     chunks.now) + digits 511)
 /// ```
 #[inline]
 pub(crate) fn find<T, C: Compare<T>>(

@@ -42,8 +42,9 @@ use core::ops::{Range, RangeFrom};
 ///
 /// Among `c` chunks a search makes at most `d(c) + 10` comparisons, where `d` counts binary digits.
 /// `contains`, `range_at`, `next_member`, `next_gap` and calls with a range without an end search
-/// once, those with a range at most twice, after one comparison of its ends. Calls with a counter,
-/// as `insert_counted`, promise it of the number of boundaries in the place of `c`.
+/// once, those with a range at most twice, after one comparison of its ends. A change searches once
+/// if no boundary lies between its ends. Calls with a counter, as `insert_counted`, promise it of
+/// the number of boundaries in the place of `c`.
 pub struct ChunkedRangeSet<T: Ord> {
     pub(crate) chunks: Vec<Chunk<T>>,
 }

@@ -1,4 +1,4 @@
-use Rattle.std.proofs.Common.{◌≡◌, ◌∙◌, ap, sym, subst, Some, None, ◌+◌, ◌-◌, ◌<◌, ◌≤◌, length, take, rules, arith}
+use Rattle.std.proofs.Common.{◌≡◌, ◌∙◌, ap, sym, subst, Some, None, length, take, rules, arith}
 use Rattle.std.proofs.Common.{option_copied}
 use Rattle.range_collections.specs.Covered.{members_below}
 use Rattle.range_collections.proofs.Counted.{members_below-nil}

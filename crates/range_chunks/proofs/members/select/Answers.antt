@@ -1,4 +1,4 @@
-use Rattle.std.proofs.Common.{◌≡◌, refl, sym, ap, ◌∙◌, true, ◌+◌, ◌-◌, ◌<◌, ◌≤◌, length, take, drop, arith}
+use Rattle.std.proofs.Common.{◌≡◌, sym, ap, ◌∙◌, true, ◌+◌, ◌-◌, ◌<◌, length, take, drop, arith}
 use Rattle.range_merge.specs.Boundaries.{member}
 use Rattle.range_collections.specs.Covered.{members_below}
 use Rattle.range_collections.proofs.Counted.{members_below-nil, Less-pair, members_below-step}

@@ -1,4 +1,4 @@
-use Rattle.std.proofs.Common.{◌≡◌, ◌%◌, arith}
+use Rattle.std.proofs.Common.{arith}
 use Rattle.range_collections.proofs.Points.{even-from_test}
 use Rattle.range_collections.proofs.Ranked.{odd-parity}
 use Rattle.range_chunks.specs.Places.{place_in}

@@ -3,6 +3,7 @@ use Rattle.std.specs.Ordering.{is_le}
 use Rattle.range_collections.proofs.Cut.{le_found, after_found}
 use Rattle.range_chunks.specs.Chunks.{flat}
 use Rattle.range_chunks.specs.Places.{place_in}
+use Rattle.range_chunks.proofs.Found.{digits-rest}
 use Rattle.range_chunks.proofs.InOrder.{place-within}
 use Rattle.range_chunks.proofs.questions.place_up_to.Goals as goal
 
@@ -24,3 +25,15 @@ returns-in-Err-clause-within g c = place-within c.args.chunks.now c.in-Err.place
 
 pub returns-in-Err-clause-before : goal.returns-in-Err-clause-before
 returns-in-Err-clause-before g c = λ k d low high. ap is_le (c.in-Err.ensures.missing_before k d low high)
+
+pub returns-in-Ok-clause-comparisons : goal.returns-in-Ok-clause-comparisons
+returns-in-Ok-clause-comparisons g c = record {
+  at_least = c.in-Ok.ensures.comparisons.at_least;
+  at_most = omega (arith, c.in-Ok.ensures.comparisons.at_most, digits-rest);
+}
+
+pub returns-in-Err-clause-comparisons : goal.returns-in-Err-clause-comparisons
+returns-in-Err-clause-comparisons g c = record {
+  at_least = c.in-Err.ensures.comparisons.at_least;
+  at_most = omega (arith, c.in-Err.ensures.comparisons.at_most, digits-rest);
+}

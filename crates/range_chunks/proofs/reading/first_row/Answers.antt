@@ -1,4 +1,4 @@
-use Rattle.std.proofs.Common.{◌≡◌, sym, subst, arith}
+use Rattle.std.proofs.Common.{subst, arith}
 use Rattle.range_merge.specs.Boundaries.{IsAscending}
 use Rattle.range_collections.proofs.Fitted.{two-from_range, nil-from_ranges}
 use Rattle.range_chunks.proofs.Walked.{IsWalked, IsFirstRow-found, IsWalked-next, IsStopped-here, none-walked, greater}

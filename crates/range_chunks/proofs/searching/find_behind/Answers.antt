@@ -26,10 +26,10 @@ returns-in-Ok-clause-found g c =
 pub returns-in-Ok-clause-comparisons : goal.returns-in-Ok-clause-comparisons
 returns-in-Ok-clause-comparisons g c =
     let short = c.requires.short c.args.chunk c.index-chunks-chunk.result c.requires.within in
-    let n : length c.as_slice.result.now ≤ 512 = omega (arith, short, ap length c.as_slice.ensures.value) in
+    let n : length c.as_slice.result.now ≤ 511 = omega (arith, short, ap length c.as_slice.ensures.value) in
     record {
       at_least = c.in-Ok.ensures.comparisons.at_least;
-      at_most = omega (arith, c.in-Ok.ensures.comparisons.at_most, digits-mono (length c.as_slice.result.now) 512 n);
+      at_most = omega (arith, c.in-Ok.ensures.comparisons.at_most, digits-mono (length c.as_slice.result.now) 511 n);
     }
 
 pub returns-in-Err-clause-missing_before : goal.returns-in-Err-clause-missing_before
@@ -45,8 +45,8 @@ returns-in-Err-clause-missing_from g c =
 pub returns-in-Err-clause-comparisons : goal.returns-in-Err-clause-comparisons
 returns-in-Err-clause-comparisons g c =
     let short = c.requires.short c.args.chunk c.index-chunks-chunk.result c.requires.within in
-    let n : length c.as_slice.result.now ≤ 512 = omega (arith, short, ap length c.as_slice.ensures.value) in
+    let n : length c.as_slice.result.now ≤ 511 = omega (arith, short, ap length c.as_slice.ensures.value) in
     record {
       at_least = c.in-Err.ensures.comparisons.at_least;
-      at_most = omega (arith, c.in-Err.ensures.comparisons.at_most, digits-mono (length c.as_slice.result.now) 512 n);
+      at_most = omega (arith, c.in-Err.ensures.comparisons.at_most, digits-mono (length c.as_slice.result.now) 511 n);
     }

@@ -1,4 +1,4 @@
-use Rattle.std.proofs.Common.{subst, List}
+use Rattle.std.proofs.Common.{subst}
 use Rattle.range_merge.specs.Boundaries.{IsAscending}
 use Rattle.range_collections.proofs.Ascending.{IsAscending-tail}
 use Rattle.range_chunks.specs.Chunks.{flat}

@@ -1,4 +1,4 @@
-use Rattle.std.proofs.Common.{◌≡◌, ◌∙◌, ◌<◌, ap, sym, length, get_or, rules, arith}
+use Rattle.std.proofs.Common.{◌≡◌, ◌∙◌, ◌<◌, ap, sym, length, get_or, rules}
 use Rattle.std.proofs.lemmas.List.{get_or_default}
 use Rattle.range_chunks.specs.declared.chunk.Chunk.{Chunk}
 use Rattle.range_chunks.proofs.Popped.{KnowParity-none, first_alone-parity, first_out-parity}

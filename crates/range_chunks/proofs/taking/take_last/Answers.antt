@@ -1,4 +1,4 @@
-use Rattle.std.proofs.Common.{◌≡◌, ◌∷◌, ap, refl, suc, length, rules, arith}
+use Rattle.std.proofs.Common.{◌≡◌, ◌∷◌, ap, refl, suc, length, arith}
 use Rattle.range_chunks.proofs.Popped.{last_out-flat, last_out-AreChunks, last_emptied-AreChunks}
 use Rattle.range_chunks.proofs.taking.take_last.Goals as goal
 

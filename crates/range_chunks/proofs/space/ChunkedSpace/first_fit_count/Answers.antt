@@ -1,4 +1,4 @@
-use Rattle.std.proofs.Common.{◌∙◌, sym, subst, refl, false, arith}
+use Rattle.std.proofs.Common.{◌∙◌, sym, subst, false, arith}
 use Rattle.range_collections.specs.Fits.{IsRow}
 use Rattle.range_chunks.proofs.Walked.{widened, narrowed}
 use Rattle.range_chunks.proofs.space.ChunkedSpace.first_fit_count.Goals as goal
