@@ -266,6 +266,19 @@ def greatest(page, check):
         for row in ("sets-a", "sets-result"):
             check.same(f"{row} of {text!r}", [it.text for it in page.all(f"#{row}-boundaries .chip")], boundaries_of)
             check.same(f"{row} of {text!r}: its dots", [len(page.dots(row)), len(page.all(f"#{row}-row .arrow"))], [len(boundaries_of), 1])
+    for text in ("18446744073709551615..", "5..18446744073709551615"):
+        page.open()
+        page.type("sets-a", text)
+        page.focus(page.all("#sets-a-boundaries .chip")[-1])
+        page.press(Keys.ARROW_RIGHT)
+        check.same(f"no boundary of {text!r} goes above the greatest", page.id("sets-a").get_property("value"), text)
+    page.type("sets-a", "18446744073709551614..18446744073709551615")
+    page.focus(page.line("sets-a"))
+    page.press(Keys.END)
+    page.press(Keys.DELETE)
+    page.press(Keys.SHIFT, Keys.PAGE_UP)
+    page.press(Keys.ENTER)
+    check.same("no selection goes above the greatest", page.id("sets-a").get_property("value"), "18446744073709551614..18446744073709551615")
 
 
 def windows(page, check):

@@ -3,6 +3,7 @@
 // The list of a set's boundaries, beside its picture.
 {
     const { element, grouped } = Daleribbon.tools;
+    const { LAST, clamp } = Daleribbon;
     const MOST = 48;
 
     /**
@@ -89,7 +90,7 @@
                 return;
             }
             event.preventDefault();
-            const to = value + distance < 0n ? 0n : value + distance;
+            const to = clamp(value + distance, 0n, LAST);
             this.moved = to;
             this.onMove(value, to);
             this.moved = undefined;

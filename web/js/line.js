@@ -4,7 +4,7 @@
 // starts, an open one where it ends, an arrow if it has no end.
 {
     const { shape, counted } = Daleribbon.tools;
-    const { MARGIN } = Daleribbon;
+    const { MARGIN, clamp } = Daleribbon;
 
     const HEIGHT = 88;
     const RIBBON = 34;
@@ -342,8 +342,7 @@
 
         /** Moves the probe by a distance; if that selects, the selection grows with it. */
         step(distance, selects) {
-            const to = this.probe + distance;
-            const value = to < 0n ? 0n : to;
+            const value = clamp(this.probe + distance, 0n, this.scale.last);
             if (selects && this.editable) {
                 this.anchor = this.selection === null ? this.probe : this.anchor;
                 this.selection = value < this.anchor ? { start: value, end: this.anchor } : { start: this.anchor, end: value };

@@ -93,7 +93,5 @@
         }
     }
 
-    Daleribbon.Scale = Scale;
-    Daleribbon.LAST = LAST;
-    Daleribbon.MARGIN = MARGIN;
+    Object.assign(Daleribbon, { Scale, LAST, MARGIN, clamp });
 }
