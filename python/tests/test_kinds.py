@@ -279,6 +279,10 @@ class EachKind(unittest.TestCase):
             made.discard(elements[-1])
             made.discard(elements[0])
             self.assertEqual([*made.members()], [elements[2]])
+            for it in elements:
+                made.clear()
+                made.add(it)
+                self.assertEqual((bool(made), len(made), [*made.members()]), (True, 1, [it]))
 
     def test_changes_keep_the_kind(self):
         for name, elements in self.each():
@@ -337,6 +341,16 @@ class Untold(unittest.TestCase):
                 )
                 self.assertIsNone(nothing.range_at(elements[0]))
                 self.assertEqual([it.kind for it in nothing.split(elements[1])], [name, name])
+
+    def test_no_other_set_tells_a_kind(self):
+        for made in (RangeSet(), MutableRangeSet()):
+            calls = [made.union, made.intersection, made.difference]
+            if isinstance(made, MutableRangeSet):
+                calls += [made.update, made.intersection_update, made.difference_update]
+            for call in calls:
+                with self.subTest(call=call.__qualname__):
+                    it = call()
+                    self.assertIsNone((made if it is None else it).kind)
 
     def test_until_then_it_is_one_of_whole_numbers(self):
         self.assertEqual((RangeSet(), hash(RangeSet())), (RangeSet(kind="int"), hash(RangeSet(kind="int"))))

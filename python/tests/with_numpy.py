@@ -294,7 +294,8 @@ class Sets(unittest.TestCase):
                 table.astype(dtype)[0, 0] in made
         values = RangeSet.from_values(days)
         self.assertEqual([*values.members()], sorted(days))
-        self.assertEqual(made.contains(days).tolist(), [True, True, True, False])
+        for asked in (days, days.astype(">M8[D]")):
+            self.assertEqual(made.contains(asked).tolist(), [True, True, True, False])
         self.assertEqual(numpy.asarray(made).tolist(), [days[0].item(), days[3].item()])
         self.assertTrue(numpy.shares_memory(numpy.asarray(made), numpy.asarray(made)))
         self.assertEqual(RangeSet.from_boundaries(numpy.asarray(made)), made)
@@ -304,6 +305,21 @@ class Sets(unittest.TestCase):
         for length, error in ((numpy.timedelta64(25, "h"), ValueError), (numpy.timedelta64("NaT"), ValueError), (2, TypeError)):
             with self.assertRaises(error):
                 made.first_fit(length)
+
+    def test_lengths_of_more_than_64_bits(self):
+        # numpy makes of each of them another length, also of the least and the greatest of Python.
+        for unit in ("ns", "us", "25s", "D"):
+            made = RangeSet([(numpy.datetime64(0, unit), numpy.datetime64(5, unit))])
+            for length, error, text in (
+                (numpy.timedelta64(2**61, "W"), ValueError, f"a timedelta of whole {unit} in 64 bits is wanted"),
+                (numpy.timedelta64(-(2**61), "W"), ValueError, f"a timedelta of whole {unit} in 64 bits is wanted"),
+                (timedelta.max, OverflowError, "a timedelta of at most 64 bits of microseconds is wanted"),
+                (timedelta.min, OverflowError, "a timedelta of at most 64 bits of microseconds is wanted"),
+                (timedelta(microseconds=2**63), OverflowError, "a timedelta of at most 64 bits of microseconds is wanted"),
+            ):
+                with self.subTest(unit=unit, length=length), self.assertRaisesRegex(error, text):
+                    made.first_fit(length)
+            self.assertEqual(made.first_fit(numpy.timedelta64(2**62, unit), numpy.datetime64(0, unit)), numpy.datetime64(5, unit))
 
     def test_what_is_no_time(self):
         nat = numpy.datetime64("NaT", "D")

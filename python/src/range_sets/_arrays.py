@@ -50,7 +50,7 @@ def codes_of_each(kind: Kind, values: Any) -> Any:
 
     in_utc = times_in_utc(values, kind)
     found = numpy.asarray(values) if in_utc is None else in_utc
-    if kind.dtype is not None and found.dtype == numpy.dtype(kind.dtype):
+    if kind.dtype is not None and found.dtype.newbyteorder("=") == numpy.dtype(kind.dtype):
         see_no_nat(found)
         return found.astype(kind.dtype).view("i8")
     elements = found.reshape(-1).tolist()

@@ -305,11 +305,14 @@ class Numpys(Kind):
 
         if not isinstance(length, (timedelta, numpy.timedelta64)):
             raise TypeError(f"a timedelta is wanted, not {_named(length)}")
+        if isinstance(length, timedelta):
+            # numpy makes another length of one with more bits.
+            DELTA.within(length // _MICROSECOND)
         given = numpy.timedelta64(length)
         found: Any = given.astype(f"m8[{self._unit()}]")
-        # NaT differs from itself.
-        if found != given:
-            raise ValueError(f"a timedelta of whole {self._unit()} is wanted")
+        # NaT differs from itself. What has more than 64 bits of the unit is only told when it is converted back.
+        if found != given or found.astype(given.dtype) != given:
+            raise ValueError(f"a timedelta of whole {self._unit()} in 64 bits is wanted")
         return int(found.view("i8"))
 
     def shown(self, value: Any) -> str:

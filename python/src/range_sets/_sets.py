@@ -257,7 +257,8 @@ class MutableRangeSet(AnyRangeSet):
         MutableRangeSet([(5, 10)])
         """
         sets = [*map(self._of, others)]
-        self._change(Chunks.intersection, intersection_of(sets, None if sets else self._kind))
+        if sets:
+            self._change(Chunks.intersection, intersection_of(sets))
 
     def difference_update(self, *others: Source) -> None:
         """Takes out the elements of other sets; `-=` takes sets alone. It goes over all ranges unless it is given one range.
