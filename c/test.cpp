@@ -202,8 +202,10 @@ template <class T> static void sources()
     check(range_set<T>(pairs) == busy && range_set<T>(ranges) == busy, "a set of an array");
     check(range_set<T>(std::vector<range<T>>(busy.begin(), busy.end())) == busy, "a set of ranges");
     check(range_set<T>(busy.begin() + 1, busy.end()) == range_set<T>{{12, 15}}, "a set of what iterators of a set have");
-    const std::vector<range<T>> open = {{30, 0, false}, {9, 11, true}, {20, 0, false}, {12, 4, true}};
+    std::vector<range<T>> open = {{30, 0, false}, {9, 11, true}, {20, 0, false}, {12, 4, true}};
     check(text<T>(range_set<T>(open)) == "9..11 20..", "a set of ranges without an end");
+    std::reverse(open.begin(), open.end());
+    check(text<T>(range_set<T>(open)) == "9..11 20..", "a set of ranges without an end, the first of which decides");
     std::vector<pair> changing(std::begin(pairs), std::end(pairs));
     check(range_set<T>(changing) == busy && range_set<T>(std::move(changing)) == busy, "a set of a list that isn't const");
     unsigned asked = 0;
@@ -326,6 +328,12 @@ template <class T> static void chunked()
     check(set.next_member(11) == T(12) && set.next_gap(12) == T(17) && !set.next_gap(20), "chunked: next");
     check(set.first_fit(9, 40, 1) == T(11) && set.first_fit(9, 40, 3) == T(17) && !set.first_fit(9, 40, 4), "chunked: first_fit");
     check(text<T>(set.set()) == "9..11 12..17 20..", "chunked: set");
+    auto at = set.begin();
+    check(at == set.begin() && (at++)->start == 9 && at != set.begin() && at->start == 12, "chunked: an iterator that moves");
+    check(*++at == range<T>{20, 0, false} && at != set.end() && ++at == set.end(), "chunked: an iterator past the last range");
+    chunked_range_set<T> ends;
+    ends.insert(std::numeric_limits<T>::min(), std::numeric_limits<T>::min() + 1).insert_from(std::numeric_limits<T>::max());
+    check(ends.size() == 2 && text<T>(ends) == text<T>(ends.set()), "chunked: the least number and the greatest");
     chunked_range_set<T> copy(set), moved(std::move(set)), assigned;
     check(set.empty() && text<T>(copy) == text<T>(moved), "chunked: copy and move");
     copy.remove_from(12);
@@ -353,6 +361,9 @@ template <class T> static void chunked()
     check(same != many && !same.covered() && same.size() == many.size() + 1, "chunked: insert of a range");
     check(same.remove(range<T>{20100, 0, false}) == many && same.remove(range<T>{0, 20100, true}).empty(), "chunked: remove of a range");
     check(chunked_range_set<T>() == same && same.covered() == 0u, "chunked: two without a member");
+    same.insert(9, 11);
+    check(same == chunked_range_set<T>(range_set<T>{{9, 11}}) && same != chunked_range_set<T>(range_set<T>{{9, 12}}),
+        "chunked: as many ranges, and others");
 }
 
 // Whether there is a view of what has this type: of a set with a name, and not of a temporary, which would be gone.
@@ -453,6 +464,20 @@ template <class T> static void hashes()
         "a std::unordered_set of sets");
     std::unordered_set<range_set_view<T>> views(others.begin(), others.end());
     check(views.size() == others.size() && views.count(busy) == 0 && views.count(others[2]) == 1, "a std::unordered_set of views");
+}
+
+// A set of range_set.h whose boundaries are null is empty whatever its length is, as the result of a call that had no room.
+template <class T> static void without_boundaries()
+{
+    const range_set<T> nothing, day = {{9, 17}};
+    auto set = day.view().set();
+    set.boundaries = nullptr;
+    const range_set_view<T> view(set);
+    check(view == nothing && view.empty() && view.compare(nothing) == 0 && view < day && day > view, "no boundaries: comparisons");
+    check(std::hash<range_set_view<T>>()(view) == std::hash<range_set<T>>()(nothing), "no boundaries: the hash");
+    check(
+        (view | day) == day && range_set<T>(view) == nothing && view.text().empty() && view.begin() == view.end(), "no boundaries: a set");
+    check(range_set<T>::union_all(std::vector<range_set_view<T>>{view, day}) == day, "no boundaries: union_all");
 }
 
 // What a stream has after the set, and a width, which is that of the whole text.
@@ -604,6 +629,7 @@ template <class T> static void all()
     views_of_temporaries<T>();
     order<T>();
     hashes<T>();
+    without_boundaries<T>();
     printed<T>();
     iterators<T>();
     refused<T>();

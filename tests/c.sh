@@ -72,6 +72,12 @@ refuses_memory() {
     compiles c/test_refused.c refused -Wl,--wrap=malloc,--wrap=realloc && "$work/refused"
 }
 
+# The same of chunked_range_set, which throws.
+refuses_memory_in_cpp() {
+    g++ -std=c++17 -O1 -g $strict -Wshadow c/test_refused.cpp "$archive" -Wl,--wrap=malloc,--wrap=realloc -o "$work/refused.cpp" &&
+        "$work/refused.cpp"
+}
+
 # What the example prints.
 prints_its_lines() {
     "$work/$1" | cmp - <(printf '%s\n' ' 10%, next: 100 to 1000' ' 25%, next: 100 to 300' ' 35%, next: 200 to 300' \
@@ -387,6 +393,7 @@ step_by g++ g++ "the statements in c/README.md" compiles_statements c/README.md
 step_by objcopy binutils "the sanitizers" is_sane
 step_by g++ g++ "C++11" compiles_as_cpp
 step_by g++ g++ "the header for C++17" tests_cpp
+step_by g++ g++ "the header for C++17: memory refused" refuses_memory_in_cpp
 step_by g++ g++ "C++14" says_that_cpp_is_too_old
 step_by g++ g++ "the lines in C++ of c/README.md" runs_cpp_page c/README.md
 archive=dist/librange_set.a

@@ -384,8 +384,8 @@ public:
 
     // The set without a member.
     range_set_view() noexcept = default;
-    // A set that a call of range_set.h made.
-    explicit range_set_view(typename calls::set set) noexcept : set_(set) {}
+    // A set that a call of range_set.h made. Where its boundaries are null it is empty, whatever its length is.
+    explicit range_set_view(typename calls::set set) noexcept : set_{set.boundaries, set.boundaries != nullptr ? set.len : 0} {}
     // The set with these boundaries, or nothing where they aren't strictly sorted.
     static std::optional<range_set_view> of(const T *boundaries, std::size_t len) noexcept
     {

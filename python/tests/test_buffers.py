@@ -110,6 +110,12 @@ class Rows(unittest.TestCase):
         except sets.NoRoom as refused:
             out.extend([0] * (refused.needed - len(out)))
         self.assertEqual(sets.symmetric_difference(a, q(5, 20), out=out), 4)
+        for other in (array("Q", [7]), array("i", [7])):
+            try:
+                sets.union(a, q(5, 20), out=other)
+                self.fail("the buffer isn't one of the list's numbers")
+            except TypeError:
+                other.append(7)
         for bad, call in ((q(3, 2), sets.is_disjoint), (q(3, 2), sets.covered), (array("i", [1]), sets.is_empty)):
             try:
                 call(bad, a) if call == sets.is_disjoint else call(bad)
