@@ -1,6 +1,6 @@
 -- What is remembered of gaps stays true of a set that takes more values, and of one that frees some
 -- outside.
-use Rattle.std.proofs.Common.{◌≡◌, refl, sym, ap, ap₂, ◌∙◌, subst, ℕ, inl, inr, ◌<◌, ◌≤◌, ◌+◌, Bool, true, false, not, ◌&&◌, ◌||◌, List, [], ◌∷◌, filter, take, drop, cond, nat_le, nat_lt, All, arith}
+use Rattle.std.proofs.Common.{◌≡◌, refl, sym, ap, ap₂, ◌∙◌, subst, ℕ, inl, inr, ◌<◌, ◌≤◌, ◌+◌, ◌%◌, Bool, true, false, not, ◌&&◌, ◌||◌, List, [], ◌∷◌, filter, take, drop, cond, nat_le, nat_lt, nat_eq, All, arith}
 use Rattle.std.specs.Cmp.{IsTotalOrder, ranks}
 use Rattle.std.specs.List.{insert}
 use Rattle.std.specs.Prelude.{Result, Ok, Err, OnOk, OnErr}
@@ -18,8 +18,13 @@ use Rattle.range_merge.proofs.Orders.{Equal-self}
 use Rattle.range_merge.proofs.Members.{member-cons, member-nil}
 use Rattle.range_collections.specs.Fits.{IsRow}
 use Rattle.range_collections.proofs.Counted.{Greater-value}
-use Rattle.range_chunks.specs.Bounds.{IsBound, IsPast, is_apart}
+use Rattle.range_chunks.specs.Bounds.{IsBound, IsPast, excludes, is_apart}
 use Rattle.range_chunks.specs.declared.gap_bound.GapBound.{GapBound}
+
+and-true : (p q : Bool) → (p && q) ≡ true → (p ≡ true) × (q ≡ true)
+and-true true true e = (refl, refl)
+and-true true false e = absurd (cc)
+and-true false q e = absurd (cc)
 
 or-false : (p q : Bool) → (p || q) ≡ false → p ≡ false
 or-false true q e = cc
@@ -68,10 +73,13 @@ module _ {K : Type 0} {order : K → K → Ordering} (o : IsTotalOrder order) (i
 
   -- a bound whose end is taken
   pub IsBound-noted : (items : List K) (b : GapBound K) → is_value b.end → place b.start ≤ place b.end →
-      ((n at : ℕ) → IsRow order value false items (place b.start) (place b.end) n at → n ≤ b.most) → member order items b.end ≡ true →
+      ((n at : ℕ) → IsRow order value false items (place b.start) (place b.end) n at → n ≤ b.most) →
+      ((at : ℕ) → at % b.align ≡ 0 → IsRow order value false items (place b.start) (place b.end) b.count at → ⊥) →
+      member order items b.end ≡ true →
       IsBound order value place count items b
-  IsBound-noted items b v up most taken = record {
+  IsBound-noted items b v up most aligned taken = record {
     most = most;
+    aligned = aligned;
     closed = member-equal o (value (place b.end)) b.end same items ∙ taken;
     ordered = up;
     within = place_fits b.end v;
@@ -89,15 +97,19 @@ module _ {K : Type 0} {order : K → K → Ordering} (o : IsTotalOrder order) (i
   pub IsBound-more : (old new : List K) (f : K → Bool) → ((x : K) → member order new x ≡ (member order old x || f x)) →
       (b : GapBound K) → IsBound order value place count old b → IsBound order value place count new b
   IsBound-more old new f members b it = record {
-    most = λ n at row. it.most n at (record {
-      from = row.from;
-      up_to = row.up_to;
-      alike = λ k a z. or-false (member order old (value k)) (f (value k)) (sym (members (value k)) ∙ row.alike k a z);
-    });
+    most = λ n at row. it.most n at (before n at row);
+    aligned = λ at even row. it.aligned at even (before b.count at row);
     closed = members (value (place b.end)) ∙ or-true (member order old (value (place b.end))) (f (value (place b.end))) it.closed;
     ordered = it.ordered;
     within = it.within;
   }
+    where
+      before : (n at : ℕ) → IsRow order value false new (place b.start) (place b.end) n at → IsRow order value false old (place b.start) (place b.end) n at
+      before n at row = record {
+        from = row.from;
+        up_to = row.up_to;
+        alike = λ k a z. or-false (member order old (value k)) (f (value k)) (sym (members (value k)) ∙ row.alike k a z);
+      }
 
   module _ (old new : List K) (s e : K) (v : is_value s) (w : is_value e)
       (members : (x : K) → member order new x ≡ (member order old x && not (is_le (order s x) && is_lt (order x e)))) where
@@ -127,11 +139,8 @@ module _ {K : Type 0} {order : K → K → Ordering} (o : IsTotalOrder order) (i
     -- a set that frees values has the bounds that speak of none of them
     pub IsBound-less : (b : GapBound K) → IsBound order value place count old b → is_apart place (place s) (place e) b ≡ true → IsBound order value place count new b
     IsBound-less b it apart = record {
-      most = λ n at row. it.most n at (record {
-        from = row.from;
-        up_to = row.up_to;
-        alike = λ k a z. sym (same k (omega (arith, row.from, a)) (omega (arith, row.up_to, z))) ∙ row.alike k a z;
-      });
+      most = λ n at row. it.most n at (before n at row);
+      aligned = λ at even row. it.aligned at even (before b.count at row);
       closed = same (place b.end) it.ordered (omega arith) ∙ it.closed;
       ordered = it.ordered;
       within = it.within;
@@ -151,20 +160,41 @@ module _ {K : Type 0} {order : K → K → Ordering} (o : IsTotalOrder order) (i
                   above k (omega (arith, z, it.within)) (omega (arith, after, a))
             ]
 
-  -- so many values in a row don't begin before the end of a bound that is too low
-  pub IsPast-known : (items : List K) (b : GapBound K) → IsBound order value place count items b → (from end : K) (n : ℕ) → b.most < n → place b.start ≤ place from → place from < place b.end →
-      IsPast order value place items from end n b.end
-  IsPast-known items b it from end n low a z = record { past = z; above = above_it }
+        before : (n at : ℕ) → IsRow order value false new (place b.start) (place b.end) n at → IsRow order value false old (place b.start) (place b.end) n at
+        before n at row = record {
+          from = row.from;
+          up_to = row.up_to;
+          alike = λ k a z. sym (same k (omega (arith, row.from, a)) (omega (arith, row.up_to, z))) ∙ row.alike k a z;
+        }
+
+  -- so many values in a row don't begin before the end of a bound that excludes them
+  pub IsPast-known : (items : List K) (b : GapBound K) → IsBound order value place count items b → (from end : K) (n align : ℕ) → excludes n align b ≡ true →
+      place b.start ≤ place from → place from < place b.end → IsPast order value place items from end n align b.end
+  IsPast-known items b it from end n align low a z = record { past = z; above = above_it }
     where
-      above_it : (at : ℕ) → IsRow order value false items (place from) (place end) n at → place b.end ≤ at
-      above_it at row =
+      none_inside : (at : ℕ) → at % align ≡ 0 → IsRow order value false items (place b.start) (place b.end) n at → ⊥
+      none_inside at even row = by_most (nat_lt b.most n) refl
+        where
+          by_most : (t : Bool) → nat_lt b.most n ≡ t → ⊥
+          by_most true e =
+              let more : b.most < n = grind (arith, nat_tests) in
+              omega (arith, more, it.most n at row)
+          by_most false e =
+              let both = and-true (nat_le b.count n) (nat_eq b.align align) (ap (λ t. t || (nat_le b.count n && nat_eq b.align align)) (sym e) ∙ low) in
+              let enough : nat_le b.count n ≡ true = both.0 in
+              let test : nat_eq b.align align ≡ true = both.1 in
+              let fewer : b.count ≤ n = grind (arith, nat_tests) in
+              let same : b.align ≡ align = grind (arith, nat_tests) in
+              it.aligned at (subst (λ m. at % m ≡ 0) (sym same) even)
+              (record { from = row.from; up_to = omega (arith, row.up_to, fewer); alike = λ k f t. row.alike k f (omega (arith, t, fewer)) })
+
+      above_it : (at : ℕ) → at % align ≡ 0 → IsRow order value false items (place from) (place end) n at → place b.end ≤ at
+      above_it at even row =
           elim (cases_lt at (place b.end)) as (λ _. place b.end ≤ at) [
             | inl before ↦
                 elim (cases_lt (place b.end) (at + n)) as (λ _. place b.end ≤ at) [
                   | inl over ↦ absurd (true≢false (sym it.closed ∙ row.alike (place b.end) (omega (arith, before)) over))
-                  | inr inside ↦
-                      let few = it.most n at (record { from = omega (arith, a, row.from); up_to = inside; alike = row.alike }) in
-                      absurd (omega (arith, few, low))
+                  | inr inside ↦ absurd (none_inside at even (record { from = omega (arith, a, row.from); up_to = inside; alike = row.alike }))
                 ]
             | inr fine ↦ fine
           ]

@@ -1,16 +1,19 @@
 //! How long the gaps of a set are at most, between two values.
 ghost use Rattle.std.specs.Prelude.{◌≡◌, ◌<◌, ◌≤◌, true, filter};
-ghost use Rattle.range_chunks.specs.Bounds.{is_apart};
+ghost use Rattle.range_chunks.specs.Bounds.{excludes, is_apart};
 
 use range_collections::Countable;
 
-/// Between two values no gap has more than `most` values, and the second one is a member. So a gap
-/// that begins between them doesn't reach past them.
+/// Between two values no gap has more than `most` values, nor `count` values from a multiple of
+/// `align` on, and the second one is a member. So a gap that begins between them doesn't reach past
+/// them.
 #[derive(Clone, Copy)]
 pub struct GapBound<T> {
     pub start: T,
     pub end: T,
     pub most: u128,
+    pub count: u128,
+    pub align: u128,
 }
 
 impl<T: Countable> GapBound<T> {
@@ -20,6 +23,14 @@ impl<T: Countable> GapBound<T> {
         ensures { result ≡ true → (T.place self.now.start ≤ place) × (place < T.place self.now.end) }
     {
         self.start.place() <= place && place < self.end.place()
+    }
+
+    /// Whether no gap between the values has so many values from a multiple of `align` on.
+    #[inline(always)]
+    pub fn excludes(&self, count: u128, align: u128) -> bool
+        ensures { result ≡ excludes count align self.now }
+    {
+        self.most < count || (self.count <= count && self.align == align)
     }
 
     /// Whether the values from one place on, up to another, which is out, lie outside.

@@ -96,7 +96,12 @@ fn follow(alloc: Global, generator: &mut Generator, shape: Shape) -> Result<bool
         let within = next_within(generator, shape);
         let len = generator.below(shape.longest.max(1));
         let found = space.first_fit(within.start..within.end, len);
-        if found != flat.first_fit(within, len) {
+        if found != flat.first_fit(within.start..within.end, len) {
+            return Ok(false);
+        }
+        let (count, align) = (u128::from(len), u128::from(generator.below(5)));
+        let found = space.first_fit_aligned(within.start..within.end, count, align);
+        if found != flat.first_fit_aligned(within, count, align) {
             return Ok(false);
         }
     }

@@ -4,7 +4,7 @@ ghost use Rattle.std.specs.Ordering.{is_le};
 ghost use Rattle.range_merge.specs.Boundaries.{member};
 ghost use Rattle.range_collections.specs.Fits.{Fits, IsRow};
 
-use crate::reading::{first_place, first_start};
+use crate::reading::first_fit;
 use crate::set::ChunkedRangeSet;
 use range_collections::{Countable, FromPlace, Unsigned, place_in};
 use std::ops::Range;
@@ -59,7 +59,8 @@ impl<T: Countable + Copy> ChunkedRangeSet<T> {
         if count == 0 {
             return start.cmp(&end).is_le().then_some(start);
         }
-        first_start(self.gaps(&start..&end), count)
+        let row = first_fit(self.gaps(&start..&end), count, 1)?;
+        Some(row.start)
     }
 
     /// The least value from which `count` members in a row lie in the range, or `None` if there is
@@ -80,7 +81,8 @@ impl<T: Countable + Copy> ChunkedRangeSet<T> {
         if count == 0 {
             return start.cmp(&end).is_le().then_some(start);
         }
-        first_start(self.ranges_within(&start..&end), count)
+        let row = first_fit(self.ranges_within(&start..&end), count, 1)?;
+        Some(row.start)
     }
 }
 
@@ -126,6 +128,7 @@ impl<T: FromPlace> ChunkedRangeSet<T> {
             }
             return place_in(&(start..end), 0, align);
         }
-        first_place(self.gaps(start..end), count, align)
+        let row = first_fit(self.gaps(start..end), count, align)?;
+        Some(row.at)
     }
 }

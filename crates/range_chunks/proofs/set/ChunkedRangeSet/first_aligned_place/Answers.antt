@@ -1,8 +1,9 @@
-use Rattle.std.proofs.Common.{◌≡◌, ◌∙◌, sym, false, not, arith}
+use Rattle.std.proofs.Common.{◌≡◌, ◌∙◌, sym, false, arith}
 use Rattle.std.specs.Ordering.{is_le}
 use Rattle.range_collections.proofs.Ranked.{place-le}
-use Rattle.range_collections.proofs.Rows.{none-reversed, IfSome-map, IsRow-from_parts, IsRow-to_parts, from_not, to_not}
-use Rattle.range_chunks.proofs.Walked.{IfNone-map}
+use Rattle.range_collections.proofs.Previous.{IfNone-always}
+use Rattle.range_collections.proofs.Rows.{none-reversed}
+use Rattle.range_chunks.proofs.Walked.{IsFirstFree-found, none-free}
 use Rattle.range_chunks.proofs.set.ChunkedRangeSet.first_aligned_place.Goals as goal
 
 pub place_in-requires-clause-in_order : goal.place_in-requires-clause-in_order
@@ -22,34 +23,30 @@ returns-then-not-is_le-clause-none g c n even row =
     c.args.self.now false c.args.start.now c.args.end.now c.known.ensures c.known-2.ensures n h
     (rw (← c.if-count-eq0.true) row)
 
+pub returns-in_err-row-clause-none : goal.returns-in_err-row-clause-none
+returns-in_err-row-clause-none g c =
+    let law = g.met.T.Countable in
+    IfNone-always c.from_residual.result
+    (none-free g.met.T.Ord.total g.T.RangeSetEntry.is_value g.T.Countable.value g.T.Countable.place g.T.Countable.count
+    law.value_is_value law.place_of_value law.place_fits law.in_order
+    c.args.self.now c.gaps.result c.args.start.now c.args.end.now c.known.ensures c.known-2.ensures c.gaps.ensures.members c.args.count c.args.align c.in_err-row.ensures.none)
+
 pub returns-clause-fits : goal.returns-clause-fits
 returns-clause-fits g c =
     let law = g.met.T.Countable in
-    IfSome-map c.first_place.result _ _
-    (λ at row. IsRow-from_parts g.met.T.Ord.total g.T.RangeSetEntry.is_value g.T.Countable.value g.T.Countable.place g.T.Countable.count
+    (IsFirstFree-found g.met.T.Ord.total g.T.RangeSetEntry.is_value g.T.Countable.value g.T.Countable.place g.T.Countable.count
     law.value_is_value law.place_of_value law.place_fits law.in_order
-    c.args.self.now c.gaps.result c.args.start.now c.args.end.now c.known.ensures c.known-2.ensures false not from_not to_not
-    c.gaps.ensures.members c.args.count at (omega (arith, c.if-count-eq0.false)) row)
-    c.first_place.ensures.row
+    c.args.self.now c.gaps.result c.args.start.now c.args.end.now c.known.ensures c.known-2.ensures c.gaps.ensures.members c.args.count c.args.align c.in_ok-row.row (omega (arith, c.if-count-eq0.false)) c.in_ok-row.ensures.first).row
 
 pub returns-clause-least : goal.returns-clause-least
 returns-clause-least g c =
     let law = g.met.T.Countable in
-    IfSome-map c.first_place.result _ _
-    (λ at least n even row. least n even
-    (IsRow-to_parts g.met.T.Ord.total g.T.RangeSetEntry.is_value g.T.Countable.value g.T.Countable.place g.T.Countable.count
+    (IsFirstFree-found g.met.T.Ord.total g.T.RangeSetEntry.is_value g.T.Countable.value g.T.Countable.place g.T.Countable.count
     law.value_is_value law.place_of_value law.place_fits law.in_order
-    c.args.self.now c.gaps.result c.args.start.now c.args.end.now c.known.ensures c.known-2.ensures false not from_not to_not
-    c.gaps.ensures.members c.args.count n row))
-    c.first_place.ensures.least
+    c.args.self.now c.gaps.result c.args.start.now c.args.end.now c.known.ensures c.known-2.ensures c.gaps.ensures.members c.args.count c.args.align c.in_ok-row.row (omega (arith, c.if-count-eq0.false)) c.in_ok-row.ensures.first).least
 
-pub returns-clause-none : goal.returns-clause-none
-returns-clause-none g c =
-    let law = g.met.T.Countable in
-    IfNone-map c.first_place.result
-    (λ none n even row. none n even
-    (IsRow-to_parts g.met.T.Ord.total g.T.RangeSetEntry.is_value g.T.Countable.value g.T.Countable.place g.T.Countable.count
-    law.value_is_value law.place_of_value law.place_fits law.in_order
-    c.args.self.now c.gaps.result c.args.start.now c.args.end.now c.known.ensures c.known-2.ensures false not from_not to_not
-    c.gaps.ensures.members c.args.count n row))
-    c.first_place.ensures.none
+pub returns-clause-below : goal.returns-clause-below
+returns-clause-below g c = omega (arith, c.in_ok-row.ensures.first.row.up_to, c.if-count-eq0.false)
+
+pub returns-clause-aligned : goal.returns-clause-aligned
+returns-clause-aligned g c = c.in_ok-row.ensures.first.aligned

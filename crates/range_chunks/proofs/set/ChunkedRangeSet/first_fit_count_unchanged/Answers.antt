@@ -1,31 +1,33 @@
-use Rattle.std.proofs.Common.{arith}
-use Rattle.range_collections.proofs.Rows.{IfSome-map}
-use Rattle.range_chunks.proofs.Walked.{IsFirstFree-found, none-free, IfNone-map}
+use Rattle.std.proofs.Common.{refl, sym, subst, false, arith}
+use Rattle.std.proofs.Math.Nat.{mod-one}
+use Rattle.range_collections.specs.Fits.{IsRow}
+use Rattle.range_collections.proofs.Previous.{IfNone-always}
+use Rattle.range_chunks.proofs.Walked.{IsFirstFree-found, none-free}
 use Rattle.range_chunks.proofs.set.ChunkedRangeSet.first_fit_count_unchanged.Goals as goal
+
+pub returns-in_err-row-clause-none : goal.returns-in_err-row-clause-none
+returns-in_err-row-clause-none g c =
+    let law = g.met.T.Countable in
+    IfNone-always c.from_residual.result
+    (λ n row. none-free g.met.T.Ord.total g.T.RangeSetEntry.is_value g.T.Countable.value g.T.Countable.place g.T.Countable.count
+    law.value_is_value law.place_of_value law.place_fits law.in_order
+    c.args.self.now c.gaps.result c.args.within.start c.args.within.end c.known.ensures c.known-2.ensures c.gaps.ensures.members c.args.count 1 c.in_err-row.ensures.none n (mod-one n) row)
 
 pub returns-clause-fits : goal.returns-clause-fits
 returns-clause-fits g c =
     let law = g.met.T.Countable in
-    IfSome-map c.first_start.result _ _
-    (λ at first. (IsFirstFree-found g.met.T.Ord.total g.T.RangeSetEntry.is_value g.T.Countable.value g.T.Countable.place g.T.Countable.count
+    let free =
+    IsFirstFree-found g.met.T.Ord.total g.T.RangeSetEntry.is_value g.T.Countable.value g.T.Countable.place g.T.Countable.count
     law.value_is_value law.place_of_value law.place_fits law.in_order
-    c.args.self.now c.gaps.result c.args.within.start c.args.within.end c.known.ensures c.known-2.ensures c.gaps.ensures.members c.args.count at (omega (arith, c.if-count-eq0.false)) first).row)
-    c.first_start.ensures.first
+    c.args.self.now c.gaps.result c.args.within.start c.args.within.end c.known.ensures c.known-2.ensures c.gaps.ensures.members c.args.count 1 c.in_ok-row.row (omega (arith, c.if-count-eq0.false)) c.in_ok-row.ensures.first in
+    subst (IsRow g.T.Ord.cmp g.T.Countable.value false c.args.self.now (g.T.Countable.place c.args.within.start) (g.T.Countable.place c.args.within.end) c.args.count)
+    (sym (free.begins refl)) free.row
 
 pub returns-clause-least : goal.returns-clause-least
-returns-clause-least g c =
+returns-clause-least g c n row =
     let law = g.met.T.Countable in
-    IfSome-map c.first_start.result _ _
-    (λ at first. (IsFirstFree-found g.met.T.Ord.total g.T.RangeSetEntry.is_value g.T.Countable.value g.T.Countable.place g.T.Countable.count
+    let free =
+    IsFirstFree-found g.met.T.Ord.total g.T.RangeSetEntry.is_value g.T.Countable.value g.T.Countable.place g.T.Countable.count
     law.value_is_value law.place_of_value law.place_fits law.in_order
-    c.args.self.now c.gaps.result c.args.within.start c.args.within.end c.known.ensures c.known-2.ensures c.gaps.ensures.members c.args.count at (omega (arith, c.if-count-eq0.false)) first).least)
-    c.first_start.ensures.first
-
-pub returns-clause-none : goal.returns-clause-none
-returns-clause-none g c =
-    let law = g.met.T.Countable in
-    IfNone-map c.first_start.result
-    (none-free g.met.T.Ord.total g.T.RangeSetEntry.is_value g.T.Countable.value g.T.Countable.place g.T.Countable.count
-    law.value_is_value law.place_of_value law.place_fits law.in_order
-    c.args.self.now c.gaps.result c.args.within.start c.args.within.end c.known.ensures c.known-2.ensures c.gaps.ensures.members c.args.count)
-    c.first_start.ensures.none
+    c.args.self.now c.gaps.result c.args.within.start c.args.within.end c.known.ensures c.known-2.ensures c.gaps.ensures.members c.args.count 1 c.in_ok-row.row (omega (arith, c.if-count-eq0.false)) c.in_ok-row.ensures.first in
+    omega (arith, free.least n (mod-one n) row, free.begins refl)

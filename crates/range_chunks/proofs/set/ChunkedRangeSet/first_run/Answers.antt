@@ -1,36 +1,37 @@
-use Rattle.std.proofs.Common.{true, arith}
-use Rattle.range_collections.proofs.Rows.{IfSome-map, IsRow-from_parts, IsRow-to_parts}
-use Rattle.range_chunks.proofs.Walked.{IfNone-map}
+use Rattle.std.proofs.Common.{refl, sym, subst, true, arith}
+use Rattle.std.proofs.Math.Nat.{mod-one}
+use Rattle.range_collections.specs.Fits.{IsRow}
+use Rattle.range_collections.proofs.Previous.{IfNone-always}
+use Rattle.range_collections.proofs.Rows.{IsRow-from_parts, IsRow-to_parts}
 use Rattle.range_chunks.proofs.set.ChunkedRangeSet.first_run.Goals as goal
+
+pub returns-in_err-row-clause-none : goal.returns-in_err-row-clause-none
+returns-in_err-row-clause-none g c =
+    let law = g.met.T.Countable in
+    IfNone-always c.from_residual.result
+    (λ n row. c.in_err-row.ensures.none n (mod-one n)
+    (IsRow-to_parts g.met.T.Ord.total g.T.RangeSetEntry.is_value g.T.Countable.value g.T.Countable.place g.T.Countable.count
+    law.value_is_value law.place_of_value law.place_fits law.in_order
+    c.args.self.now c.ranges_within.result c.args.within.start c.args.within.end c.known.ensures c.known-2.ensures true (λ b. b) (λ b e. e) (λ b e. e)
+    c.ranges_within.ensures.members c.args.count n row))
 
 pub returns-clause-fits : goal.returns-clause-fits
 returns-clause-fits g c =
     let law = g.met.T.Countable in
-    IfSome-map c.first_start.result _ _
-    (λ at first. IsRow-from_parts g.met.T.Ord.total g.T.RangeSetEntry.is_value g.T.Countable.value g.T.Countable.place g.T.Countable.count
+    subst (IsRow g.T.Ord.cmp g.T.Countable.value true c.args.self.now (g.T.Countable.place c.args.within.start) (g.T.Countable.place c.args.within.end) c.args.count)
+    (sym (c.in_ok-row.ensures.first.begins refl))
+    (IsRow-from_parts g.met.T.Ord.total g.T.RangeSetEntry.is_value g.T.Countable.value g.T.Countable.place g.T.Countable.count
     law.value_is_value law.place_of_value law.place_fits law.in_order
     c.args.self.now c.ranges_within.result c.args.within.start c.args.within.end c.known.ensures c.known-2.ensures true (λ b. b) (λ b e. e) (λ b e. e)
-    c.ranges_within.ensures.members c.args.count (g.T.Countable.place at) (omega (arith, c.if-count-eq0.false)) first.row)
-    c.first_start.ensures.first
+    c.ranges_within.ensures.members c.args.count c.in_ok-row.row.at (omega (arith, c.if-count-eq0.false)) c.in_ok-row.ensures.first.row)
 
 pub returns-clause-least : goal.returns-clause-least
-returns-clause-least g c =
+returns-clause-least g c n row =
     let law = g.met.T.Countable in
-    IfSome-map c.first_start.result _ _
-    (λ at first n row. first.least n
+    let least =
+    c.in_ok-row.ensures.first.least n (mod-one n)
     (IsRow-to_parts g.met.T.Ord.total g.T.RangeSetEntry.is_value g.T.Countable.value g.T.Countable.place g.T.Countable.count
     law.value_is_value law.place_of_value law.place_fits law.in_order
     c.args.self.now c.ranges_within.result c.args.within.start c.args.within.end c.known.ensures c.known-2.ensures true (λ b. b) (λ b e. e) (λ b e. e)
-    c.ranges_within.ensures.members c.args.count n row))
-    c.first_start.ensures.first
-
-pub returns-clause-none : goal.returns-clause-none
-returns-clause-none g c =
-    let law = g.met.T.Countable in
-    IfNone-map c.first_start.result
-    (λ none n row. none n
-    (IsRow-to_parts g.met.T.Ord.total g.T.RangeSetEntry.is_value g.T.Countable.value g.T.Countable.place g.T.Countable.count
-    law.value_is_value law.place_of_value law.place_fits law.in_order
-    c.args.self.now c.ranges_within.result c.args.within.start c.args.within.end c.known.ensures c.known-2.ensures true (λ b. b) (λ b e. e) (λ b e. e)
-    c.ranges_within.ensures.members c.args.count n row))
-    c.first_start.ensures.none
+    c.ranges_within.ensures.members c.args.count n row) in
+    omega (arith, least, c.in_ok-row.ensures.first.begins refl)

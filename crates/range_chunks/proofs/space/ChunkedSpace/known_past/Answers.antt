@@ -1,4 +1,4 @@
-use Rattle.std.proofs.Common.{◌≡◌, ◌<◌, sym, subst, get_or, length, arith, rules}
+use Rattle.std.proofs.Common.{◌≡◌, ◌<◌, ◌∙◌, sym, subst, get_or, length, arith, rules}
 use Rattle.std.proofs.lemmas.List.Elements.{All-get_or}
 use Rattle.range_chunks.specs.Bounds.{IsBound}
 use Rattle.range_chunks.proofs.Bounded.{IsPast-known}
@@ -16,4 +16,4 @@ returns-then-is_around g c end =
     rw (← c.self.view_is)
     (IsPast-known g.met.T.Ord.total g.T.RangeSetEntry.is_value g.T.Countable.value g.T.Countable.place g.T.Countable.count law.value_is_value law.place_of_value law.place_fits law.in_order
     c.self.inside.taken bound (subst Holds (sym is) (All-get_or Holds bounds c.args.at bound fits c.self.invariant))
-    c.args.from.now end c.args.count (omega (arith, c.if-bound-count.true)) (omega (arith, around.0, c.place.ensures)) (omega (arith, around.1, c.place.ensures)))
+    c.args.from.now end c.args.count c.args.align (sym c.excludes.ensures ∙ c.if-excludes.true) (omega (arith, around.0, c.place.ensures)) (omega (arith, around.1, c.place.ensures)))
