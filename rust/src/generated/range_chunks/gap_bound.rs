@@ -4,13 +4,16 @@
 use crate::generated::range_collections::Countable;
 use crate::support::Vec;
 
-/// Between two values no gap has more than `most` values, and the second one is a member. So a gap
-/// that begins between them doesn't reach past them.
+/// Between two values no gap has more than `most` values, nor `count` values from a multiple of
+/// `align` on, and the second one is a member. So a gap that begins between them doesn't reach past
+/// them.
 #[derive(Clone, Copy)]
 pub struct GapBound<T> {
     pub start: T,
     pub end: T,
     pub most: u128,
+    pub count: u128,
+    pub align: u128,
 }
 
 impl<T: Countable> GapBound<T> {
@@ -24,6 +27,18 @@ impl<T: Countable> GapBound<T> {
     #[inline(always)]
     pub fn is_around(&self, place: u128) -> bool {
         self.start.place() <= place && place < self.end.place()
+    }
+
+    /// Whether no gap between the values has so many values from a multiple of `align` on.
+    ///
+    /// # Contract
+    ///
+    /// ```text
+    /// ensures result ≡ excludes count align self.now
+    /// ```
+    #[inline(always)]
+    pub fn excludes(&self, count: u128, align: u128) -> bool {
+        self.most < count || (self.count <= count && self.align == align)
     }
 
     /// Whether the values from one place on, up to another, which is out, lie outside.

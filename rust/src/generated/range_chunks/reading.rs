@@ -5,20 +5,26 @@ use crate::generated::range_chunks::values::between;
 use crate::generated::range_chunks::within::RangesWithin;
 use crate::generated::range_collections::{place_in, Countable};
 
+/// Values in a row: the start of the range that has them, and the place of the first.
+pub struct Row<T> {
+    pub start: T,
+    pub at: u128,
+}
+
 /// What a walk through ranges found.
 pub enum Reading<T> {
-    /// The start of the first one that is long enough.
-    Found(T),
-    /// Ranges that are too short, up to the end of one; the longest of them has `most` values.
+    /// Values in one of them.
+    Found(Row<T>),
+    /// None up to the end of a range; the longest one up to there has `most` values.
     Stopped { end: T, most: u128 },
-    /// All are too short.
+    /// None.
     End,
 }
 
 /// What a step of a search found.
 pub enum Step<T> {
     /// It fits there.
-    At(T),
+    At(Row<T>),
     /// It fits nowhere below.
     From(T),
     /// It fits nowhere.
@@ -32,27 +38,32 @@ pub struct Until {
     pub place: u128,
 }
 
-/// Looks for the first range that has `count` values.
+/// Looks for the first range that has `count` values from a multiple of `align` on.
 ///
 /// # Contract
 ///
 /// ```text
 /// requires sorted: IsAscending T.cmp ranges
 /// requires some: 0 < count
-/// ensures reading: IsReading T.cmp T.value T.place T.count ranges.entry count result
+/// requires aligned: 0 < align
+/// ensures reading: IsReading T.cmp T.value T.place T.count ranges.entry count align result
 /// ensures whole: until ≡ None → IsWhole result
 /// ```
 pub(crate) fn first_row<T: Countable + Copy>(
     ranges: RangesWithin<'_, T>,
     count: u128,
+    align: u128,
     until: Option<Until>,
 ) -> Reading<T> {
     let mut most: u128 = 0;
     let mut read: usize = 0;
     for range in ranges {
         let len = between(range.start, range.end);
-        if len >= count {
-            return Reading::Found(*range.start);
+        if let Some(at) = place_in(&range, count, align) {
+            return Reading::Found(Row {
+                start: *range.start,
+                at,
+            });
         }
         most = most.max(len);
         read = read.saturating_add(1);
@@ -66,29 +77,7 @@ pub(crate) fn first_row<T: Countable + Copy>(
     Reading::End
 }
 
-/// The start of the first range that has `count` values.
-///
-/// # Contract
-///
-/// ```text
-/// requires sorted: IsAscending T.cmp ranges
-/// requires some: 0 < count
-/// ensures first: IfSome result (IsFirstRow T.cmp T.value T.place T.count ranges.entry count)
-/// ensures none: IfNone result ((n : ℕ) → ¬ (IsRow T.cmp T.value true ranges.entry 0 T.count
-///     count n))
-/// ```
-pub(crate) fn first_start<T: Countable + Copy>(
-    ranges: RangesWithin<'_, T>,
-    count: u128,
-) -> Option<T> {
-    match first_row(ranges, count, None) {
-        Reading::Found(start) => Some(start),
-        Reading::Stopped { .. } => None,
-        Reading::End => None,
-    }
-}
-
-/// The first place, a multiple of `align`, from which on one of the ranges has `count` values.
+/// The first `count` values in a row from a multiple of `align` on.
 ///
 /// # Contract
 ///
@@ -96,24 +85,21 @@ pub(crate) fn first_start<T: Countable + Copy>(
 /// requires sorted: IsAscending T.cmp ranges
 /// requires some: 0 < count
 /// requires aligned: 0 < align
-/// ensures row: IfSome result (IsRow T.cmp T.value true ranges.entry 0 T.count count)
-/// ensures aligned: IfSome result (λ at. at % align ≡ 0)
-/// ensures least: IfSome result (λ at. (n : ℕ) → n % align ≡ 0 → IsRow T.cmp T.value true
-///     ranges.entry 0 T.count count n → at ≤ n)
+/// ensures first: IfSome result (IsFirstRow T.cmp T.value T.place T.count ranges.entry count
+///     align)
 /// ensures none: IfNone result ((n : ℕ) → n % align ≡ 0 → ¬ (IsRow T.cmp T.value true
 ///     ranges.entry 0 T.count count n))
 /// ```
-pub(crate) fn first_place<T: Countable>(
+pub(crate) fn first_fit<T: Countable + Copy>(
     ranges: RangesWithin<'_, T>,
     count: u128,
     align: u128,
-) -> Option<u128> {
-    for range in ranges {
-        if let Some(place) = place_in(&range, count, align) {
-            return Some(place);
-        }
+) -> Option<Row<T>> {
+    match first_row(ranges, count, align, None) {
+        Reading::Found(row) => Some(row),
+        Reading::Stopped { .. } => None,
+        Reading::End => None,
     }
-    None
 }
 
 // Whether the walk stops behind so many ranges, of which the last one ends at the place.

@@ -2,9 +2,9 @@
 //! The search for the first fit, which passes over gaps that are known to be too short.
 
 use crate::generated::range_chunks::gap_bound::{first_above, stop_of, GapBound};
-use crate::generated::range_chunks::reading::{first_row, Reading, Step, Until};
+use crate::generated::range_chunks::reading::{first_row, Reading, Row, Step, Until};
 use crate::generated::range_chunks::space::ChunkedSpace;
-use crate::generated::range_collections::{Countable, Unsigned};
+use crate::generated::range_collections::{Countable, FromPlace, Unsigned};
 use core::ops::Range;
 
 // How many gaps a bound is for at most.
@@ -57,14 +57,20 @@ impl<T: Countable + Copy> ChunkedSpace<T> {
         if count == 0 {
             return self.taken.first_fit_count_unchanged(within, 0);
         }
-        self.forget_wasted();
         let Range { start, end } = within;
+        let row = self.first_row(start, end, count, 1)?;
+        Some(row.start)
+    }
+
+    // The first `count` values in a row that are free from a multiple of `align` on.
+    fn first_row(&mut self, start: T, end: T, count: u128, align: u128) -> Option<Row<T>> {
+        self.forget_wasted();
         let mut from = start;
         let mut at = 0;
         while from.place() < end.place() {
             at = first_above(self.bounds.as_slice(), at, from.place());
-            match self.step(at, from, end, count) {
-                Step::At(found) => return Some(found),
+            match self.step(at, from, end, count, align) {
+                Step::At(row) => return Some(row),
                 Step::From(next) => from = next,
                 Step::Nowhere => return None,
             }
@@ -80,18 +86,25 @@ impl<T: Countable + Copy> ChunkedSpace<T> {
     }
 
     // Looks from one value on, which lies before the bound at an index or in what it speaks of.
-    fn step(&mut self, at: usize, from: T, end: T, count: u128) -> Step<T> {
-        if let Some(past) = self.known_past(at, &from, count) {
+    fn step(&mut self, at: usize, from: T, end: T, count: u128, align: u128) -> Step<T> {
+        if let Some(past) = self.known_past(at, &from, count, align) {
             return Step::From(past);
         }
         let until = Until {
             ranges: GAPS,
             place: stop_of(self.bounds.as_slice(), at, from.place()),
         };
-        match first_row(self.taken.gaps(&from..&end), count, Some(until)) {
-            Reading::Found(found) => Step::At(found),
+        match first_row(self.taken.gaps(&from..&end), count, align, Some(until)) {
+            Reading::Found(row) => Step::At(row),
             Reading::Stopped { end: next, most } => {
-                self.note(at, from, next, most);
+                let bound = GapBound {
+                    start: from,
+                    end: next,
+                    most,
+                    count,
+                    align,
+                };
+                self.note(at, bound);
                 Step::From(next)
             }
             Reading::End => Step::Nowhere,
@@ -99,20 +112,19 @@ impl<T: Countable + Copy> ChunkedSpace<T> {
     }
 
     // The end of the bound at an index, if that speaks of the value and is too low.
-    fn known_past(&self, at: usize, from: &T, count: u128) -> Option<T> {
+    fn known_past(&self, at: usize, from: &T, count: u128, align: u128) -> Option<T> {
         let bound = self.bounds.get(at)?;
-        if bound.most < count && bound.is_around(from.place()) {
+        if bound.excludes(count, align) && bound.is_around(from.place()) {
             Some(bound.end)
         } else {
             None
         }
     }
 
-    // Remembers that between two values no gap has more than `most` values, if the second is a
-    // member.
-    fn note(&mut self, at: usize, start: T, end: T, most: u128) {
-        if self.taken.contains(&end) {
-            self.put_bound(at, GapBound { start, end, most });
+    // Remembers what is known of the gaps between two values, if the second is a member.
+    fn note(&mut self, at: usize, bound: GapBound<T>) {
+        if self.taken.contains(&bound.end) {
+            self.put_bound(at, bound);
         }
     }
 
@@ -130,5 +142,42 @@ impl<T: Countable + Copy> ChunkedSpace<T> {
                 let _inserted = self.bounds.insert(at, bound);
             }
         }
+    }
+}
+
+impl<T: FromPlace> ChunkedSpace<T> {
+    /// The least value whose place is a multiple of `align` and from which `count` values lie in
+    /// the range and are free. `None` if there is none, or if `align` is 0. Else it is as
+    /// `first_fit`, but of gaps that are long enough it remembers only for the last `align` that
+    /// none has such a value.
+    ///
+    /// # Contract
+    ///
+    /// ```text
+    /// ensures unchanged: self.new ≡ self.old
+    /// ensures fits: IfSome result (λ at. IsRow T.cmp T.value false self.old (T.place within.start)
+    ///     (T.place within.end) count (T.place at))
+    /// ensures aligned: IfSome result (λ at. T.place at % align ≡ 0)
+    /// ensures least: IfSome result (λ at. (n : ℕ) → n % align ≡ 0 → IsRow T.cmp T.value false
+    ///     self.old (T.place within.start) (T.place within.end) count n → T.place at ≤ n)
+    /// ensures none: 0 < align → IfNone result ((n : ℕ) → n % align ≡ 0 → ¬ (IsRow T.cmp T.value
+    ///     false self.old (T.place within.start) (T.place within.end) count n))
+    /// ensures no_align: align ≡ 0 → result ≡ None
+    /// ```
+    pub fn first_fit_aligned(&mut self, within: Range<T>, count: u128, align: u128) -> Option<T> {
+        if align == 0 {
+            return None;
+        }
+        if count == 0 {
+            return self.taken.first_fit_aligned(within, 0, align);
+        }
+        T::from_place(self.first_aligned_place(within, count, align)?)
+    }
+
+    // The place of that value.
+    fn first_aligned_place(&mut self, within: Range<T>, count: u128, align: u128) -> Option<u128> {
+        let Range { start, end } = within;
+        let row = self.first_row(start, end, count, align)?;
+        Some(row.at)
     }
 }
