@@ -3,7 +3,7 @@
 use crate::any_range::AnyRange;
 use crate::chunked::{ChunkedRangeSet, Gaps, Iter};
 use crate::generated::range_chunks as proved;
-use crate::generated::range_collections::{Countable, Unsigned, WholeNumber};
+use crate::generated::range_collections::{Countable, FromPlace, Unsigned, WholeNumber};
 use crate::memory::{expect_memory, AllocError};
 use crate::range::RangeSetRange;
 use crate::support::Global;
@@ -161,6 +161,29 @@ impl<T: Countable + Copy> ChunkedSpace<T> {
         self.0.first_fit_count(within, count)
     }
 
+    /// Returns the least value of the range whose place is a multiple of `align`, and from which on `count` values of it
+    /// are free. The place of a number is the number, if the type has no sign. It is `None` if there is none, or if
+    /// `align` is 0.
+    ///
+    /// It costs what [`first_fit`](Self::first_fit) does. Of gaps that are long enough, but hold no such value, it
+    /// remembers that for the last `align` alone: calls that alternate between two read those gaps again.
+    ///
+    /// # Examples
+    ///
+    /// ```
+    /// use range_sets::{ChunkedRangeSet, ChunkedSpace};
+    ///
+    /// let mut used = ChunkedSpace::from(ChunkedRangeSet::from_iter([0u64..10, 30..128]));
+    /// assert_eq!(used.first_fit_aligned(0..4096, 14, 16), Some(16));
+    /// assert_eq!(used.first_fit_aligned(0..4096, 16, 16), Some(128));
+    /// ```
+    pub fn first_fit_aligned(&mut self, within: Range<T>, count: u128, align: u128) -> Option<T>
+    where
+        T: FromPlace,
+    {
+        self.0.first_fit_aligned(within, count, align)
+    }
+
     /// Returns the set of what is taken.
     ///
     /// # Examples
@@ -171,7 +194,6 @@ impl<T: Countable + Copy> ChunkedSpace<T> {
     /// let used = ChunkedSpace::from_ranges([0u64..10, 80..128]);
     /// assert!(used.as_set().contains_range(80..=127));
     /// assert_eq!(used.as_set().next_gap(&90), Some(&128));
-    /// assert_eq!(used.as_set().first_fit_aligned(0..4096, 16, 16), Some(16));
     /// ```
     #[inline(always)]
     pub fn as_set(&self) -> &ChunkedRangeSet<T> {

@@ -87,7 +87,12 @@ fn follow(random: &mut Random, shape: &Shape) {
         let len = random.below(shape.longest);
         assert_eq!(
             space.first_fit(within.clone(), len),
-            set.first_fit_unchanged(within, len)
+            set.first_fit_unchanged(within.clone(), len)
+        );
+        let (count, align) = (len.into(), random.below(5).into());
+        assert_eq!(
+            space.first_fit_aligned(within.clone(), count, align),
+            set.first_fit_aligned(within, count, align)
         );
     }
     assert!(space.iter().eq(set.iter()));
@@ -141,6 +146,23 @@ fn a_space_answers_what_its_set_does() {
     assert_eq!((lowest(fallible), lowest(space)), (Some(3), Some(3)));
 }
 
+/// Each gap has 8 numbers, of which 4 stand past a multiple of 8.
+#[test]
+fn gaps_without_a_multiple_are_passed() {
+    let mut space: ChunkedSpace<u64> = (0..2_000).map(|i| 16 * i + 4..16 * i + 12).collect();
+    assert_eq!(space.first_fit(4..64_000, 8), Some(12));
+    for _ in 0..2 {
+        assert_eq!(space.first_fit_aligned(4..64_000, 8, 8), Some(32_000));
+        assert_eq!(space.first_fit_aligned(4..32_000, 8, 8), None);
+        assert_eq!(space.first_fit_aligned(4..64_000, 8, 4), Some(12));
+        assert_eq!(space.first_fit_aligned(4..64_000, 4, 8), Some(16));
+        assert_eq!(space.first_fit_aligned(4..64_000, 4, 0), None);
+    }
+    space.remove(16_020..16_024);
+    assert_eq!(space.first_fit_aligned(4..64_000, 8, 8), Some(16_016));
+    assert_eq!(space.first_fit_aligned(16_020..64_000, 0, 8), Some(16_024));
+}
+
 /// A range leaves its end out, so the greatest value lies in none.
 #[test]
 fn the_greatest_value_is_not_found() {
@@ -163,6 +185,7 @@ fn a_space_is_what_it_holds() {
     assert!(fallible.insert(7..).is_ok() && fallible.remove(4..5).is_ok());
     assert_eq!(fallible.first_fit(0..9, 3), Some(0));
     assert_eq!(fallible.first_fit_count(1..9, 3), Some(4));
+    assert_eq!(fallible.first_fit_aligned(1..9, 2, 5), Some(5));
     assert_eq!(format!("{fallible:?}"), "{3..4, 7..}");
     fallible.clear();
     assert!(ChunkedSpace::from(fallible).is_empty());

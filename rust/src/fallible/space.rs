@@ -2,7 +2,7 @@
 
 use crate::any_range::AnyRange;
 use crate::fallible::{AllocError, ChunkedRangeSet, EntryClone};
-use crate::generated::range_collections::{Countable, Unsigned};
+use crate::generated::range_collections::{Countable, FromPlace, Unsigned};
 use crate::range::RangeSetRange;
 use crate::{chunked, space};
 use core::fmt;
@@ -205,6 +205,28 @@ impl<T: Countable + Copy> ChunkedSpace<T> {
     /// ```
     pub fn first_fit_count(&mut self, within: Range<T>, count: u128) -> Option<T> {
         self.0.first_fit_count(within, count)
+    }
+
+    /// Returns the least value of the range whose place is a multiple of `align`, and from which on `count` values of it
+    /// are free. It is `None` if there is none, or if `align` is 0.
+    ///
+    /// It costs what [that of the other space](crate::ChunkedSpace::first_fit_aligned) does.
+    ///
+    /// # Examples
+    ///
+    /// ```
+    /// use range_sets::fallible::{AllocError, ChunkedSpace};
+    ///
+    /// let mut used = ChunkedSpace::new();
+    /// used.insert(0u64..10)?;
+    /// assert_eq!(used.first_fit_aligned(0..4096, 16, 16), Some(16));
+    /// # Ok::<(), AllocError>(())
+    /// ```
+    pub fn first_fit_aligned(&mut self, within: Range<T>, count: u128, align: u128) -> Option<T>
+    where
+        T: FromPlace,
+    {
+        self.0.first_fit_aligned(within, count, align)
     }
 }
 

@@ -88,6 +88,11 @@ fn searches_that_cannot_remember_find_the_same_place() {
         let (found, refused) = refusing(Refusal::From(0), || space.first_fit(0..40_000, len));
         assert_eq!(found, Some(place), "{len} numbers");
         assert_eq!(refused > 0, place > 0, "{len} numbers");
+        let (found, refused) = refusing(Refusal::From(0), || {
+            space.first_fit_aligned(0..40_000, len.into(), 5)
+        });
+        assert_eq!(found, Some(place), "{len} numbers from a multiple of 5");
+        assert_eq!(refused > 0, place > 0, "{len} numbers from a multiple of 5");
     }
     let (found, refused) = refusing(Refusal::Nothing, || {
         [11, 11].map(|len| space.first_fit(0..40_000, len))
