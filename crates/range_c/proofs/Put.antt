@@ -1,8 +1,11 @@
 -- Texts put one after the other in a buffer.
-use Rattle.std.proofs.Common.{◌≡◌, refl, ◌∷◌, sym, ap, ap₂, ◌∙◌, ℕ, ◌≤◌, List, [], ◌++◌, length, take, drop, append_assoc, arith}
-use Rattle.std.proofs.lemmas.List.{length-append, length-take-le, length-drop, take_at, drop_at, drop-drop, take-append-drop}
+use Rattle.std.proofs.Common.{◌≡◌, refl, ◌∷◌, sym, ap, ap₂, subst, ◌∙◌, ℕ, ◌*◌, ◌/◌, ◌≤◌, List, [], ◌++◌, length, take, drop, append_assoc, arith}
+use Rattle.std.proofs.lemmas.List.{append-nil, flat_map_more, length-append, length-take-le, length-drop, take_all, take_at, drop_at, drop-drop, take-append-drop}
 use Rattle.std.specs.List.{flat_map}
 use Rattle.range_collections.specs.Ranges.{range_ends, ranges_of}
+use Rattle.range_collections.specs.declared.range_set_range.RangeSetRange.{RangeSetRange}
+use Rattle.range_collections.specs.declared.range_set_range.RangeSetRange.TheVariants.{Range, RangeFrom}
+use Rattle.range_c.specs.Chunked.{CopiesFront}
 use Rattle.range_c.specs.Text.{AnswersText, PutsText}
 
 -- no text leaves all as it was
@@ -48,3 +51,37 @@ pub ends-ranges_of : {K : Type 0} (items : List K) → flat_map range_ends (rang
 ends-ranges_of [] = refl
 ends-ranges_of (x ∷ []) = refl
 ends-ranges_of (x ∷ y ∷ rest) = ap (λ xs. x ∷ y ∷ xs) (ends-ranges_of rest)
+
+-- a range has one or two ends, and so many have twice as many at most
+pub length-range_ends : {K : Type 0} (range : RangeSetRange K) → length (range_ends range) ≤ 2
+length-range_ends (Range r) = omega arith
+length-range_ends (RangeFrom r) = omega arith
+
+pub length-all_ends : {K : Type 0} (ranges : List (RangeSetRange K)) → length (flat_map range_ends ranges) ≤ 2 * length ranges
+length-all_ends [] = omega arith
+length-all_ends (Range r ∷ rest) = omega (arith, length-all_ends rest)
+length-all_ends (RangeFrom r ∷ rest) = omega (arith, length-all_ends rest)
+
+-- the ends of some ranges, and those of one more after them
+pub PutsText-ends : {K : Type 0} (done : List (RangeSetRange K)) (one : RangeSetRange K) (m n : ℕ) (old mid new : List K)
+    → PutsText 0 (flat_map range_ends done) old mid m → PutsText m (range_ends one) mid new n → PutsText 0 (flat_map range_ends (done ++ one ∷ [])) old new n
+PutsText-ends done one m n old mid new first second =
+    subst (λ text. PutsText 0 text old new n) (flat_map_more range_ends [] done one) (PutsText-append 0 m n (flat_map range_ends done) (range_ends one) old mid new first second)
+
+module _ {K : Type 0} (ranges done rest : List (RangeSetRange K)) (old new : List K) (n : ℕ)
+    (put : PutsText 0 (flat_map range_ends done) old new n) (whole : done ++ rest ≡ ranges) where
+  first_ones : done ≡ take (length old / 2) ranges → length done ≤ length old / 2 → CopiesFront ranges old new n
+  first_ones same few = record {
+    counted = omega (arith, put.counted, ap (λ rs. length (flat_map range_ends rs)) same);
+    written = put.written (omega (arith, put.counted, few, length-all_ends done)) ∙ ap (λ rs. flat_map range_ends rs ++ drop n old) same;
+  }
+
+  -- half as many ranges as the buffer is long
+  pub CopiesFront-full : length done ≡ length old / 2 → CopiesFront ranges old new n
+  CopiesFront-full full = first_ones (sym (take_at done rest (length old / 2) full) ∙ ap (take (length old / 2)) whole) (omega (arith, full))
+
+  -- fewer, and these are all
+  pub CopiesFront-all : rest ≡ [] → length done ≤ length old / 2 → CopiesFront ranges old new n
+  CopiesFront-all none few =
+      let all : done ≡ ranges = sym (append-nil done) ∙ ap (λ xs. done ++ xs) (sym none) ∙ whole in
+      first_ones (all ∙ sym (take_all (length old / 2) ranges (omega (arith, few, ap length all)))) few

@@ -10,6 +10,10 @@ ghost use Rattle.range_collections.specs.Sets.{AreEqual};
 ghost use Rattle.range_c.specs.Chunked.{outcome, CopiesTo, TellsNext};
 ghost use Rattle.range_c.specs.Text.{PutsText};
 
+pub(crate) mod fitting;
+pub(crate) mod members;
+pub(crate) mod ranges;
+
 use crate::in_place::overwrite;
 use crate::parts::put;
 use range_chunks::{ChunkedRangeSet, ChunkedSpace, Iter};
@@ -139,7 +143,7 @@ fn put_all<T: Copy>(ranges: Iter<'_, T>, out: &mut [T], len: usize) -> usize
 }
 
 // Puts the ends of a range after the first `len` numbers.
-fn put_ends<T: Copy>(out: &mut [T], len: usize, range: &RangeSetRange<&T>) -> usize
+pub(crate) fn put_ends<T: Copy>(out: &mut [T], len: usize, range: &RangeSetRange<&T>) -> usize
     requires fits { len + length (range_ends (range_now range.now)) < 2 ^ 64 }
     ensures { PutsText len (range_ends (range_now range.now)) out.old out.new result }
 {

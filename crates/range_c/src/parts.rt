@@ -12,7 +12,7 @@ ghost use Rattle.range_c.specs.Parts.{range_told, TellsRange};
 use range_collections::{Countable, RangeSetRange, RangeSetRef, Unsigned};
 
 // Tells the range, where there is one, by its start, its end and whether it has one.
-fn tell<T: Copy>(
+pub(crate) fn tell<T: Copy>(
     range: Option<RangeSetRange<&T>>,
     start: &mut T,
     end: &mut T,

@@ -1,0 +1,50 @@
+//! Where a stretch of numbers fits beside the members of a set in chunks, from a multiple on, and
+//! where members are in a row.
+ghost use Rattle.std.specs.Prelude.{◌≡◌, ◌<◌, ◌≤◌, ◌%◌, ℕ, true, false, IsTrue};
+ghost use Rattle.range_collections.specs.Fits.{IsRow};
+
+use crate::parts::put;
+use range_chunks::ChunkedRangeSet;
+use range_collections::{Countable, FromPlace};
+use std::ops::Range;
+
+// Tells the least number whose place is a multiple of `align` and from which on `count` numbers lie
+// in the range and none is a member, where there is one.
+pub(crate) fn first_fit_aligned<T: FromPlace>(
+    set: &ChunkedRangeSet<T>,
+    within: Range<T>,
+    count: u128,
+    align: u128,
+    at: &mut T,
+) -> bool
+    ensures fits { IsTrue result → IsRow T.cmp T.value false set.now
+        (T.place within.start) (T.place within.end) count (T.place at.new) }
+    ensures aligned { IsTrue result → T.place at.new % align ≡ 0 }
+    ensures least { IsTrue result → (n : ℕ) → n % align ≡ 0 → IsRow T.cmp T.value false set.now
+        (T.place within.start) (T.place within.end) count n → T.place at.new ≤ n }
+    ensures none { result ≡ false → 0 < align → (n : ℕ) → n % align ≡ 0 →
+        ¬ (IsRow T.cmp T.value false set.now
+        (T.place within.start) (T.place within.end) count n) }
+    ensures no_answer { result ≡ false → at.new ≡ at.old }
+{
+    put(set.first_fit_aligned(within, count, align), at)
+}
+
+// Tells the least number from which on `count` members in a row lie in the range, where there is
+// one.
+pub(crate) fn first_run<T: Countable + Copy>(
+    set: &ChunkedRangeSet<T>,
+    within: Range<T>,
+    count: u128,
+    at: &mut T,
+) -> bool
+    ensures fits { IsTrue result → IsRow T.cmp T.value true set.now
+        (T.place within.start) (T.place within.end) count (T.place at.new) }
+    ensures least { IsTrue result → (n : ℕ) → IsRow T.cmp T.value true set.now
+        (T.place within.start) (T.place within.end) count n → T.place at.new ≤ n }
+    ensures none { result ≡ false → (n : ℕ) → ¬ (IsRow T.cmp T.value true set.now
+        (T.place within.start) (T.place within.end) count n) }
+    ensures no_answer { result ≡ false → at.new ≡ at.old }
+{
+    put(set.first_run(within, count), at)
+}
