@@ -168,9 +168,19 @@ template <class T> static void chunked(const std::uint8_t *bytes, std::size_t si
         const T few = static_cast<T>(1 + call);
         const auto fits = [&](T x) { return few <= to - x && all_of<T>(x, static_cast<T>(x + few), is_out); };
         check(set.first_fit(from, to, static_cast<std::make_unsigned_t<T>>(few)) == first_of<T>(from, to, fits));
+        const auto next_one = set.begin_from(from);
+        const auto start_of_next = set.next_member(from);
+        check((next_one == set.end()) == !start_of_next && (!start_of_next || set.range_at(*start_of_next) == *next_one));
+        check(!start_of_next || (set.range_from(from) == *next_one && set.prev_member(*start_of_next) == start_of_next));
     }
     unsigned at = 0;
     std::size_t ranges = 0;
+    std::uint64_t members = 0;
+    for (unsigned x = 0; x <= REACH; x++) {
+        if (x % 64 == 0) check(set.rank(static_cast<T>(x)) == members && (!in[x] || set.select(members) == static_cast<T>(x)));
+        members += in[x];
+    }
+    check(in[REACH] ? !set.covered() : set.covered() == members);
     for (const auto &range : set) {
         for (; at < static_cast<unsigned>(range.start); at++) check(!in[at]);
         for (; at < (range.has_end ? static_cast<unsigned>(range.end) : REACH + 1); at++) check(in[at]);

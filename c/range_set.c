@@ -60,6 +60,7 @@ static void release(void *context, void *memory, size_t size)
 
 #define NUMBER int32_t
 #define COUNT uint32_t
+#define MOST INT32_MAX
 #define SET range_set_i32
 #define RANGE range_set_i32_range
 #define BUFFER range_set_i32_buffer
@@ -71,6 +72,7 @@ static void release(void *context, void *memory, size_t size)
 
 #define NUMBER uint32_t
 #define COUNT uint32_t
+#define MOST UINT32_MAX
 #define SET range_set_u32
 #define RANGE range_set_u32_range
 #define BUFFER range_set_u32_buffer
@@ -82,6 +84,7 @@ static void release(void *context, void *memory, size_t size)
 
 #define NUMBER int64_t
 #define COUNT uint64_t
+#define MOST INT64_MAX
 #define SET range_set_i64
 #define RANGE range_set_i64_range
 #define BUFFER range_set_i64_buffer
@@ -93,6 +96,7 @@ static void release(void *context, void *memory, size_t size)
 
 #define NUMBER uint64_t
 #define COUNT uint64_t
+#define MOST UINT64_MAX
 #define SET range_set_u64
 #define RANGE range_set_u64_range
 #define BUFFER range_set_u64_buffer

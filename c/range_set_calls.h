@@ -1,6 +1,6 @@
 /* The layer for one type of numbers. Before each include NUMBER is the type, and COUNT the unsigned one of its width;
- * SET, RANGE, BUFFER, OWNED and CHUNKED are the header's structs for it, NAME(call) is the name of a call of the header, and PROVED(call) the
- * name of the proved call that it stands before. */
+ * MOST is its greatest number, SET, RANGE, BUFFER, OWNED and CHUNKED are the header's structs for it, NAME(call) is the name of a
+ * call of the header, and PROVED(call) the name of the proved call that it stands before. */
 
 /* The proved calls: a list is a pointer and a length. Those that write a list answer its length, and have written it where
  * that is at most the buffer's, and else, where they change a set in place, nothing. But `parse` may be called only with a text of
@@ -61,9 +61,23 @@ void PROVED(chunked_clear)(CHUNKED *set);
 bool PROVED(chunked_contains)(CHUNKED *set, NUMBER value);
 bool PROVED(chunked_contains_range)(CHUNKED *set, NUMBER start, NUMBER end);
 bool PROVED(chunked_intersects_range)(CHUNKED *set, NUMBER start, NUMBER end);
+bool PROVED(chunked_is_empty)(CHUNKED *set);
+bool PROVED(chunked_is_all)(CHUNKED *set);
+bool PROVED(chunked_range_at)(CHUNKED *set, NUMBER value, NUMBER *start, NUMBER *end, bool *has_end);
+bool PROVED(chunked_range_from)(CHUNKED *set, NUMBER value, NUMBER *start, NUMBER *end, bool *has_end);
+bool PROVED(chunked_first)(CHUNKED *set, NUMBER *start, NUMBER *end, bool *has_end);
+bool PROVED(chunked_last)(CHUNKED *set, NUMBER *start, NUMBER *end, bool *has_end);
+size_t PROVED(chunked_overlapping)(CHUNKED *set, NUMBER start, NUMBER end, NUMBER *out, size_t room);
 bool PROVED(chunked_next_member)(CHUNKED *set, NUMBER from, NUMBER *next);
 bool PROVED(chunked_next_gap)(CHUNKED *set, NUMBER from, NUMBER *next);
+bool PROVED(chunked_prev_member)(CHUNKED *set, NUMBER from, NUMBER *previous);
+bool PROVED(chunked_prev_gap)(CHUNKED *set, NUMBER from, NUMBER *previous);
+bool PROVED(chunked_select)(CHUNKED *set, uint64_t k, NUMBER *at);
+uint64_t PROVED(chunked_rank)(CHUNKED *set, NUMBER at);
+bool PROVED(chunked_covered)(CHUNKED *set, uint64_t *count);
 bool PROVED(chunked_first_fit)(CHUNKED *set, NUMBER start, NUMBER end, COUNT count, NUMBER *first);
+bool PROVED(chunked_first_fit_aligned)(CHUNKED *set, NUMBER start, NUMBER end, COUNT count, COUNT align, NUMBER *first);
+bool PROVED(chunked_first_run)(CHUNKED *set, NUMBER start, NUMBER end, COUNT count, NUMBER *first);
 size_t PROVED(chunked_ranges_len)(CHUNKED *set);
 size_t PROVED(chunked_boundaries_len)(CHUNKED *set);
 size_t PROVED(chunked_copy)(CHUNKED *set, NUMBER *out, size_t room);
@@ -678,6 +692,81 @@ bool NAME(chunked_intersects_range)(CHUNKED set, NUMBER start, NUMBER end)
     return set.at != NULL && PROVED(chunked_intersects_range)(&set, start, end);
 }
 
+/* What is no set has the answers of the empty list. */
+static const SET NAME(no_member) = {NULL, 0};
+
+bool NAME(chunked_is_empty)(CHUNKED set)
+{
+    return set.at == NULL || PROVED(chunked_is_empty)(&set);
+}
+
+bool NAME(chunked_is_all)(CHUNKED set)
+{
+    return set.at != NULL && PROVED(chunked_is_all)(&set);
+}
+
+bool NAME(chunked_range_at)(CHUNKED set, NUMBER value, RANGE *range)
+{
+    RANGE it = {0, 0, false};
+    bool found = set.at != NULL && PROVED(chunked_range_at)(&set, value, &it.start, &it.end, &it.has_end);
+    return NAME(told)(found, it, range);
+}
+
+bool NAME(chunked_range_from)(CHUNKED set, NUMBER value, RANGE *range)
+{
+    RANGE it = {0, 0, false};
+    bool found = set.at != NULL && PROVED(chunked_range_from)(&set, value, &it.start, &it.end, &it.has_end);
+    return NAME(told)(found, it, range);
+}
+
+bool NAME(chunked_first)(CHUNKED set, RANGE *range)
+{
+    RANGE it = {0, 0, false};
+    bool found = set.at != NULL && PROVED(chunked_first)(&set, &it.start, &it.end, &it.has_end);
+    return NAME(told)(found, it, range);
+}
+
+bool NAME(chunked_last)(CHUNKED set, RANGE *range)
+{
+    RANGE it = {0, 0, false};
+    bool found = set.at != NULL && PROVED(chunked_last)(&set, &it.start, &it.end, &it.has_end);
+    return NAME(told)(found, it, range);
+}
+
+bool NAME(chunked_prev_member)(CHUNKED set, NUMBER from, NUMBER *previous)
+{
+    NUMBER at = 0;
+    bool found = set.at != NULL && PROVED(chunked_prev_member)(&set, from, &at);
+    return NAME(put)(found, at, previous);
+}
+
+bool NAME(chunked_prev_gap)(CHUNKED set, NUMBER from, NUMBER *previous)
+{
+    NUMBER at = from;
+    bool found = set.at == NULL || PROVED(chunked_prev_gap)(&set, from, &at);
+    return NAME(put)(found, at, previous);
+}
+
+bool NAME(chunked_select)(CHUNKED set, uint64_t k, NUMBER *at)
+{
+    NUMBER it = 0;
+    bool found = set.at != NULL && PROVED(chunked_select)(&set, k, &it);
+    return NAME(put)(found, it, at);
+}
+
+uint64_t NAME(chunked_rank)(CHUNKED set, NUMBER at)
+{
+    return set.at != NULL ? PROVED(chunked_rank)(&set, at) : 0;
+}
+
+bool NAME(chunked_covered)(CHUNKED set, uint64_t *count)
+{
+    uint64_t n = 0;
+    bool has_end = set.at == NULL || PROVED(chunked_covered)(&set, &n);
+    if (has_end && count != NULL) *count = n;
+    return has_end;
+}
+
 bool NAME(chunked_next_member)(CHUNKED set, NUMBER from, NUMBER *next)
 {
     NUMBER at = 0;
@@ -704,11 +793,49 @@ bool NAME(chunked_next)(CHUNKED set, NUMBER from, RANGE *range)
 
 bool NAME(chunked_first_fit)(CHUNKED *set, NUMBER start, NUMBER end, COUNT count, NUMBER *first)
 {
-    const SET none = {NULL, 0};
     NUMBER at = 0;
-    if (set == NULL || set->at == NULL) return NAME(first_fit)(none, start, end, count, first);
+    if (set == NULL || set->at == NULL) return NAME(first_fit)(NAME(no_member), start, end, count, first);
     bool fits = PROVED(chunked_first_fit)(set, start, end, count, &at);
     return NAME(put)(fits, at, first);
+}
+
+bool NAME(chunked_first_fit_aligned)(CHUNKED set, NUMBER start, NUMBER end, COUNT count, COUNT align, NUMBER *first)
+{
+    NUMBER at = 0;
+    if (set.at == NULL) return NAME(first_fit_aligned)(NAME(no_member), start, end, count, align, first);
+    bool fits = PROVED(chunked_first_fit_aligned)(&set, start, end, count, align, &at);
+    return NAME(put)(fits, at, first);
+}
+
+bool NAME(chunked_first_run)(CHUNKED set, NUMBER start, NUMBER end, COUNT count, NUMBER *first)
+{
+    NUMBER at = 0;
+    if (set.at == NULL) return NAME(first_run)(NAME(no_member), start, end, count, first);
+    bool found = PROVED(chunked_first_run)(&set, start, end, count, &at);
+    return NAME(put)(found, at, first);
+}
+
+/* How many boundaries of the ranges that share a number with another were written. */
+static inline size_t NAME(overlapping)(CHUNKED set, NUMBER start, NUMBER end, NUMBER *out, size_t room)
+{
+    return set.at != NULL ? PROVED(chunked_overlapping)(&set, start, end, ROOM(out, room)) : 0;
+}
+
+range_set_status NAME(chunked_overlapping)(CHUNKED set, NUMBER start, NUMBER end, NUMBER *out, size_t room, SET *result)
+{
+    if (!is_array(out, room, sizeof *out) || !NAME(is_result)(result, out, room)) return RANGE_SET_BAD_ARGUMENT;
+    return NAME(written)(NAME(overlapping)(set, start, end, out, room), out, room, result);
+}
+
+/* The proved call looks below an end, so not at the greatest number. A range that has it has no end, and is written already where
+ * the boundaries are odd in number. */
+range_set_status NAME(chunked_next_ranges)(CHUNKED set, NUMBER from, NUMBER *out, size_t room, SET *result)
+{
+    RANGE last = {0, 0, false};
+    if (!is_array(out, room, sizeof *out) || !NAME(is_result)(result, out, room)) return RANGE_SET_BAD_ARGUMENT;
+    size_t len = NAME(overlapping)(set, from, MOST, out, room);
+    if (len % 2 == 0 && len / 2 < room / 2 && NAME(chunked_range_at)(set, MOST, &last)) out[len++] = last.start;
+    return NAME(written)(len, out, room, result);
 }
 
 size_t NAME(chunked_ranges_len)(CHUNKED set)
@@ -731,6 +858,7 @@ range_set_status NAME(chunked_copy)(CHUNKED set, NUMBER *out, size_t room, SET *
 #undef ROOM
 #undef NUMBER
 #undef COUNT
+#undef MOST
 #undef SET
 #undef RANGE
 #undef BUFFER

@@ -334,6 +334,14 @@ template <class T> static void chunked()
     chunked_range_set<T> ends;
     ends.insert(std::numeric_limits<T>::min(), std::numeric_limits<T>::min() + 1).insert_from(std::numeric_limits<T>::max());
     check(ends.size() == 2 && text<T>(ends) == text<T>(ends.set()), "chunked: the least number and the greatest");
+    check(set.prev_member(11) == T(10) && !set.prev_member(8) && set.prev_gap(16) == T(11) && set.rank(13) == 3 && set.select(3) == T(13),
+        "chunked: members");
+    check(
+        set.range_at(9) == range<T>{9, 11, true} && !set.range_at(11) && set.range_from(11) == range<T>{12, 17, true}, "chunked: range_at");
+    check(set.first() == range<T>{9, 11, true} && set.last() == range<T>{20, 0, false} && !set.is_all() && !set.covered(), "chunked: ends");
+    check(set.first_run(9, 40, 3) == T(12) && !set.first_run(9, 20, 6), "chunked: first_run");
+    check(!set.first_fit_aligned(9, 40, 1, 0) && !set.first_fit_aligned(9, 40, 4, 1) && set.first_fit_aligned(9, 40, 2, 1) == T(17),
+        "chunked: first_fit_aligned");
     chunked_range_set<T> copy(set), moved(std::move(set)), assigned;
     check(set.empty() && text<T>(copy) == text<T>(moved), "chunked: copy and move");
     copy.remove_from(12);
@@ -350,7 +358,29 @@ template <class T> static void chunked()
         if (i % 3 == 2) many.remove(start, end), wanted.remove(start, end);
         else many.insert(start, end), wanted.insert(start, end);
         const auto count = static_cast<std::make_unsigned_t<T>>(1 + random_below(40));
-        if (i % 10 == 0) check(many.first_fit(0, 20000, count) == wanted.first_fit(0, 20000, count), "chunked: first_fit of many");
+        if (i % 10 != 0) continue;
+        check(many.first_fit(0, 20000, count) == wanted.first_fit(0, 20000, count), "chunked: first_fit of many");
+        check(many.first_fit_aligned(0, 20000, 3, count) == wanted.first_fit_aligned(0, 20000, 3, count),
+            "chunked: first_fit_aligned of many");
+        check(many.first_run(0, 20000, count / 8) == wanted.first_run(0, 20000, count / 8), "chunked: first_run of many");
+        check(many.range_at(start) == wanted.range_at(start) && many.range_from(start) == wanted.range_from(start),
+            "chunked: a range of many");
+        check(many.prev_member(start) == wanted.prev_member(start) && many.prev_gap(start) == wanted.prev_gap(start),
+            "chunked: prev of many");
+        check(many.rank(start) == wanted.rank(start) && many.select(i) == wanted.select(i), "chunked: the members of many");
+        check(many.first() == wanted.first() && many.last() == wanted.last(), "chunked: the ends of many");
+    }
+    // The iterator reads sixteen ranges at a time, and the last one may have no end.
+    for (unsigned ranges = 0; ranges < 40; ranges++) {
+        chunked_range_set<T> some;
+        for (unsigned i = 0; i < ranges; i++) some.insert(static_cast<T>(3 * i), static_cast<T>(3 * i + 1));
+        check(text<T>(some) == text<T>(some.set()), "chunked: so many ranges");
+        some.insert_from(1000);
+        check(text<T>(some) == text<T>(some.set()), "chunked: so many ranges and one without an end");
+    }
+    for (std::size_t from = 0; from < wanted.size(); from += 101) {
+        const auto rest = wanted.begin() + static_cast<std::ptrdiff_t>(from);
+        check(std::equal(many.begin_from((*rest).end - 1), many.end(), rest, wanted.end()), "chunked: from a number on");
     }
     check(many.set() == wanted && text<T>(many) == text<T>(wanted) && many.size() == wanted.size(), "chunked: many");
     chunked_range_set<T> same(many);

@@ -675,6 +675,168 @@ static void TEST(unions)(const NUMBER *points, size_t n)
     check(CALL(union_all)(sets, count, out, all, sets) == RANGE_SET_BAD_ARGUMENT, "union_all into the sets");
 }
 
+/* The ranges are read so many at a time: with odd room the last number of the buffer stays as it is. */
+static void TEST(read_by)(CHUNKED set, const NUMBER *wanted, size_t len, size_t room)
+{
+    NUMBER some[64], from = LEAST;
+    SET part = {NULL, 77};
+    size_t at = 0;
+    do {
+        some[room - 1] = 77;
+        check(CALL(chunked_next_ranges)(set, from, some, room, &part) == RANGE_SET_DONE, "chunked_next_ranges: status");
+        check(part.len <= len - at && TEST(is)(part, wanted + at, part.len), "chunked_next_ranges: the ranges");
+        check(room % 2 == 0 || some[room - 1] == 77, "chunked_next_ranges: what stands after them");
+        at += part.len;
+        if (part.len > 0) from = some[part.len - 1];
+    } while (part.len / 2 == room / 2);
+    check(at == len, "chunked_next_ranges: how many there are");
+}
+
+/* A set in chunks has these boundaries: read range by range, and copied with the exact room, with more and with too little. */
+static void TEST(has_boundaries)(CHUNKED set, const NUMBER *wanted, size_t len)
+{
+    NUMBER *list = malloc((len + 2) * sizeof *list);
+    SET result = {NULL, 77};
+    RANGE it = {77, 78, true};
+    size_t at = 0, room;
+    bool more;
+    if (list == NULL) fail("no memory");
+    for (more = CALL(chunked_next)(set, LEAST, &it); more; more = it.has_end && CALL(chunked_next)(set, it.end, &it)) {
+        check(at < len && it.start == wanted[at], "chunked: where a range starts");
+        check(it.has_end == (at + 1 < len) && (!it.has_end || it.end == wanted[at + 1]), "chunked: where a range ends");
+        at += it.has_end ? 2 : 1;
+    }
+    check(at == len, "chunked: how many ranges are read");
+    for (room = 2; room <= 64; room += 31) TEST(read_by)(set, wanted, len, room);
+    check(CALL(chunked_boundaries_len)(set) == len && CALL(chunked_ranges_len)(set) == len / 2 + len % 2, "chunked: the lengths");
+    for (room = len; room <= len + 2; room += 2) {
+        list[len] = 5, list[len + 1] = 6;
+        check(CALL(chunked_copy)(set, list, room, &result) == RANGE_SET_DONE, "chunked_copy: status");
+        check(TEST(is)(result, wanted, len) && (len == 0 || result.boundaries == list), "chunked_copy: the set");
+        check(list[len] == 5 && list[len + 1] == 6, "chunked_copy: what stands after the set");
+    }
+    if (len > 0) {
+        list[0] = 5, list[len - 1] = 6;
+        check(CALL(chunked_copy)(set, list, len - 1, &result) == RANGE_SET_NO_ROOM, "chunked_copy: too little room");
+        check(result.boundaries == NULL && result.len == len && list[len - 1] == 6 && (len == 1 || list[0] == 5),
+            "chunked_copy: the room that it needs");
+    }
+    check(CALL(chunked_copy)(set, NULL, 1, &result) == RANGE_SET_BAD_ARGUMENT, "chunked_copy: a null buffer");
+    check(CALL(chunked_copy)(set, list, len, NULL) == RANGE_SET_BAD_ARGUMENT, "chunked_copy: a null result");
+    free(list);
+}
+
+/* The boundaries of the first ranges of a list, up to so many, that have a number from `start` on and, where there is an end, below it. */
+static size_t TEST(ranges_among)(SET list, NUMBER start, const NUMBER *end, size_t most, NUMBER *wanted)
+{
+    size_t len = 0, i;
+    for (i = 0; i < list.len && most > 0; i += 2) {
+        if (i + 1 < list.len && list.boundaries[i + 1] <= start) continue;
+        if (end != NULL && (list.boundaries[i] >= *end || start >= *end)) continue;
+        wanted[len++] = list.boundaries[i];
+        if (i + 1 < list.len) wanted[len++] = list.boundaries[i + 1];
+        most--;
+    }
+    return len;
+}
+
+/* The ranges of a set in chunks that share a number with a range, or that have one from its start on, into much room and little. */
+static void TEST(ranges_from)(CHUNKED set, SET list, NUMBER start, NUMBER end)
+{
+    NUMBER wanted[POINTS + 2], some[POINTS + 5];
+    SET part = {NULL, 77};
+    size_t room, len;
+    for (room = 0; room <= POINTS + 4; room += room < 4 ? 1 : POINTS - 1) {
+        some[room] = 78;
+        len = TEST(ranges_among)(list, start, &end, room / 2, wanted);
+        check(CALL(chunked_overlapping)(set, start, end, some, room, &part) == RANGE_SET_DONE, "chunked_overlapping: status");
+        check(TEST(is)(part, wanted, len) && part.boundaries == some && some[room] == 78, "chunked_overlapping: the ranges");
+        len = TEST(ranges_among)(list, start, NULL, room / 2, wanted);
+        check(CALL(chunked_next_ranges)(set, start, some, room, &part) == RANGE_SET_DONE, "chunked_next_ranges: status");
+        check(TEST(is)(part, wanted, len) && part.boundaries == some && some[room] == 78, "chunked_next_ranges: the ranges");
+    }
+    check(CALL(chunked_overlapping)(set, start, end, NULL, 0, &part) == RANGE_SET_DONE && part.len == 0, "chunked_overlapping: no room");
+    check(CALL(chunked_overlapping)(set, start, end, NULL, 1, &part) == RANGE_SET_BAD_ARGUMENT, "chunked_overlapping: a null buffer");
+    check(CALL(chunked_next_ranges)(set, start, NULL, 1, &part) == RANGE_SET_BAD_ARGUMENT, "chunked_next_ranges: a null buffer");
+    check(CALL(chunked_overlapping)(set, start, end, some, 4, NULL) == RANGE_SET_BAD_ARGUMENT, "chunked_overlapping: a null result");
+    check(CALL(chunked_next_ranges)(set, start, some, 4, NULL) == RANGE_SET_BAD_ARGUMENT, "chunked_next_ranges: a null result");
+}
+
+static bool TEST(told_same)(bool found, bool wanted_found, RANGE it, RANGE wanted)
+{
+    return found == wanted_found && it.start == wanted.start && it.end == wanted.end && it.has_end == wanted.has_end;
+}
+
+/* Each question that tells a number or a range is answered by a set in chunks as by the list of its boundaries, which is tested
+ * against bitmaps; also where there is no place for the answer. */
+static void TEST(answers_at)(CHUNKED set, SET list, NUMBER from, uint64_t k)
+{
+    const RANGE none = {77, 78, true};
+    RANGE it = none, wanted = none;
+    NUMBER at = 77, number = 77;
+    bool found = CALL(range_at)(list, from, &wanted);
+    check(TEST(told_same)(CALL(chunked_range_at)(set, from, &it), found, it, wanted), "chunked_range_at");
+    check(CALL(chunked_range_at)(set, from, NULL) == found, "chunked_range_at without a place");
+    it = wanted = none, found = CALL(range_from)(list, from, &wanted);
+    check(TEST(told_same)(CALL(chunked_range_from)(set, from, &it), found, it, wanted), "chunked_range_from");
+    check(CALL(chunked_range_from)(set, from, NULL) == found, "chunked_range_from without a place");
+    found = CALL(prev_member)(list, from, &number);
+    check(CALL(chunked_prev_member)(set, from, &at) == found && at == number, "chunked_prev_member");
+    check(CALL(chunked_prev_member)(set, from, NULL) == found, "chunked_prev_member without a place");
+    at = number = 77, found = CALL(prev_gap)(list, from, &number);
+    check(CALL(chunked_prev_gap)(set, from, &at) == found && at == number, "chunked_prev_gap");
+    check(CALL(chunked_prev_gap)(set, from, NULL) == found, "chunked_prev_gap without a place");
+    at = number = 77, found = CALL(select)(list, k, &number);
+    check(CALL(chunked_select)(set, k, &at) == found && at == number, "chunked_select");
+    check(CALL(chunked_select)(set, k, NULL) == found, "chunked_select without a place");
+    check(CALL(chunked_rank)(set, from) == CALL(rank)(list, from), "chunked_rank");
+}
+
+/* The same of all questions, at some numbers and in ranges between them. */
+static void TEST(answers_as)(CHUNKED set, SET list, const NUMBER *points, size_t n)
+{
+    const RANGE none = {77, 78, true};
+    RANGE it = none, wanted = none;
+    uint64_t count = 77, of_list = 77;
+    size_t p;
+    bool found = CALL(first)(list, &wanted);
+    check(CALL(chunked_is_empty)(set) == CALL(is_empty)(list), "chunked_is_empty");
+    check(CALL(chunked_is_all)(set) == CALL(is_all)(list), "chunked_is_all");
+    check(TEST(told_same)(CALL(chunked_first)(set, &it), found, it, wanted), "chunked_first");
+    check(CALL(chunked_first)(set, NULL) == found, "chunked_first without a place");
+    it = wanted = none, found = CALL(last)(list, &wanted);
+    check(TEST(told_same)(CALL(chunked_last)(set, &it), found, it, wanted), "chunked_last");
+    check(CALL(chunked_last)(set, NULL) == found, "chunked_last without a place");
+    found = CALL(covered)(list, &of_list);
+    check(CALL(chunked_covered)(set, &count) == found && count == of_list, "chunked_covered");
+    check(CALL(chunked_covered)(set, NULL) == found, "chunked_covered without a place");
+    TEST(answers_at)(set, list, MOST, UINT64_MAX);
+    for (p = 0; p < n; p++) {
+        NUMBER start = points[p], end = points[random_below((unsigned)n)], at = 77, number = 77;
+        COUNT many = (COUNT)random_below(5), align = (COUNT)random_below(9);
+        TEST(answers_at)(set, list, start, random_below((unsigned)n));
+        TEST(ranges_from)(set, list, start, end);
+        TEST(ranges_from)(set, list, start, MOST);
+        found = CALL(first_fit_aligned)(list, start, end, many, align, &number);
+        check(CALL(chunked_first_fit_aligned)(set, start, end, many, align, &at) == found && at == number, "chunked_first_fit_aligned");
+        check(CALL(chunked_first_fit_aligned)(set, start, end, many, align, NULL) == found, "chunked_first_fit_aligned without a place");
+        at = number = 77, found = CALL(first_run)(list, start, end, many, &number);
+        check(CALL(chunked_first_run)(set, start, end, many, &at) == found && at == number, "chunked_first_run");
+        check(CALL(chunked_first_run)(set, start, end, many, NULL) == found, "chunked_first_run without a place");
+    }
+    TEST(ranges_from)(set, list, MOST, MOST);
+}
+
+/* The same of a set in chunks that is made of the list. */
+static void TEST(in_chunks)(SET list, const NUMBER *points, size_t n)
+{
+    CHUNKED set = {NULL};
+    check(CALL(chunked_of)(list, &set) == RANGE_SET_DONE, "chunked_of: status");
+    TEST(has_boundaries)(set, list.boundaries, list.len);
+    TEST(answers_as)(set, list, points, n);
+    CALL(chunked_free)(&set);
+}
+
 /* A made-up case: two bitmaps, all calls. */
 static void TEST(made_up)(void)
 {
@@ -726,6 +888,7 @@ static void TEST(made_up)(void)
     TEST(previous_ones)(o.a, points, on_a, n);
     TEST(fits)(o.a, points, on_a, n);
     TEST(rows_of_numbers)(o.a, points, n);
+    if (random_below(4) == 0) TEST(in_chunks)(o.a, points, n);
     TEST(unions)(points, n);
     TEST(printed_by_c)(o.a);
     TEST(ranges_parsed)(points, n);
@@ -843,39 +1006,6 @@ static void TEST(owned_with_its_part)(void)
         CALL(owned_free)(&owned);
     }
     CALL(owned_free)(NULL);
-}
-
-/* A set in chunks has these boundaries: read range by range, and copied with the exact room, with more and with too little. */
-static void TEST(has_boundaries)(CHUNKED set, const NUMBER *wanted, size_t len)
-{
-    NUMBER *list = malloc((len + 2) * sizeof *list);
-    SET result = {NULL, 77};
-    RANGE it = {77, 78, true};
-    size_t at = 0, room;
-    bool more;
-    if (list == NULL) fail("no memory");
-    for (more = CALL(chunked_next)(set, LEAST, &it); more; more = it.has_end && CALL(chunked_next)(set, it.end, &it)) {
-        check(at < len && it.start == wanted[at], "chunked: where a range starts");
-        check(it.has_end == (at + 1 < len) && (!it.has_end || it.end == wanted[at + 1]), "chunked: where a range ends");
-        at += it.has_end ? 2 : 1;
-    }
-    check(at == len, "chunked: how many ranges are read");
-    check(CALL(chunked_boundaries_len)(set) == len && CALL(chunked_ranges_len)(set) == len / 2 + len % 2, "chunked: the lengths");
-    for (room = len; room <= len + 2; room += 2) {
-        list[len] = 5, list[len + 1] = 6;
-        check(CALL(chunked_copy)(set, list, room, &result) == RANGE_SET_DONE, "chunked_copy: status");
-        check(TEST(is)(result, wanted, len) && (len == 0 || result.boundaries == list), "chunked_copy: the set");
-        check(list[len] == 5 && list[len + 1] == 6, "chunked_copy: what stands after the set");
-    }
-    if (len > 0) {
-        list[0] = 5, list[len - 1] = 6;
-        check(CALL(chunked_copy)(set, list, len - 1, &result) == RANGE_SET_NO_ROOM, "chunked_copy: too little room");
-        check(result.boundaries == NULL && result.len == len && list[len - 1] == 6 && (len == 1 || list[0] == 5),
-            "chunked_copy: the room that it needs");
-    }
-    check(CALL(chunked_copy)(set, NULL, 1, &result) == RANGE_SET_BAD_ARGUMENT, "chunked_copy: a null buffer");
-    check(CALL(chunked_copy)(set, list, len, NULL) == RANGE_SET_BAD_ARGUMENT, "chunked_copy: a null result");
-    free(list);
 }
 
 /* Where so many points in a row, of two numbers each, are no members, from a point on, against trying each point. */
@@ -1006,6 +1136,7 @@ static void TEST(chunked_many)(void)
     CALL(chunked_free)(&set);
     check(CALL(chunked_of)(TEST(set)(wanted, 2 * MANY), &set) == RANGE_SET_DONE, "chunked: many: of a list");
     TEST(has_boundaries)(set, wanted, 2 * MANY);
+    for (p = 0; p < MANY; p += 97) TEST(answers_at)(set, TEST(set)(wanted, 2 * MANY), (NUMBER)(3 * p + 2), p);
     CALL(chunked_free)(&set);
 }
 
@@ -1016,6 +1147,7 @@ static void TEST(chunked_none)(void)
     NUMBER next = 77;
     SET overlapping = {(const NUMBER *)(const void *)&none, 1};
     TEST(has_boundaries)(none, NULL, 0);
+    TEST(answers_as)(none, TEST(set)(NULL, 0), &next, 1);
     check(!CALL(chunked_contains)(none, 5) && CALL(chunked_contains_range)(none, 5, 5) && !CALL(chunked_contains_range)(none, 5, 6),
         "no set: contains");
     check(!CALL(chunked_intersects_range)(none, 5, 6), "no set: intersects_range");

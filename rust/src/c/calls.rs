@@ -17,9 +17,10 @@ macro_rules! calls {
             };
             use super::owned::{Allocator, Owned};
             use super::{operations, texts, Status};
-            use crate::generated::range_c::chunked;
+            use crate::generated::range_c::chunked::{self, fitting, members, ranges};
             use crate::generated::range_c::generated::$proved::*;
             use crate::generated::range_chunks::ChunkedSpace;
+            use crate::generated::range_collections::RangeSetRange;
             use crate::support::Global;
             use std::os::raw::c_uint;
 
@@ -667,6 +668,126 @@ macro_rules! calls {
                 }
             }
 
+            #[export_name = concat!("range_set_", $name, "_chunked_is_empty")]
+            unsafe extern "C" fn chunked_is_empty(set: Chunks) -> bool {
+                match unsafe { set.get() } {
+                    Some(set) => set.as_set().is_empty(),
+                    None => true,
+                }
+            }
+
+            #[export_name = concat!("range_set_", $name, "_chunked_is_all")]
+            unsafe extern "C" fn chunked_is_all(set: Chunks) -> bool {
+                match unsafe { set.get() } {
+                    Some(set) => set.as_set().is_all(),
+                    None => false,
+                }
+            }
+
+            #[export_name = concat!("range_set_", $name, "_chunked_range_at")]
+            unsafe extern "C" fn chunked_range_at(
+                set: Chunks,
+                value: $number,
+                range: *mut Range<$number>,
+            ) -> bool {
+                unsafe {
+                    told(range, |start, end, has_end| match set.get() {
+                        Some(set) => ranges::range_at(set.as_set(), &value, start, end, has_end),
+                        None => false,
+                    })
+                }
+            }
+
+            #[export_name = concat!("range_set_", $name, "_chunked_range_from")]
+            unsafe extern "C" fn chunked_range_from(
+                set: Chunks,
+                value: $number,
+                range: *mut Range<$number>,
+            ) -> bool {
+                unsafe {
+                    told(range, |start, end, has_end| match set.get() {
+                        Some(set) => ranges::range_from(set.as_set(), &value, start, end, has_end),
+                        None => false,
+                    })
+                }
+            }
+
+            #[export_name = concat!("range_set_", $name, "_chunked_first")]
+            unsafe extern "C" fn chunked_first(set: Chunks, range: *mut Range<$number>) -> bool {
+                unsafe {
+                    told(range, |start, end, has_end| match set.get() {
+                        Some(set) => ranges::first(set.as_set(), start, end, has_end),
+                        None => false,
+                    })
+                }
+            }
+
+            #[export_name = concat!("range_set_", $name, "_chunked_last")]
+            unsafe extern "C" fn chunked_last(set: Chunks, range: *mut Range<$number>) -> bool {
+                unsafe {
+                    told(range, |start, end, has_end| match set.get() {
+                        Some(set) => ranges::last(set.as_set(), start, end, has_end),
+                        None => false,
+                    })
+                }
+            }
+
+            #[export_name = concat!("range_set_", $name, "_chunked_prev_member")]
+            unsafe extern "C" fn chunked_prev_member(
+                set: Chunks,
+                from: $number,
+                previous: *mut $number,
+            ) -> bool {
+                unsafe {
+                    number_told(previous, |at| match set.get() {
+                        Some(set) => members::prev_member(set.as_set(), &from, at),
+                        None => false,
+                    })
+                }
+            }
+
+            #[export_name = concat!("range_set_", $name, "_chunked_prev_gap")]
+            unsafe extern "C" fn chunked_prev_gap(
+                set: Chunks,
+                from: $number,
+                previous: *mut $number,
+            ) -> bool {
+                unsafe {
+                    number_told(previous, |at| match set.get() {
+                        Some(set) => members::prev_gap(set.as_set(), &from, at),
+                        None => proved_prev_gap(&[], from, at),
+                    })
+                }
+            }
+
+            #[export_name = concat!("range_set_", $name, "_chunked_select")]
+            unsafe extern "C" fn chunked_select(set: Chunks, k: u64, at: *mut $number) -> bool {
+                unsafe {
+                    number_told(at, |at| match set.get() {
+                        Some(set) => members::select(set.as_set(), k, at),
+                        None => false,
+                    })
+                }
+            }
+
+            #[export_name = concat!("range_set_", $name, "_chunked_rank")]
+            unsafe extern "C" fn chunked_rank(set: Chunks, at: $number) -> u64 {
+                match unsafe { set.get() } {
+                    Some(set) => members::rank(set.as_set(), &at),
+                    None => 0,
+                }
+            }
+
+            #[export_name = concat!("range_set_", $name, "_chunked_covered")]
+            unsafe extern "C" fn chunked_covered(set: Chunks, count: *mut u64) -> bool {
+                unsafe {
+                    number_told(count, |at| match set.get() {
+                        Some(set) => members::covered(set.as_set(), at),
+                        None => true,
+                    })
+                }
+            }
+
             #[export_name = concat!("range_set_", $name, "_chunked_next_member")]
             unsafe extern "C" fn chunked_next_member(
                 set: Chunks,
@@ -732,6 +853,97 @@ macro_rules! calls {
                 }
             }
 
+            #[export_name = concat!("range_set_", $name, "_chunked_first_fit_aligned")]
+            unsafe extern "C" fn chunked_first_fit_aligned(
+                set: Chunks,
+                start: $number,
+                end: $number,
+                count: $count,
+                align: $count,
+                first: *mut $number,
+            ) -> bool {
+                let (wanted, multiple) = (count.into(), align.into());
+                unsafe {
+                    number_told(first, |at| match set.get().map(ChunkedSpace::as_set) {
+                        Some(set) => {
+                            fitting::first_fit_aligned(set, start..end, wanted, multiple, at)
+                        }
+                        None => proved_first_fit_aligned(&[], start, end, count, align, at),
+                    })
+                }
+            }
+
+            #[export_name = concat!("range_set_", $name, "_chunked_first_run")]
+            unsafe extern "C" fn chunked_first_run(
+                set: Chunks,
+                start: $number,
+                end: $number,
+                count: $count,
+                first: *mut $number,
+            ) -> bool {
+                unsafe {
+                    number_told(first, |at| match set.get() {
+                        Some(set) => fitting::first_run(set.as_set(), start..end, count.into(), at),
+                        None => proved_first_run(&[], start, end, count, at),
+                    })
+                }
+            }
+
+            // How many boundaries of the ranges that share a number with another were written.
+            unsafe fn overlapping(
+                set: Chunks,
+                start: $number,
+                end: $number,
+                out: &mut [$number],
+            ) -> usize {
+                match unsafe { set.get() } {
+                    Some(set) => ranges::overlapping(set.as_set(), start, end, out),
+                    None => 0,
+                }
+            }
+
+            #[export_name = concat!("range_set_", $name, "_chunked_overlapping")]
+            unsafe extern "C" fn chunked_overlapping(
+                set: Chunks,
+                start: $number,
+                end: $number,
+                out: *mut $number,
+                room: usize,
+                result: *mut Numbers,
+            ) -> Status {
+                unsafe {
+                    operations::listed(out, room, result, |out| overlapping(set, start, end, out))
+                }
+            }
+
+            #[export_name = concat!("range_set_", $name, "_chunked_next_ranges")]
+            unsafe extern "C" fn chunked_next_ranges(
+                set: Chunks,
+                from: $number,
+                out: *mut $number,
+                room: usize,
+                result: *mut Numbers,
+            ) -> Status {
+                unsafe {
+                    operations::listed(out, room, result, |out| {
+                        let len = overlapping(set, from, <$number>::MAX, out);
+                        if len % 2 == 1 || len / 2 == out.len() / 2 {
+                            return len;
+                        }
+                        // The greatest number isn't below an end. A range that has it has no end, and
+                        // is written already where the boundaries are odd in number.
+                        let last = set
+                            .get()
+                            .and_then(|set| set.as_set().range_at(&<$number>::MAX));
+                        if let Some(RangeSetRange::RangeFrom(last)) = last {
+                            out[len] = *last.start;
+                            return len + 1;
+                        }
+                        len
+                    })
+                }
+            }
+
             #[export_name = concat!("range_set_", $name, "_chunked_ranges_len")]
             unsafe extern "C" fn chunked_ranges_len(set: Chunks) -> usize {
                 match unsafe { set.get() } {
@@ -755,14 +967,12 @@ macro_rules! calls {
                 room: usize,
                 result: *mut Numbers,
             ) -> Status {
-                if !is_array(out, room) || !is_result(result, Bytes::of(out, room)) {
-                    return Status::BadArgument;
+                unsafe {
+                    operations::listed(out, room, result, |out| match set.get() {
+                        Some(set) => chunked::copy(set.as_set(), out),
+                        None => 0,
+                    })
                 }
-                let len = match unsafe { set.get() } {
-                    Some(set) => chunked::copy(set.as_set(), unsafe { room_at(out, room) }),
-                    None => 0,
-                };
-                unsafe { operations::answered(len, out, room, result) }
             }
         }
     };

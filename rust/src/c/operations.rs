@@ -33,11 +33,31 @@ pub(super) unsafe fn answered<T>(
     }
 }
 
-/// What `write` makes of some sets, in a buffer apart from them. It answers the length, and has written the list where the buffer has room.
+/// What `write` makes in a buffer. It answers the length, and has written the list where the buffer has room.
 ///
 /// # Safety
 ///
-/// The sets are the library's, and the buffer and the result are null or as long as they say.
+/// The buffer and the result are null or as long as they say.
+pub(super) unsafe fn listed<T>(
+    out: *mut T,
+    room: usize,
+    result: *mut Set<T>,
+    write: impl FnOnce(&mut [T]) -> usize,
+) -> Status {
+    if !is_array(out, room) || !is_result(result, Bytes::of(out, room)) {
+        return Status::BadArgument;
+    }
+    unsafe {
+        let len = write(room_at(out, room));
+        answered(len, out, room, result)
+    }
+}
+
+/// The same of some sets, where the buffer is apart from them.
+///
+/// # Safety
+///
+/// As for [`listed`], and the sets are the library's.
 pub(super) unsafe fn written<T>(
     sets: &[Set<T>],
     out: *mut T,
@@ -48,10 +68,7 @@ pub(super) unsafe fn written<T>(
     if !sets.iter().all(|set| is_apart(set, out, room, result)) {
         return Status::BadArgument;
     }
-    unsafe {
-        let len = write(room_at(out, room));
-        answered(len, out, room, result)
-    }
+    unsafe { listed(out, room, result, write) }
 }
 
 /// The set of the numbers in any of `count` sets. `join` is given ranges with an end, and where the first of the others starts; it makes the set of them, as [`opened`] takes it.
