@@ -22,7 +22,7 @@
  *                            means nothing. A call that changes a set in its buffer has changed nothing.
  *   RANGE_SET_BAD_ARGUMENT   a null pointer with a length above 0, a null result, a length that no array has, or a buffer
  *                            or result that overlaps another argument. Nothing was written.
- *   RANGE_SET_NO_MEMORY      of a set that grows alone: an allocation failed. The set is as it was.
+ *   RANGE_SET_NO_MEMORY      of a set or map that grows alone: an allocation failed. It is as it was.
  *   RANGE_SET_MALFORMED      of `parse` alone: the text isn't one of ranges. Nothing was written but where it stops being one.
  *   RANGE_SET_OUT_OF_RANGE   of `parse` alone: a number of the text doesn't fit the type, or has a minus where the type has no
  *                            sign. Nothing was written.

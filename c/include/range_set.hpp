@@ -10,8 +10,8 @@
 // range_set owns its boundaries. range_set_view borrows them: it is cheap to copy, and takes any range_set of its type that has a
 // name. What it borrows from has to outlive it. A view of a temporary set doesn't compile, nor do its iterators, but each call
 // takes such a set, and so does a for over its ranges. Where memory is refused std::bad_alloc is thrown, and a set that was to change
-// is as it was. Nothing else is thrown, but by the stream of a <<, and std::out_of_range where a number of a wider type doesn't fit.
-// std::format doesn't take sets: gcc 12 and clang 14 don't have it.
+// is as it was. Nothing else is thrown, but by the stream of a <<, and std::out_of_range where a number in a list of wider ones doesn't
+// fit. std::format doesn't take sets: gcc 12 and clang 14 don't have it.
 //
 // Several threads may ask one set at a time, and none may change it then; a chunked_range_set only one thread at a time may use.
 #ifndef RANGE_SET_HPP
