@@ -81,6 +81,8 @@ MUTANTS = [
     Mutant("a space's copy is empty", "space.rs", "self.as_set().clone().into()", "Self::new()", "manners"),
     Mutant("a space's copy can't be refused", "fallible/space.rs",
            "self.as_set().try_copied()?", "self.as_set().clone()", "memory"),
+    Mutant("a space takes each place for an aligned one", "space.rs",
+           "self.0.first_fit_aligned(within, count, align)", "self.0.first_fit_aligned(within, count, 1)", "space"),
     Mutant("a space frees what it is extended by", "space.rs",
            "self.insert(range.into());", "self.remove(range.into());", "manners"),
     Mutant("spaces that are as full are equal", "space.rs",
