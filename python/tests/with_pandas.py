@@ -6,9 +6,10 @@ import sys
 import tempfile
 import unittest
 from collections import Counter
-from datetime import date, timedelta
+from datetime import date, datetime, timedelta
 from pathlib import Path
 from unittest import mock
+from zoneinfo import ZoneInfo
 
 import numpy
 import pandas
@@ -76,8 +77,9 @@ class Frames(unittest.TestCase):
         for table in (zoned.to_numpy(), pandas.arrays.IntervalArray.from_arrays(zoned["start"], zoned["end"], closed="left")):
             aware = RangeSet(table)
             self.assertEqual((aware.kind, aware[0]), ("datetime[UTC]", (zoned["start"][0], zoned["end"][1])))
-        twice = [pandas.Timestamp("2026-10-25 02:30").tz_localize("Europe/Berlin", ambiguous=it) for it in (True, False)]
-        self.assertEqual(RangeSet([tuple(twice)]).covered(), timedelta(hours=1), "a time that an autumn night has twice")
+        summer = datetime(2026, 10, 25, 2, 30, tzinfo=ZoneInfo("Europe/Berlin"))
+        twice = pandas.Timestamp(summer), pandas.Timestamp(summer.replace(fold=1))
+        self.assertEqual(RangeSet([twice]).covered(), timedelta(hours=1), "a time that an autumn night has twice")
         self.assertEqual([*RangeSet.from_values(zoned["start"]).members()], list(zoned["start"]))
         self.assertEqual([*RangeSet.from_values(frame["start"]).members()], list(frame["start"]))
         self.assertEqual(RangeSet([(frame["start"][0], frame["end"][1])]).kind, "datetime")
