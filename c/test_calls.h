@@ -723,6 +723,8 @@ static void TEST(has_boundaries)(CHUNKED set, const NUMBER *wanted, size_t len)
     }
     check(CALL(chunked_copy)(set, NULL, 1, &result) == RANGE_SET_BAD_ARGUMENT, "chunked_copy: a null buffer");
     check(CALL(chunked_copy)(set, list, len, NULL) == RANGE_SET_BAD_ARGUMENT, "chunked_copy: a null result");
+    if (len * sizeof *list >= sizeof result)
+        check(CALL(chunked_copy)(set, list, len, (SET *)(void *)list) == RANGE_SET_BAD_ARGUMENT, "chunked_copy: the result in the buffer");
     free(list);
 }
 
@@ -1150,6 +1152,7 @@ static void TEST(chunked_none)(void)
     TEST(answers_as)(none, TEST(set)(NULL, 0), &next, 1);
     check(!CALL(chunked_contains)(none, 5) && CALL(chunked_contains_range)(none, 5, 5) && !CALL(chunked_contains_range)(none, 5, 6),
         "no set: contains");
+    check(CALL(chunked_contains_range)(none, 6, 5), "no set: contains_range of a reversed range");
     check(!CALL(chunked_intersects_range)(none, 5, 6), "no set: intersects_range");
     CALL(chunked_clear)(&none);
     CALL(chunked_clear)(NULL);
@@ -1182,7 +1185,7 @@ static void TEST(rows)(void)
     static const NUMBER not_open[] = {LEAST, 20}, put_in[] = {0, 10, 12, 14}, cut[] = {0, 3, 7, 10};
     static const NUMBER both_ways[] = {LEAST, MOST}, gap[] = {10, 20}, around[] = {3, 5, 20, 25}, below[] = {LEAST, 0, 20},
                         *neither = LEAST == 0 ? below + 2 : below;
-    NUMBER mixed[] = {7, 5, 7, MOST, LEAST, 5}, ranges[] = {20, 30, 9, 9, 0, 10, 8, 4, 10, 12, 25, MOST};
+    NUMBER mixed[] = {7, 5, 7, MOST, LEAST, 5}, ranges[] = {20, 30, 9, 9, 0, 10, 8, 4, 10, 12, 25, MOST}, room[4];
     const NUMBER mixed_set[] = {LEAST, 5, 7, MOST}, ranges_set[] = {0, 12, 20, MOST};
     const SET nothing = {NULL, 0}, null_and_long = {NULL, 5};
     SET in_a = TEST(set)(a, 2), in_b = TEST(set)(b, 2), in_open = TEST(set)(open, 1), set = {NULL, 77}, part = {NULL, 77};
@@ -1234,6 +1237,11 @@ static void TEST(rows)(void)
     CALL(split)(null_and_long, 5, &set, &part);
     check(CALL(is_empty)(set) && CALL(is_empty)(part), "split of the empty set");
     check(CALL(is_superset)(in_a, nothing) && !CALL(is_superset)(nothing, in_a), "is_superset of the empty set");
+    check(
+        CALL(combine)(in_a, in_b, RANGE_SET_BOTH | 48u, room, 4, &set) == RANGE_SET_DONE && TEST(is)(set, both, 2), "combine: other bits");
+    check(CALL(combine)(in_open, in_open, RANGE_SET_NEITHER | 48u, room, 4, &set) == RANGE_SET_DONE && TEST(is)(set, not_open, 2),
+        "combine: other bits, and neither");
+    check(CALL(combine_len)(in_a, in_b, RANGE_SET_UNION | 48u) == 2, "combine_len: other bits");
     check(CALL(union_len)(in_a, in_b) == 2 && CALL(intersection_len)(in_a, in_b) == 2, "the lengths of union and intersection");
     check(CALL(difference_len)(in_a, in_b) == 2 && CALL(symmetric_difference_len)(in_a, in_b) == 4, "the lengths of the differences");
     check(CALL(from_unsorted)(mixed, 6, &set) == RANGE_SET_DONE && TEST(is)(set, mixed_set, 4), "from_unsorted");

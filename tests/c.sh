@@ -40,6 +40,13 @@ has_only_its_names() {
         ! nm -g --defined-only "$archive" | awk 'NF == 3 { print $3 }' | grep -v '^range_\(set\|map\)_'
 }
 
+# A generated file that was edited is told, and the status says so.
+tells_of_an_edit() {
+    mkdir "$work/types" && cp -r tools c "$work/types" && ln -s "$PWD/crates" "$work/types/crates" && "$work/types/tools/c-types" --check &&
+        echo '/* edited */' >>"$work/types/c/include/range_set.h" && ! "$work/types/tools/c-types" --check >"$work/said" &&
+        [ "$(cat "$work/said")" = 'c-types: c/include/range_set.h is not what tools/c_types says: run tools/c-types' ]
+}
+
 # Whether another library has the same names for others.
 has_the_names_of() {
     cmp <(nm -g --defined-only "$archive" | awk 'NF == 3 { print $3 }' | sort) <(nm -g --defined-only "$1" | awk 'NF == 3 { print $3 }' | sort)
@@ -370,6 +377,7 @@ if [ "${1:-}" = --rust ]; then
     ended
 fi
 step_by python3 python3 "what stands once for each type is what tools/c-types writes" tools/c-types --check
+step_by python3 python3 "an edit of it is told" tells_of_an_edit
 if ! command -v clang-format >/dev/null || clang-format --version | grep -q 'version 14\.'; then
     step_by clang-format clang-format "the looks" looks_right
 else

@@ -1,5 +1,7 @@
 """Tests of "Two sets": what is typed, drawn, moved by keys and pointed at."""
 
+import re
+
 from web_browser import (
     COMPLEMENT, DIFFERENCE, INTERSECTION, SYMMETRIC_DIFFERENCE, UNION, ActionChains, Keys,
     boundaries, check_result, combined, members, text_of,
@@ -36,6 +38,9 @@ FAULTS = [
     ("99999999999999999999..-1", 23, "a number from 0 on"),
 ]
 TOO_LARGE = "A number is larger than 18446744073709551615."
+# How many boundaries a list leaves out, and the window of a picture.
+MORE = "return document.querySelector('#sets-a-row .more').textContent"
+WINDOW = "const it = document.querySelector('#sets-a-row svg.line'); return [it.getAttribute('aria-valuemin'), it.getAttribute('aria-valuemax')]"
 # A text, and all that is said of it.
 ANSWERS = [
     ("5", "For one number write 5..6 instead."),
@@ -266,6 +271,13 @@ def greatest(page, check):
         for row in ("sets-a", "sets-result"):
             check.same(f"{row} of {text!r}", [it.text for it in page.all(f"#{row}-boundaries .chip")], boundaries_of)
             check.same(f"{row} of {text!r}: its dots", [len(page.dots(row)), len(page.all(f"#{row}-row .arrow"))], [len(boundaries_of), 1])
+        page.all("#sets-a-boundaries .chip")[-1].click()
+        number = len(boundaries_of) - 1
+        expected = f"18446744073709551614 is out {number} {'boundary' if number == 1 else 'boundaries'} at or below: even"
+        check.same(f"{text!r}: the greatest value is asked about", page.id("sets-a-readout").get_property("textContent"), expected)
+    page.type("sets-a", "18446744073709551615..")
+    start, end = page.run(WINDOW)
+    check.same("a bead for each value", len(page.all("#sets-a-row .bead")), int(end) - int(start))
     for text in ("18446744073709551615..", "5..18446744073709551615"):
         page.open()
         page.type("sets-a", text)
@@ -281,6 +293,34 @@ def greatest(page, check):
     check.same("no selection goes above the greatest", page.id("sets-a").get_property("value"), "18446744073709551614..18446744073709551615")
 
 
+def many_ranges(page, check):
+    """Of more boundaries than the list has room for the others are counted; ranges too narrow to tell apart are shaded, column by
+    column."""
+    page.open()
+    for ranges, more in ((24, ""), (25, "and 2 more")):
+        page.type("sets-a", ", ".join(f"{2 * i}..{2 * i + 1}" for i in range(ranges)))
+        check.same(f"{ranges} ranges: what the list leaves out", page.run(MORE), more)
+    page.type("sets-a", ", ".join(f"{2 * i}..{2 * i + 1}" for i in range(24)) + ", 90..")
+    check.same("49 boundaries: what the list leaves out", page.run(MORE), "and 1 more")
+    has = members(*[(3 * i, 3 * i + 1) for i in range(100)], (300, 400), *[(600 + 3 * i, 603 + 3 * i - i % 2) for i in range(150)])
+    text = text_of(boundaries(has, 1100))
+    page.run("const it = document.getElementById('sets-a'); it.value = arguments[0]; it.dispatchEvent(new Event('input'))", text)
+    start, end = map(int, page.run(WINDOW))
+    paths = {it: page.run(f"return document.querySelector('#sets-a-row path.{it}').getAttribute('d')") for it in ("some", "all")}
+    wide = page.run("return document.querySelector('#sets-a-row svg.line').getBoundingClientRect().width") - 44
+    columns = int(wide // 2)
+    edges = [start + (end - start) * i // columns for i in range(columns + 1)]
+    expected = {"some": [], "all": []}
+    for i, (first, after) in enumerate(zip(edges, edges[1:])):
+        inside = [has(value) for value in range(first, max(after, first + 1))]
+        if any(inside):
+            expected["all" if all(inside) else "some"].append(22 + i * wide / columns)
+    for name, places in expected.items():
+        found = [float(it) for it in re.findall(r"M([0-9.]+) ", paths[name])]
+        apart = max((abs(a - b) for a, b in zip(found, places)), default=0)
+        check.same(f"columns where {name} are members", (len(found), apart < 0.06), (len(places), True))
+
+
 def windows(page, check):
     """A range that reaches past the window has no arrow, and its boundary is in no list until it
     is shown."""
@@ -288,7 +328,7 @@ def windows(page, check):
     page.type("sets-b", "")
     page.type("sets-a", "4..40")
     page.all("#view-sets .window button")[3].click()
-    start, end = page.run("const it = document.querySelector('#sets-a-row svg.line'); return [it.getAttribute('aria-valuemin'), it.getAttribute('aria-valuemax')].map(Number)")
+    start, end = map(int, page.run(WINDOW))
     has = members((4, 40))
     check.same("the dots in the window", page.dots("sets-a"), [(it, i == 0) for i, it in enumerate([4, 40]) if start <= it <= end])
     check.same("no arrow", len(page.all("#sets-a-row .arrow")), 0)

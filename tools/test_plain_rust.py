@@ -298,7 +298,9 @@ class Refusals(unittest.TestCase):
     def test_code(self):
         self.refused("fn f() -> u8 {\n    unsafe { g() }\n}", 2, "unsafe isn't known")
         self.refused('fn f() -> u8 {\n    println!("a")\n}', 2, "the macro println! isn't known")
+        self.refused("fn f() -> Vec<u8> {\n    vec![1]\n}", 2, "the macro vec! isn't known")
         self.refused("fn f(x: &[u8]) -> u8 {\n    x.select_nth(3)\n}", 2, "the method select_nth isn't known")
+        self.refused("fn f(x: &[u8]) -> u8 {\n    x.sum::<u8>()\n}", 2, "the method sum isn't known")
         self.refused("fn f(x: u8) -> u8 {\n    let (a, b) = g(x) else { return 1; };\n    a\n}", 2, "an else of another form than let Name(name) = value else { .. };")
         self.refused("fn f() -> u8 {\n    let Some(Some(x)) = g() else { return 1; };\n    x\n}", 2, "an else of another form than let Name(name) = value else { .. };")
         self.refused("fn f(x: u8) -> u8 {\n    let y = x.known() + 1;\n    y\n}", 2, "known as something else than a statement of its own")
@@ -306,7 +308,8 @@ class Refusals(unittest.TestCase):
 
     def test_paths(self):
         self.refused("use std::sync::Mutex;\nfn f(x: Mutex) {}", 1, "std::sync::Mutex isn't known")
-        self.refused("fn f(x: u8) -> u8 {\n    std::mem::take(x)\n}", 2, "a path from std outside of a use")
+        for root in ("std", "crate", "smallvec", "range_entry"):
+            self.refused(f"fn f(x: u8) -> u8 {{\n    {root}::a::g(x)\n}}", 2, f"a path from {root} outside of a use")
         self.refused("use crate::a::*;", 1, "* in a use")
         self.refused("use crate::a::B as C;\nfn f(x: C) {}", 1, "as in a use")
 

@@ -35,16 +35,16 @@ ROWS = [
 
 
 class Watched:
-    """A value whose `==` may be told to raise, and which a weak reference can follow."""
+    """A value whose `==` may be told which error to raise, and which a weak reference can follow."""
 
-    raises = False
+    raises = None
 
     def __init__(self, name):
         self.name = name
 
     def __eq__(self, other):
         if Watched.raises:
-            raise RuntimeError("an ==")
+            raise Watched.raises("an ==")
         return self.name == other.name
 
 
@@ -273,7 +273,7 @@ class Depths(unittest.TestCase):
 
 class Interned(unittest.TestCase):
     def tearDown(self):
-        Watched.raises = False
+        Watched.raises = None
 
     def test_one_value_if_identical_or_equal_and_of_one_type(self):
         nan = float("nan")
@@ -298,13 +298,14 @@ class Interned(unittest.TestCase):
                 self.assertEqual(made.find(second), RangeSet([(0, 9) if is_one else (5, 9)]))
 
     def test_an_equality_that_raises_leaves_the_map_as_it_was(self):
-        for kind in (Watched, Hashed):
+        # A value without a hash makes a TypeError too.
+        for kind, error in ((Watched, RuntimeError), (Watched, TypeError), (Hashed, RuntimeError), (Hashed, TypeError)):
             made = RangeMap([((0, 5), kind("a")), ((5, 9), kind("b"))])
             before = list(made.items())
-            Watched.raises = True
-            self.assertRaises(RuntimeError, made.__setitem__, slice(3, 7), kind("a"))
-            self.assertRaises(RuntimeError, made.find, kind("b"))
-            Watched.raises = False
+            Watched.raises = error
+            self.assertRaisesRegex(error, "an ==", made.__setitem__, slice(3, 7), kind("a"))
+            self.assertRaisesRegex(error, "an ==", made.find, kind("b"))
+            Watched.raises = None
             self.assertEqual([(keys, id(value)) for keys, value in made.items()], [(keys, id(value)) for keys, value in before])
             made[3:7] = kind("c")
             self.assertEqual([value.name for _, value in made.items()], ["a", "c", "b"])
