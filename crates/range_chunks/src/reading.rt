@@ -44,7 +44,9 @@ pub struct Until {
     pub place: u128,
 }
 
-/// Looks for the first range that has `count` values from a multiple of `align` on.
+/// Looks for the first range that has `count` values from a multiple of `align` on. It is inlined, so
+/// that nothing is counted where the walk stops nowhere.
+#[inline(always)]
 pub fn first_row<T: Countable + Copy>(
     ranges: RangesWithin<'_, T>,
     count: u128,
