@@ -38,7 +38,8 @@ pub struct Until {
     pub place: u128,
 }
 
-/// Looks for the first range that has `count` values from a multiple of `align` on.
+/// Looks for the first range that has `count` values from a multiple of `align` on. It is inlined, so
+/// that nothing is counted where the walk stops nowhere.
 ///
 /// # Contract
 ///
@@ -49,6 +50,7 @@ pub struct Until {
 /// ensures reading: IsReading T.cmp T.value T.place T.count ranges.entry count align result
 /// ensures whole: until ≡ None → IsWhole result
 /// ```
+#[inline(always)]
 pub(crate) fn first_row<T: Countable + Copy>(
     ranges: RangesWithin<'_, T>,
     count: u128,
