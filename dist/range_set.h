@@ -22,7 +22,7 @@
  *                            means nothing. A call that changes a set in its buffer has changed nothing.
  *   RANGE_SET_BAD_ARGUMENT   a null pointer with a length above 0, a null result, a length that no array has, or a buffer
  *                            or result that overlaps another argument. Nothing was written.
- *   RANGE_SET_NO_MEMORY      of a set that grows alone: an allocation failed. The set is as it was.
+ *   RANGE_SET_NO_MEMORY      of a set or map that grows alone: an allocation failed. It is as it was.
  *   RANGE_SET_MALFORMED      of `parse` alone: the text isn't one of ranges. Nothing was written but where it stops being one.
  *   RANGE_SET_OUT_OF_RANGE   of `parse` alone: a number of the text doesn't fit the type, or has a minus where the type has no
  *                            sign. Nothing was written.
@@ -39,8 +39,8 @@
  * names, and are described once for each. tools/c-types says how to have another type.
  *
  * In the library for x86-64 Linux the calls are proved, but for the layer in C before them (range_set.c), which tells null
- * pointers and overlap, makes the statuses, owns sets, and makes union_all and parse of other calls. That is tested, as is all
- * of the library that cargo builds for other machines.
+ * pointers and overlap, makes the statuses, owns sets, and makes union_all, from_values, parse, chunked_next and
+ * chunked_next_ranges of other calls. That is tested, as is all of the library that cargo builds for other machines.
  */
 #ifndef RANGE_SET_H
 #define RANGE_SET_H
@@ -505,10 +505,23 @@ RANGE_SET_STATUS range_set_i32_chunked_remove_from(range_set_i32_chunked *set, i
 /* Takes all numbers out. Does nothing where `set` is null or no set. */
 void range_set_i32_chunked_clear(range_set_i32_chunked *set);
 
-/* As `contains`, `contains_range` and `intersects_range`. */
+/* As the calls of these names for lists, of which some search once or twice. */
 bool range_set_i32_chunked_contains(range_set_i32_chunked set, int32_t value);
 bool range_set_i32_chunked_contains_range(range_set_i32_chunked set, int32_t start, int32_t end);
 bool range_set_i32_chunked_intersects_range(range_set_i32_chunked set, int32_t start, int32_t end);
+bool range_set_i32_chunked_is_empty(range_set_i32_chunked set);
+bool range_set_i32_chunked_is_all(range_set_i32_chunked set);
+bool range_set_i32_chunked_range_at(range_set_i32_chunked set, int32_t value, range_set_i32_range *range);
+bool range_set_i32_chunked_range_from(range_set_i32_chunked set, int32_t value, range_set_i32_range *range);
+bool range_set_i32_chunked_first(range_set_i32_chunked set, range_set_i32_range *range);
+bool range_set_i32_chunked_last(range_set_i32_chunked set, range_set_i32_range *range);
+bool range_set_i32_chunked_prev_member(range_set_i32_chunked set, int32_t from, int32_t *previous);
+bool range_set_i32_chunked_prev_gap(range_set_i32_chunked set, int32_t from, int32_t *previous);
+
+/* The same, and each looks at the boundaries one by one: those below `at`, or up to the answer, or all. */
+uint64_t range_set_i32_chunked_rank(range_set_i32_chunked set, int32_t at);
+bool range_set_i32_chunked_select(range_set_i32_chunked set, uint64_t k, int32_t *at);
+bool range_set_i32_chunked_covered(range_set_i32_chunked set, uint64_t *count);
 
 /* Whether there is a member at or above `from`, a number that is none, and then the least one. `next` may be null. */
 bool range_set_i32_chunked_next_member(range_set_i32_chunked set, int32_t from, int32_t *next);
@@ -525,6 +538,30 @@ bool range_set_i32_chunked_next(range_set_i32_chunked set, int32_t from, range_s
  * learns of them, until something is taken out there. Without memory it remembers less. */
 bool range_set_i32_chunked_first_fit(range_set_i32_chunked *set, int32_t start, int32_t end, uint32_t count,
                                           int32_t *first);
+
+/* As the calls of these names for lists. They remember nothing, and look at each gap or range from `start` on, up to the answer. */
+bool range_set_i32_chunked_first_fit_aligned(range_set_i32_chunked set, int32_t start, int32_t end, uint32_t count,
+                                                  uint32_t align, int32_t *first);
+bool range_set_i32_chunked_first_run(range_set_i32_chunked set, int32_t start, int32_t end, uint32_t count,
+                                          int32_t *first);
+
+/* Writes the ranges that share a number with `start` to below `end`, whole, as a list: from the lowest on, and the first room / 2
+ * of them where there are more. */
+RANGE_SET_STATUS range_set_i32_chunked_overlapping(range_set_i32_chunked set, int32_t start, int32_t end,
+                                                        int32_t *out, size_t room, range_set_i32 *result);
+
+/* Writes the ranges that have a number at or above `from` in the same way. It is two searches, so to go over many ranges it is
+ * much faster than `next`. The next ones are those from the end of the last one on:
+ *
+ *     int32_t some[64], from = INT32_MIN;
+ *     do {
+ *         range_set_i32_chunked_next_ranges(set, from, some, 64, &part);
+ *         for (size_t i = 0; range_set_i32_get(part, i, &range); i++) ..
+ *         from = some[63];
+ *     } while (part.len == 64);
+ */
+RANGE_SET_STATUS range_set_i32_chunked_next_ranges(range_set_i32_chunked set, int32_t from, int32_t *out,
+                                                        size_t room, range_set_i32 *result);
 
 /* How many ranges the set has, how many boundaries. Adds up the chunks. */
 size_t range_set_i32_chunked_ranges_len(range_set_i32_chunked set);
@@ -935,10 +972,23 @@ RANGE_SET_STATUS range_set_u32_chunked_remove_from(range_set_u32_chunked *set, u
 /* Takes all numbers out. Does nothing where `set` is null or no set. */
 void range_set_u32_chunked_clear(range_set_u32_chunked *set);
 
-/* As `contains`, `contains_range` and `intersects_range`. */
+/* As the calls of these names for lists, of which some search once or twice. */
 bool range_set_u32_chunked_contains(range_set_u32_chunked set, uint32_t value);
 bool range_set_u32_chunked_contains_range(range_set_u32_chunked set, uint32_t start, uint32_t end);
 bool range_set_u32_chunked_intersects_range(range_set_u32_chunked set, uint32_t start, uint32_t end);
+bool range_set_u32_chunked_is_empty(range_set_u32_chunked set);
+bool range_set_u32_chunked_is_all(range_set_u32_chunked set);
+bool range_set_u32_chunked_range_at(range_set_u32_chunked set, uint32_t value, range_set_u32_range *range);
+bool range_set_u32_chunked_range_from(range_set_u32_chunked set, uint32_t value, range_set_u32_range *range);
+bool range_set_u32_chunked_first(range_set_u32_chunked set, range_set_u32_range *range);
+bool range_set_u32_chunked_last(range_set_u32_chunked set, range_set_u32_range *range);
+bool range_set_u32_chunked_prev_member(range_set_u32_chunked set, uint32_t from, uint32_t *previous);
+bool range_set_u32_chunked_prev_gap(range_set_u32_chunked set, uint32_t from, uint32_t *previous);
+
+/* The same, and each looks at the boundaries one by one: those below `at`, or up to the answer, or all. */
+uint64_t range_set_u32_chunked_rank(range_set_u32_chunked set, uint32_t at);
+bool range_set_u32_chunked_select(range_set_u32_chunked set, uint64_t k, uint32_t *at);
+bool range_set_u32_chunked_covered(range_set_u32_chunked set, uint64_t *count);
 
 /* Whether there is a member at or above `from`, a number that is none, and then the least one. `next` may be null. */
 bool range_set_u32_chunked_next_member(range_set_u32_chunked set, uint32_t from, uint32_t *next);
@@ -955,6 +1005,30 @@ bool range_set_u32_chunked_next(range_set_u32_chunked set, uint32_t from, range_
  * learns of them, until something is taken out there. Without memory it remembers less. */
 bool range_set_u32_chunked_first_fit(range_set_u32_chunked *set, uint32_t start, uint32_t end, uint32_t count,
                                           uint32_t *first);
+
+/* As the calls of these names for lists. They remember nothing, and look at each gap or range from `start` on, up to the answer. */
+bool range_set_u32_chunked_first_fit_aligned(range_set_u32_chunked set, uint32_t start, uint32_t end, uint32_t count,
+                                                  uint32_t align, uint32_t *first);
+bool range_set_u32_chunked_first_run(range_set_u32_chunked set, uint32_t start, uint32_t end, uint32_t count,
+                                          uint32_t *first);
+
+/* Writes the ranges that share a number with `start` to below `end`, whole, as a list: from the lowest on, and the first room / 2
+ * of them where there are more. */
+RANGE_SET_STATUS range_set_u32_chunked_overlapping(range_set_u32_chunked set, uint32_t start, uint32_t end,
+                                                        uint32_t *out, size_t room, range_set_u32 *result);
+
+/* Writes the ranges that have a number at or above `from` in the same way. It is two searches, so to go over many ranges it is
+ * much faster than `next`. The next ones are those from the end of the last one on:
+ *
+ *     uint32_t some[64], from = 0;
+ *     do {
+ *         range_set_u32_chunked_next_ranges(set, from, some, 64, &part);
+ *         for (size_t i = 0; range_set_u32_get(part, i, &range); i++) ..
+ *         from = some[63];
+ *     } while (part.len == 64);
+ */
+RANGE_SET_STATUS range_set_u32_chunked_next_ranges(range_set_u32_chunked set, uint32_t from, uint32_t *out,
+                                                        size_t room, range_set_u32 *result);
 
 /* How many ranges the set has, how many boundaries. Adds up the chunks. */
 size_t range_set_u32_chunked_ranges_len(range_set_u32_chunked set);
@@ -1365,10 +1439,23 @@ RANGE_SET_STATUS range_set_i64_chunked_remove_from(range_set_i64_chunked *set, i
 /* Takes all numbers out. Does nothing where `set` is null or no set. */
 void range_set_i64_chunked_clear(range_set_i64_chunked *set);
 
-/* As `contains`, `contains_range` and `intersects_range`. */
+/* As the calls of these names for lists, of which some search once or twice. */
 bool range_set_i64_chunked_contains(range_set_i64_chunked set, int64_t value);
 bool range_set_i64_chunked_contains_range(range_set_i64_chunked set, int64_t start, int64_t end);
 bool range_set_i64_chunked_intersects_range(range_set_i64_chunked set, int64_t start, int64_t end);
+bool range_set_i64_chunked_is_empty(range_set_i64_chunked set);
+bool range_set_i64_chunked_is_all(range_set_i64_chunked set);
+bool range_set_i64_chunked_range_at(range_set_i64_chunked set, int64_t value, range_set_i64_range *range);
+bool range_set_i64_chunked_range_from(range_set_i64_chunked set, int64_t value, range_set_i64_range *range);
+bool range_set_i64_chunked_first(range_set_i64_chunked set, range_set_i64_range *range);
+bool range_set_i64_chunked_last(range_set_i64_chunked set, range_set_i64_range *range);
+bool range_set_i64_chunked_prev_member(range_set_i64_chunked set, int64_t from, int64_t *previous);
+bool range_set_i64_chunked_prev_gap(range_set_i64_chunked set, int64_t from, int64_t *previous);
+
+/* The same, and each looks at the boundaries one by one: those below `at`, or up to the answer, or all. */
+uint64_t range_set_i64_chunked_rank(range_set_i64_chunked set, int64_t at);
+bool range_set_i64_chunked_select(range_set_i64_chunked set, uint64_t k, int64_t *at);
+bool range_set_i64_chunked_covered(range_set_i64_chunked set, uint64_t *count);
 
 /* Whether there is a member at or above `from`, a number that is none, and then the least one. `next` may be null. */
 bool range_set_i64_chunked_next_member(range_set_i64_chunked set, int64_t from, int64_t *next);
@@ -1385,6 +1472,30 @@ bool range_set_i64_chunked_next(range_set_i64_chunked set, int64_t from, range_s
  * learns of them, until something is taken out there. Without memory it remembers less. */
 bool range_set_i64_chunked_first_fit(range_set_i64_chunked *set, int64_t start, int64_t end, uint64_t count,
                                           int64_t *first);
+
+/* As the calls of these names for lists. They remember nothing, and look at each gap or range from `start` on, up to the answer. */
+bool range_set_i64_chunked_first_fit_aligned(range_set_i64_chunked set, int64_t start, int64_t end, uint64_t count,
+                                                  uint64_t align, int64_t *first);
+bool range_set_i64_chunked_first_run(range_set_i64_chunked set, int64_t start, int64_t end, uint64_t count,
+                                          int64_t *first);
+
+/* Writes the ranges that share a number with `start` to below `end`, whole, as a list: from the lowest on, and the first room / 2
+ * of them where there are more. */
+RANGE_SET_STATUS range_set_i64_chunked_overlapping(range_set_i64_chunked set, int64_t start, int64_t end,
+                                                        int64_t *out, size_t room, range_set_i64 *result);
+
+/* Writes the ranges that have a number at or above `from` in the same way. It is two searches, so to go over many ranges it is
+ * much faster than `next`. The next ones are those from the end of the last one on:
+ *
+ *     int64_t some[64], from = INT64_MIN;
+ *     do {
+ *         range_set_i64_chunked_next_ranges(set, from, some, 64, &part);
+ *         for (size_t i = 0; range_set_i64_get(part, i, &range); i++) ..
+ *         from = some[63];
+ *     } while (part.len == 64);
+ */
+RANGE_SET_STATUS range_set_i64_chunked_next_ranges(range_set_i64_chunked set, int64_t from, int64_t *out,
+                                                        size_t room, range_set_i64 *result);
 
 /* How many ranges the set has, how many boundaries. Adds up the chunks. */
 size_t range_set_i64_chunked_ranges_len(range_set_i64_chunked set);
@@ -1839,10 +1950,23 @@ RANGE_SET_STATUS range_set_u64_chunked_remove_from(range_set_u64_chunked *set, u
 /* Takes all numbers out. Does nothing where `set` is null or no set. */
 void range_set_u64_chunked_clear(range_set_u64_chunked *set);
 
-/* As `contains`, `contains_range` and `intersects_range`. */
+/* As the calls of these names for lists, of which some search once or twice. */
 bool range_set_u64_chunked_contains(range_set_u64_chunked set, uint64_t value);
 bool range_set_u64_chunked_contains_range(range_set_u64_chunked set, uint64_t start, uint64_t end);
 bool range_set_u64_chunked_intersects_range(range_set_u64_chunked set, uint64_t start, uint64_t end);
+bool range_set_u64_chunked_is_empty(range_set_u64_chunked set);
+bool range_set_u64_chunked_is_all(range_set_u64_chunked set);
+bool range_set_u64_chunked_range_at(range_set_u64_chunked set, uint64_t value, range_set_u64_range *range);
+bool range_set_u64_chunked_range_from(range_set_u64_chunked set, uint64_t value, range_set_u64_range *range);
+bool range_set_u64_chunked_first(range_set_u64_chunked set, range_set_u64_range *range);
+bool range_set_u64_chunked_last(range_set_u64_chunked set, range_set_u64_range *range);
+bool range_set_u64_chunked_prev_member(range_set_u64_chunked set, uint64_t from, uint64_t *previous);
+bool range_set_u64_chunked_prev_gap(range_set_u64_chunked set, uint64_t from, uint64_t *previous);
+
+/* The same, and each looks at the boundaries one by one: those below `at`, or up to the answer, or all. */
+uint64_t range_set_u64_chunked_rank(range_set_u64_chunked set, uint64_t at);
+bool range_set_u64_chunked_select(range_set_u64_chunked set, uint64_t k, uint64_t *at);
+bool range_set_u64_chunked_covered(range_set_u64_chunked set, uint64_t *count);
 
 /* Whether there is a member at or above `from`, a number that is none, and then the least one. `next` may be null. */
 bool range_set_u64_chunked_next_member(range_set_u64_chunked set, uint64_t from, uint64_t *next);
@@ -1859,6 +1983,30 @@ bool range_set_u64_chunked_next(range_set_u64_chunked set, uint64_t from, range_
  * learns of them, until something is taken out there. Without memory it remembers less. */
 bool range_set_u64_chunked_first_fit(range_set_u64_chunked *set, uint64_t start, uint64_t end, uint64_t count,
                                           uint64_t *first);
+
+/* As the calls of these names for lists. They remember nothing, and look at each gap or range from `start` on, up to the answer. */
+bool range_set_u64_chunked_first_fit_aligned(range_set_u64_chunked set, uint64_t start, uint64_t end, uint64_t count,
+                                                  uint64_t align, uint64_t *first);
+bool range_set_u64_chunked_first_run(range_set_u64_chunked set, uint64_t start, uint64_t end, uint64_t count,
+                                          uint64_t *first);
+
+/* Writes the ranges that share a number with `start` to below `end`, whole, as a list: from the lowest on, and the first room / 2
+ * of them where there are more. */
+RANGE_SET_STATUS range_set_u64_chunked_overlapping(range_set_u64_chunked set, uint64_t start, uint64_t end,
+                                                        uint64_t *out, size_t room, range_set_u64 *result);
+
+/* Writes the ranges that have a number at or above `from` in the same way. It is two searches, so to go over many ranges it is
+ * much faster than `next`. The next ones are those from the end of the last one on:
+ *
+ *     uint64_t some[64], from = 0;
+ *     do {
+ *         range_set_u64_chunked_next_ranges(set, from, some, 64, &part);
+ *         for (size_t i = 0; range_set_u64_get(part, i, &range); i++) ..
+ *         from = some[63];
+ *     } while (part.len == 64);
+ */
+RANGE_SET_STATUS range_set_u64_chunked_next_ranges(range_set_u64_chunked set, uint64_t from, uint64_t *out,
+                                                        size_t room, range_set_u64 *result);
 
 /* How many ranges the set has, how many boundaries. Adds up the chunks. */
 size_t range_set_u64_chunked_ranges_len(range_set_u64_chunked set);

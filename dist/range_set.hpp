@@ -10,8 +10,8 @@
 // range_set owns its boundaries. range_set_view borrows them: it is cheap to copy, and takes any range_set of its type that has a
 // name. What it borrows from has to outlive it. A view of a temporary set doesn't compile, nor do its iterators, but each call
 // takes such a set, and so does a for over its ranges. Where memory is refused std::bad_alloc is thrown, and a set that was to change
-// is as it was. Nothing else is thrown, but by the stream of a <<, and std::out_of_range where a number of a wider type doesn't fit.
-// std::format doesn't take sets: gcc 12 and clang 14 don't have it.
+// is as it was. Nothing else is thrown, but by the stream of a <<, and std::out_of_range where a number in a list of wider ones doesn't
+// fit. std::format doesn't take sets: gcc 12 and clang 14 don't have it.
 //
 // Several threads may ask one set at a time, and none may change it then; a chunked_range_set only one thread at a time may use.
 #ifndef RANGE_SET_HPP
@@ -24,6 +24,7 @@
 #include "range_set.h"
 
 #include <algorithm>
+#include <array>
 #include <cstddef>
 #include <cstdint>
 #include <functional>
@@ -132,10 +133,23 @@ template <class T> struct calls_of;
         static constexpr auto chunked_contains = range_set_##number##_chunked_contains; \
         static constexpr auto chunked_contains_range = range_set_##number##_chunked_contains_range; \
         static constexpr auto chunked_intersects_range = range_set_##number##_chunked_intersects_range; \
+        static constexpr auto chunked_is_empty = range_set_##number##_chunked_is_empty; \
+        static constexpr auto chunked_is_all = range_set_##number##_chunked_is_all; \
+        static constexpr auto chunked_range_at = range_set_##number##_chunked_range_at; \
+        static constexpr auto chunked_range_from = range_set_##number##_chunked_range_from; \
+        static constexpr auto chunked_first = range_set_##number##_chunked_first; \
+        static constexpr auto chunked_last = range_set_##number##_chunked_last; \
+        static constexpr auto chunked_prev_member = range_set_##number##_chunked_prev_member; \
+        static constexpr auto chunked_prev_gap = range_set_##number##_chunked_prev_gap; \
+        static constexpr auto chunked_select = range_set_##number##_chunked_select; \
+        static constexpr auto chunked_rank = range_set_##number##_chunked_rank; \
+        static constexpr auto chunked_covered = range_set_##number##_chunked_covered; \
         static constexpr auto chunked_next_member = range_set_##number##_chunked_next_member; \
         static constexpr auto chunked_next_gap = range_set_##number##_chunked_next_gap; \
         static constexpr auto chunked_first_fit = range_set_##number##_chunked_first_fit; \
-        static constexpr auto chunked_next = range_set_##number##_chunked_next; \
+        static constexpr auto chunked_first_fit_aligned = range_set_##number##_chunked_first_fit_aligned; \
+        static constexpr auto chunked_first_run = range_set_##number##_chunked_first_run; \
+        static constexpr auto chunked_next_ranges = range_set_##number##_chunked_next_ranges; \
         static constexpr auto chunked_ranges_len = range_set_##number##_chunked_ranges_len; \
         static constexpr auto chunked_boundaries_len = range_set_##number##_chunked_boundaries_len; \
         static constexpr auto chunked_copy = range_set_##number##_chunked_copy; \
@@ -829,7 +843,7 @@ template <class T> class chunked_range_set {
 public:
     using value_type = range<T>;
 
-    // Goes over the ranges, each by two searches. It is good until the set changes.
+    // Goes over the ranges, and reads some of them at a time. It is good until the set changes.
     class iterator {
     public:
         using iterator_category = std::input_iterator_tag;
@@ -839,14 +853,19 @@ public:
         using reference = const range<T> &;
 
         iterator() noexcept = default;
-        iterator(typename calls::chunked set, T from) noexcept : set_(set) { read(from); }
+        iterator(typename calls::chunked set, T from) noexcept : set_(set)
+        {
+            read(from);
+            show();
+        }
 
         reference operator*() const noexcept { return it_; }
         pointer operator->() const noexcept { return &it_; }
         iterator &operator++() noexcept
         {
-            if (it_.has_end) read(it_.end);
-            else there_ = false;
+            at_ += 2;
+            if (at_ == room && it_.has_end) read(it_.end);
+            show();
             return *this;
         }
         iterator operator++(int) noexcept
@@ -859,21 +878,35 @@ public:
         // Of two iterators of one set.
         friend bool operator==(const iterator &a, const iterator &b) noexcept
         {
-            return a.there_ == b.there_ && (!a.there_ || a.it_.start == b.it_.start);
+            return a.is_there() == b.is_there() && (!a.is_there() || a.it_.start == b.it_.start);
         }
         friend bool operator!=(const iterator &a, const iterator &b) noexcept { return !(a == b); }
 
     private:
+        // The numbers of sixteen ranges.
+        static constexpr std::size_t room = 32;
+
+        bool is_there() const noexcept { return at_ < len_; }
         void read(T from) noexcept
         {
-            typename calls::part part = {};
-            there_ = calls::chunked_next(set_, from, &part);
-            it_ = {static_cast<T>(part.start), static_cast<T>(part.end), part.has_end};
+            typename calls::set some = {};
+            static_cast<void>(calls::chunked_next_ranges(set_, from, some_.data(), room, &some));
+            at_ = 0;
+            len_ = some.len;
+        }
+        // The last range has no end where there is an odd number of numbers.
+        void show() noexcept
+        {
+            if (!is_there()) return;
+            it_.start = static_cast<T>(some_[at_]);
+            it_.has_end = at_ + 1 < len_;
+            if (it_.has_end) it_.end = static_cast<T>(some_[at_ + 1]);
         }
 
         typename calls::chunked set_ = {};
         range<T> it_ = {};
-        bool there_ = false;
+        std::array<number, room> some_ = {};
+        std::size_t at_ = 0, len_ = 0;
     };
     using const_iterator = iterator;
 
@@ -906,10 +939,28 @@ public:
     bool contains(T value) const noexcept { return calls::chunked_contains(set_, value); }
     bool contains_range(T start, T end) const noexcept { return calls::chunked_contains_range(set_, start, end); }
     bool intersects_range(T start, T end) const noexcept { return calls::chunked_intersects_range(set_, start, end); }
-    bool empty() const noexcept { return calls::chunked_boundaries_len(set_) == 0; }
-    // The least member at or above a number, the least number that is none, or nothing.
-    std::optional<T> next_member(T from) const noexcept { return next(calls::chunked_next_member, from); }
-    std::optional<T> next_gap(T from) const noexcept { return next(calls::chunked_next_gap, from); }
+    bool empty() const noexcept { return calls::chunked_is_empty(set_); }
+    bool is_all() const noexcept { return calls::chunked_is_all(set_); }
+    // The range that holds a number, that or else the next one above it, the first and the last range, or nothing.
+    std::optional<range<T>> range_at(T value) const noexcept { return one(calls::chunked_range_at, value); }
+    std::optional<range<T>> range_from(T value) const noexcept { return one(calls::chunked_range_from, value); }
+    std::optional<range<T>> first() const noexcept { return one(calls::chunked_first); }
+    std::optional<range<T>> last() const noexcept { return one(calls::chunked_last); }
+    // The least member at or above a number, the least number that is none, the greatest ones at or below it, or nothing.
+    std::optional<T> next_member(T from) const noexcept { return found(calls::chunked_next_member, from); }
+    std::optional<T> next_gap(T from) const noexcept { return found(calls::chunked_next_gap, from); }
+    std::optional<T> prev_member(T from) const noexcept { return found(calls::chunked_prev_member, from); }
+    std::optional<T> prev_gap(T from) const noexcept { return found(calls::chunked_prev_gap, from); }
+    // How many members are below a number, the member with so many below it, and how many there are, or nothing where the set has
+    // no end. They go over the boundaries one by one.
+    std::uint64_t rank(T at) const noexcept { return calls::chunked_rank(set_, at); }
+    std::optional<T> select(std::uint64_t k) const noexcept { return found(calls::chunked_select, k); }
+    std::optional<std::uint64_t> covered() const noexcept
+    {
+        std::uint64_t count = 0;
+        if (!calls::chunked_covered(set_, &count)) return std::nullopt;
+        return count;
+    }
     // The least number from which on `count` numbers lie in `start` to below `end` and none is a member, or nothing. The set
     // remembers what it learns of its gaps.
     std::optional<T> first_fit(T start, T end, std::make_unsigned_t<T> count) noexcept
@@ -918,10 +969,18 @@ public:
         if (!calls::chunked_first_fit(&set_, start, end, count, &first)) return std::nullopt;
         return static_cast<T>(first);
     }
+    // The same where as many numbers of the type are below it as a multiple of `align`, and of members in a row. They remember nothing.
+    std::optional<T> first_fit_aligned(T start, T end, std::make_unsigned_t<T> count, std::make_unsigned_t<T> align) const noexcept
+    {
+        return found(calls::chunked_first_fit_aligned, start, end, count, align);
+    }
+    std::optional<T> first_run(T start, T end, std::make_unsigned_t<T> count) const noexcept { return found(calls::chunked_first_run, start, end, count); }
 
-    // The ranges, and how many there are. To go over all of a large set, go over `set()`, which is much faster.
-    iterator begin() const & noexcept { return iterator(set_, std::numeric_limits<T>::min()); }
+    // The ranges, those that have a number at or above another, and how many ranges there are.
+    iterator begin() const & noexcept { return begin_from(std::numeric_limits<T>::min()); }
     iterator begin() const && = delete;
+    iterator begin_from(T value) const & noexcept { return iterator(set_, value); }
+    iterator begin_from(T value) const && = delete;
     iterator end() const & noexcept { return iterator(); }
     iterator end() const && = delete;
     std::size_t size() const noexcept { return calls::chunked_ranges_len(set_); }
@@ -935,7 +994,6 @@ public:
     }
 
     // As of a range_set, which each of these makes.
-    std::optional<std::uint64_t> covered() const { return set().covered(); }
     friend bool operator==(const chunked_range_set &a, const chunked_range_set &b) { return a.size() == b.size() && a.set() == b.set(); }
     friend bool operator!=(const chunked_range_set &a, const chunked_range_set &b) { return !(a == b); }
     friend std::ostream &operator<<(std::ostream &out, const chunked_range_set &a) { return out << a.set(); }
@@ -953,11 +1011,18 @@ private:
         return *this;
     }
 
-    template <class Call> std::optional<T> next(Call call, T from) const noexcept
+    // What a call tells, if it finds anything.
+    template <class Call, class... Numbers> std::optional<T> found(Call call, Numbers... numbers) const noexcept
     {
         number at = 0;
-        if (!call(set_, from, &at)) return std::nullopt;
+        if (!call(set_, numbers..., &at)) return std::nullopt;
         return static_cast<T>(at);
+    }
+    template <class Call, class... Numbers> std::optional<range<T>> one(Call call, Numbers... numbers) const noexcept
+    {
+        typename calls::part part = {};
+        if (!call(set_, numbers..., &part)) return std::nullopt;
+        return range<T>{static_cast<T>(part.start), static_cast<T>(part.end), part.has_end};
     }
 
     typename calls::chunked set_ = {};
