@@ -11,7 +11,7 @@ use crate::view::RangeSetRef;
 use core::fmt;
 use core::marker::PhantomData;
 use core::mem::size_of;
-use serde::de::{Deserialize, Deserializer, Error, SeqAccess, Visitor};
+use serde::de::{Deserialize, Deserializer, Error, IgnoredAny, SeqAccess, Visitor};
 use serde::ser::{Serialize, Serializer};
 
 /// So many bytes are reserved for what a format says that there is. What there really is makes the list grow.
@@ -162,13 +162,22 @@ impl<'de, T: Deserialize<'de> + Ord, A: Array<Item = T>> Visitor<'de> for Bounda
         let trusted = TRUSTED / size_of::<T>().max(1);
         let mut list = match A::List::with_capacity(items.size_hint().unwrap_or(0).min(trusted)) {
             Ok(list) => list,
-            Err(refused) => return Ok(Err(refused)),
+            Err(refused) => return passed_over(items, refused),
         };
         while let Some(item) = items.next_element()? {
             if let Err(refused) = list.push(item) {
-                return Ok(Err(refused));
+                return passed_over(items, refused);
             }
         }
         Ok(Ok(list))
     }
+}
+
+/// Passes over the rest of a sequence, since a format may take what isn't read for a fault. Then memory was refused.
+pub(crate) fn passed_over<'de, T, S: SeqAccess<'de>>(
+    mut items: S,
+    refused: AllocError,
+) -> Result<Result<T, AllocError>, S::Error> {
+    while items.next_element::<IgnoredAny>()?.is_some() {}
+    Ok(Err(refused))
 }

@@ -30,6 +30,7 @@
 //! ```
 
 use crate::array::Array;
+use crate::json::passed_over;
 use crate::memory::{expect_memory, AllocError};
 use crate::range::RangeSetRange;
 use crate::range_set::{Joining, RangeSet};
@@ -126,7 +127,7 @@ impl<'de, T: Deserialize<'de> + Ord, A: Array<Item = T>> Visitor<'de> for Pairs<
         let mut joining = Joining::new();
         while let Some((start, end)) = pairs.next_element::<(T, Option<T>)>()? {
             if let Err(refused) = joining.add_range(range_of(start, end)?) {
-                return Ok(Err(refused));
+                return passed_over(pairs, refused);
             }
         }
         Ok(joining.finish())

@@ -354,6 +354,10 @@ fn values() {
     assert_ne!(longer, low);
     assert_eq!(hash(&high), hash(&ChunkedRangeSet::from_iter([1..4])));
     assert_ne!(hash(&high), hash(&low));
+    let many = || (0..2_000).map(|i| 3 * i..3 * i + 1);
+    let (mut grown, loaded) = (ChunkedRangeSet::new(), ChunkedRangeSet::from_iter(many()));
+    grown.extend(many().rev());
+    assert_eq!((&grown, hash(&grown)), (&loaded, hash(&loaded)));
     assert_eq!(ChunkedRangeSet::<u32>::default(), ChunkedRangeSet::new());
     let mut changed = ChunkedRangeSet::from_iter([1..3]);
     changed.extend([5..7, 3..4]);
@@ -405,7 +409,8 @@ fn trackers_answer_alike() {
                 assert!(chunked.gaps(&0..&value).eq(flat.gaps(&0..&value)));
                 let missing = flat.missing(value).unwrap();
                 assert!(chunked.missing(value).unwrap().iter().eq(missing.iter()));
-                assert_eq!(format!("{:?}", chunked.clone()), format!("{flat:?}"));
+                (chunked, flat) = (chunked.clone(), flat.clone());
+                assert_eq!(format!("{chunked:?}"), format!("{flat:?}"));
             }
         }
         assert!(

@@ -137,6 +137,10 @@ fn a_space_answers_what_its_set_does() {
     space.insert(250..);
     let set = space.as_set();
     assert_eq!(set.to_string(), "3..5, 20..30, 250..");
+    assert_eq!(
+        format!("{space}|{space:>21}|{space:*<21}"),
+        "3..5, 20..30, 250..|  3..5, 20..30, 250..|3..5, 20..30, 250..**"
+    );
     assert_eq!((set.next_gap(&22), set.next_gap(&260)), (Some(&30), None));
     assert!(set.contains_range(250..) && !set.intersects_range(5..=19));
     assert_eq!((set.rank(&25), set.ranges_len()), (7, 3));

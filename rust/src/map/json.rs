@@ -2,6 +2,7 @@
 
 use super::{Copies, Map, RangeMap};
 use crate::fallible;
+use crate::json::passed_over;
 use crate::memory::{expect_memory, AllocError};
 use crate::pairs::range_of;
 use core::fmt;
@@ -75,7 +76,7 @@ where
         let mut map = Map::new();
         while let Some((start, end, value)) = triples.next_element::<(K, Option<K>, V)>()? {
             if let Err(refused) = map.try_insert(range_of(start, end)?, value) {
-                return Ok(Err(refused));
+                return passed_over(triples, refused);
             }
         }
         Ok(Ok(map))

@@ -4,6 +4,8 @@ mod chunked;
 #[path = "../common/mod.rs"]
 mod common;
 mod map;
+#[cfg(feature = "serde")]
+mod reading;
 mod refusing;
 mod space;
 
