@@ -94,11 +94,14 @@ fn what_grows_is_refused_in_the_end() {
     let mut set = set(0);
     let (refused, _) = refusing(Refusal::From(0), || set.extend([5..8, 10..12]));
     assert_eq!((refused, set.is_empty()), (Err(AllocError), true));
-    let (refused, _) = refusing(Refusal::From(40), || {
-        set.extend((0..100_000).map(|i| 10 * i..10 * i + 5))
-    });
-    assert_eq!(refused, Err(AllocError));
-    assert!(set.contains_range(0..5) && !set.contains(&999_990));
+    for refusal in [Refusal::From(40), Refusal::One(40)] {
+        let (refused, _) = refusing(refusal, || {
+            set.extend((0..100_000).map(|i| 10 * i..10 * i + 5))
+        });
+        assert_eq!(refused, Err(AllocError), "{refusal:?}");
+        assert!(set.contains_range(0..5) && !set.contains(&999_990));
+        set.clear();
+    }
 }
 
 #[test]

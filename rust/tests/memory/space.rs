@@ -82,6 +82,20 @@ fn what_a_space_took_before_a_refusal_stays() {
 }
 
 #[test]
+fn one_refusal_ends_what_extends_a_space() {
+    let all = || (0..3_000).map(|i| 10 * i..10 * i + 5);
+    for turn in 0..20 {
+        let mut space = space(0);
+        let (result, refused) = refusing(Refusal::One(turn), || space.extend(all()));
+        let taken = space.as_set().ranges_len();
+        assert_eq!((result, refused), (Err(AllocError), 1), "request {turn}");
+        assert!(taken < 3_000, "request {turn}");
+        let before: Vec<_> = all().take(taken).map(RangeSetRange::from).collect();
+        assert_eq!(listed(&space), before, "request {turn}");
+    }
+}
+
+#[test]
 fn searches_that_cannot_remember_find_the_same_place() {
     let mut space = space(3000);
     for (len, place) in [(5, 0), (10, 0), (11, 30_005), (6, 0)] {
