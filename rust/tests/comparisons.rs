@@ -232,7 +232,7 @@ fn a_range_near_one_boundary_of_a_set_in_chunks_is_searched_once() {
         ("taken out of one", 1, 4, false),
     ];
     for (name, from, to, put) in rows {
-        let places = (0..n).step_by(5);
+        let places = (0..n).step_by(50);
         let all = places.len();
         let made: usize = places
             .map(|i| {
