@@ -71,6 +71,12 @@ module _ {K : Type 0} (alike : K → K → Type 0) where
             (h.appended ∙ ap (λ items. items ++ h.copies) holds.appended ∙ append_assoc (taken_items (take at_first ts)) holds.copies h.copies);
       }
 
+  -- copies behind what a list held
+  pub AreKeptThenCopies-behind : (at_first : ℕ) (old new : List K) → take (length old) new ≡ old
+      → (before ts : List (Taken K)) → AllZip alike (taken_items ts) (drop (length old) new) → AreKeptThenCopies alike at_first before old → AreKeptThenCopies alike at_first (before ++ ts) new
+  AreKeptThenCopies-behind at_first old new kept before ts copied so_far =
+      AreKeptThenCopies-append at_first before ts (taken_items ts) old new refl (IsAppended-after (taken_items ts) old new kept copied) so_far
+
   -- a list at first
   pub AreKeptThenCopies-first : (items : List K) → AreKeptThenCopies alike (length items) (map from_left items) items
   AreKeptThenCopies-first items =

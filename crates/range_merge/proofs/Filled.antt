@@ -1,6 +1,8 @@
 -- A slice that is filled from its front, run by run.
-use Rattle.std.proofs.Common.{◌≡◌, ℕ, ◌+◌, ◌≤◌, Bool, true, false, Result, Ok, Err, IsOk, IfOk, List, [], ◌∷◌, ◌++◌, length, take, drop, map, refl, ap, sym, ◌∙◌, arith, append_assoc}
-use Rattle.std.proofs.lemmas.List.{length-append, length-map, length-drop, take_at, take_all, drop_all, take-append-le, drop-append-le, map-append}
+use Rattle.std.proofs.Common.{◌≡◌, ℕ, ◌+◌, ◌-◌, ◌≤◌, Bool, true, false, Result, Ok, Err, IsOk, IfOk, List, [], ◌∷◌, ◌++◌, length, take, drop, map, refl, ap, sym, ◌∙◌, arith, append_assoc}
+use Rattle.std.proofs.lemmas.List.{append-nil, length-append, length-map, length-drop, length-take-le, take_at, take_all, drop_all, take-append-drop, take-append-le, drop-append-le, map-append}
+use Rattle.std.specs.List.{AllZip}
+use borrow.Rule.Slice.PartMut.{put_mid, same_len_mid}
 use Rattle.std.proofs.Math.Seq.{drop-append-add, drop-drop, drop-append_seam, take-append_seam}
 use Rattle.range_merge.specs.Changes.{Taken, taken_item, taken_items, from_left}
 use Rattle.range_merge.specs.Buffers.{IsFilled}
@@ -52,6 +54,31 @@ module _ {K : Type 0} where
             (put room ∙ ap (λ xs. xs ++ (more ++ drop (given + length more) items)) kept ∙ ap (λ xs. w ++ (more ++ xs)) left
             ∙ sym (append_assoc w more (drop (given + length more) f)));
       }
+
+  same-items : (xs ys : List K) → AllZip (λ x y. y ≡ x) xs ys → xs ≡ ys
+  same-items [] [] h = refl
+  same-items [] (y ∷ ys) h = absurd h
+  same-items (x ∷ xs) [] h = absurd h
+  same-items (x ∷ xs) (y ∷ ys) h = ap (λ z. z ∷ xs) (sym h.0) ∙ ap (λ zs. y ∷ zs) (same-items xs ys h.1)
+
+  -- a slice into whose end the next items were read, if it had room: what stood behind them stands there
+  pub IsFilled-read : (given at k : ℕ) (items out : List K) → (given ≤ length items → at ≡ given) → at ≤ length items → k ≤ length out
+      → length out ≡ length (take (length items - at) (drop at items)) → drop k out ≡ drop k (take (length items - at) (drop at items))
+      → (before ts : List (Taken K)) → AllZip (λ x y. y ≡ x) (taken_items ts) (take k out)
+      → IsFilled before given items → IsFilled (before ++ ts) (given + k) (put_mid at (length items - at) items out)
+  IsFilled-read given at k items out is within fits long behind before ts copied filled =
+      let n = length items - at in
+      let many : length (take k out) ≡ k = length-take-le k out fits in
+      let all : take n (drop at items) ≡ drop at items = take_all n (drop at items) (omega (arith, length-drop at items, within)) in
+      let none : drop n (drop at items) ≡ [] = drop_all n (drop at items) (omega (arith, length-drop at items, within)) in
+      let put : given + length (take k out) ≤ length items → put_mid at n items out ≡ take given items ++ (take k out ++ drop (given + length (take k out)) items) =
+      λ room.
+      let starts : at ≡ given = is (omega (arith, room)) in
+      let rest : drop k out ≡ drop (given + length (take k out)) items =
+      behind ∙ ap (drop k) all ∙ drop-drop k at items ∙ ap (λ m. drop m items) (omega (arith, starts, many)) in
+      ap (λ ys. take at items ++ (out ++ ys)) none ∙ ap (λ ys. take at items ++ ys) (append-nil out)
+      ∙ ap (λ m. take m items ++ out) starts ∙ ap (λ ys. take given items ++ ys) (sym (take-append-drop k out) ∙ ap (λ ys. take k out ++ ys) rest) in
+      rw many at (IsFilled-more before ts given (take k out) items (put_mid at n items out) (same-items (taken_items ts) (take k out) copied) (same_len_mid at n items out long) put filled)
 
   -- a slice that had these items and was given those that were taken
   pub given-taken : (items new : List K) (ts : List (Taken K)) (given : ℕ) → length new ≡ length items → IsFilled (map from_left items ++ ts) given new → given ≡ length ts

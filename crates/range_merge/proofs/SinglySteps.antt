@@ -3,13 +3,13 @@
 --     Reads                       how far a read came, so many steps after a look
 --     Reads-four, Reads-looked    after four steps, and at a look
 --     Reads-cost, Reads-made      what it cost
-use Rattle.std.proofs.Common.{◌≡◌, refl, ap, sym, ◌∙◌, ℕ, zero, suc, ◌+◌, ◌-◌, ◌*◌, ◌^◌, ◌<◌, ◌≤◌, Bool, true, false, not, cond, List, [], ◌∷◌, ◌++◌, length, map, take, drop, get_or, slice_get, append_assoc, Option, Some, None, ◌⊎◌, inl, inr, eq-zero-or-pos, arith}
+use Rattle.std.proofs.Common.{◌≡◌, refl, ap, sym, ◌∙◌, ℕ, zero, suc, ◌+◌, ◌-◌, ◌*◌, ◌^◌, ◌<◌, ◌≤◌, Bool, true, false, not, ◌||◌, cond, List, [], ◌∷◌, ◌++◌, length, map, take, drop, get_or, slice_get, append_assoc, Option, Some, None, ◌⊎◌, inl, inr, eq-zero-or-pos, arith}
 use Rattle.std.proofs.Math.Bool.{beq}
 use mir.Val.{bool_byte}
 use Rattle.std.proofs.Math.Seq.{drop-cons}
 use Rattle.std.proofs.Math.ListN.{set}
-use Rattle.std.proofs.Math.Seq.{take-append-add}
-use Rattle.std.proofs.lemmas.List.{append-nil, drop-drop, length-take-le, take-take, take_more_set}
+use Rattle.std.proofs.Math.Seq.{drop-append-add, take-append-add}
+use Rattle.std.proofs.lemmas.List.{append-nil, drop-append-le, drop-drop, drop-set-lt, length-take-le, set-get_or, take-append-drop, take-take, take_more_set}
 use Rattle.std.proofs.lemmas.Option.{get_or_from_slice_get, slice_get_within}
 use Rattle.std.proofs.lemmas.Slice.{take-put_mid}
 use borrow.Rule.Slice.PartMut.{put_mid}
@@ -48,6 +48,13 @@ pub byte-ge : (how : Ordering) → bool_byte (is_ge how) ≡ rights_of how
 byte-ge Less = refl
 byte-ge Equal = refl
 byte-ge Greater = refl
+
+-- a step puts out no more than it reads
+pub at-most_read : (taken : Bool) (how : Ordering) (i j k : ℕ) {i' j' : ℕ} → i' ≡ i + lefts_of how → j' ≡ j + rights_of how → (k + bool_byte taken) + (i + j) ≤ k + (i' + j')
+at-most_read true Less i j k left right = omega (arith, left, right)
+at-most_read true Equal i j k left right = omega (arith, left, right)
+at-most_read true Greater i j k left right = omega (arith, left, right)
+at-most_read false how i j k left right = omega (arith, left, right)
 
 -- the item that was picked, as a list
 pub picked : {X : Type 0} (b c : Bool) (x y : X) {r : X} → r ≡ cond b x y → b ≡ c → cond c x y ∷ [] ≡ r ∷ []
@@ -154,6 +161,32 @@ module _ {K : Type 0} where
       ∙ ap (λ m. take (m + q) (take k out ++ room)) (sym (length-take-le k out before))
       ∙ take-append-add (take k out) room q
 
+  -- further behind, all is the same too
+  behind-more : (k k' : ℕ) (xs ys : List K) → k ≤ k' → drop k xs ≡ drop k ys → drop k' xs ≡ drop k' ys
+  behind-more k k' xs ys more same =
+      let sum : k' ≡ k + (k' - k) = omega (arith, more) in
+      ap (λ n. drop n xs) sum ∙ sym (drop-drop (k' - k) k xs) ∙ ap (drop (k' - k)) same ∙ drop-drop (k' - k) k ys ∙ ap (λ n. drop n ys) (sym sum)
+
+  -- what stands behind so many items of a room at k
+  drop-window : (k q : ℕ) (out room rest : List K) → k ≤ length out → q ≤ length room → drop (k + q) (take k out ++ (room ++ rest)) ≡ drop q room ++ rest
+  drop-window k q out room rest before within =
+      ap (λ m. drop (m + q) (take k out ++ (room ++ rest))) (sym (length-take-le k out before))
+      ∙ drop-append-add (take k out) (room ++ rest) q ∙ drop-append-le q room rest within
+
+  -- four steps changed nothing behind what they put out in the room at k
+  pub behind-four : (k n k1 k2 k3 k4 : ℕ) (first out r1 r2 r3 r4 : List K) → k ≤ length out → k4 ≤ length r4 → k4 ≤ length (take n (drop k out))
+      → k1 ≤ k2 → k2 ≤ k3 → k3 ≤ k4 → drop k1 r1 ≡ drop k1 (take n (drop k out)) → drop k2 r2 ≡ drop k2 r1 → drop k3 r3 ≡ drop k3 r2 → drop k4 r4 ≡ drop k4 r3
+      → drop k out ≡ drop k first → drop (k + k4) (put_mid k n out r4) ≡ drop (k + k4) first
+  behind-four k n k1 k2 k3 k4 first out r1 r2 r3 r4 before within room le2 le3 le4 one two three four so_far =
+      let rest : List K = drop n (drop k out) in
+      let same : drop k4 r4 ≡ drop k4 (take n (drop k out)) =
+      four ∙ behind-more k3 k4 r3 r2 le4 three ∙ behind-more k2 k4 r2 r1 (omega (arith, le3, le4)) two
+      ∙ behind-more k1 k4 r1 (take n (drop k out)) (omega (arith, le2, le3, le4)) one in
+      drop-window k k4 out r4 rest before within ∙ ap (λ ys. ys ++ rest) same
+      ∙ sym (drop-window k k4 out (take n (drop k out)) rest before room)
+      ∙ ap (drop (k + k4)) (ap (λ ys. take k out ++ ys) (take-append-drop n (drop k out)) ∙ take-append-drop k out)
+      ∙ behind-more k (k + k4) out first (omega arith) so_far
+
   -- the same items behind others
   IsAppended-behind : {alike : K → K → Type 0} (front : List K) {t t' : Bool} {items items' old new : List K} → t ≡ t' → items ≡ items'
       → IsAppended alike (items_if t items) old new → IsAppended alike (items_if t' items') (front ++ old) (front ++ new)
@@ -172,10 +205,26 @@ module _ {K : Type 0} where
     appended = take_more_set items k x within;
   }
 
-  -- it is put out, or written over by the next one
-  IsAppended-if : (alike : K → K → Type 0) (taken : Bool) (k : ℕ) (items old new : List K) → take k new ≡ take k old → IsAppended alike items (take k old) (take (k + 1) new)
+  -- what is written: the item, if it is taken, or else what stood there
+  pub written : (taken keeps : Bool) (first was x : K) → x ≡ cond (taken || not keeps) first was → taken ≡ true → x ≡ first
+  written true keeps first was x e is = e
+  written false keeps first was x e is = absurd cc
+
+  pub IsAppended-written : (alike : K → K → Type 0) (first x : K) (old new : List K) → x ≡ first → IsAppended alike (x ∷ []) old new → IsAppended alike (first ∷ []) old new
+  IsAppended-written alike first x old new is put = rw is at put
+
+  -- behind what was put out nothing changed
+  pub behind-set : (taken keeps : Bool) (k k' : ℕ) (items : List K) (first d x : K) → x ≡ cond (taken || not keeps) first (get_or items k d)
+      → k' ≡ k + bool_byte taken → keeps ≡ true → drop k' (set items k x) ≡ drop k' items
+  behind-set true keeps k k' items first d x e more keep = drop-set-lt k' items k x (omega (arith, more))
+  behind-set false true k k' items first d x e more keep = ap (λ y. drop k' (set items k y)) e ∙ ap (drop k') (set-get_or items k d)
+  behind-set false false k k' items first d x e more keep = absurd cc
+
+  -- it is put out, if it is taken
+  IsAppended-if : (alike : K → K → Type 0) (taken : Bool) (k : ℕ) (items old new : List K) → take k new ≡ take k old
+      → (taken ≡ true → IsAppended alike items (take k old) (take (k + 1) new))
       → (k' : ℕ) → k' ≡ k + bool_byte taken → IsAppended alike (items_if taken items) (take k old) (take k' new)
-  IsAppended-if alike true k items old new front put k' e = rw e put
+  IsAppended-if alike true k items old new front put k' e = rw e (put refl)
   IsAppended-if alike false k items old new front put k' e = record {
     copies = [];
     alike_to = tt;
@@ -187,7 +236,8 @@ module _ {K : Type 0} where
 
   pub IsAppended-one : (alike : K → K → Type 0) (f : Table) (how : Ordering) (i j k i' j' k' : ℕ) (first : K) (items old new : List K) (on : Bool)
       → i' ≡ i + lefts_of how → j' ≡ j + rights_of how → on ≡ is_answer f (is_odd i') (is_odd j') → is_odd k ≡ is_answer f (is_odd i) (is_odd j)
-      → items ≡ first ∷ [] → take k new ≡ take k old → IsAppended alike (first ∷ []) (take k old) (take (k + 1) new) → k' ≡ k + bool_byte (not (beq on (is_odd k)))
+      → items ≡ first ∷ [] → take k new ≡ take k old → (not (beq on (is_odd k)) ≡ true → IsAppended alike (first ∷ []) (take k old) (take (k + 1) new))
+      → k' ≡ k + bool_byte (not (beq on (is_odd k)))
       → IsAppended alike (items_if (takes f (is_odd i) (is_odd j) (one_of_run how)) items) (take k old) (take k' new)
   IsAppended-one alike f how i j k i' j' k' first items old new on left right on_is was items_are front put e =
       let after : on ≡ is_answer f (left_on_after (one_of_run how) (is_odd i)) (right_on_after (one_of_run how) (is_odd j)) =
@@ -195,7 +245,7 @@ module _ {K : Type 0} where
       let taken : not (beq on (is_odd k)) ≡ takes f (is_odd i) (is_odd j) (one_of_run how) =
       ap (λ x. not (beq x (is_odd k))) after ∙ ap (λ x. not (beq (is_answer f (left_on_after (one_of_run how) (is_odd i)) (right_on_after (one_of_run how) (is_odd j))) x)) was
       ∙ takes-answers f how (is_odd i) (is_odd j) in
-      rw items_are (IsAppended-if alike (takes f (is_odd i) (is_odd j) (one_of_run how)) k (first ∷ []) old new front put k' (e ∙ ap (λ t. k + bool_byte t) taken))
+      rw items_are (IsAppended-if alike (takes f (is_odd i) (is_odd j) (one_of_run how)) k (first ∷ []) old new front (λ t. put (taken ∙ t)) k' (e ∙ ap (λ t. k + bool_byte t) taken))
 
   joined-left : (x : K) (rs : List Run) → joined (left_only x) rs ≡ before (Some (Left 1)) rs
   joined-left x [] = refl

@@ -14,7 +14,7 @@ mod in_place_ref;
 mod output;
 mod over_slices;
 mod placing;
-mod short_runs;
+mod reading;
 mod small_vec;
 mod supply;
 mod vec;

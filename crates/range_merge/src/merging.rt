@@ -1,5 +1,5 @@
 //! The merge: it takes the first run of the unread lists whole or drops it whole, until both lists
-//! are used up.
+//! are used up. A reader may read short runs in between.
 ghost use Rattle.std.specs.Prelude.{◌≡◌, ◌+◌, ◌*◌, ◌^◌, ◌<◌, ◌≤◌, true, false, not, ◌&&◌, List, [], ◌++◌, length, IsOk, OnOk, IfOk, IfSome, Ok, None, Some, IsTrue, ◌↔◌, ℕ};
 ghost use Rattle.std.specs.declared.cmp.Ordering.TheVariants.{Less, Equal, Greater};
 ghost use Rattle.range_merge.specs.Boundaries.{IsAscending};

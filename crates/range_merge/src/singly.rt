@@ -98,7 +98,9 @@ fn one_of<K: Drop, P: Copier<K>>(first: bool, one: &K, other: &K, by: &P) -> K
     select_unpredictable(first, copied(one, by), copied(other, by))
 }
 
-// Reads the first item, or one of each list where they are equal, and compares the next two.
+// Reads the first item, or one of each list where they are equal, and compares the next two. An
+// item that isn't taken is written over by the next one that is. If it `keeps` what stands behind
+// those that are, what stood at its place is written back.
 #[inline(always)]
 fn step<K: Drop, P: Copier<K>, O: MergeOperation, C: Compare<K>>(
     a: &[K],
@@ -109,6 +111,7 @@ fn step<K: Drop, P: Copier<K>, O: MergeOperation, C: Compare<K>>(
     by: &P,
     cmp: &mut C,
     out: &mut [K],
+    keeps: bool,
 ) -> Place
     requires left_some { at.i + 1 < length a.now }
     requires right_some { at.j + 1 < length b.now }
@@ -132,18 +135,23 @@ fn step<K: Drop, P: Copier<K>, O: MergeOperation, C: Compare<K>>(
         (take at.k out.old) (take result.k out.new) }
     ensures left_within { result.i ≤ at.i + 1 }
     ensures right_within { result.j ≤ at.j + 1 }
+    ensures from { at.k ≤ result.k }
     ensures within { result.k ≤ at.k + 1 }
+    ensures at_most { result.k + (at.i + at.j) ≤ at.k + (result.i + result.j) }
     ensures len { length out.new ≡ length out.old }
+    ensures behind { IsTrue keeps → drop result.k out.new ≡ drop result.k out.old }
     ensures next { C.order firsts.new.left firsts.new.right ≡ result.next }
     ensures counted { C.count cmp.new ≡ C.count cmp.old + 1 }
 {
-    out[at.k] = one_of(at.next.is_le(), &firsts.left, &firsts.right, by);
+    let first = one_of(at.next.is_le(), &firsts.left, &firsts.right, by);
     firsts.left = one_of(at.next.is_le(), &a[at.i + 1], &firsts.left, by);
     firsts.right = one_of(at.next.is_ge(), &b[at.j + 1], &firsts.right, by);
     let i = at.i + at.next.is_le() as usize;
     let j = at.j + at.next.is_ge() as usize;
     let on = is_on(op, i % 2 == 1, j % 2 == 1);
-    let k = at.k + (on != (at.k % 2 == 1)) as usize;
+    let takes = on != (at.k % 2 == 1);
+    out[at.k] = one_of(takes | !keeps, &first, &out[at.k], by);
+    let k = at.k + takes as usize;
     let next = cmp.compare(&firsts.left, &firsts.right);
     Place { i, j, k, next }
 }
@@ -168,7 +176,7 @@ fn has_four(lefts: usize, rights: usize, room: usize) -> bool
 
 /// Reads items of both slices, one or both at a step, from their starts on, until a run is long, a
 /// slice is nearly used up or `out` is. It writes what is taken to `out`, and returns how far it
-/// came.
+/// came. If it `keeps` what stands behind that, `out` is as it was there.
 ///
 /// It looks at the length of a run after each four steps. So a run that is long has four to seven
 /// items that were read; else the last run has at most three.
@@ -181,6 +189,7 @@ pub(crate) fn read_singly<K: Drop, P: Copier<K>, O: MergeOperation, C: Compare<K
     by: &P,
     cmp: &mut C,
     out: &mut [K],
+    keeps: bool,
 ) -> Place
     requires left_ascending { IsAscending C.order a.now }
     requires right_ascending { IsAscending C.order b.now }
@@ -198,7 +207,9 @@ pub(crate) fn read_singly<K: Drop, P: Copier<K>, O: MergeOperation, C: Compare<K
         ≤ C.count cmp.old + 2 * weight C.order a.now b.now + 6 }
     ensures made { C.count cmp.old ≤ C.count cmp.new }
     ensures within { result.k ≤ length out.new }
+    ensures at_most { result.k ≤ result.i + result.j }
     ensures len { length out.new ≡ length out.old }
+    ensures behind { IsTrue keeps → drop result.k out.new ≡ drop result.k out.old }
 {
     let mut here = Place {
         i: 0,
@@ -228,10 +239,10 @@ pub(crate) fn read_singly<K: Drop, P: Copier<K>, O: MergeOperation, C: Compare<K
             k: 0,
             next: here.next,
         };
-        let one = step(left, right, from, &mut firsts, op, by, cmp, room);
-        let two = step(left, right, one, &mut firsts, op, by, cmp, room);
-        let three = step(left, right, two, &mut firsts, op, by, cmp, room);
-        let four = step(left, right, three, &mut firsts, op, by, cmp, room);
+        let one = step(left, right, from, &mut firsts, op, by, cmp, room, keeps);
+        let two = step(left, right, one, &mut firsts, op, by, cmp, room, keeps);
+        let three = step(left, right, two, &mut firsts, op, by, cmp, room, keeps);
+        let four = step(left, right, three, &mut firsts, op, by, cmp, room, keeps);
         lefts = &lefts[four.i..];
         rights = &rights[four.j..];
         here = Place {

@@ -99,8 +99,9 @@ pub(crate) fn gives_length<O: MergeOperation>(
     (length, of_view) == (want, want) && count.made().max(again.made()) <= most
 }
 
-// What a slice holds before a list is written to it.
-const BEFORE: i64 = 99;
+// What a slice holds before a list is written to it, and how long it is.
+const BEFORE: i64 = -99;
+const ROOM: usize = 256;
 
 // Whether the list was written to the front of the slice, and nothing after it.
 fn is_front(written: Result<usize, NoRoom>, out: &[i64], want: &[i64]) -> bool {
@@ -123,7 +124,7 @@ pub(crate) fn gives_written<O: MergeOperation>(
     if a.len().checked_add(b.len()).is_none() {
         return false;
     }
-    let (mut out, mut again) = ([BEFORE; 24], [BEFORE; 24]);
+    let (mut out, mut again) = ([BEFORE; ROOM], [BEFORE; ROOM]);
     let of_set = set.merge_into(that, op, &mut out, &mut Comparisons::new());
     let of_view = set
         .as_ref()

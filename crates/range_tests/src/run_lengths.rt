@@ -1,9 +1,13 @@
 //! Lists whose boundaries alternate in runs of given lengths: every form of every operation
-//! compares at most twice as often as both weigh together.
+//! compares at most twice as often as both weigh together, and a slice is as it was behind what is
+//! written.
 
+use crate::merging::gives_written;
 use crate::operations::wrong_of;
+use range_collections::RangeSetRef;
 use range_tests_kit::generator::Generator;
-use range_tests_kit::lists::numbers;
+use range_tests_kit::lists::{numbers, set_of};
+use range_tests_kit::membership::{Stands, TABLES, connective};
 use std::alloc::{AllocError, Global};
 use std::test::Fail;
 
@@ -62,6 +66,27 @@ impl Sides {
         let points = numbers(alloc, -1, self.end.saturating_add(1))?;
         let (left, right) = (self.left.as_slice(), self.right.as_slice());
         Ok(wrong_of(alloc, points.as_slice(), left, right, self.most)?.is_none())
+    }
+
+    // Whether each operation writes what it should to a slice, and nothing after it.
+    fn are_written(&self, alloc: Global) -> Result<bool, AllocError> {
+        let points = numbers(alloc, -1, self.end.saturating_add(1))?;
+        let (left, right) = (self.left.as_slice(), self.right.as_slice());
+        let stands = Stands::of(alloc, points.as_slice(), left, right)?;
+        let (Some(set), Some(that)) = (set_of(alloc, left), RangeSetRef::new(right)) else {
+            return Ok(false);
+        };
+        for table in TABLES {
+            let op = connective(table);
+            if op.neither {
+                continue;
+            }
+            let want = stands.turns(alloc, table, false)?;
+            if !gives_written(&set, that, &op, want.as_slice()) {
+                return Ok(false);
+            }
+        }
+        Ok(true)
     }
 }
 
@@ -131,6 +156,28 @@ fn made_up_runs_cost_their_digits(rt: HostRuntime) -> Result<(), Fail> {
         let runs = made_up_runs(&mut draws, rt.alloc())?;
         let holds = Sides::of(rt.alloc(), runs.as_slice())?.hold(rt.alloc())?;
         assert!(rt; holds, "pair {number}: runs of {runs:?}");
+    }
+    Ok(())
+}
+
+// So many runs, each as long as one of these says.
+fn short_runs(draws: &mut Generator, alloc: Global, n: usize) -> Result<Vec<u32>, AllocError> {
+    let mut runs = Vec::new(alloc);
+    for _ in 0..n {
+        if let Some(run) = draws.one_of(&[0, 1, 1, 1, 2, 3]) {
+            runs.push(*run)?;
+        }
+    }
+    Ok(runs)
+}
+
+#[test]
+fn a_slice_is_as_it_was_behind_short_runs(rt: HostRuntime) -> Result<(), Fail> {
+    let mut draws = Generator::new();
+    for n in 60..80 {
+        let runs = short_runs(&mut draws, rt.alloc(), n)?;
+        let written = Sides::of(rt.alloc(), runs.as_slice())?.are_written(rt.alloc())?;
+        assert!(rt; written, "runs of {runs:?}");
     }
     Ok(())
 }

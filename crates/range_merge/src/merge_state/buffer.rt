@@ -2,19 +2,25 @@
 //!
 //! The count goes on when the slice is full, so that it tells how long a slice must be. While it is
 //! within the slice, the slice begins with what was taken, and after that it is as it was.
-ghost use Rattle.std.specs.Prelude.{◌≡◌, ◌↔◌, ◌+◌, ◌*◌, ◌^◌, ◌<◌, ◌≤◌, ◌++◌, false, length, take, drop, map, IsErr, IfOk, IfErr, ⊤};
+ghost use Rattle.std.specs.Prelude.{◌≡◌, ◌↔◌, ◌+◌, ◌*◌, ◌^◌, ◌<◌, ◌≤◌, ◌++◌, false, length, take, drop, map, Some, IsErr, IfOk, IfErr, ⊤};
 ghost use Rattle.range_merge.specs.Boundaries.{IsAscending};
 ghost use Rattle.range_merge.specs.Changes.{changes, from_left, taken_items};
 ghost use Rattle.range_merge.specs.Buffers.{IsFilled};
 ghost use Rattle.range_merge.specs.Counting.{AddsAtMost};
 ghost use Rattle.range_merge.specs.Runs.{weight};
+ghost use Rattle.range_merge.specs.Singly.{table_from, IsRead};
+ghost use Rattle.range_merge.specs.Steps.{FirstsStand};
 
-use crate::compare::Compare;
+use crate::compare::{Compare, Copier};
 use crate::merge_state::output::Output;
 use crate::merge_state::over_slices::SliceMergeState;
+use crate::merge_state::reading::{Read, Room, Singly};
 use crate::merging;
 use crate::operations::MergeOperation;
+use crate::singly::{Relative, read_singly};
 use std::alloc::AllocError;
+use std::cmp::Ordering;
+use std::mem::size_of_val;
 
 /// A state that writes the items that are taken into a borrowed slice, and counts them. It never
 /// stops the merge, takes no memory and never fails.
@@ -111,7 +117,14 @@ impl<'a, 'o, K: Copy> BufferMergeState<'a, 'o, K> {
         ensures comparisons { AddsAtMost (C.count cmp.old) (C.count cmp.new) (2 * weight C.order a.now b.now) }
     {
         let mut state = Self::new(a, b, out);
+        let copier = ByCopy {
+            are_short: are_short(a),
+        };
         // Nothing is lost: the buffer counts also what it has no room for.
+        if let Some(mut reader) = Singly::of(&copier) {
+            let _ = merging::merge_with(&mut state, op, cmp, &mut reader);
+            return state.result();
+        }
         let _ = merging::merge(&mut state, op, cmp);
         state.result()
     }
@@ -140,6 +153,90 @@ impl<'o, K: Copy> Output<K, ()> for Buffer<'o, K> {
         }
         Ok(true)
     }
+}
+
+// Copies items that are `Copy`, which are plain data.
+#[derive(Drop)]
+struct ByCopy {
+    // Whether they are short, so that to hold copies of them is worth it.
+    are_short: bool,
+}
+
+impl<K: Copy> Copier<K> for ByCopy {
+    ghost alike = { λ x y. y ≡ x };
+
+    ghost is_infallible = { λ _. ⊤ };
+
+    #[inline(always)]
+    fn copy(&self, item: &K) -> Result<K, AllocError> {
+        Ok(*item)
+    }
+
+    #[inline(always)]
+    fn is_plain(&self) -> bool {
+        self.are_short
+    }
+}
+
+// Whether there are items, each a word at most.
+#[inline(always)]
+fn are_short<K>(items: &[K]) -> bool {
+    match items.first() {
+        Some(item) => size_of_val(item) <= 8,
+        None => false,
+    }
+}
+
+impl<'o, K: Copy, O: MergeOperation, C: Compare<K>> Room<K, (), ByCopy, O, C> for Buffer<'o, K> {
+    #[inline(always)]
+    fn read(
+        &mut self,
+        a: &[K],
+        b: &[K],
+        next: Ordering,
+        op: &Relative<'_, O>,
+        copier: &ByCopy,
+        cmp: C,
+        _n: usize,
+    ) -> Read<C> {
+        let at = self.given.min(self.items.len());
+        let read = read_behind(a, b, next, op, copier, cmp, &mut self.items[at..]);
+        self.given += read.at.k;
+        read
+    }
+}
+
+// Reads short runs to the front of the slice, which stays as it was behind them.
+#[inline(never)]
+fn read_behind<K: Copy, O: MergeOperation, C: Compare<K>>(
+    a: &[K],
+    b: &[K],
+    next: Ordering,
+    op: &Relative<'_, O>,
+    copier: &ByCopy,
+    cmp: C,
+    out: &mut [K],
+) -> Read<C>
+    requires left_ascending { IsAscending C.order a.now }
+    requires right_ascending { IsAscending C.order b.now }
+    requires stands { FirstsStand C.order a.now b.now (Some next) }
+    requires fits { length a.now + length b.now < 2 ^ 65 }
+    requires made { C.count cmp < 2 ^ 126 }
+    ensures read { IsRead (λ x y. y ≡ x) C.order
+        (table_from (O.connective op.now.op.now) op.now.ac op.now.bc) a.now b.now
+        result.at.i result.at.j (take result.at.k out.new) result.at.next }
+    ensures behind { drop result.at.k out.new ≡ drop result.at.k out.old }
+    ensures within { result.at.k ≤ length out.new }
+    ensures at_most { result.at.k ≤ result.at.i + result.at.j }
+    ensures len { length out.new ≡ length out.old }
+    ensures comparisons { C.count result.cmp
+        + 2 * weight C.order (drop result.at.i a.now) (drop result.at.j b.now)
+        ≤ C.count cmp + 2 * weight C.order a.now b.now + 6 }
+    ensures made { C.count cmp ≤ C.count result.cmp }
+{
+    let mut cmp = cmp;
+    let at = read_singly(a, b, next, op, copier, &mut cmp, out, true);
+    Read { at, cmp }
 }
 
 // Changes nothing. Using the slice ties it to the borrowed one, whose last items it then tells.

@@ -12,7 +12,7 @@ use crate::compare::{Compare, Copier};
 use crate::merge_state::grows_at_end::append_copies;
 use crate::merge_state::output::Output;
 use crate::merge_state::over_slices::SliceMergeState;
-use crate::merge_state::short_runs::Singly;
+use crate::merge_state::reading::Singly;
 use crate::merging;
 use crate::operations::MergeOperation;
 use smallvec::SmallVec;

@@ -11,7 +11,7 @@ pub(crate) mod in_place_ref;
 pub(crate) mod output;
 pub(crate) mod over_slices;
 pub(crate) mod placing;
-pub(crate) mod short_runs;
+pub(crate) mod reading;
 pub(crate) mod small_vec;
 pub(crate) mod supply;
 pub(crate) mod vec;

@@ -76,7 +76,9 @@ fn one_of<K, P: Copier<K>>(first: bool, one: &K, other: &K, by: &P) -> K {
     select_unpredictable(first, copied(one, by), copied(other, by))
 }
 
-// Reads the first item, or one of each list where they are equal, and compares the next two.
+// Reads the first item, or one of each list where they are equal, and compares the next two. An
+// item that isn't taken is written over by the next one that is. If it `keeps` what stands behind
+// those that are, what stood at its place is written back.
 #[inline(always)]
 fn step<K, P: Copier<K>, O: MergeOperation, C: Compare<K>>(
     a: &[K],
@@ -87,14 +89,17 @@ fn step<K, P: Copier<K>, O: MergeOperation, C: Compare<K>>(
     by: &P,
     cmp: &mut C,
     out: &mut [K],
+    keeps: bool,
 ) -> Place {
-    out[at.k] = one_of(at.next.is_le(), &firsts.left, &firsts.right, by);
+    let first = one_of(at.next.is_le(), &firsts.left, &firsts.right, by);
     firsts.left = one_of(at.next.is_le(), &a[at.i + 1], &firsts.left, by);
     firsts.right = one_of(at.next.is_ge(), &b[at.j + 1], &firsts.right, by);
     let i = at.i + at.next.is_le() as usize;
     let j = at.j + at.next.is_ge() as usize;
     let on = is_on(op, i % 2 == 1, j % 2 == 1);
-    let k = at.k + (on != (at.k % 2 == 1)) as usize;
+    let takes = on != (at.k % 2 == 1);
+    out[at.k] = one_of(takes | !keeps, &first, &out[at.k], by);
+    let k = at.k + takes as usize;
     let next = cmp.compare(&firsts.left, &firsts.right);
     Place { i, j, k, next }
 }
@@ -113,7 +118,7 @@ fn has_four(lefts: usize, rights: usize, room: usize) -> bool {
 
 /// Reads items of both slices, one or both at a step, from their starts on, until a run is long, a
 /// slice is nearly used up or `out` is. It writes what is taken to `out`, and returns how far it
-/// came.
+/// came. If it `keeps` what stands behind that, `out` is as it was there.
 ///
 /// It looks at the length of a run after each four steps. So a run that is long has four to seven
 /// items that were read; else the last run has at most three.
@@ -126,6 +131,7 @@ pub(crate) fn read_singly<K, P: Copier<K>, O: MergeOperation, C: Compare<K>>(
     by: &P,
     cmp: &mut C,
     out: &mut [K],
+    keeps: bool,
 ) -> Place {
     let mut here = Place {
         i: 0,
@@ -155,10 +161,10 @@ pub(crate) fn read_singly<K, P: Copier<K>, O: MergeOperation, C: Compare<K>>(
             k: 0,
             next: here.next,
         };
-        let one = step(left, right, from, &mut firsts, op, by, cmp, room);
-        let two = step(left, right, one, &mut firsts, op, by, cmp, room);
-        let three = step(left, right, two, &mut firsts, op, by, cmp, room);
-        let four = step(left, right, three, &mut firsts, op, by, cmp, room);
+        let one = step(left, right, from, &mut firsts, op, by, cmp, room, keeps);
+        let two = step(left, right, one, &mut firsts, op, by, cmp, room, keeps);
+        let three = step(left, right, two, &mut firsts, op, by, cmp, room, keeps);
+        let four = step(left, right, three, &mut firsts, op, by, cmp, room, keeps);
         lefts = &lefts[four.i..];
         rights = &rights[four.j..];
         here = Place {

@@ -1,4 +1,4 @@
-use Rattle.std.proofs.Common.{◌≡◌, ◌+◌, ◌-◌, ◌≤◌, length, take, drop, slice_get, Some}
+use Rattle.std.proofs.Common.{◌≡◌, ◌+◌, ◌-◌, ◌≤◌, true, length, take, drop, slice_get, Some}
 use Rattle.range_merge.proofs.SinglySteps.{Reads}
 use Rattle.range_merge.proofs.singly.read_singly.Given as goal
 
@@ -9,6 +9,8 @@ invariant-loop-lefts g l = record {
   left_is : slice_get (drop l.here.i l.a) 0 ≡ Some l.firsts.left;
   right_is : slice_get (drop l.here.j l.b) 0 ≡ Some l.firsts.right;
   within : l.here.k ≤ length l.out;
+  at_most : l.here.k ≤ l.here.i + l.here.j;
+  behind : l.keeps ≡ true → drop l.here.k l.out ≡ drop l.here.k l.fn.out;
   lefts_are : l.lefts ≡ drop l.here.i l.a;
   rights_are : l.rights ≡ drop l.here.j l.b;
 }

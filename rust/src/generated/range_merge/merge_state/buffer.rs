@@ -4,12 +4,16 @@
 //! The count goes on when the slice is full, so that it tells how long a slice must be. While it is
 //! within the slice, the slice begins with what was taken, and after that it is as it was.
 
-use crate::generated::range_merge::compare::Compare;
+use crate::generated::range_merge::compare::{Compare, Copier};
 use crate::generated::range_merge::merge_state::output::Output;
 use crate::generated::range_merge::merge_state::over_slices::SliceMergeState;
+use crate::generated::range_merge::merge_state::reading::{Read, Room, Singly};
 use crate::generated::range_merge::merging;
 use crate::generated::range_merge::operations::MergeOperation;
+use crate::generated::range_merge::singly::{read_singly, Relative};
 use crate::support::AllocError;
+use core::cmp::Ordering;
+use core::mem::size_of_val;
 
 /// A state that writes the items that are taken into a borrowed slice, and counts them. It never
 /// stops the merge, takes no memory and never fails.
@@ -110,7 +114,14 @@ impl<'a, 'o, K: Copy> BufferMergeState<'a, 'o, K> {
         cmp: &mut C,
     ) -> Buffer<'o, K> {
         let mut state = Self::new(a, b, out);
+        let copier = ByCopy {
+            are_short: are_short(a),
+        };
         // Nothing is lost: the buffer counts also what it has no room for.
+        if let Some(mut reader) = Singly::of(&copier) {
+            let _ = merging::merge_with(&mut state, op, cmp, &mut reader);
+            return state.result();
+        }
         let _ = merging::merge(&mut state, op, cmp);
         state.result()
     }
@@ -127,6 +138,68 @@ impl<'o, K: Copy> Output<K, ()> for Buffer<'o, K> {
         }
         Ok(true)
     }
+}
+
+// Copies items that are `Copy`, which are plain data.
+struct ByCopy {
+    // Whether they are short, so that to hold copies of them is worth it.
+    are_short: bool,
+}
+
+impl<K: Copy> Copier<K> for ByCopy {
+    #[inline(always)]
+    fn copy(&self, item: &K) -> Result<K, AllocError> {
+        Ok(*item)
+    }
+
+    #[inline(always)]
+    fn is_plain(&self) -> bool {
+        self.are_short
+    }
+}
+
+// Whether there are items, each a word at most.
+#[inline(always)]
+fn are_short<K>(items: &[K]) -> bool {
+    match items.first() {
+        Some(item) => size_of_val(item) <= 8,
+        None => false,
+    }
+}
+
+impl<'o, K: Copy, O: MergeOperation, C: Compare<K>> Room<K, (), ByCopy, O, C> for Buffer<'o, K> {
+    #[inline(always)]
+    fn read(
+        &mut self,
+        a: &[K],
+        b: &[K],
+        next: Ordering,
+        op: &Relative<'_, O>,
+        copier: &ByCopy,
+        cmp: C,
+        _n: usize,
+    ) -> Read<C> {
+        let at = self.given.min(self.items.len());
+        let read = read_behind(a, b, next, op, copier, cmp, &mut self.items[at..]);
+        self.given += read.at.k;
+        read
+    }
+}
+
+// Reads short runs to the front of the slice, which stays as it was behind them.
+#[inline(never)]
+fn read_behind<K: Copy, O: MergeOperation, C: Compare<K>>(
+    a: &[K],
+    b: &[K],
+    next: Ordering,
+    op: &Relative<'_, O>,
+    copier: &ByCopy,
+    cmp: C,
+    out: &mut [K],
+) -> Read<C> {
+    let mut cmp = cmp;
+    let at = read_singly(a, b, next, op, copier, &mut cmp, out, true);
+    Read { at, cmp }
 }
 
 // Changes nothing. Using the slice ties it to the borrowed one, whose last items it then tells.

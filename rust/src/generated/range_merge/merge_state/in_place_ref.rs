@@ -23,8 +23,8 @@ fn are_long(a: usize, b: usize, inline: usize) -> bool {
     a >= MANY && b >= MANY && a / MUCH <= b && !fit_together(a, b, inline)
 }
 
-/// Merges long lists of plain data into a list of their own, which `None` isn't: then the items had
-/// better be moved in place, or there is no memory for that list, and nothing was compared.
+/// Merges long lists of plain data into a new list. It returns `None` if they are better merged in
+/// place, or if there is no memory for that list: then it has compared nothing.
 pub(crate) fn merged_apart<K, P: Copier<K>, O: MergeOperation, C: Compare<K>, const N: usize>(
     a: &SmallVec<K, N>,
     b: &[K],

@@ -5,7 +5,7 @@ use crate::generated::range_merge::compare::{Compare, Copier};
 use crate::generated::range_merge::merge_state::grows_at_end::append_copies;
 use crate::generated::range_merge::merge_state::output::Output;
 use crate::generated::range_merge::merge_state::over_slices::SliceMergeState;
-use crate::generated::range_merge::merge_state::short_runs::Singly;
+use crate::generated::range_merge::merge_state::reading::Singly;
 use crate::generated::range_merge::merging;
 use crate::generated::range_merge::operations::MergeOperation;
 use crate::support::{AllocError, SmallVec, Vec};

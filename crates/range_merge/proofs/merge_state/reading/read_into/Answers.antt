@@ -1,7 +1,7 @@
 use Rattle.std.proofs.Common.{◌≡◌, ◌≤◌, ◌+◌, ◌-◌, ◌++◌, length, take, drop, ap, ◌∙◌, arith}
 use Rattle.std.proofs.lemmas.List.{length-drop, length-take-le}
 use Rattle.range_merge.proofs.ReadInto.{drop-cut}
-use Rattle.range_merge.proofs.merge_state.short_runs.read_into.Goals as goal
+use Rattle.range_merge.proofs.merge_state.reading.read_into.Goals as goal
 
 pub returns-clause-read : goal.returns-clause-read
 returns-clause-read g c =

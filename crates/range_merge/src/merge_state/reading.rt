@@ -1,0 +1,324 @@
+//! Short runs of two slices of plain data, read into the room of an output.
+ghost use Rattle.std.specs.Prelude.{◌≡◌, ℕ, ◌+◌, ◌*◌, ◌^◌, ◌<◌, ◌≤◌, length, take, drop, Some};
+ghost use Rattle.std.specs.Vec.{vec_capacity};
+ghost use Rattle.range_merge.specs.Boundaries.{IsAscending, is_odd};
+ghost use Rattle.range_merge.specs.Connective.{differ};
+ghost use Rattle.range_merge.specs.Parts.{Progress};
+ghost use Rattle.range_merge.specs.Runs.{weight};
+ghost use Rattle.range_merge.specs.Singly.{table_from, IsRead};
+ghost use Rattle.range_merge.specs.Steps.{FirstsStand};
+
+use crate::compare::{Compare, Copier};
+use crate::merge_state::MergeState;
+use crate::merge_state::output::Output;
+use crate::merge_state::over_slices::SliceMergeState;
+use crate::merge_state::small_vec::Copying;
+use crate::operations::MergeOperation;
+use crate::short_runs::ShortRuns;
+use crate::singly::{Place, Relative, copied, read_singly};
+use std::cmp::Ordering;
+use std::marker::{Model, PhantomData};
+use std::mem;
+
+/// An output with room for plain data behind what it was given.
+pub(crate) trait Room<K, By, P: Copier<K>, O: MergeOperation, C: Compare<K>>: Output<K, By> {
+    /// Reads short runs from the starts of both slices on, as far as there is room, and counts what
+    /// is taken as given. It may make room for `n` items. The slices begin where the sides stand as
+    /// `op` says.
+    fn read(
+        &mut self,
+        a: &[K],
+        b: &[K],
+        next: Ordering,
+        op: &Relative<'_, O>,
+        copier: &P,
+        cmp: C,
+        n: usize,
+    ) -> Read<C>
+        requires left_ascending { IsAscending C.order a.now }
+        requires right_ascending { IsAscending C.order b.now }
+        requires stands { FirstsStand C.order a.now b.now (Some next) }
+        requires infallible { (x : K) → P.is_infallible x }
+        requires plain { (x y : K) → P.alike x y → y ≡ x }
+        requires short { length a.now + length b.now < 2 ^ 65 }
+        requires fits { Self.fits self.old (length a.now + length b.now) }
+        requires made { C.count cmp < 2 ^ 126 }
+        ensures progress { (first : ℕ) → Progress C.order (O.connective op.now.op.now)
+            Self.can_stop a.now b.now op.now.ac op.now.bc (Self.may_be self.old first)
+            (drop result.at.i a.now) (drop result.at.j b.now)
+            (differ op.now.ac (is_odd result.at.i)) (differ op.now.bc (is_odd result.at.j))
+            (Self.may_be self.new first) }
+        ensures stands { FirstsStand C.order (drop result.at.i a.now) (drop result.at.j b.now)
+            (Some result.at.next) }
+        ensures fixed { (means : By) → Self.fixed self.new means ≡ Self.fixed self.old means }
+        ensures fits { Self.fits self.new
+            (length (drop result.at.i a.now) + length (drop result.at.j b.now)) }
+        ensures has_room { Self.has_room self.old (length a.now + length b.now) →
+            Self.has_room self.new
+            (length (drop result.at.i a.now) + length (drop result.at.j b.now)) }
+
+        // Six more than twice the weight of what was read, if that.
+        ensures comparisons { C.count result.cmp
+            + 2 * weight C.order (drop result.at.i a.now) (drop result.at.j b.now)
+            ≤ C.count cmp + 2 * weight C.order a.now b.now + 6 }
+        ensures made { C.count cmp ≤ C.count result.cmp };
+}
+
+/// How far a read came, with what counted comparisons.
+#[derive(Drop)]
+pub(crate) struct Read<C> {
+    pub(crate) at: Place,
+    pub(crate) cmp: C,
+}
+
+/// Reads short runs of plain data, item by item.
+#[derive(Drop)]
+pub(crate) struct Singly<'p, K, P: Copier<K>> {
+    copier: &'p P,
+    // For how many items room is made before a read.
+    room: usize,
+    // How many rounds come next, if that is more than six.
+    rounds: u32,
+    // Whether the read before came to its end soon.
+    was_short: bool,
+    of: PhantomData<K>,
+}
+
+impl<'p, K, P: Copier<K>> Model for Singly<'p, K, P> {
+    ghost use Rattle.std.specs.Prelude.{◌≡◌, ⊤};
+
+    ghost Value = { ⊤ };
+
+    ghost view = { λ _. tt };
+
+    ghost invariant = { λ _. ((x : K) → P.is_infallible x) × ((x y : K) → P.alike x y → y ≡ x) };
+}
+
+// For so many items room is made at first.
+const ROOM: usize = 64;
+// A read is worth its call from so many items of each list on, and was, if it came so far.
+const FEW: usize = 16;
+// A read costs at most so many comparisons more than its runs allow, and each round leaves one.
+const PAID: u32 = 6;
+// So many rounds at most come between two reads.
+const LONGEST: u32 = 512;
+
+impl<'p, K, P: Copier<K>> Singly<'p, K, P> {
+    /// A reader for items that are plain data.
+    #[inline(always)]
+    pub(crate) fn of(copier: &'p P) -> Option<Self> {
+        if !copier.is_plain() {
+            return None;
+        }
+        Some(Singly {
+            copier,
+            room: ROOM,
+            rounds: PAID,
+            was_short: false,
+            of: PhantomData,
+        })
+    }
+
+    // Fits the rounds and the room to how far a read came: where runs are soon long again, they are
+    // better taken whole.
+    #[inline(always)]
+    fn learn(&mut self, at: Place) {
+        let is_short = at.i.max(at.j) < FEW;
+        self.rounds = if is_short && self.was_short {
+            self.rounds.saturating_mul(8).min(LONGEST)
+        } else {
+            PAID
+        };
+        self.was_short = is_short;
+        self.room = if self.room - at.k.min(self.room) < 8 {
+            self.room.saturating_mul(2)
+        } else {
+            ROOM
+        };
+    }
+}
+
+impl<
+    'a,
+    'p,
+    K: Drop,
+    P: Copier<K>,
+    By,
+    L: Room<K, By, P, O, C>,
+    O: MergeOperation,
+    C: Compare<K>,
+> ShortRuns<SliceMergeState<'a, K, L, By>, O, C> for Singly<'p, K, P> {
+    #[inline(always)]
+    fn rounds(&self) -> Option<u32> {
+        Some(self.rounds.max(PAID))
+    }
+
+    #[inline(always)]
+    fn read(
+        &mut self,
+        state: &mut SliceMergeState<'a, K, L, By>,
+        op: &O,
+        next: Ordering,
+        cmp: &mut C,
+    ) -> Ordering {
+        if state.a_len() < FEW || state.b_len() < FEW {
+            return next;
+        }
+        let at = read_short_runs(state, self.copier, self.room, op, next, cmp);
+        self.learn(at);
+        at.next
+    }
+}
+
+// Reads short runs of a state, with room for `n` items, and returns how far it came.
+#[inline(always)]
+fn read_short_runs<
+    K: Drop,
+    By,
+    P: Copier<K>,
+    L: Room<K, By, P, O, C>,
+    O: MergeOperation,
+    C: Compare<K>,
+>(
+    state: &mut SliceMergeState<'_, K, L, By>,
+    copier: &P,
+    n: usize,
+    op: &O,
+    next: Ordering,
+    cmp: &mut C,
+) -> Place
+    requires stands { FirstsStand C.order state.old.left state.old.right (Some next) }
+    requires left_ascending { IsAscending C.order state.old.left }
+    requires right_ascending { IsAscending C.order state.old.right }
+    requires infallible { (x : K) → P.is_infallible x }
+    requires plain { (x y : K) → P.alike x y → y ≡ x }
+    requires short { length state.old.left + length state.old.right < 2 ^ 65 }
+    requires made { C.count cmp.old < 2 ^ 126 }
+    ensures left { state.new.left ≡ drop result.i state.old.left }
+    ensures right { state.new.right ≡ drop result.j state.old.right }
+    ensures left_on { state.new.left_on ≡ differ state.old.left_on (is_odd result.i) }
+    ensures right_on { state.new.right_on ≡ differ state.old.right_on (is_odd result.j) }
+    ensures fixed { state.new.fixed ≡ state.old.fixed }
+    ensures progress { (first : ℕ) → Progress C.order (O.connective op.now) L.can_stop
+        state.old.left state.old.right state.old.left_on state.old.right_on
+        (L.may_be state.old.taken first)
+        state.new.left state.new.right state.new.left_on state.new.right_on
+        (L.may_be state.new.taken first) }
+    ensures stands { FirstsStand C.order state.new.left state.new.right (Some result.next) }
+    ensures has_room { L.has_room state.old.taken (length state.old.left + length state.old.right) →
+        L.has_room state.new.taken (length state.new.left + length state.new.right) }
+    ensures comparisons { C.count cmp.new + 2 * weight C.order state.new.left state.new.right
+        ≤ C.count cmp.old + 2 * weight C.order state.old.left state.old.right + 6 }
+    ensures made { C.count cmp.old ≤ C.count cmp.new }
+{
+    let op = &Relative {
+        op,
+        ac: state.ac,
+        bc: state.bc,
+    };
+    let a = state.a.as_slice();
+    let b = state.b.as_slice();
+    // The counter goes by value, so that the merge can keep its own in registers.
+    let read = state.output.read(a, b, next, op, copier, cmp.fresh(), n);
+    cmp.add(read.cmp);
+    let at = read.at;
+    state.a.drop_front(at.i);
+    state.b.drop_front(at.j);
+    state.ac = state.ac != (at.i % 2 == 1);
+    state.bc = state.bc != (at.j % 2 == 1);
+    at
+}
+
+impl<'a, K: Drop, P: Copier<K>, O: MergeOperation, C: Compare<K>> Room<K, Copying<'a, P>, P, O, C>
+    for Vec<K> {
+    #[inline(always)]
+    fn read(
+        &mut self,
+        a: &[K],
+        b: &[K],
+        next: Ordering,
+        op: &Relative<'_, O>,
+        copier: &P,
+        cmp: C,
+        n: usize,
+    ) -> Read<C> {
+        let alloc = *self.allocator();
+        // The list goes by value, so that the merge can keep its own in registers.
+        let list = mem::replace(self, Vec::new(alloc));
+        let read = read_into(list, cmp, a, b, next, op, copier, n);
+        *self = read.list;
+        Read {
+            at: read.at,
+            cmp: read.cmp,
+        }
+    }
+}
+
+// How far a read came, with the list and what counted comparisons.
+#[derive(Drop)]
+struct ReadInto<K, C> {
+    list: Vec<K>,
+    cmp: C,
+    at: Place,
+}
+
+// Reads short runs into the list, as far as it has room, for so many items at most.
+#[inline(never)]
+fn read_into<K: Drop, P: Copier<K>, O: MergeOperation, C: Compare<K>>(
+    list: Vec<K>,
+    cmp: C,
+    a: &[K],
+    b: &[K],
+    next: Ordering,
+    op: &Relative<'_, O>,
+    by: &P,
+    room: usize,
+) -> ReadInto<K, C>
+    requires left_ascending { IsAscending C.order a.now }
+    requires right_ascending { IsAscending C.order b.now }
+    requires stands { FirstsStand C.order a.now b.now (Some next) }
+    requires infallible { (x : K) → P.is_infallible x }
+    requires plain { (x y : K) → P.alike x y → y ≡ x }
+    requires fits { length a.now + length b.now < 2 ^ 65 }
+    requires made { C.count cmp < 2 ^ 126 }
+    ensures kept { take (length list.items) result.list.items ≡ list.items }
+    ensures read { IsRead P.alike C.order
+        (table_from (O.connective op.now.op.now) op.now.ac op.now.bc) a.now b.now
+        result.at.i result.at.j (drop (length list.items) result.list.items) result.at.next }
+    ensures comparisons { C.count result.cmp
+        + 2 * weight C.order (drop result.at.i a.now) (drop result.at.j b.now)
+        ≤ C.count cmp + 2 * weight C.order a.now b.now + 6 }
+    ensures made { C.count cmp ≤ C.count result.cmp }
+{
+    let mut list = list;
+    let mut cmp = cmp;
+    let kept = list.len();
+    let filled = room.min(list.capacity() - kept);
+    fill(&mut list, filled, &a[0], by);
+    let at = read_singly(
+        a,
+        b,
+        next,
+        op,
+        by,
+        &mut cmp,
+        &mut list.as_mut_slice()[kept..],
+        false,
+    );
+    list.truncate(kept + at.k);
+    ReadInto { list, cmp, at }
+}
+
+// Appends so many copies of an item, for which there is room.
+#[inline(always)]
+fn fill<K, P: Copier<K>>(list: &mut Vec<K>, n: usize, item: &K, by: &P)
+    requires room { length list.old.items + n ≤ vec_capacity list.old }
+    requires infallible { (x : K) → P.is_infallible x }
+    requires plain { (x y : K) → P.alike x y → y ≡ x }
+    ensures kept { take (length list.old.items) list.new.items ≡ list.old.items }
+    ensures len { length list.new.items ≡ length list.old.items + n }
+{
+    for _ in 0..n {
+        list.push_reserved(copied(item, by));
+    }
+}
