@@ -44,7 +44,7 @@ impl<K, const N: usize> InPlaceMergeState<K, N> {
 impl<K, P: Copier<K>, const N: usize> InPlaceMergeStateRef<K, P, N> {
     /// Leaves in `a` the items at which the connective of `op` changes between two strictly sorted lists: its own, and copies of those of `b`. Of two equal items it is the one of `a` that stays.
     ///
-    /// It asks for room in `a` for the items of `b`, and, unless copies never fail, for a copy of each item of `b`, before it changes anything. Long lists of plain data it merges into a list of their own, if there is memory for that. Where one is refused, `a` is as it was.
+    /// It asks for room in `a` for the items of `b`, and, unless copies never fail, for a copy of each item of `b`, before it changes anything. Plain data it may merge into a new list. Where one is refused, `a` is as it was.
     pub fn merge<O: MergeOperation, C: Compare<K>>(
         a: &mut SmallVec<K, N>,
         b: &[K],

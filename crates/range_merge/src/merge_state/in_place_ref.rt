@@ -69,10 +69,9 @@ impl<'a, K: MadeWith<Global> + Drop, P: Copier<K>, const N: usize> InPlaceMergeS
     /// stays.
     ///
     /// It asks for room in `a` for the items of `b`, and, unless copies never fail, for a copy of
-    /// each item of `b`, before it changes anything. Long lists of plain data it merges into a list
-    /// of their own, if there is memory for that. It succeeds if both lengths together are at most
-    /// `N` and no copy fails. If it fails, the items of `a` are as they were. It makes at most
-    /// twice the weight of the two lists in comparisons.
+    /// each item of `b`, before it changes anything. Plain data it may merge into a new list. It
+    /// succeeds if both lengths together are at most `N` and no copy fails. If it fails, the items
+    /// of `a` are as they were. It makes at most twice the weight of the two lists in comparisons.
     pub fn merge<O: MergeOperation, C: Compare<K>>(
         a: &mut SmallVec<K, N>,
         b: &'a [K],
@@ -111,21 +110,26 @@ impl<'a, K: MadeWith<Global> + Drop, P: Copier<K>, const N: usize> InPlaceMergeS
     }
 }
 
-// So many items of each list are many.
-const MANY: usize = 32;
+// Whether both lists fit inline, or need one list on the heap at most, which `a` isn't.
+fn are_few<K, const N: usize>(a: &SmallVec<K, N>, b: usize) -> bool
+    ensures inline { length a.now.items + b ≤ N → IsTrue result }
+{
+    fit_together(a.len(), b, N)
+        || (fit_together(a.len(), b, N.saturating_mul(2))
+            && !fit_together(a.len(), b, a.capacity()))
+}
+
 // So many times as long a list is much longer.
 const MUCH: usize = 8;
 
-// Whether both lists are so long, of lengths so alike, that a merge into a list of its own is faster
-// than one in place. It never is if the items fit inline.
-fn are_long(a: usize, b: usize, inline: usize) -> bool
-    ensures { IsTrue result → inline < a + b }
-{
-    a >= MANY && b >= MANY && a / MUCH <= b && !fit_together(a, b, inline)
+// Whether there is a right item, and the left list isn't much longer: else only a few items move in
+// place.
+fn are_alike(a: usize, b: usize) -> bool {
+    b > 0 && a / MUCH <= b
 }
 
-/// Merges long lists of plain data into a new list. It returns `None` if they are better merged in
-/// place, or if there is no memory for that list: then it has compared nothing.
+/// Merges plain data into a new list. It returns `None` if that isn't faster than in place, or if
+/// there is no memory for a list of more than a few items: then it has compared nothing.
 pub(crate) fn merged_apart<
     K: MadeWith<Global> + Drop,
     P: Copier<K>,
@@ -145,13 +149,22 @@ pub(crate) fn merged_apart<
     ensures taken { IfOk result (λ merged. IfSome merged (λ list.
         AreOwnOrCopies P.alike (changes C.order (O.connective op.now) a.now.items b.now) list.items)) }
     ensures none { IfOk result (λ merged. merged ≡ None → C.count cmp.new ≡ C.count cmp.old) }
-    ensures few { length a.now.items + length b.now ≤ N → result ≡ Ok None }
+    ensures succeeds { length a.now.items + length b.now ≤ N → IsOk result }
     ensures comparisons { AddsAtMost (C.count cmp.old) (C.count cmp.new) (2 * weight C.order a.now.items b.now) }
 {
-    if !copier.is_plain() || !are_long(a.len(), b.len(), N) {
+    if !copier.is_plain() {
         return Ok(None);
     }
-    let mut list = Vec::new(*a.allocator());
+    let alloc = *a.allocator();
+    if are_few(a, b.len()) {
+        let list = SmallVec::new(alloc);
+        let merged = SmallVecMergeState::merge(list, a.as_slice(), b, copier, op, cmp)?;
+        return Ok(Some(merged));
+    }
+    if !are_alike(a.len(), b.len()) {
+        return Ok(None);
+    }
+    let mut list = Vec::new(alloc);
     if list.reserve(a.len().saturating_add(b.len())).is_err() {
         return Ok(None);
     }

@@ -12,19 +12,24 @@ use crate::generated::range_merge::slice_iterator::SliceIterator;
 use crate::support::{AllocError, SmallVec, Vec};
 use core::marker::PhantomData;
 
-// So many items of each list are many.
-const MANY: usize = 32;
+// Whether both lists fit inline, or need one list on the heap at most, which `a` isn't.
+fn are_few<K, const N: usize>(a: &SmallVec<K, N>, b: usize) -> bool {
+    fit_together(a.len(), b, N)
+        || (fit_together(a.len(), b, N.saturating_mul(2))
+            && !fit_together(a.len(), b, a.capacity()))
+}
+
 // So many times as long a list is much longer.
 const MUCH: usize = 8;
 
-// Whether both lists are so long, of lengths so alike, that a merge into a list of its own is faster
-// than one in place. It never is if the items fit inline.
-fn are_long(a: usize, b: usize, inline: usize) -> bool {
-    a >= MANY && b >= MANY && a / MUCH <= b && !fit_together(a, b, inline)
+// Whether there is a right item, and the left list isn't much longer: else only a few items move in
+// place.
+fn are_alike(a: usize, b: usize) -> bool {
+    b > 0 && a / MUCH <= b
 }
 
-/// Merges long lists of plain data into a new list. It returns `None` if they are better merged in
-/// place, or if there is no memory for that list: then it has compared nothing.
+/// Merges plain data into a new list. It returns `None` if that isn't faster than in place, or if
+/// there is no memory for a list of more than a few items: then it has compared nothing.
 pub(crate) fn merged_apart<K, P: Copier<K>, O: MergeOperation, C: Compare<K>, const N: usize>(
     a: &SmallVec<K, N>,
     b: &[K],
@@ -32,10 +37,19 @@ pub(crate) fn merged_apart<K, P: Copier<K>, O: MergeOperation, C: Compare<K>, co
     op: &O,
     cmp: &mut C,
 ) -> Result<Option<SmallVec<K, N>>, AllocError> {
-    if !copier.is_plain() || !are_long(a.len(), b.len(), N) {
+    if !copier.is_plain() {
         return Ok(None);
     }
-    let mut list = Vec::new(*a.allocator());
+    let alloc = *a.allocator();
+    if are_few(a, b.len()) {
+        let list = SmallVec::new(alloc);
+        let merged = SmallVecMergeState::merge(list, a.as_slice(), b, copier, op, cmp)?;
+        return Ok(Some(merged));
+    }
+    if !are_alike(a.len(), b.len()) {
+        return Ok(None);
+    }
+    let mut list = Vec::new(alloc);
     if list.reserve(a.len().saturating_add(b.len())).is_err() {
         return Ok(None);
     }
