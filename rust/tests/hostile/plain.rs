@@ -205,16 +205,20 @@ fn short_runs_of_orders_that_lie() {
 }
 
 #[test]
-fn a_set_in_which_a_clone_without_a_drop_panicked_is_empty_and_of_use() {
+fn a_set_in_which_a_clone_without_a_drop_panicked_is_empty_or_as_it_was_and_of_use() {
     without_messages(|| {
-        for turn in 0..3 {
-            let (mut a, b) = (set(&[1, 5, 9]), set(&[2, 6, 7]));
-            PLAN.with(|plan| plan.set(Plan::PanicAtClone(turn)));
-            assert!(catch_unwind(AssertUnwindSafe(|| a ^= &b)).is_err());
-            PLAN.with(|plan| plan.set(Plan::Honest));
-            assert!(a.is_empty());
-            a |= &b;
-            assert!(a == b);
+        // A few elements are merged into a new list; into a much longer one they are moved.
+        let (few, many) = (vec![1, 5, 9], (0..40).map(|it| 10 * it).collect());
+        for (left, after) in [(few.clone(), few), (many, vec![])] {
+            for turn in 0..3 {
+                let (mut a, b) = (set(&left), set(&[2, 6, 7]));
+                PLAN.with(|plan| plan.set(Plan::PanicAtClone(turn)));
+                assert!(catch_unwind(AssertUnwindSafe(|| a ^= &b)).is_err());
+                PLAN.with(|plan| plan.set(Plan::Honest));
+                assert_eq!(numbers(&a), after, "panic {turn}");
+                a |= &b;
+                assert!(b.is_subset(&a));
+            }
         }
     });
 }
