@@ -58,7 +58,7 @@ extern "C" {
 #define RANGE_SET_VERSION_MAJOR 0
 #define RANGE_SET_VERSION_MINOR 2
 #define RANGE_SET_VERSION_PATCH 0
-#define RANGE_SET_VERSION "0.2.0"
+#define RANGE_SET_VERSION "0.3.0"
 
 /* The version of the library that is linked, as RANGE_SET_VERSION is that of the header. */
 const char *range_set_version(void);
