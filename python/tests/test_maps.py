@@ -4,12 +4,19 @@ import copy
 import gc
 import pickle
 import random
+import signal
+import sys
 import unittest
 import weakref
 from datetime import date, datetime, timezone
 from ipaddress import IPv4Address, IPv4Network
 
 from range_sets import RangeMap, RangeSet
+
+try:
+    import _testcapi
+except ImportError:
+    _testcapi = None
 
 MOST, LEAST = 2**63 - 1, -(2**63)
 
@@ -339,6 +346,144 @@ class Interned(unittest.TestCase):
             self.assertIsNone(followed())
             self.assertRaises(OverflowError, made.__setitem__, slice(0, 2**64), kind("e"))
             self.assertEqual(len(made), 0)
+
+
+class Changing:
+    """A value, or a key, whose code changes the map."""
+
+    def __init__(self, change):
+        self.change = change
+
+    def run(self):
+        change, self.change = self.change, None
+        if change:
+            change()
+
+    def __index__(self):
+        self.run()
+        return 3
+
+    def __eq__(self, other):
+        for it in (self, other):
+            it.run()
+        return True
+
+    __hash__ = None
+
+
+class ChangingHash(Changing):
+    def __hash__(self):
+        self.run()
+        return 7
+
+
+class Meanwhile(unittest.TestCase):
+    """Changes that break off, or that run during another."""
+
+    def see_whole(self, made, more=0):
+        """Sees that each range has its value, and that as many more values are kept at most."""
+        items = list(made.items())
+        self.assertEqual([(keys, made[keys[0]]) for keys, _ in items], items)
+        self.assertLessEqual(len(made._values._by_number), len({id(value) for _, value in items}) + more)
+
+    def test_a_change_by_an_equality(self):
+        for kind in (Changing, ChangingHash):
+            for name, change in (
+                ("clear", lambda: made.clear()),
+                ("del", lambda: made.__delitem__(slice(None))),
+                ("set", lambda: made.__setitem__(slice(0, 9), "a")),
+            ):
+                with self.subTest(kind=kind, name=name):
+                    made = RangeMap([((0, 5), kind(None))])
+                    value = kind(None)
+                    made[0].change = change
+                    made[3:7] = value
+                    self.assertIs(made[5], value)
+                    self.see_whole(made)
+                    self.assertEqual(made.get(1), "a" if name == "set" else None)
+
+    def test_a_kind_that_is_decided_meanwhile(self):
+        for keys, value in ((slice(3, 7), ChangingHash), (slice(Changing, 7), str)):
+            made = RangeMap()
+
+            def change():
+                made[1.5:2.5] = "a"
+
+            start = keys.start(change) if keys.start is Changing else keys.start
+            made[start : keys.stop] = value(change)
+            self.assertEqual([keys for keys, _ in made.items()], [(1.5, 2.5), (3.0, 7.0)])
+            self.see_whole(made)
+
+    def test_a_hash_that_raises_afterwards(self):
+        value = ChangingHash(None)
+        made = RangeMap([((0, 10), value), ((20, 30), 7)])
+        value.change = lambda: 1 // 0
+        del made[0:25]
+        self.assertEqual(list(made.items()), [((25, 30), 7)])
+        self.see_whole(made)
+
+    def test_items_of_a_map_that_is_cleared(self):
+        made = RangeMap([((0, 5), "a"), ((7, 9), "b"), ((11, 13), "c")])
+        left = made.items()
+        next(left)
+        made.clear()
+        made[7:9] = "d"
+        made[11:12] = "e"
+        self.assertEqual((list(left), list(made.items())), ([((7, 9), "d"), ((11, 12), "e")],) * 2)
+
+    @unittest.skipUnless(hasattr(signal, "setitimer"), "there are no timers here")
+    def test_interrupts(self):
+        class Interrupt(BaseException):
+            pass
+
+        def interrupt(*_):
+            raise Interrupt
+
+        before = signal.signal(signal.SIGALRM, interrupt)
+        self.addCleanup(signal.signal, signal.SIGALRM, before)
+        some, count = random.Random(3), 0
+        for _ in range(400):
+            made = RangeMap(unsigned=True)
+            try:
+                signal.setitimer(signal.ITIMER_REAL, some.uniform(1e-6, 3e-4))
+                while True:
+                    start, end, value = some.randrange(30), some.randrange(30), some.choice(["a", "b", [1], None])
+                    if value is None:
+                        del made[start:end]
+                    else:
+                        made[start:end] = value
+            except Interrupt:
+                count += 1
+            self.see_whole(made, 4)
+        self.assertEqual(count, 400)
+
+    @unittest.skipUnless(_testcapi, "this Python comes without _testcapi, which refuses memory")
+    @unittest.skipIf(sys.version_info >= (3, 12), "Pythons from 3.12 on don't outlive that a request of theirs is refused")
+    def test_refused_memory(self):
+        hook, sys.unraisablehook = sys.unraisablehook, lambda it: None
+        self.addCleanup(setattr, sys, "unraisablehook", hook)
+        items = [((0, 5), "a"), ((5, 9), "b"), ((9, 12), "c")]
+        for keys, value, after in (
+            (slice(3, 7), "c", [((0, 3), "a"), ((3, 7), "c"), ((7, 9), "b"), ((9, 12), "c")]),
+            (slice(6, 7), "d", [((0, 5), "a"), ((5, 6), "b"), ((6, 7), "d"), ((7, 9), "b"), ((9, 12), "c")]),
+            (slice(2, 10), None, [((0, 2), "a"), ((10, 12), "c")]),
+        ):
+            made = RangeMap(items)
+            for count in range(2000):
+                _testcapi.set_nomemory(count, count + 1)
+                try:
+                    if value is None:
+                        del made[keys]
+                    else:
+                        made[keys] = value
+                    break
+                except MemoryError:
+                    pass
+                finally:
+                    _testcapi.remove_mem_hooks()
+                self.assertEqual(list(made.items()), items)
+            self.assertEqual(list(made.items()), after)
+            self.see_whole(made, 2)
 
 
 class OtherForms(unittest.TestCase):

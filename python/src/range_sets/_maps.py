@@ -5,6 +5,7 @@ from __future__ import annotations
 from array import array
 from collections import Counter
 from ipaddress import IPv4Network
+from itertools import groupby
 from typing import Any, Callable, Generic, Iterable, Iterator, Mapping, Self, TypeVar, Union
 
 from . import _core
@@ -46,12 +47,14 @@ class RangeMap(Generic[V]):
     Where a change raises an error, as an `==` of values may, the map is as it was. Threads that share a map lock for themselves.
     """
 
-    __slots__ = ("_steps", "_kind", "_values")
+    __slots__ = ("_steps", "_kind", "_values", "_changes")
     __module__ = "range_sets"
     __hash__ = None  # type: ignore[assignment]
     _steps: Steps
     _kind: Kind
     _values: Values[V]
+    # How many changes there were.
+    _changes: int
 
     def __init__(self, items: Items[V] = (), *, unsigned: bool | None = None, kind: Told = None) -> None:
         found = told(kind, unsigned)
@@ -59,7 +62,7 @@ class RangeMap(Generic[V]):
         self.update(items)
 
     def _begin(self, kind: Kind) -> None:
-        self._kind, self._steps, self._values = kind, Steps(kind.unsigned), Values()
+        self._kind, self._steps, self._values, self._changes = kind, Steps(kind.unsigned), Values(), 0
 
     # ---- Keys ----
 
@@ -72,22 +75,22 @@ class RangeMap(Generic[V]):
         """
         return None if self._kind is UNTOLD else self._kind.name
 
-    def _number_at(self, key: Any) -> int | None:
-        """The number of the value of a key, or None if it has none."""
+    def _code(self, key: Any) -> int | None:
+        """The number of a key, or None if the map can't have it."""
         kind = self._kind
         if kind is UNTOLD:
             of_some((key,))
             return None
         try:
-            return self._steps.get(kind.number(key))
+            return kind.number(key)
         except OverflowError:
             return None
 
     def __getitem__(self, key: Element) -> V:
-        number = self._number_at(key)
-        if number is None:
+        found: V = self._found(key, _NOTHING)
+        if found is _NOTHING:
             raise KeyError(key)
-        return self._values[number]
+        return found
 
     def get(self, key: Element, default: Any = None) -> Any:
         """The value of a key, or the default if it has none.
@@ -95,11 +98,14 @@ class RangeMap(Generic[V]):
         >>> RangeMap([((0, 10), "low")]).get(10, "high")
         'high'
         """
-        number = self._number_at(key)
-        return default if number is None else self._values[number]
+        return self._found(key, default)
+
+    def _found(self, key: Any, default: Any) -> Any:
+        code = self._code(key)
+        return default if code is None else self._values.get(self._steps.get(code), default)
 
     def __contains__(self, key: Element) -> bool:
-        return self._number_at(key) is not None
+        return self._found(key, _NOTHING) is not _NOTHING
 
     def range_at(self, key: Element) -> Item[V] | None:
         """The longest range around a key whose keys have its value, and that; None if it has none.
@@ -107,23 +113,16 @@ class RangeMap(Generic[V]):
         >>> RangeMap([((0, 10), "low"), ((10, 20), "low")]).range_at(5)
         ((0, 20), 'low')
         """
-        if self._number_at(key) is None:
-            return None
-        return self._item(*self._steps.range_at(self._kind.number(key)))
+        code = self._code(key)
+        return None if code is None else next(self._items([self._steps.range_at(code)]), None)
 
     # ---- Changes ----
 
     def __setitem__(self, keys: slice | range | IPv4Network, value: V) -> None:
-        first, last, kind = self._codes(keys)
-        number = self._values.number_of(value)
-        try:
-            self._change(first, last, kind, number)
-        finally:
-            self._values.release_unused(number)
+        self._change(keys, value)
 
     def __delitem__(self, keys: slice | range | IPv4Network) -> None:
-        first, last, kind = self._codes(keys)
-        self._change(first, last, kind, None)
+        self._change(keys, _NOTHING)
 
     def _codes(self, keys: Any) -> tuple[int, int | None, Kind]:
         """The numbers of the ends of some keys, and their kind."""
@@ -135,19 +134,37 @@ class RangeMap(Generic[V]):
             raise TypeError(f"a slice without a step, a range or a network is wanted, not {keys!r}: m[a:b] has the keys from a to below b")
         return kind.within(first), None if last is None else kind.within(last), kind
 
-    def _change(self, first: int, last: int | None, kind: Kind, number: int | None) -> None:
-        if last is not None and last <= first:
-            return
-        steps = Steps(kind.unsigned) if self._kind is UNTOLD and kind.unsigned else self._steps
-        # What isn't changed begins just below the range, and goes on at its end.
-        low = max(first - 1, least(kind.unsigned))
-        before = [it[2] for it in _stretches(steps, low, last)]
+    def _change(self, keys: Any, value: Any) -> None:
+        """Gives keys a value, or takes theirs away. The uses of values rise before the change and fall after it, so that the map is whole
+        wherever an error or an interrupt comes between."""
+        steps, values = self._steps, self._values
+        while True:
+            known = self._kind
+            first, last, kind = self._codes(keys)
+            if last is not None and last <= first:
+                return
+            number = None if value is _NOTHING else values.number_of(value)
+            seen = self._changes
+            # What isn't changed goes on to just below the range, and from its end on.
+            lowest = least(kind.unsigned)
+            before = [it[2] for it in _stretches(steps, max(first - 1, lowest), last)]
+            after = [it for it, _ in groupby([*before[: first > lowest], number, *(() if last is None else before[-1:])])]
+            values.use(after)
+            # Else the code of a key or a value has decided the kind meanwhile, or the collector ran another change.
+            if self._kind is known and values.has(number) and self._changes == seen:
+                break
+            values.release(after)
+        self._changes += 1
         if number is None:
             steps.remove(first, last)
         else:
             steps.insert(first, last, number)
-        self._steps, self._kind = steps, kind
-        self._values.replace(before, [it[2] for it in _stretches(steps, low, last)])
+        self._kind = kind
+        try:
+            values.release(before)
+        except MemoryError:
+            # The map has changed, and a value may stay too long.
+            pass
 
     def update(self, items: Items[V]) -> None:
         """Puts ranges with their values in, one after the other; or those of another map.
@@ -169,7 +186,8 @@ class RangeMap(Generic[V]):
         >>> m
         RangeMap()
         """
-        self._begin(self._kind)
+        if self._kind is not UNTOLD:
+            self._change(slice(None), _NOTHING)
 
     # ---- Ranges ----
 
@@ -236,12 +254,12 @@ class RangeMap(Generic[V]):
                 boundaries.append(lowest if start is None else start)
         return _core.from_boundaries(boundaries)
 
-    def _items(self, stretches: Iterable[tuple[int | None, int | None, int | None]]) -> Iterator[Item[V]]:
-        return (self._item(*it) for it in stretches if it[2] is not None)
-
-    def _item(self, start: Any, end: int | None, number: Any) -> Item[V]:
-        value = self._kind.value
-        return (value(start), None if end is None else value(end)), self._values[number]
+    def _items(self, stretches: Iterable[tuple[Any, int | None, int | None]]) -> Iterator[Item[V]]:
+        """Those of some stretches that have a value. One that was released meanwhile is none."""
+        for start, end, number in stretches:
+            value = self._values.get(number, _NOTHING)
+            if value is not _NOTHING:
+                yield (self._kind.value(start), None if end is None else self._kind.value(end)), value
 
     def _see_kind(self, kind: Kind) -> None:
         if kind is not self._kind and self._kind is not UNTOLD:
@@ -271,7 +289,7 @@ class RangeMap(Generic[V]):
             if depth:
                 used.append(result._values.number_of(depth))
                 result._steps.insert(start, end, used[-1])
-        result._values.replace([], used)
+        result._values.use(used)
         return result
 
     def combine(self, other: RangeMap[V], how: Callable[[V, V], V], missing: V = _NOTHING) -> RangeMap[V]:
@@ -292,7 +310,6 @@ class RangeMap(Generic[V]):
         made: dict[tuple[int | None, int | None], int] = {}
         result: RangeMap[V] = RangeMap.__new__(RangeMap)
         result._begin(other._kind if self._kind is UNTOLD else self._kind)
-        used = []
         for start, end, mine, theirs in _pieces(self, other, least(result._kind.unsigned)):
             if mine is None and theirs is None:
                 continue
@@ -300,13 +317,12 @@ class RangeMap(Generic[V]):
             if number is None:
                 number = made[mine, theirs] = result._values.number_of(self._combined(other, mine, theirs, how, missing))
             result._steps.insert(start, end, number)
-        used = [it[2] for it in _stretches(result._steps, least(result._kind.unsigned), None)]
-        result._values.replace([], used)
+        result._values.use([it[2] for it in _stretches(result._steps, least(result._kind.unsigned), None)])
         return result
 
     def _combined(self, other: RangeMap[V], mine: int | None, theirs: int | None, how: Callable[[V, V], V], missing: Any) -> V:
-        left: V = missing if mine is None else self._values[mine]
-        right: V = missing if theirs is None else other._values[theirs]
+        left: V = self._values.get(mine, missing)
+        right: V = other._values.get(theirs, missing)
         if left is _NOTHING:
             return right
         return left if right is _NOTHING else how(left, right)
