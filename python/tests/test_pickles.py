@@ -126,6 +126,9 @@ class Pickles(unittest.TestCase):
     def test_those_of_version_0_2_that_are_no_set(self):
         with self.assertRaises(NotSorted):
             _restored(RangeSet, array("q", [10, 0]).tobytes(), False, sys.byteorder)
+        # No number says how much memory is taken.
+        with self.assertRaises(TypeError):
+            _restored(RangeSet, 8, False, sys.byteorder)
 
     def test_attributes_of_subclasses(self):
         for kind in (Named, Tagged):

@@ -131,7 +131,8 @@ def _unpacked(cls: type[Kept], memory: Any, name: str | None = None) -> Kept:
 
 def _restored(cls: type[Kept], memory: Any, unsigned: bool, order: str) -> Kept:
     """The same of a pickle by version 0.2, with the boundaries as they lie in memory."""
-    numbers = array(code_of(unsigned), bytes(memory))
+    numbers = array(code_of(unsigned))
+    numbers.frombytes(memory)
     if order != sys.byteorder:
         numbers.byteswap()
     boundaries = _core.from_boundaries(numbers)
