@@ -486,6 +486,24 @@ class Meanwhile(unittest.TestCase):
             self.see_whole(made, 2)
 
 
+class Named(RangeMap):
+    """A subclass whose attributes stand in a dict, and which is made otherwise."""
+
+    def __init__(self, label, items=()):
+        super().__init__(items)
+        self.label = label
+
+
+class Tagged(RangeMap):
+    """A subclass whose attributes stand in slots."""
+
+    __slots__ = ("label",)
+
+    def __init__(self, label, items=()):
+        super().__init__(items)
+        self.label = label
+
+
 class OtherForms(unittest.TestCase):
     def test_copies(self):
         made = RangeMap([((0, 10), [1])])
@@ -496,6 +514,18 @@ class OtherForms(unittest.TestCase):
         self.assertIs(made.copy()[0], made[0])
         self.assertIsNot(copy.deepcopy(made)[0], made[0])
         self.assertIsNone(RangeMap().copy().kind)
+
+    def test_attributes_of_subclasses(self):
+        for kind in (Named, Tagged):
+            made = kind(["x"], [((0, 10), "a")])
+            made.label.append(made)
+            copies = [made.copy(), copy.copy(made), copy.deepcopy(made)]
+            for again in (*copies, *(pickle.loads(pickle.dumps(made, protocol)) for protocol in range(2, 6))):
+                self.assertEqual((type(again), again, again.label[0]), (kind, made, "x"))
+                again[3:5] = "b"
+                self.assertEqual(len(made), 1)
+            self.assertIs(copies[1].label, made.label)
+            self.assertIs(copies[2].label[1], copies[2])
 
     def test_equality(self):
         made = RangeMap([((0, 10), 1)])

@@ -18,10 +18,37 @@ from ._numbers import code_of
 _MANY, _SHOWN = 1000, 3
 
 
-class Kept:
+class Attributes:
+    """What a subclass has beside a set or a map."""
+
+    __slots__ = ()
+    # The slots of the package's own classes.
+    _own: tuple[str, ...]
+
+    def __getstate__(self) -> Any:
+        """The attributes of a subclass and those of its slots, or None."""
+        if type(self).__module__ == "range_sets":
+            return None
+        attributes, all_slots = object.__getstate__(self)  # type: ignore[attr-defined]
+        slots = {name: value for name, value in all_slots.items() if name not in self._own}
+        return (attributes, slots) if attributes or slots else None
+
+    def __setstate__(self, state: Any) -> None:
+        attributes, slots = state
+        for name, value in {**(attributes or {}), **slots}.items():
+            object.__setattr__(self, name, value)
+
+    def _with(self, state: Any) -> Self:
+        if state is not None:
+            self.__setstate__(state)
+        return self
+
+
+class Kept(Attributes):
     """What a set is now, and its other forms."""
 
     __slots__ = ("_now",)
+    _own = ("_now", "_chunks")
     # Strictly sorted boundaries that nothing changes, and their kind. A set that changes has others after each change, perhaps by
     # another thread meanwhile: so a call takes them once.
     _now: Now
@@ -83,30 +110,12 @@ class Kept:
         names = () if kind is _kind_of(boundaries) else (kind.name,)
         return _unpacked, (type(self), memory, *names), self.__getstate__()
 
-    def __getstate__(self) -> Any:
-        """What a subclass has beside the set: its attributes and those of its slots, or None."""
-        if type(self).__module__ == "range_sets":
-            return None
-        attributes, all_slots = object.__getstate__(self)  # type: ignore[attr-defined]
-        slots = {name: value for name, value in all_slots.items() if name not in ("_now", "_chunks")}
-        return (attributes, slots) if attributes or slots else None
-
-    def __setstate__(self, state: Any) -> None:
-        attributes, slots = state
-        for name, value in {**(attributes or {}), **slots}.items():
-            object.__setattr__(self, name, value)
-
     def __copy__(self) -> Self:
         return self._over(*self._now)._with(self.__getstate__())
 
     def __deepcopy__(self, memo: Any) -> Self:
         made = memo[id(self)] = self._over(*self._now)
         return made._with(copy.deepcopy(self.__getstate__(), memo))
-
-    def _with(self, state: Any) -> Self:
-        if state is not None:
-            self.__setstate__(state)
-        return self
 
 
 def _pairs(boundaries: memoryview, kind: Kind) -> str:

@@ -10,6 +10,7 @@ from typing import Any, Callable, Generic, Iterable, Iterator, Mapping, Self, Ty
 
 from . import _core
 from ._core import Steps
+from ._kept import Attributes
 from ._kinds import UNSIGNED, UNTOLD, Element, Kind, Told, mixed, of_some, told
 from ._numbers import code_of, least
 from ._sets import RangeSet
@@ -17,6 +18,7 @@ from ._sources import Source, codes_of, gather, of_one_kind, range_of
 from ._values import Values
 
 V = TypeVar("V")
+M = TypeVar("M", bound="RangeMap[Any]")
 # A range and its value; the end None says that it has no end.
 Item = tuple[tuple[Any, Any], V]
 # What a map is made of.
@@ -24,7 +26,7 @@ Items = Union["RangeMap[V]", Iterable[tuple[Any, V]]]
 _NOTHING: Any = object()
 
 
-class RangeMap(Generic[V]):
+class RangeMap(Attributes, Generic[V]):
     """A map that gives ranges of whole numbers, times or other elements values. It is changed in place, and has no hash.
 
     A key has the value of the last range that was put around it, or none. Ranges that touch and have one value are one. Two values are
@@ -47,7 +49,7 @@ class RangeMap(Generic[V]):
     Where a change raises an error, as an `==` of values may, the map is as it was. Threads that share a map lock for themselves.
     """
 
-    __slots__ = ("_steps", "_kind", "_values", "_changes")
+    __slots__ = _own = ("_steps", "_kind", "_values", "_changes")
     __module__ = "range_sets"
     __hash__ = None  # type: ignore[assignment]
     _steps: Steps
@@ -345,9 +347,7 @@ class RangeMap(Generic[V]):
         >>> other
         RangeMap([((0, 10), 'low')])
         """
-        made = type(self)(kind=self.kind)
-        made.update(self)
-        return made
+        return _restored(type(self), self, self.kind)._with(self.__getstate__())
 
     __copy__ = copy
 
@@ -360,11 +360,14 @@ class RangeMap(Generic[V]):
         return f"{type(self).__name__}({', '.join(parts)})"
 
     def __reduce__(self) -> tuple[Any, ...]:
-        return _restored, (type(self), [*self.items()], self.kind)
+        return _restored, (type(self), [*self.items()], self.kind), self.__getstate__()
 
 
-def _restored(cls: type[RangeMap[V]], items: list[Item[V]], kind: Told) -> RangeMap[V]:
-    return cls(items, kind=kind)
+def _restored(cls: type[M], items: Any, kind: Told) -> M:
+    made = cls.__new__(cls)
+    made._begin(told(kind) or UNTOLD)
+    made.update(items)
+    return made
 
 
 def _is_one(a: Any, b: Any) -> bool:
