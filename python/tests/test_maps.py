@@ -431,6 +431,34 @@ class Meanwhile(unittest.TestCase):
         made[11:12] = "e"
         self.assertEqual((list(left), list(made.items())), ([((7, 9), "d"), ((11, 12), "e")],) * 2)
 
+    def test_changes_by_the_collector(self):
+        """Owners that give their range back when Python's collector ends them, perhaps within a call."""
+        made, some, given_back = RangeMap(), random.Random(5), []
+
+        class Owner:
+            def __init__(self, start, end):
+                self.itself, self.keys = self, slice(start, end)
+                made[start:end] = some.choice(["a", "b", [1]])
+
+            def __del__(self):
+                del made[self.keys]
+                given_back.append(self.keys)
+
+        before = gc.get_threshold()
+        gc.set_threshold(3, 2, 2)
+        self.addCleanup(gc.set_threshold, *before)
+        self.addCleanup(gc.enable)
+        for _ in range(1000):
+            start = some.randrange(300)
+            Owner(start, start + some.randrange(1, 9))
+            for call in (made.items, made.copy, made.domain, lambda: [made.find("a")], lambda: made.combine(made, lambda a, _: a).items()):
+                list(call())
+            gc.disable()
+            self.see_whole(made, 3)
+            gc.enable()
+        gc.collect()
+        self.assertEqual((len(given_back), len(made)), (1000, 0))
+
     @unittest.skipUnless(hasattr(signal, "setitimer"), "there are no timers here")
     def test_interrupts(self):
         class Interrupt(BaseException):
