@@ -422,6 +422,13 @@ class Meanwhile(unittest.TestCase):
         self.assertEqual(list(made.items()), [((25, 30), 7)])
         self.see_whole(made)
 
+    def test_items_of_a_map_that_grows(self):
+        made = RangeMap([((0, 5), "a"), ((7, 9), "b")])
+        left = made.items()
+        self.assertEqual(next(left), ((0, 5), "a"))
+        made[0:20] = "c"
+        self.assertEqual(list(left), [((5, 20), "c")])
+
     def test_items_of_a_map_that_is_cleared(self):
         made = RangeMap([((0, 5), "a"), ((7, 9), "b"), ((11, 13), "c")])
         left = made.items()

@@ -377,12 +377,14 @@ def _is_one(a: Any, b: Any) -> bool:
 def _stretches(steps: Steps, low: int, high: int | None) -> Iterator[tuple[int | None, int | None, int | None]]:
     """The longest ranges of one value or of none, from the one around `low` to the one around `high` or the last one: start, end and
     the value's number."""
+    start, end, number = steps.range_at(low)
     while True:
-        start, end, number = steps.range_at(low)
         yield start, end, number
         if end is None or (high is not None and end > high):
             return
-        low = end
+        # Also if a change came between, no key stands in two of them.
+        start = end
+        _, end, number = steps.range_at(start)
 
 
 def _pieces(left: RangeMap[V], right: RangeMap[V], at: int) -> Iterator[tuple[int, int | None, int | None, int | None]]:
