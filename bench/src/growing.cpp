@@ -18,11 +18,12 @@ using Clock = std::chrono::steady_clock;
 constexpr std::size_t fewest = 1000;
 constexpr std::size_t asked = 100000;
 
-// Each round has a set of its own. The least of the rounds counts.
+// Each round has a set of its own. The least of the rounds counts. So many ranges have one round alone.
 constexpr std::size_t rounds = 3;
+constexpr std::size_t timed_once = 10000000;
 
-// Who took longer for a size isn't asked for ten times as many, which may take a hundred times as long.
-constexpr double longest_ns = 5e8;
+// Who took longer for each range isn't asked for ten times as many, which may take a hundred times as long.
+constexpr double longest_ns = 5000;
 
 // Of so many ranges gaps are read where each search reads all.
 constexpr std::size_t most_read = 100000000;
@@ -193,7 +194,7 @@ void time_growing(const std::vector<GrowingKind>& kinds, std::size_t most, const
     for (std::size_t ranges = fewest; ranges <= most; ranges *= 10) {
         Work work = work_of(ranges);
         std::vector<Times> all(kinds.size());
-        for (std::size_t round = 0; round < rounds; round++) {
+        for (std::size_t round = 0; round < (ranges < timed_once ? rounds : 1); round++) {
             for (std::size_t i = 0; i < kinds.size(); i++) {
                 if (!too_slow[i]) {
                     Times times = timed(kinds[i], work);
@@ -211,7 +212,7 @@ void time_growing(const std::vector<GrowingKind>& kinds, std::size_t most, const
                         times.iter, times.replace, times.remove, times.bytes);
             file << ranges << ',' << name << ',' << times.insert << ',' << times.contains << ',' << times.iter << ','
                  << times.replace << ',' << times.remove << ',' << times.bytes << '\n';
-            too_slow[i] = times.insert * static_cast<double>(ranges) > longest_ns;
+            too_slow[i] = times.insert > longest_ns;
         }
         std::fflush(stdout);
     }

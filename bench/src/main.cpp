@@ -29,7 +29,7 @@ constexpr std::size_t many_ranges = 100000;
 constexpr std::size_t compared_ranges = 2000;
 
 // So many ranges are the most that sets grow to, one by one.
-constexpr std::size_t most_ranges = 1000000;
+constexpr std::size_t most_ranges = 10000000;
 
 // Loads the case into each peer that can hold it.
 std::vector<Line> loaded_lines(const Peers& peers, const Job& job) {
