@@ -147,7 +147,9 @@ says_that_cpp_is_too_old() {
 # Installs the library into a folder with a blank in its name.
 prefix="$work/a place" makes=(BACKEND=proved LIBRARY="$PWD/$archive")
 installs() {
-    rm -rf "$work/c" "$prefix" && cp -r c "$work/c" && make -s -C "$work/c" install "${makes[@]}" PREFIX="$prefix"
+    rm -rf "$work/c" "$prefix" && cp -r c LICENSE-* "$work" && make -s -C "$work/c" install "${makes[@]}" PREFIX="$prefix" &&
+        cmp LICENSE-MIT "$prefix/share/doc/range_set/LICENSE-MIT" &&
+        cmp LICENSE-APACHE "$prefix/share/doc/range_set/LICENSE-APACHE"
 }
 
 # Builds the library by cargo, which finds the crates that Debian packages.
