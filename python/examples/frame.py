@@ -1,6 +1,6 @@
 """How long machines were busy, of a data frame of jobs, which may overlap; and the jobs that ended while all were busy.
 
-    python3 frame.py FILE.csv     a file with the columns machine, start and end
+    python3 frame.py FILE.csv     a file with the columns machine, and start and end, whole numbers
 """
 
 import sys
@@ -20,4 +20,6 @@ def main(path):
 
 
 if __name__ == "__main__":
+    if len(sys.argv) < 2:
+        sys.exit(__doc__)
     main(sys.argv[1])

@@ -107,6 +107,13 @@ class Examples(unittest.TestCase):
         self.assertEqual(sorted(int(it) for text in networks for it in ipaddress.IPv4Network(text)), sorted(free))
         self.assertEqual(last, f"{len(free):,} addresses are free")
 
+    def test_without_a_file_each_says_what_it_takes(self):
+        for it in ("bed.py", "meeting.py", "networks.py"):
+            with self.subTest(it):
+                ran = subprocess.run([sys.executable, EXAMPLES / it], capture_output=True, text=True)
+                self.assertEqual(ran.returncode, 1)
+                self.assertIn(f"\n    python3 {it} ", ran.stderr)
+
     def test_each_is_short(self):
         for it in ("bed.py", "frame.py", "meeting.py", "networks.py"):
             self.assertLess(len((EXAMPLES / it).read_text(encoding="utf-8").splitlines()), 40)
