@@ -190,13 +190,13 @@ END
     "$work/say_1" >"$work/said_1" && "$work/say_2" >"$work/said_2" && [ "$(wc -l <"$work/said_1")" = 7 ] && cmp "$work/said_1" "$work/said_2"
 }
 
-# Whether cargo and the crate that the library needs are there. What is missing is named, and what it is for is skipped.
+# Whether cargo and the crates that it asks for are there. What is missing is named, and what it is for is skipped.
 has_cargo() {
     local missing
     if ! command -v cargo >/dev/null; then
         missing="cargo is missing; on Debian the package cargo brings it"
-    elif ! ls -d "$packages"/smallvec-[0-9]* >/dev/null 2>&1; then
-        missing="the crate smallvec is missing; on Debian the package librust-smallvec-dev brings it"
+    elif ! ls -d "$packages"/{smallvec,serde_json}-[0-9]* >/dev/null 2>&1; then
+        missing="the crates smallvec, serde_json aren't there; on Debian: librust-smallvec-dev librust-serde-json-dev"
     elif ! command -v make >/dev/null; then
         missing="make is missing; on Debian the package make brings it"
     else

@@ -182,10 +182,10 @@ if [ "${1:-}" = --more ]; then
     step_with "dask.bag, distributed, numpy" "python3-dask python3-distributed python3-numpy" \
         "the example on two processes" "$venv" examples/received.py --ranges 100000
     step "a wheel of the source distribution" builds_from_source
-    if ls -d "$packages"/smallvec-[0-9]* >/dev/null 2>&1; then
+    if ls -d "$packages"/{smallvec,serde_json}-[0-9]* >/dev/null 2>&1; then
         step_by cargo cargo "the tests over a library that cargo builds" installs_by_cargo
     else
-        skip "a library that cargo builds" "the crate smallvec is missing; on Debian: librust-smallvec-dev"
+        skip "a library that cargo builds" "the crates smallvec, serde_json aren't there; on Debian: librust-smallvec-dev librust-serde-json-dev"
     fi
     step_with "intervaltree, sortedcontainers, netaddr" "python3-intervaltree python3-sortedcontainers python3-netaddr" \
         "the benchmark's answers" "$venv" bench.py --pairs 2000
