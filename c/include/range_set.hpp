@@ -1,3 +1,4 @@
+// SPDX-License-Identifier: MIT OR Apache-2.0
 // Sets of whole numbers for C++17 and later, over the calls of range_set.h: of the integer types with 32 or 64 bits.
 //
 //     using range_sets::range_set;
