@@ -4,7 +4,10 @@
 #include <algorithm>
 #include <cstddef>
 #include <cstdio>
+#include <cstdint>
 #include <cstdlib>
+#include <functional>
+#include <initializer_list>
 #include <iterator>
 #include <limits>
 #include <map>
@@ -14,6 +17,7 @@
 #include <string>
 #include <type_traits>
 #include <unordered_set>
+#include <utility>
 #include <vector>
 
 using range_sets::chunked_range_set;
@@ -241,6 +245,64 @@ template <class Call> static bool doesnt_fit(Call call)
     return false;
 }
 
+// Whether each question of a set, and each change, refuses a number, alone and as one of two.
+template <class Set, class Number> static bool refuses(Set &set, Number x)
+{
+    return doesnt_fit([&] { set.contains(x); }) && doesnt_fit([&] { set.contains_range(x, 7); })
+           && doesnt_fit([&] { set.contains_range(7, x); }) && doesnt_fit([&] { set.intersects_range(x, 7); })
+           && doesnt_fit([&] { set.intersects_range(7, x); }) && doesnt_fit([&] { set.range_at(x); })
+           && doesnt_fit([&] { set.range_from(x); }) && doesnt_fit([&] { set.next_member(x); }) && doesnt_fit([&] { set.next_gap(x); })
+           && doesnt_fit([&] { set.prev_member(x); }) && doesnt_fit([&] { set.prev_gap(x); }) && doesnt_fit([&] { set.rank(x); })
+           && doesnt_fit([&] { set.first_fit(x, 7, 1); }) && doesnt_fit([&] { set.first_fit(7, x, 1); })
+           && doesnt_fit([&] { set.first_fit_aligned(x, 7, 1, 1); }) && doesnt_fit([&] { set.first_fit_aligned(7, x, 1, 1); })
+           && doesnt_fit([&] { set.first_run(x, 7, 1); }) && doesnt_fit([&] { set.first_run(7, x, 1); })
+           && doesnt_fit([&] { set.insert(x, 7); }) && doesnt_fit([&] { set.insert(7, x); }) && doesnt_fit([&] { set.remove(x, 7); })
+           && doesnt_fit([&] { set.remove(7, x); }) && doesnt_fit([&] { set.insert_from(x); }) && doesnt_fit([&] { set.remove_from(x); });
+}
+
+// Whether a set says whether such a number is a member.
+template <class Set, class Number, class = void> constexpr bool takes = false;
+template <class Set, class Number>
+constexpr bool takes<Set, Number, std::void_t<decltype(std::declval<Set &>().contains(std::declval<Number>()))>> = true;
+
+// Single numbers of other types, two of which don't fit where they are others.
+template <class T> static void other_single_numbers(std::int64_t below, std::uint64_t above)
+{
+    constexpr bool has_below = sizeof(T) < 8 || std::numeric_limits<T>::min() == 0;
+    range_set<T> set = {{5, 9}};
+    chunked_range_set<T> chunks(set);
+    const auto starting = [](auto x) { return range_set<T>{{x, 7}}; };
+    const auto ending = [](auto x) { return range_set<T>{{1, 2}, {7, x}}; };
+    const auto is_refused = [&](auto x) {
+        return refuses(set, x) && refuses(chunks, x) && doesnt_fit([&] { set.gaps(x, 7); }) && doesnt_fit([&] { set.gaps(7, x); })
+               && doesnt_fit([&] { set.ranges_within(x, 7); }) && doesnt_fit([&] { set.ranges_within(7, x); })
+               && doesnt_fit([&] { set.split(x); }) && doesnt_fit([&] { set.view().contains(x); })
+               && doesnt_fit([&] { chunks.begin_from(x); }) && doesnt_fit([&] { starting(x); }) && doesnt_fit([&] { ending(x); });
+    };
+    check(!has_below || is_refused(below), "a single number below all of the type");
+    check(above == 0 || is_refused(above), "a single number above all of the type");
+    check(set == range_set<T>{{5, 9}} && chunks.set() == set, "what is refused changes");
+    check(doesnt_fit([&] { set.first_fit(0, 7, -1); }) && doesnt_fit([&] { chunks.first_fit(0, 7, -1); }), "a count below zero");
+    check(doesnt_fit([&] { set.select(-1); }) && doesnt_fit([&] { chunks.select(-1); }), "a place below zero");
+    check(doesnt_fit([&] { set.first_fit_aligned(0, 7, 1, -1); }) && doesnt_fit([&] { set.first_run(0, 7, -1); }), "a multiple below zero");
+    check(sizeof(T) == 8 || doesnt_fit([&] { set.first_fit(0, 7, std::int64_t(1) << 32); }), "a count above all");
+    const short five = 5;
+    const T exact = 5;
+    enum number { FIVE = 5 };
+    check(set.contains(std::uint64_t(5)) && set.contains(std::int64_t(5)) && set.contains(five) && set.contains(std::size_t(5))
+              && set.contains('\5') && set.contains(FIVE) && set.contains(std::cref(exact)) && !set.contains(true),
+        "a number of each type");
+    check(set.insert(std::size_t(20), five).insert(std::int64_t(20), 30LL) == range_set<T>{{five, 9ULL}, {std::int64_t(20), 30}},
+        "ranges of other types");
+    const std::initializer_list<std::pair<T, T>> pairs = {{5, 9}, {20, 30}};
+    check(set == range_set<T>(pairs) && set == range_set<T>{std::pair(five, std::size_t(9)), {20, 30}}, "a list of pairs");
+    static_assert(takes<range_set<T>, int> && takes<range_set<T>, long long> && takes<range_set<T>, std::size_t>, "integers");
+    static_assert(!takes<range_set<T>, double> && !takes<chunked_range_set<T>, float> && !takes<range_set<T>, const char *>, "no others");
+    static_assert(noexcept(set.contains(T())), "what is of the type");
+    static_assert(noexcept(chunks.contains(std::uint8_t())), "what always fits");
+    static_assert(noexcept(set.contains(std::int64_t())) == (sizeof(T) == 8 && std::is_signed_v<T>), "what may not fit");
+}
+
 // Numbers of other types, which are refused where they don't fit.
 template <class T> static void other_numbers()
 {
@@ -258,6 +320,7 @@ template <class T> static void other_numbers()
     check(doesnt_fit([&] { range_set<T>(std::vector<unsigned_pair>{{0, above}}); }) == (above != 0), "an end that doesn't fit");
     check(range_set<T>(std::vector<unsigned_pair>{{0, greatest}}) == range_set<T>{{0, limits::max()}}, "an end that just fits");
     check(doesnt_fit([&] { range_set<T>::from_values(std::vector<std::uint64_t>{above}); }) == (above != 0), "a value that doesn't fit");
+    other_single_numbers<T>(below, above);
 }
 
 // A set keeps room for at most twice its boundaries, or for eight.
