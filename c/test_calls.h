@@ -167,11 +167,13 @@ static void TEST(combined_with_room)(const struct TEST(operation) *o, const NUMB
 
 static void TEST(combined)(const struct TEST(operation) *o, const NUMBER *wanted, size_t wanted_len)
 {
-    size_t needed = o->a.len + wanted_len;
+    size_t needed = o->a.len + wanted_len, always = 2 * o->a.len + (o->b.boundaries ? o->b.len : 0);
     TEST(combined_with_room)(o, wanted, wanted_len, needed);
     if (needed > 0) TEST(combined_with_room)(o, wanted, wanted_len, needed - 1);
     TEST(combined_with_room)(o, wanted, wanted_len, o->a.len);
     TEST(combined_with_room)(o, wanted, wanted_len, needed + 3);
+    TEST(combined_with_room)(o, wanted, wanted_len, always);
+    if (always > 0) TEST(combined_with_room)(o, wanted, wanted_len, always - 1);
 }
 
 static void TEST(with_rooms)(const struct TEST(operation) *o, const NUMBER *wanted, size_t wanted_len)

@@ -16,7 +16,7 @@ pub(crate) fn combine_within<T: Ord + Copy>(
     connective: u32,
 ) -> usize {
     let (set, _room) = buffer.split_at(len);
-    let needed = len + combine(set, other, connective, &mut []);
+    let needed = room_for_both(set, other, connective, buffer.len());
     if needed > buffer.len() {
         return needed;
     }
@@ -24,4 +24,16 @@ pub(crate) fn combine_within<T: Ord + Copy>(
     buffer.copy_within(0..len, start);
     let (out, set) = buffer.split_at_mut(start);
     combine(set, other, connective, out)
+}
+
+// The room for a set and for what the connective makes of it and another. If there is enough for
+// the longest result that there could be, it is that, and nothing is counted.
+#[inline(always)]
+fn room_for_both<T: Ord + Copy>(a: &[T], b: &[T], connective: u32, room: usize) -> usize {
+    let most = a.len() + a.len() + b.len();
+    if most <= room {
+        most
+    } else {
+        a.len() + combine(a, b, connective, &mut [])
+    }
 }

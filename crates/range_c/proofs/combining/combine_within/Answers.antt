@@ -11,7 +11,7 @@ returns-then-needed-buffer g c =
     let a = take c.args.len xs in
     let f = connective_of c.args.connective in
     let off : f false false ≡ false = search rules in
-    let r : c.combine.result ≡ length (changes g.T.Ord.cmp f a c.args.other.now) = rw c.split_at.ensures.front at c.combine.ensures.counted in
+    let r : c.room_for_both-needed.result ≡ length a + length (changes g.T.Ord.cmp f a c.args.other.now) = rw c.split_at.ensures.front at c.room_for_both-needed.ensures.counted c.if-needed-buffer.true in
     let n : length a ≡ c.args.len = length-take-le c.args.len xs c.requires.within in
     record {
       means = λ fits. absurd (omega (arith, fits, c.if-needed-buffer.true));
@@ -20,8 +20,8 @@ returns-then-needed-buffer g c =
       needed = λ items m short. omega (arith, n, r, length-meant g.met.T.Ord.total f a c.args.other.now items off c.requires.sorted m);
     }
 
-pub combine-requires-2-clause-sorted : goal.combine-requires-2-clause-sorted
-combine-requires-2-clause-sorted g c =
+pub combine-requires-clause-sorted : goal.combine-requires-clause-sorted
+combine-requires-clause-sorted g c =
     let set : c.split_at_mut-out.result.1.now ≡ take c.args.len c.args.buffer.now =
     c.split_at_mut-out.ensures.back
     ∙ moved-to_end c.args.buffer.now c.copy_within.new.self c.args.len _ (omega (arith, c.requires.within)) c.copy_within.ensures.after in
@@ -37,14 +37,14 @@ returns g c =
     let set : c.split_at_mut-out.result.1.now ≡ a =
     c.split_at_mut-out.ensures.back
     ∙ moved-to_end xs c.copy_within.new.self c.args.len _ (omega (arith, c.requires.within)) c.copy_within.ensures.after in
-    let first : c.combine.result ≡ length (changes g.T.Ord.cmp f a b) = rw c.split_at.ensures.front at c.combine.ensures.counted in
-    let told : AnswersList g.T.Ord.cmp f a b c.split_at_mut-out.result.0.now c.combine-2.new.out c.combine-2.result = rw set at c.combine-2.ensures in
+    let first : length a + length (changes g.T.Ord.cmp f a b) ≤ c.room_for_both-needed.result = rw c.split_at.ensures.front at c.room_for_both-needed.ensures.enough in
+    let told : AnswersList g.T.Ord.cmp f a b c.split_at_mut-out.result.0.now c.combine.new.out c.combine.result = rw set at c.combine.ensures in
     let n : length a ≡ c.args.len = length-take-le c.args.len xs c.requires.within in
-    let room : c.combine-2.result + c.args.len ≤ length xs = omega (arith, first, told.counted, c.if-needed-buffer.false) in
-    let fits : c.combine-2.result ≤ length c.split_at_mut-out.result.0.now = search (rules, room) in
-    let same : length c.combine-2.new.out ≡ length c.split_at_mut-out.result.0.now = search rules in
+    let room : c.combine.result + c.args.len ≤ length xs = omega (arith, n, first, told.counted, c.if-needed-buffer.false) in
+    let fits : c.combine.result ≤ length c.split_at_mut-out.result.0.now = search (rules, room) in
+    let same : length c.combine.new.out ≡ length c.split_at_mut-out.result.0.now = search rules in
     record {
-      means = λ _. rw (take-append-le c.combine-2.result c.combine-2.new.out c.split_at_mut-out.result.1.now (omega (arith, fits, same))) (told.means fits);
+      means = λ _. rw (take-append-le c.combine.result c.combine.new.out c.split_at_mut-out.result.1.now (omega (arith, fits, same))) (told.means fits);
       unchanged = λ short. absurd (omega (arith, short, room));
       counted = λ items m _. told.counted ∙ sym (length-meant g.met.T.Ord.total f a b items off c.requires.sorted m);
       needed = λ items m short. absurd (omega (arith, short, n, room, told.counted, length-meant g.met.T.Ord.total f a b items off c.requires.sorted m));
