@@ -799,11 +799,11 @@ bool NAME(chunked_first_fit)(CHUNKED *set, NUMBER start, NUMBER end, COUNT count
     return NAME(put)(fits, at, first);
 }
 
-bool NAME(chunked_first_fit_aligned)(CHUNKED set, NUMBER start, NUMBER end, COUNT count, COUNT align, NUMBER *first)
+bool NAME(chunked_first_fit_aligned)(CHUNKED *set, NUMBER start, NUMBER end, COUNT count, COUNT align, NUMBER *first)
 {
     NUMBER at = 0;
-    if (set.at == NULL) return NAME(first_fit_aligned)(NAME(no_member), start, end, count, align, first);
-    bool fits = PROVED(chunked_first_fit_aligned)(&set, start, end, count, align, &at);
+    if (set == NULL || set->at == NULL) return NAME(first_fit_aligned)(NAME(no_member), start, end, count, align, first);
+    bool fits = PROVED(chunked_first_fit_aligned)(set, start, end, count, align, &at);
     return NAME(put)(fits, at, first);
 }
 

@@ -822,8 +822,8 @@ static void TEST(answers_as)(CHUNKED set, SET list, const NUMBER *points, size_t
         TEST(ranges_from)(set, list, start, end);
         TEST(ranges_from)(set, list, start, MOST);
         found = CALL(first_fit_aligned)(list, start, end, many, align, &number);
-        check(CALL(chunked_first_fit_aligned)(set, start, end, many, align, &at) == found && at == number, "chunked_first_fit_aligned");
-        check(CALL(chunked_first_fit_aligned)(set, start, end, many, align, NULL) == found, "chunked_first_fit_aligned without a place");
+        check(CALL(chunked_first_fit_aligned)(&set, start, end, many, align, &at) == found && at == number, "chunked_first_fit_aligned");
+        check(CALL(chunked_first_fit_aligned)(&set, start, end, many, align, NULL) == found, "chunked_first_fit_aligned without a place");
         at = number = 77, found = CALL(first_run)(list, start, end, many, &number);
         check(CALL(chunked_first_run)(set, start, end, many, &at) == found && at == number, "chunked_first_run");
         check(CALL(chunked_first_run)(set, start, end, many, NULL) == found, "chunked_first_run without a place");
@@ -1100,6 +1100,22 @@ static void TEST(fits_behind)(CHUNKED *set, const NUMBER *boundaries, size_t len
     check(CALL(chunked_first_fit)(set, 0, last + 9, 3, &first) && first == last, "chunked_first_fit: behind again");
 }
 
+/* Where numbers fit from a multiple on, by what the set has learned of gaps for other multiples and counts, as in the list of its
+ * boundaries. */
+static void TEST(fits_aligned)(CHUNKED *set, SET list, NUMBER end)
+{
+    for (int again = 0; again < 200; again++) {
+        NUMBER start = (NUMBER)(3 * random_below(1000)), at = 77, number = 77;
+        COUNT count = (COUNT)random_below(4), align = (COUNT)random_below(9);
+        bool found = CALL(first_fit_aligned)(list, start, end, count, align, &number);
+        check(CALL(chunked_first_fit_aligned)(set, start, end, count, align, &at) == found && at == number,
+            "chunked_first_fit_aligned: again");
+        at = number = 77, found = CALL(first_fit)(list, start, end, count, &number);
+        check(CALL(chunked_first_fit)(set, start, end, count, &at) == found && at == number,
+            "chunked_first_fit: after one from a multiple on");
+    }
+}
+
 /* Where many numbers fit in a set in chunks, and numbers on both sides of zero. */
 static void TEST(chunked_fits_far)(void)
 {
@@ -1134,9 +1150,11 @@ static void TEST(chunked_many)(void)
     }
     TEST(has_boundaries)(set, wanted, 2 * MANY);
     TEST(fits_behind)(&set, wanted, 2 * MANY);
+    TEST(fits_aligned)(&set, TEST(set)(wanted, 2 * MANY), 3 * MANY + 9);
     for (p = 0; p < MANY / 2; p++)
         check(CALL(chunked_remove)(&set, wanted[2 * p], wanted[2 * p + 1]) == RANGE_SET_DONE, "chunked: many: remove");
     TEST(has_boundaries)(set, wanted + MANY, MANY);
+    TEST(fits_aligned)(&set, TEST(set)(wanted + MANY, MANY), 3 * MANY + 9);
     CALL(chunked_free)(&set);
     check(CALL(chunked_of)(TEST(set)(wanted, 2 * MANY), &set) == RANGE_SET_DONE, "chunked: many: of a list");
     TEST(has_boundaries)(set, wanted, 2 * MANY);
@@ -1164,6 +1182,9 @@ static void TEST(chunked_none)(void)
     check(CALL(chunked_first_fit)(&none, 5, 8, 3, &next) && next == 5, "no set: first_fit");
     check(!CALL(chunked_first_fit)(&none, 4, 8, 5, &next) && next == 5, "no set: first_fit of one too many");
     check(CALL(chunked_first_fit)(NULL, 5, 8, 3, NULL) && !CALL(chunked_first_fit)(NULL, 5, 8, 4, NULL), "null: first_fit");
+    check(CALL(chunked_first_fit_aligned)(&none, 5, 9, 1, 4, &next) && next == 8, "no set: first_fit_aligned");
+    check(CALL(chunked_first_fit_aligned)(NULL, 5, 9, 1, 4, NULL) && !CALL(chunked_first_fit_aligned)(NULL, 5, 8, 1, 4, NULL),
+        "null: first_fit_aligned");
     check(CALL(chunked_insert)(&none, 5, 6) == RANGE_SET_BAD_ARGUMENT && CALL(chunked_insert)(NULL, 5, 6) == RANGE_SET_BAD_ARGUMENT,
         "no set: insert");
     check(CALL(chunked_remove)(&none, 5, 6) == RANGE_SET_BAD_ARGUMENT && CALL(chunked_remove)(NULL, 5, 6) == RANGE_SET_BAD_ARGUMENT,

@@ -214,7 +214,7 @@ static void TEST(in_chunks)(struct log *log, SET a, NUMBER x, struct input *inpu
         tell(log, CALL(chunked_next_member)(set, start, &at)), tell(log, (uint64_t)at);
         tell(log, CALL(chunked_next_gap)(set, start, &at)), tell(log, (uint64_t)at);
         tell(log, CALL(chunked_first_fit)(&set, start, end, (COUNT)x, &at)), tell(log, (uint64_t)at);
-        tell(log, CALL(chunked_first_fit_aligned)(set, start, end, (COUNT)x, call, &at)), tell(log, (uint64_t)at);
+        tell(log, CALL(chunked_first_fit_aligned)(&set, start, end, (COUNT)x, call, &at)), tell(log, (uint64_t)at);
         tell(log, CALL(chunked_first_run)(set, start, end, (COUNT)x, &at)), tell(log, (uint64_t)at);
         tell(log, CALL(chunked_prev_member)(set, start, &at)), tell(log, (uint64_t)at);
         tell(log, CALL(chunked_prev_gap)(set, start, &at)), tell(log, (uint64_t)at);

@@ -535,14 +535,15 @@ bool range_set_i32_chunked_next_gap(range_set_i32_chunked set, int32_t from, int
  */
 bool range_set_i32_chunked_next(range_set_i32_chunked set, int32_t from, range_set_i32_range *range);
 
-/* As `first_fit`, and passes over some 512 gaps at a time where they are known to be too short: the set remembers what a search
- * learns of them, until something is taken out there. Without memory it remembers less. */
+/* As the calls of these names for lists, and they pass over some 512 gaps at a time where they are known to be too short: the set
+ * remembers what a search learns of them, until something is taken out there. Of gaps that are long enough it remembers only for
+ * the last `align` that no multiple fits. Without memory it remembers less. */
 bool range_set_i32_chunked_first_fit(range_set_i32_chunked *set, int32_t start, int32_t end, uint32_t count,
                                           int32_t *first);
-
-/* As the calls of these names for lists. They remember nothing, and look at each gap or range from `start` on, up to the answer. */
-bool range_set_i32_chunked_first_fit_aligned(range_set_i32_chunked set, int32_t start, int32_t end, uint32_t count,
+bool range_set_i32_chunked_first_fit_aligned(range_set_i32_chunked *set, int32_t start, int32_t end, uint32_t count,
                                                   uint32_t align, int32_t *first);
+
+/* As `first_run`. It remembers nothing, and looks at each range from `start` on, up to the answer. */
 bool range_set_i32_chunked_first_run(range_set_i32_chunked set, int32_t start, int32_t end, uint32_t count,
                                           int32_t *first);
 
@@ -1002,14 +1003,15 @@ bool range_set_u32_chunked_next_gap(range_set_u32_chunked set, uint32_t from, ui
  */
 bool range_set_u32_chunked_next(range_set_u32_chunked set, uint32_t from, range_set_u32_range *range);
 
-/* As `first_fit`, and passes over some 512 gaps at a time where they are known to be too short: the set remembers what a search
- * learns of them, until something is taken out there. Without memory it remembers less. */
+/* As the calls of these names for lists, and they pass over some 512 gaps at a time where they are known to be too short: the set
+ * remembers what a search learns of them, until something is taken out there. Of gaps that are long enough it remembers only for
+ * the last `align` that no multiple fits. Without memory it remembers less. */
 bool range_set_u32_chunked_first_fit(range_set_u32_chunked *set, uint32_t start, uint32_t end, uint32_t count,
                                           uint32_t *first);
-
-/* As the calls of these names for lists. They remember nothing, and look at each gap or range from `start` on, up to the answer. */
-bool range_set_u32_chunked_first_fit_aligned(range_set_u32_chunked set, uint32_t start, uint32_t end, uint32_t count,
+bool range_set_u32_chunked_first_fit_aligned(range_set_u32_chunked *set, uint32_t start, uint32_t end, uint32_t count,
                                                   uint32_t align, uint32_t *first);
+
+/* As `first_run`. It remembers nothing, and looks at each range from `start` on, up to the answer. */
 bool range_set_u32_chunked_first_run(range_set_u32_chunked set, uint32_t start, uint32_t end, uint32_t count,
                                           uint32_t *first);
 
@@ -1469,14 +1471,15 @@ bool range_set_i64_chunked_next_gap(range_set_i64_chunked set, int64_t from, int
  */
 bool range_set_i64_chunked_next(range_set_i64_chunked set, int64_t from, range_set_i64_range *range);
 
-/* As `first_fit`, and passes over some 512 gaps at a time where they are known to be too short: the set remembers what a search
- * learns of them, until something is taken out there. Without memory it remembers less. */
+/* As the calls of these names for lists, and they pass over some 512 gaps at a time where they are known to be too short: the set
+ * remembers what a search learns of them, until something is taken out there. Of gaps that are long enough it remembers only for
+ * the last `align` that no multiple fits. Without memory it remembers less. */
 bool range_set_i64_chunked_first_fit(range_set_i64_chunked *set, int64_t start, int64_t end, uint64_t count,
                                           int64_t *first);
-
-/* As the calls of these names for lists. They remember nothing, and look at each gap or range from `start` on, up to the answer. */
-bool range_set_i64_chunked_first_fit_aligned(range_set_i64_chunked set, int64_t start, int64_t end, uint64_t count,
+bool range_set_i64_chunked_first_fit_aligned(range_set_i64_chunked *set, int64_t start, int64_t end, uint64_t count,
                                                   uint64_t align, int64_t *first);
+
+/* As `first_run`. It remembers nothing, and looks at each range from `start` on, up to the answer. */
 bool range_set_i64_chunked_first_run(range_set_i64_chunked set, int64_t start, int64_t end, uint64_t count,
                                           int64_t *first);
 
@@ -1980,14 +1983,15 @@ bool range_set_u64_chunked_next_gap(range_set_u64_chunked set, uint64_t from, ui
  */
 bool range_set_u64_chunked_next(range_set_u64_chunked set, uint64_t from, range_set_u64_range *range);
 
-/* As `first_fit`, and passes over some 512 gaps at a time where they are known to be too short: the set remembers what a search
- * learns of them, until something is taken out there. Without memory it remembers less. */
+/* As the calls of these names for lists, and they pass over some 512 gaps at a time where they are known to be too short: the set
+ * remembers what a search learns of them, until something is taken out there. Of gaps that are long enough it remembers only for
+ * the last `align` that no multiple fits. Without memory it remembers less. */
 bool range_set_u64_chunked_first_fit(range_set_u64_chunked *set, uint64_t start, uint64_t end, uint64_t count,
                                           uint64_t *first);
-
-/* As the calls of these names for lists. They remember nothing, and look at each gap or range from `start` on, up to the answer. */
-bool range_set_u64_chunked_first_fit_aligned(range_set_u64_chunked set, uint64_t start, uint64_t end, uint64_t count,
+bool range_set_u64_chunked_first_fit_aligned(range_set_u64_chunked *set, uint64_t start, uint64_t end, uint64_t count,
                                                   uint64_t align, uint64_t *first);
+
+/* As `first_run`. It remembers nothing, and looks at each range from `start` on, up to the answer. */
 bool range_set_u64_chunked_first_run(range_set_u64_chunked set, uint64_t start, uint64_t end, uint64_t count,
                                           uint64_t *first);
 

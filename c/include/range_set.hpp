@@ -999,19 +999,21 @@ public:
         if (!calls::chunked_covered(set_, &count)) return std::nullopt;
         return count;
     }
-    // The least number from which on `count` numbers lie in `start` to below `end` and none is a member, or nothing. The set
-    // remembers what it learns of its gaps.
+    // The least number from which on `count` numbers lie in `start` to below `end` and none is a member, or nothing; and the same
+    // where as many numbers of the type are below it as a multiple of `align`. The set remembers what it learns of its gaps.
     std::optional<T> first_fit(integer start, integer end, amount count) noexcept
     {
         number first = 0;
         if (!calls::chunked_first_fit(&set_, start, end, count, &first)) return std::nullopt;
         return static_cast<T>(first);
     }
-    // The same where as many numbers of the type are below it as a multiple of `align`, and of members in a row. They remember nothing.
-    std::optional<T> first_fit_aligned(integer start, integer end, amount count, amount align) const noexcept
+    std::optional<T> first_fit_aligned(integer start, integer end, amount count, amount align) noexcept
     {
-        return found(calls::chunked_first_fit_aligned, start, end, count, align);
+        number first = 0;
+        if (!calls::chunked_first_fit_aligned(&set_, start, end, count, align, &first)) return std::nullopt;
+        return static_cast<T>(first);
     }
+    // The same of members in a row. It remembers nothing.
     std::optional<T> first_run(integer start, integer end, amount count) const noexcept
     {
         return found(calls::chunked_first_run, start, end, count);

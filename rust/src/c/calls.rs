@@ -855,7 +855,7 @@ macro_rules! calls {
 
             #[export_name = concat!("range_set_", $name, "_chunked_first_fit_aligned")]
             unsafe extern "C" fn chunked_first_fit_aligned(
-                set: Chunks,
+                set: Option<&mut Chunks>,
                 start: $number,
                 end: $number,
                 count: $count,
@@ -864,7 +864,7 @@ macro_rules! calls {
             ) -> bool {
                 let (wanted, multiple) = (count.into(), align.into());
                 unsafe {
-                    number_told(first, |at| match set.get().map(ChunkedSpace::as_set) {
+                    number_told(first, |at| match set.and_then(|set| set.get_mut()) {
                         Some(set) => {
                             fitting::first_fit_aligned(set, start..end, wanted, multiple, at)
                         }

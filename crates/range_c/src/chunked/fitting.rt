@@ -4,28 +4,30 @@ ghost use Rattle.std.specs.Prelude.{◌≡◌, ◌<◌, ◌≤◌, ◌%◌, ℕ,
 ghost use Rattle.range_collections.specs.Fits.{IsRow};
 
 use crate::parts::put;
-use range_chunks::ChunkedRangeSet;
+use range_chunks::{ChunkedRangeSet, ChunkedSpace};
 use range_collections::{Countable, FromPlace};
 use std::ops::Range;
 
 // Tells the least number whose place is a multiple of `align` and from which on `count` numbers lie
-// in the range and none is a member, where there is one.
+// in the range and none is a member, where there is one. The set remembers what it learns of its
+// gaps.
 pub(crate) fn first_fit_aligned<T: FromPlace>(
-    set: &ChunkedRangeSet<T>,
+    set: &mut ChunkedSpace<T>,
     within: Range<T>,
     count: u128,
     align: u128,
     at: &mut T,
 ) -> bool
-    ensures fits { IsTrue result → IsRow T.cmp T.value false set.now
+    ensures fits { IsTrue result → IsRow T.cmp T.value false set.old
         (T.place within.start) (T.place within.end) count (T.place at.new) }
     ensures aligned { IsTrue result → T.place at.new % align ≡ 0 }
-    ensures least { IsTrue result → (n : ℕ) → n % align ≡ 0 → IsRow T.cmp T.value false set.now
+    ensures least { IsTrue result → (n : ℕ) → n % align ≡ 0 → IsRow T.cmp T.value false set.old
         (T.place within.start) (T.place within.end) count n → T.place at.new ≤ n }
     ensures none { result ≡ false → 0 < align → (n : ℕ) → n % align ≡ 0 →
-        ¬ (IsRow T.cmp T.value false set.now
+        ¬ (IsRow T.cmp T.value false set.old
         (T.place within.start) (T.place within.end) count n) }
     ensures no_answer { result ≡ false → at.new ≡ at.old }
+    ensures unchanged { set.new ≡ set.old }
 {
     put(set.first_fit_aligned(within, count, align), at)
 }

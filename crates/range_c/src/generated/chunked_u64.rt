@@ -605,7 +605,7 @@ pub extern "C" fn proved_range_set_u64_chunked_first_fit(
     answer
 }
 
-/// Whether there is a number from which on `count` numbers lie between `start` and `end`, none of them a member, and whose place is a multiple of `align`, and then writes the least one.
+/// Whether there is a number from which on `count` numbers lie between `start` and `end`, none of them a member, and whose place is a multiple of `align`, and then writes the least one. What it learns of gaps stays for the next search.
 #[unsafe(no_mangle)]
 pub extern "C" fn proved_range_set_u64_chunked_first_fit_aligned(
     set: &mut ChunkedU64,
@@ -624,9 +624,9 @@ pub extern "C" fn proved_range_set_u64_chunked_first_fit_aligned(
     ensures no_answer { result ≡ false → at.new ≡ at.old }
     ensures unchanged { set.new.set ≡ set.old.set }
 {
-    let taken = set.take(alloc);
+    let mut taken = set.take(alloc);
     let answer = first_fit_aligned(
-        taken.set.as_set(),
+        &mut taken.set,
         start..end,
         u128::from(count),
         u128::from(align),

@@ -3,14 +3,15 @@
 //! where members are in a row.
 
 use crate::generated::range_c::parts::put;
-use crate::generated::range_chunks::ChunkedRangeSet;
+use crate::generated::range_chunks::{ChunkedRangeSet, ChunkedSpace};
 use crate::generated::range_collections::{Countable, FromPlace};
 use core::ops::Range;
 
 // Tells the least number whose place is a multiple of `align` and from which on `count` numbers lie
-// in the range and none is a member, where there is one.
+// in the range and none is a member, where there is one. The set remembers what it learns of its
+// gaps.
 pub(crate) fn first_fit_aligned<T: FromPlace>(
-    set: &ChunkedRangeSet<T>,
+    set: &mut ChunkedSpace<T>,
     within: Range<T>,
     count: u128,
     align: u128,
