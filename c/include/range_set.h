@@ -57,7 +57,7 @@ extern "C" {
 #endif
 
 #define RANGE_SET_VERSION_MAJOR 0
-#define RANGE_SET_VERSION_MINOR 2
+#define RANGE_SET_VERSION_MINOR 3
 #define RANGE_SET_VERSION_PATCH 0
 #define RANGE_SET_VERSION "0.3.0"
 
