@@ -101,6 +101,7 @@ pub(crate) fn gives_length<O: MergeOperation>(
 
 // What a slice holds before a list is written to it, and how long it is.
 const BEFORE: i64 = -99;
+
 const ROOM: usize = 256;
 
 // Whether the list was written to the front of the slice, and nothing after it.
