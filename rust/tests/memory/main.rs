@@ -502,18 +502,26 @@ fn a_copy_that_fits_into_the_set_takes_no_memory() {
 }
 
 /// The set has room for both, and numbers are cloned as they are taken.
+fn no_copy_before_a_change<T: RangeSetEntry + Debug + Clone + From<u8>>() {
+    let range = |start: u8, end: u8| T::from(start)..T::from(end);
+    let numbers = |all: &[u8]| -> Vec<T> { all.iter().map(|&it| T::from(it)).collect() };
+    let mut set: range_sets::RangeSet<[T; 4]> = range(5, 9).into();
+    let other: range_sets::RangeSet2<T> = range(7, 12).into();
+    let ((), refused) = refusing(Refusal::From(0), || set.union_with(&other));
+    assert_eq!((set.boundaries(), refused), (&numbers(&[5, 12])[..], 0));
+    let mut set: range_sets::RangeSet2<T> = range(5, 9).into();
+    let ((), _) = refusing(Refusal::From(1), || set.union_with(&other));
+    assert_eq!(set.boundaries(), numbers(&[5, 12]));
+    let other: range_sets::RangeSet2<T> = [range(1, 2), range(7, 12)].into_iter().collect();
+    let ((), _) = refusing(Refusal::From(1), || set.union_with(&other));
+    assert_eq!(set.boundaries(), numbers(&[1, 2, 5, 12]));
+}
+
+/// Short ones go into a new list, and long ones where the set lies.
 #[test]
 fn a_number_needs_no_copy_before_a_change() {
-    let mut set: range_sets::RangeSet<[u64; 4]> = (5..9).into();
-    let other: range_sets::RangeSet2<u64> = (7..12).into();
-    let ((), refused) = refusing(Refusal::From(0), || set.union_with(&other));
-    assert_eq!((set.boundaries(), refused), (&[5, 12][..], 0));
-    let mut set: range_sets::RangeSet2<u64> = (5..9).into();
-    let ((), _) = refusing(Refusal::From(1), || set.union_with(&other));
-    assert_eq!(set.boundaries(), [5, 12]);
-    let other: range_sets::RangeSet2<u64> = [1..2, 7..12].into_iter().collect();
-    let ((), _) = refusing(Refusal::From(1), || set.union_with(&other));
-    assert_eq!(set.boundaries(), [1, 2, 5, 12]);
+    no_copy_before_a_change::<u64>();
+    no_copy_before_a_change::<u128>();
 }
 
 /// A list that grows by one boundary at a time doubles its room.
