@@ -1,3 +1,4 @@
+// SPDX-License-Identifier: MIT OR Apache-2.0
 // Sets of whole numbers for C++17 and later, over the calls of range_set.h: of the integer types with 32 or 64 bits.
 //
 //     using range_sets::range_set;
@@ -10,8 +11,8 @@
 // range_set owns its boundaries. range_set_view borrows them: it is cheap to copy, and takes any range_set of its type that has a
 // name. What it borrows from has to outlive it. A view of a temporary set doesn't compile, nor do its iterators, but each call
 // takes such a set, and so does a for over its ranges. Where memory is refused std::bad_alloc is thrown, and a set that was to change
-// is as it was. Nothing else is thrown, but by the stream of a <<, and std::out_of_range where a number in a list of wider ones doesn't
-// fit. std::format doesn't take sets: gcc 12 and clang 14 don't have it.
+// is as it was. Nothing else is thrown, but by the stream of a <<, and std::out_of_range where a number of another integer type
+// doesn't fit the set's, before the call that it was for. std::format doesn't take sets: gcc 12 and clang 14 don't have it.
 //
 // Several threads may ask one set at a time, and none may change it then; a chunked_range_set only one thread at a time may use.
 #ifndef RANGE_SET_HPP
@@ -187,6 +188,37 @@ template <class T, class Number> constexpr T fitting(const Number &number)
     }
 }
 
+// Whether each number of an integer type fits another.
+template <class T, class Number>
+constexpr bool always_fits = std::is_integral_v<Number> && std::numeric_limits<Number>::digits <= std::numeric_limits<T>::digits
+                             && (std::is_signed_v<T> || !std::is_signed_v<Number>);
+
+// A number that a call takes. One of another type of integers is refused where it doesn't fit.
+template <class T> struct integer {
+    template <class Number, class = std::enable_if_t<std::is_convertible_v<const Number &, T> && !std::is_floating_point_v<Number>>>
+    integer(const Number &number) noexcept(always_fits<T, Number>) : value(fitting<T>(number))
+    {
+    }
+    operator T() const noexcept { return value; }
+
+    T value;
+};
+
+// How many numbers a call takes.
+template <class T> using amount = integer<std::make_unsigned_t<T>>;
+
+// A start and an end in braces, or in a pair.
+template <class T> struct ends {
+    ends(integer<T> start, integer<T> end) noexcept : first(start), second(end) {}
+    template <class Start, class End>
+    ends(const std::pair<Start, End> &it) : first(fitting<T>(it.first)), second(fitting<T>(it.second))
+    {
+    }
+
+    T first;
+    T second;
+};
+
 // What an iterator leads to, and the iterator that a range begins with.
 template <class Iterator> using item_of = std::decay_t<decltype(*std::declval<Iterator &>())>;
 template <class Items> using iterator_over = decltype(std::begin(std::declval<Items &>()));
@@ -324,6 +356,8 @@ private:
 template <class T> class range_set_view : detail::operators<T> {
     using calls = detail::calls<T>;
     using number = typename calls::value;
+    using integer = detail::integer<T>;
+    using amount = detail::amount<T>;
 
 public:
     using value_type = range<T>;
@@ -408,9 +442,9 @@ public:
         return range_set_view(set);
     }
 
-    bool contains(T value) const noexcept { return calls::contains(set_, value); }
-    bool contains_range(T start, T end) const noexcept { return calls::contains_range(set_, start, end); }
-    bool intersects_range(T start, T end) const noexcept { return calls::intersects_range(set_, start, end); }
+    bool contains(integer value) const noexcept { return calls::contains(set_, value); }
+    bool contains_range(integer start, integer end) const noexcept { return calls::contains_range(set_, start, end); }
+    bool intersects_range(integer start, integer end) const noexcept { return calls::intersects_range(set_, start, end); }
     bool empty() const noexcept { return calls::is_empty(set_); }
     bool is_all() const noexcept { return calls::is_all(set_); }
     bool is_disjoint(detail::operand<T> other) const noexcept { return calls::is_disjoint(set_, other.set); }
@@ -436,13 +470,13 @@ public:
         return count;
     }
     // The range that holds the number, or nothing where it is no member.
-    std::optional<range<T>> range_at(T value) const noexcept
+    std::optional<range<T>> range_at(integer value) const noexcept
     {
         typename calls::part part = {};
         return told(calls::range_at(set_, value, &part), part);
     }
     // The range that holds the number, or else the next one above it, or nothing.
-    std::optional<range<T>> range_from(T value) const noexcept
+    std::optional<range<T>> range_from(integer value) const noexcept
     {
         typename calls::part part = {};
         return told(calls::range_from(set_, value, &part), part);
@@ -465,13 +499,13 @@ public:
 
     // The numbers from `start` to below `end` that are no members, those that are, and all that are none. The first two pass over
     // the rest of the set by a search, as `week - busy` and `week & busy` do of a week.
-    range_set<T> gaps(T start, T end) const;
-    range_set<T> ranges_within(T start, T end) const;
+    range_set<T> gaps(integer start, integer end) const;
+    range_set<T> ranges_within(integer start, integer end) const;
     range_set<T> negation() const;
 
     // Two parts of the set's own list: one has its members below `at`, and one those from `at` on. A range that goes over `at` has no
     // end in the first, and its start in the second.
-    std::pair<range_set_view, range_set_view> split(T at) const noexcept
+    std::pair<range_set_view, range_set_view> split(integer at) const noexcept
     {
         typename calls::set below = {}, from = {};
         calls::split(set_, at, &below, &from);
@@ -479,52 +513,52 @@ public:
     }
 
     // The least number at or above `from` that is a member, that isn't one, or nothing.
-    std::optional<T> next_member(T from) const noexcept
+    std::optional<T> next_member(integer from) const noexcept
     {
         number next = 0;
         return told(calls::next_member(set_, from, &next), next);
     }
-    std::optional<T> next_gap(T from) const noexcept
+    std::optional<T> next_gap(integer from) const noexcept
     {
         number next = 0;
         return told(calls::next_gap(set_, from, &next), next);
     }
     // The greatest number at or below `from` that is a member, that isn't one, or nothing.
-    std::optional<T> prev_member(T from) const noexcept
+    std::optional<T> prev_member(integer from) const noexcept
     {
         number previous = 0;
         return told(calls::prev_member(set_, from, &previous), previous);
     }
-    std::optional<T> prev_gap(T from) const noexcept
+    std::optional<T> prev_gap(integer from) const noexcept
     {
         number previous = 0;
         return told(calls::prev_gap(set_, from, &previous), previous);
     }
     // The members one by one, and how many are below a number.
     detail::members<T> members() const noexcept { return detail::members<T>(set_); }
-    std::uint64_t rank(T at) const noexcept { return calls::rank(set_, at); }
+    std::uint64_t rank(integer at) const noexcept { return calls::rank(set_, at); }
     // The member with `k` others below it, or nothing.
-    std::optional<T> select(std::uint64_t k) const noexcept
+    std::optional<T> select(detail::integer<std::uint64_t> k) const noexcept
     {
         number at = 0;
         return told(calls::select(set_, k, &at), at);
     }
 
     // The least number from which on `count` numbers lie in `start` to below `end` and none is a member, or nothing.
-    std::optional<T> first_fit(T start, T end, std::make_unsigned_t<T> count) const noexcept
+    std::optional<T> first_fit(integer start, integer end, amount count) const noexcept
     {
         number first = start;
         return told(calls::first_fit(set_, start, end, count, &first), first);
     }
     // The same, but only where as many numbers of the type are below the first as a multiple of `align`: the first itself is one
     // where the type has no sign or `align` is a power of two. For quarters of an hour in seconds take an unsigned type.
-    std::optional<T> first_fit_aligned(T start, T end, std::make_unsigned_t<T> count, std::make_unsigned_t<T> align) const noexcept
+    std::optional<T> first_fit_aligned(integer start, integer end, amount count, amount align) const noexcept
     {
         number first = start;
         return told(calls::first_fit_aligned(set_, start, end, count, align, &first), first);
     }
     // The least number from which on `count` members in a row lie in `start` to below `end`, or nothing.
-    std::optional<T> first_run(T start, T end, std::make_unsigned_t<T> count) const noexcept
+    std::optional<T> first_run(integer start, integer end, amount count) const noexcept
     {
         number first = start;
         return told(calls::first_run(set_, start, end, count, &first), first);
@@ -562,6 +596,8 @@ private:
 template <class T> class range_set : detail::operators<T> {
     using calls = detail::calls<T>;
     using number = typename calls::value;
+    using integer = detail::integer<T>;
+    using amount = detail::amount<T>;
 
 public:
     using value_type = range<T>;
@@ -572,7 +608,7 @@ public:
     range_set() noexcept = default;
     // The numbers in some of these ranges, each a start and an end, which is out. They may come in any order and overlap; one whose
     // end isn't above its start holds no number.
-    range_set(std::initializer_list<std::pair<T, T>> ranges) : range_set(ranges.begin(), ranges.end()) {}
+    range_set(std::initializer_list<detail::ends<T>> ranges) : range_set(ranges.begin(), ranges.end()) {}
     // The same of any range of pairs or of ranges: an array, a std::vector, a std::map, a view of C++20.
     template <class Ranges, class = std::enable_if_t<!detail::is_set<T, Ranges>>, class Iterator = detail::iterator_over<Ranges>,
               class = std::enable_if_t<detail::is_range<T, detail::item_of<Iterator>> && detail::is_multipass<Iterator>>>
@@ -685,9 +721,9 @@ public:
     range_set_view<T> view() const & noexcept { return range_set_view<T>(in_.set); }
     range_set_view<T> view() const && = delete;
 
-    bool contains(T value) const noexcept { return view().contains(value); }
-    bool contains_range(T start, T end) const noexcept { return view().contains_range(start, end); }
-    bool intersects_range(T start, T end) const noexcept { return view().intersects_range(start, end); }
+    bool contains(integer value) const noexcept { return view().contains(value); }
+    bool contains_range(integer start, integer end) const noexcept { return view().contains_range(start, end); }
+    bool intersects_range(integer start, integer end) const noexcept { return view().intersects_range(start, end); }
     bool empty() const noexcept { return view().empty(); }
     bool is_all() const noexcept { return view().is_all(); }
     bool is_disjoint(detail::operand<T> other) const noexcept { return view().is_disjoint(other); }
@@ -696,16 +732,16 @@ public:
     bool is_superset(detail::operand<T> other) const noexcept { return view().is_superset(other); }
     int compare(detail::operand<T> other) const noexcept { return view().compare(other); }
     std::optional<std::uint64_t> covered() const noexcept { return view().covered(); }
-    std::optional<range<T>> range_at(T value) const noexcept { return view().range_at(value); }
-    std::optional<range<T>> range_from(T value) const noexcept { return view().range_from(value); }
-    std::optional<T> next_member(T from) const noexcept { return view().next_member(from); }
-    std::optional<T> next_gap(T from) const noexcept { return view().next_gap(from); }
-    std::optional<T> prev_member(T from) const noexcept { return view().prev_member(from); }
-    std::optional<T> prev_gap(T from) const noexcept { return view().prev_gap(from); }
+    std::optional<range<T>> range_at(integer value) const noexcept { return view().range_at(value); }
+    std::optional<range<T>> range_from(integer value) const noexcept { return view().range_from(value); }
+    std::optional<T> next_member(integer from) const noexcept { return view().next_member(from); }
+    std::optional<T> next_gap(integer from) const noexcept { return view().next_gap(from); }
+    std::optional<T> prev_member(integer from) const noexcept { return view().prev_member(from); }
+    std::optional<T> prev_gap(integer from) const noexcept { return view().prev_gap(from); }
     detail::members<T> members() const & noexcept { return view().members(); }
     detail::members<T> members() const && = delete;
-    std::uint64_t rank(T at) const noexcept { return view().rank(at); }
-    std::optional<T> select(std::uint64_t k) const noexcept { return view().select(k); }
+    std::uint64_t rank(integer at) const noexcept { return view().rank(at); }
+    std::optional<T> select(detail::integer<std::uint64_t> k) const noexcept { return view().select(k); }
     std::optional<range<T>> first() const noexcept { return view().first(); }
     std::optional<range<T>> last() const noexcept { return view().last(); }
     iterator begin() const & noexcept { return view().begin(); }
@@ -713,25 +749,25 @@ public:
     iterator end() const & noexcept { return view().end(); }
     iterator end() const && = delete;
     std::size_t size() const noexcept { return view().size(); }
-    std::optional<T> first_fit(T start, T end, std::make_unsigned_t<T> count) const noexcept { return view().first_fit(start, end, count); }
-    std::optional<T> first_fit_aligned(T start, T end, std::make_unsigned_t<T> count, std::make_unsigned_t<T> align) const noexcept
+    std::optional<T> first_fit(integer start, integer end, amount count) const noexcept { return view().first_fit(start, end, count); }
+    std::optional<T> first_fit_aligned(integer start, integer end, amount count, amount align) const noexcept
     {
         return view().first_fit_aligned(start, end, count, align);
     }
-    std::optional<T> first_run(T start, T end, std::make_unsigned_t<T> count) const noexcept { return view().first_run(start, end, count); }
+    std::optional<T> first_run(integer start, integer end, amount count) const noexcept { return view().first_run(start, end, count); }
     std::string text() const { return view().text(); }
-    range_set gaps(T start, T end) const { return view().gaps(start, end); }
-    range_set ranges_within(T start, T end) const { return view().ranges_within(start, end); }
-    std::pair<range_set_view<T>, range_set_view<T>> split(T at) const & noexcept { return view().split(at); }
-    std::pair<range_set_view<T>, range_set_view<T>> split(T at) const && = delete;
+    range_set gaps(integer start, integer end) const { return view().gaps(start, end); }
+    range_set ranges_within(integer start, integer end) const { return view().ranges_within(start, end); }
+    std::pair<range_set_view<T>, range_set_view<T>> split(integer at) const & noexcept { return view().split(at); }
+    std::pair<range_set_view<T>, range_set_view<T>> split(integer at) const && = delete;
     range_set negation() const { return view().negation(); }
 
     // Puts the numbers from `start` to below `end` in, takes them out, where the set lies.
-    range_set &insert(T start, T end) { return change(calls::insert, start, end); }
-    range_set &remove(T start, T end) { return change(calls::remove, start, end); }
+    range_set &insert(integer start, integer end) { return change(calls::insert, start, end); }
+    range_set &remove(integer start, integer end) { return change(calls::remove, start, end); }
     // The same of all numbers from `start` on.
-    range_set &insert_from(T start) { return *this |= *range_set_view<T>::of(&start, 1); }
-    range_set &remove_from(T start) { return *this -= *range_set_view<T>::of(&start, 1); }
+    range_set &insert_from(integer start) { return *this |= *range_set_view<T>::of(&start.value, 1); }
+    range_set &remove_from(integer start) { return *this -= *range_set_view<T>::of(&start.value, 1); }
     // The same of a range, which may have no end.
     range_set &insert(const range<T> &it) { return it.has_end ? insert(it.start, it.end) : insert_from(it.start); }
     range_set &remove(const range<T> &it) { return it.has_end ? remove(it.start, it.end) : remove_from(it.start); }
@@ -818,12 +854,12 @@ private:
     typename calls::buffer in_ = calls::buffer_of(nullptr, 0);
 };
 
-template <class T> range_set<T> range_set_view<T>::gaps(T start, T end) const
+template <class T> range_set<T> range_set_view<T>::gaps(integer start, integer end) const
 {
     return range_set<T>::written(set_.len + 2, [&](number *out, std::size_t room, auto *set) { return calls::gaps(set_, start, end, out, room, set); });
 }
 
-template <class T> range_set<T> range_set_view<T>::ranges_within(T start, T end) const
+template <class T> range_set<T> range_set_view<T>::ranges_within(integer start, integer end) const
 {
     const T window[] = {start, end};
     return *this & range_set_view::of(window, 2).value_or(range_set_view());
@@ -839,6 +875,8 @@ template <class T> range_set<T> range_set_view<T>::negation() const
 template <class T> class chunked_range_set {
     using calls = detail::calls<T>;
     using number = typename calls::value;
+    using integer = detail::integer<T>;
+    using amount = detail::amount<T>;
 
 public:
     using value_type = range<T>;
@@ -926,61 +964,66 @@ public:
     friend void swap(chunked_range_set &a, chunked_range_set &b) noexcept { a.swap(b); }
 
     // Puts the numbers from `start` to below `end` in, takes them out; or all from `start` on.
-    chunked_range_set &insert(T start, T end) { return change(calls::chunked_insert, start, end); }
-    chunked_range_set &remove(T start, T end) { return change(calls::chunked_remove, start, end); }
-    chunked_range_set &insert_from(T start) { return change(calls::chunked_insert_from, start); }
-    chunked_range_set &remove_from(T start) { return change(calls::chunked_remove_from, start); }
+    chunked_range_set &insert(integer start, integer end) { return change(calls::chunked_insert, start, end); }
+    chunked_range_set &remove(integer start, integer end) { return change(calls::chunked_remove, start, end); }
+    chunked_range_set &insert_from(integer start) { return change(calls::chunked_insert_from, start); }
+    chunked_range_set &remove_from(integer start) { return change(calls::chunked_remove_from, start); }
     // The same of a range, which may have no end.
     chunked_range_set &insert(const range<T> &it) { return it.has_end ? insert(it.start, it.end) : insert_from(it.start); }
     chunked_range_set &remove(const range<T> &it) { return it.has_end ? remove(it.start, it.end) : remove_from(it.start); }
     // Takes all numbers out, and gives all memory back.
     void clear() noexcept { calls::chunked_free(&set_); }
 
-    bool contains(T value) const noexcept { return calls::chunked_contains(set_, value); }
-    bool contains_range(T start, T end) const noexcept { return calls::chunked_contains_range(set_, start, end); }
-    bool intersects_range(T start, T end) const noexcept { return calls::chunked_intersects_range(set_, start, end); }
+    bool contains(integer value) const noexcept { return calls::chunked_contains(set_, value); }
+    bool contains_range(integer start, integer end) const noexcept { return calls::chunked_contains_range(set_, start, end); }
+    bool intersects_range(integer start, integer end) const noexcept { return calls::chunked_intersects_range(set_, start, end); }
     bool empty() const noexcept { return calls::chunked_is_empty(set_); }
     bool is_all() const noexcept { return calls::chunked_is_all(set_); }
     // The range that holds a number, that or else the next one above it, the first and the last range, or nothing.
-    std::optional<range<T>> range_at(T value) const noexcept { return one(calls::chunked_range_at, value); }
-    std::optional<range<T>> range_from(T value) const noexcept { return one(calls::chunked_range_from, value); }
+    std::optional<range<T>> range_at(integer value) const noexcept { return one(calls::chunked_range_at, value); }
+    std::optional<range<T>> range_from(integer value) const noexcept { return one(calls::chunked_range_from, value); }
     std::optional<range<T>> first() const noexcept { return one(calls::chunked_first); }
     std::optional<range<T>> last() const noexcept { return one(calls::chunked_last); }
     // The least member at or above a number, the least number that is none, the greatest ones at or below it, or nothing.
-    std::optional<T> next_member(T from) const noexcept { return found(calls::chunked_next_member, from); }
-    std::optional<T> next_gap(T from) const noexcept { return found(calls::chunked_next_gap, from); }
-    std::optional<T> prev_member(T from) const noexcept { return found(calls::chunked_prev_member, from); }
-    std::optional<T> prev_gap(T from) const noexcept { return found(calls::chunked_prev_gap, from); }
+    std::optional<T> next_member(integer from) const noexcept { return found(calls::chunked_next_member, from); }
+    std::optional<T> next_gap(integer from) const noexcept { return found(calls::chunked_next_gap, from); }
+    std::optional<T> prev_member(integer from) const noexcept { return found(calls::chunked_prev_member, from); }
+    std::optional<T> prev_gap(integer from) const noexcept { return found(calls::chunked_prev_gap, from); }
     // How many members are below a number, the member with so many below it, and how many there are, or nothing where the set has
     // no end. They go over the boundaries one by one.
-    std::uint64_t rank(T at) const noexcept { return calls::chunked_rank(set_, at); }
-    std::optional<T> select(std::uint64_t k) const noexcept { return found(calls::chunked_select, k); }
+    std::uint64_t rank(integer at) const noexcept { return calls::chunked_rank(set_, at); }
+    std::optional<T> select(detail::integer<std::uint64_t> k) const noexcept { return found(calls::chunked_select, k); }
     std::optional<std::uint64_t> covered() const noexcept
     {
         std::uint64_t count = 0;
         if (!calls::chunked_covered(set_, &count)) return std::nullopt;
         return count;
     }
-    // The least number from which on `count` numbers lie in `start` to below `end` and none is a member, or nothing. The set
-    // remembers what it learns of its gaps.
-    std::optional<T> first_fit(T start, T end, std::make_unsigned_t<T> count) noexcept
+    // The least number from which on `count` numbers lie in `start` to below `end` and none is a member, or nothing; and the same
+    // where as many numbers of the type are below it as a multiple of `align`. The set remembers what it learns of its gaps.
+    std::optional<T> first_fit(integer start, integer end, amount count) noexcept
     {
         number first = 0;
         if (!calls::chunked_first_fit(&set_, start, end, count, &first)) return std::nullopt;
         return static_cast<T>(first);
     }
-    // The same where as many numbers of the type are below it as a multiple of `align`, and of members in a row. They remember nothing.
-    std::optional<T> first_fit_aligned(T start, T end, std::make_unsigned_t<T> count, std::make_unsigned_t<T> align) const noexcept
+    std::optional<T> first_fit_aligned(integer start, integer end, amount count, amount align) noexcept
     {
-        return found(calls::chunked_first_fit_aligned, start, end, count, align);
+        number first = 0;
+        if (!calls::chunked_first_fit_aligned(&set_, start, end, count, align, &first)) return std::nullopt;
+        return static_cast<T>(first);
     }
-    std::optional<T> first_run(T start, T end, std::make_unsigned_t<T> count) const noexcept { return found(calls::chunked_first_run, start, end, count); }
+    // The same of members in a row. It remembers nothing.
+    std::optional<T> first_run(integer start, integer end, amount count) const noexcept
+    {
+        return found(calls::chunked_first_run, start, end, count);
+    }
 
     // The ranges, those that have a number at or above another, and how many ranges there are.
     iterator begin() const & noexcept { return begin_from(std::numeric_limits<T>::min()); }
     iterator begin() const && = delete;
-    iterator begin_from(T value) const & noexcept { return iterator(set_, value); }
-    iterator begin_from(T value) const && = delete;
+    iterator begin_from(integer value) const & noexcept { return iterator(set_, value); }
+    iterator begin_from(integer value) const && = delete;
     iterator end() const & noexcept { return iterator(); }
     iterator end() const && = delete;
     std::size_t size() const noexcept { return calls::chunked_ranges_len(set_); }
