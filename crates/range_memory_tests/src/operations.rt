@@ -41,13 +41,17 @@ impl<'a> Call for Attempt<'a, Flagged> {
 
 impl<'a, T> Attempt<'a, T> {
     // Whether more items than the two that a set has room for come together: in place those of both
-    // sides, and else those of the result.
-    fn needs_memory(&self) -> bool {
+    // sides, and else those of the result. Plain items that need one list on the heap at most go
+    // into a new list if the right side is borrowed.
+    fn needs_memory(&self, is_plain: bool) -> bool {
         let case = &self.case;
-        let items = if self.way.is_in_place() {
-            case.left.len().saturating_add(case.right.len())
-        } else if self.way == Way::StateNew {
+        let both = case.left.len().saturating_add(case.right.len());
+        let is_borrowed = !self.way.takes_right() && self.way != Way::StateBorrowed;
+        let goes_into_a_new_list = is_plain && is_borrowed && both <= 4;
+        let items = if self.way == Way::StateNew {
             case.first.len().saturating_add(case.want.len())
+        } else if self.way.is_in_place() && !goes_into_a_new_list {
+            both
         } else {
             case.want.len()
         };
@@ -71,9 +75,10 @@ pub(crate) fn wrong_way(alloc: Global, numbers: &Case<i64>) -> Result<Option<Way
             case: items.case(numbers),
             way,
         };
-        let needs = attempt.needs_memory();
-        let has = numbers.has(way);
-        if has && !(starved.agrees(&attempt, needs) && starved.agrees(&flagged, needs)) {
+        if numbers.has(way)
+            && !(starved.agrees(&attempt, attempt.needs_memory(true))
+                && starved.agrees(&flagged, flagged.needs_memory(false)))
+        {
             return Ok(Some(way));
         }
     }
