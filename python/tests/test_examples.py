@@ -112,7 +112,7 @@ class Examples(unittest.TestCase):
             with self.subTest(it):
                 ran = subprocess.run([sys.executable, EXAMPLES / it], capture_output=True, text=True)
                 self.assertEqual(ran.returncode, 1)
-                self.assertIn(f"\n    python3 {it} ", ran.stderr)
+                self.assertIn(f"python3 {it} ", ran.stderr)
 
     def test_each_is_short(self):
         for it in ("bed.py", "frame.py", "meeting.py", "networks.py"):
