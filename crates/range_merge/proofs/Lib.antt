@@ -37,3 +37,4 @@ pub mod SinglySteps
 pub mod Rounds
 pub mod ReadInto
 pub mod Relative
+pub mod ByPlaceSteps

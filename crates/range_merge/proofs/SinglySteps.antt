@@ -99,6 +99,15 @@ odd-rights Less j j' e = odd-lefts Greater j j' e
 odd-rights Equal j j' e = odd-lefts Equal j j' e
 odd-rights Greater j j' e = odd-lefts Less j j' e
 
+-- the item of a step is taken, if the answer changed
+pub is_taken : (f : Table) (how : Ordering) (i j k i' j' : ℕ) (on : Bool) → i' ≡ i + lefts_of how → j' ≡ j + rights_of how
+    → on ≡ is_answer f (is_odd i') (is_odd j') → is_odd k ≡ is_answer f (is_odd i) (is_odd j) → not (beq on (is_odd k)) ≡ takes f (is_odd i) (is_odd j) (one_of_run how)
+is_taken f how i j k i' j' on left right on_is was =
+    let after : on ≡ is_answer f (left_on_after (one_of_run how) (is_odd i)) (right_on_after (one_of_run how) (is_odd j)) =
+    on_is ∙ ap (λ ac. is_answer f ac (is_odd j')) (odd-lefts how i i' left) ∙ ap (λ bc. is_answer f (left_on_after (one_of_run how) (is_odd i)) bc) (odd-rights how j j' right) in
+    ap (λ x. not (beq x (is_odd k))) after ∙ ap (λ x. not (beq (is_answer f (left_on_after (one_of_run how) (is_odd i)) (right_on_after (one_of_run how) (is_odd j))) x)) was
+    ∙ takes-answers f how (is_odd i) (is_odd j)
+
 -- the lists after one step
 drop-lefts : {K : Type 0} (how : Ordering) (i i' : ℕ) (l : List K) → i' ≡ i + lefts_of how → drop i' l ≡ left_after (one_of_run how) (drop i l)
 drop-lefts Less i i' l e = ap (λ n. drop n l) e ∙ sym (drop-drop 1 i l)
@@ -162,7 +171,7 @@ module _ {K : Type 0} where
       ∙ take-append-add (take k out) room q
 
   -- further behind, all is the same too
-  behind-more : (k k' : ℕ) (xs ys : List K) → k ≤ k' → drop k xs ≡ drop k ys → drop k' xs ≡ drop k' ys
+  pub behind-more : (k k' : ℕ) (xs ys : List K) → k ≤ k' → drop k xs ≡ drop k ys → drop k' xs ≡ drop k' ys
   behind-more k k' xs ys more same =
       let sum : k' ≡ k + (k' - k) = omega (arith, more) in
       ap (λ n. drop n xs) sum ∙ sym (drop-drop (k' - k) k xs) ∙ ap (drop (k' - k)) same ∙ drop-drop (k' - k) k ys ∙ ap (λ n. drop n ys) (sym sum)
@@ -173,19 +182,21 @@ module _ {K : Type 0} where
       ap (λ m. drop (m + q) (take k out ++ (room ++ rest))) (sym (length-take-le k out before))
       ∙ drop-append-add (take k out) (room ++ rest) q ∙ drop-append-le q room rest within
 
-  -- four steps changed nothing behind what they put out in the room at k
-  pub behind-four : (k n k1 k2 k3 k4 : ℕ) (first out r1 r2 r3 r4 : List K) → k ≤ length out → k4 ≤ length r4 → k4 ≤ length (take n (drop k out))
-      → k1 ≤ k2 → k2 ≤ k3 → k3 ≤ k4 → drop k1 r1 ≡ drop k1 (take n (drop k out)) → drop k2 r2 ≡ drop k2 r1 → drop k3 r3 ≡ drop k3 r2 → drop k4 r4 ≡ drop k4 r3
-      → drop k out ≡ drop k first → drop (k + k4) (put_mid k n out r4) ≡ drop (k + k4) first
-  behind-four k n k1 k2 k3 k4 first out r1 r2 r3 r4 before within room le2 le3 le4 one two three four so_far =
+  -- four steps changed nothing behind what they put out
+  pub behind-four : (k1 k2 k3 k4 : ℕ) (r0 r1 r2 r3 r4 : List K) → k1 ≤ k2 → k2 ≤ k3 → k3 ≤ k4
+      → drop k1 r1 ≡ drop k1 r0 → drop k2 r2 ≡ drop k2 r1 → drop k3 r3 ≡ drop k3 r2 → drop k4 r4 ≡ drop k4 r3 → drop k4 r4 ≡ drop k4 r0
+  behind-four k1 k2 k3 k4 r0 r1 r2 r3 r4 le2 le3 le4 one two three four =
+      four ∙ behind-more k3 k4 r3 r2 le4 three ∙ behind-more k2 k4 r2 r1 (omega (arith, le3, le4)) two ∙ behind-more k1 k4 r1 r0 (omega (arith, le2, le3, le4)) one
+
+  -- so nothing is changed behind what was put into the room at k
+  pub behind-window : (k n q : ℕ) (first out room : List K) → k ≤ length out → q ≤ length room → q ≤ length (take n (drop k out))
+      → drop q room ≡ drop q (take n (drop k out)) → drop k out ≡ drop k first → drop (k + q) (put_mid k n out room) ≡ drop (k + q) first
+  behind-window k n q first out room before within fits same so_far =
       let rest : List K = drop n (drop k out) in
-      let same : drop k4 r4 ≡ drop k4 (take n (drop k out)) =
-      four ∙ behind-more k3 k4 r3 r2 le4 three ∙ behind-more k2 k4 r2 r1 (omega (arith, le3, le4)) two
-      ∙ behind-more k1 k4 r1 (take n (drop k out)) (omega (arith, le2, le3, le4)) one in
-      drop-window k k4 out r4 rest before within ∙ ap (λ ys. ys ++ rest) same
-      ∙ sym (drop-window k k4 out (take n (drop k out)) rest before room)
-      ∙ ap (drop (k + k4)) (ap (λ ys. take k out ++ ys) (take-append-drop n (drop k out)) ∙ take-append-drop k out)
-      ∙ behind-more k (k + k4) out first (omega arith) so_far
+      drop-window k q out room rest before within ∙ ap (λ ys. ys ++ rest) same
+      ∙ sym (drop-window k q out (take n (drop k out)) rest before fits)
+      ∙ ap (drop (k + q)) (ap (λ ys. take k out ++ ys) (take-append-drop n (drop k out)) ∙ take-append-drop k out)
+      ∙ behind-more k (k + q) out first (omega arith) so_far
 
   -- the same items behind others
   IsAppended-behind : {alike : K → K → Type 0} (front : List K) {t t' : Bool} {items items' old new : List K} → t ≡ t' → items ≡ items'
@@ -240,11 +251,7 @@ module _ {K : Type 0} where
       → k' ≡ k + bool_byte (not (beq on (is_odd k)))
       → IsAppended alike (items_if (takes f (is_odd i) (is_odd j) (one_of_run how)) items) (take k old) (take k' new)
   IsAppended-one alike f how i j k i' j' k' first items old new on left right on_is was items_are front put e =
-      let after : on ≡ is_answer f (left_on_after (one_of_run how) (is_odd i)) (right_on_after (one_of_run how) (is_odd j)) =
-      on_is ∙ ap (λ ac. is_answer f ac (is_odd j')) (odd-lefts how i i' left) ∙ ap (λ bc. is_answer f (left_on_after (one_of_run how) (is_odd i)) bc) (odd-rights how j j' right) in
-      let taken : not (beq on (is_odd k)) ≡ takes f (is_odd i) (is_odd j) (one_of_run how) =
-      ap (λ x. not (beq x (is_odd k))) after ∙ ap (λ x. not (beq (is_answer f (left_on_after (one_of_run how) (is_odd i)) (right_on_after (one_of_run how) (is_odd j))) x)) was
-      ∙ takes-answers f how (is_odd i) (is_odd j) in
+      let taken : not (beq on (is_odd k)) ≡ takes f (is_odd i) (is_odd j) (one_of_run how) = is_taken f how i j k i' j' on left right on_is was in
       rw items_are (IsAppended-if alike (takes f (is_odd i) (is_odd j) (one_of_run how)) k (first ∷ []) old new front (λ t. put (taken ∙ t)) k' (e ∙ ap (λ t. k + bool_byte t) taken))
 
   joined-left : (x : K) (rs : List Run) → joined (left_only x) rs ≡ before (Some (Left 1)) rs
@@ -313,7 +320,7 @@ takes-from f x y u v Both =
     ap (λ ac. differ (f (differ x u) (differ y v)) (f ac (differ y (not v)))) (differ-not_right x u)
     ∙ ap (λ bc. differ (f (differ x u) (differ y v)) (f (not (differ x u)) bc)) (differ-not_right y v)
 
-takes-at : (f : Table) (i j u v : ℕ) (run : Run) → takes (table_from f (is_odd i) (is_odd j)) (is_odd u) (is_odd v) run ≡ takes f (is_odd (i + u)) (is_odd (j + v)) run
+pub takes-at : (f : Table) (i j u v : ℕ) (run : Run) → takes (table_from f (is_odd i) (is_odd j)) (is_odd u) (is_odd v) run ≡ takes f (is_odd (i + u)) (is_odd (j + v)) run
 takes-at f i j u v run =
     takes-from f (is_odd i) (is_odd j) (is_odd u) (is_odd v) run
     ∙ ap (λ ac. takes f ac (differ (is_odd j) (is_odd v)) run) (sym (is_odd-add i u))
@@ -370,14 +377,14 @@ module _ {K : Type 0} (alike : K → K → Type 0) (order : K → K → Ordering
         six-more (read_of w.run) w.owed (omega (arith, w.is_owed.within, few)) (late-at m (read_of w.run) w.owed few w.is_owed) (eq-zero-or-pos (7 - read_of w.run)),
       )
 
-  -- as many comparisons were made as fit the counter, with four more
+  -- as many comparisons were made as fit the counter, with eight more
   pub Reads-made : {count0 m i1 j1 i j : ℕ} {out : List K} {count : ℕ} {next : Ordering}
-      → m ≤ 4 → length a + length b < 2 ^ 65 → count0 < 2 ^ 127 → Reads count0 m i1 j1 i j out count next → count + 4 < 2 ^ 128 - 1
+      → m ≤ 4 → length a + length b < 2 ^ 65 → count0 < 2 ^ 127 → Reads count0 m i1 j1 i j out count next → count + 8 < 2 ^ 128 - 1
   Reads-made few fits made w = omega (arith, w.paid, w.is_owed.within, numbers.weight-le order a b, fits, made, few)
 
   module _ (o : IsTotalOrder order) (a_ascends : IsAscending order a) (b_ascends : IsAscending order b) where
     -- one step more
-    Reads-more : {count0 m i1 j1 i j : ℕ} {out : List K} {count : ℕ} {how : Ordering} {i' j' : ℕ} {out' : List K} {count' : ℕ} {next : Ordering}
+    pub Reads-more : {count0 m i1 j1 i j : ℕ} {out : List K} {count : ℕ} {how : Ordering} {i' j' : ℕ} {out' : List K} {count' : ℕ} {next : Ordering}
         → m ≤ 3 → Reads count0 m i1 j1 i j out count how → i' ≡ i + lefts_of how → j' ≡ j + rights_of how
         → IsAppended alike (items_if (takes f (is_odd i) (is_odd j) (one_of_run how)) (take 1 (cond (is_le how) (drop i a) (drop j b)))) out out'
         → FirstsStand order (drop i' a) (drop j' b) (Some next) → count' ≡ count + 1
@@ -410,24 +417,24 @@ module _ {K : Type 0} (alike : K → K → Type 0) (order : K → K → Ordering
         }
 
     -- the same of windows that begin at i and j, where what it puts out comes behind other items
-    Reads-step : (n n' u v : ℕ) (front : List K) {count0 m i j : ℕ} {old : List K} {count : ℕ} {how : Ordering} {x y : K} {u' v' : ℕ} {new : List K} {count' : ℕ} {next : Ordering} {x' y' : K}
-        → m ≤ 3 → Reads count0 m i j (i + u) (j + v) (front ++ old) count how
+    Reads-step : (n n' i j u v : ℕ) (front : List K) {count0 m i1 j1 : ℕ} {old : List K} {count : ℕ} {how : Ordering} {x y : K} {u' v' : ℕ} {new : List K} {count' : ℕ} {next : Ordering} {x' y' : K}
+        → m ≤ 3 → Reads count0 m i1 j1 (i + u) (j + v) (front ++ old) count how
         → slice_get (take n (drop i a)) u ≡ Some x → slice_get (take n' (drop j b)) v ≡ Some y → u' ≡ u + lefts_of how → v' ≡ v + rights_of how
         → IsAppended alike (items_if (takes (table_from f (is_odd i) (is_odd j)) (is_odd u) (is_odd v) (one_of_run how)) (cond (is_le how) x y ∷ [])) old new
         → slice_get (take n (drop i a)) u' ≡ Some x' → slice_get (take n' (drop j b)) v' ≡ Some y' → order x' y' ≡ next → count' ≡ count + 1
-        → Reads count0 (m + 1) i j (i + u') (j + v') (front ++ new) count' next
-    Reads-step n n' u v front {i} {j} {how} {x} {y} {u'} {v'} {next} {x'} {y'} few w x_is y_is left right put x'_is y'_is stands counted =
+        → Reads count0 (m + 1) i1 j1 (i + u') (j + v') (front ++ new) count' next
+    Reads-step n n' i j u v front {how} {x} {y} {u'} {v'} {next} {x'} {y'} few w x_is y_is left right put x'_is y'_is stands counted =
         let first_is = take-first how (drop (i + u) a) (drop (j + v) b) x y (first-of_window n i u a x x_is) (first-of_window n' j v b y y_is) in
         Reads-more few w (omega (arith, left)) (omega (arith, right)) (IsAppended-behind front (takes-at f i j u v (one_of_run how)) first_is put)
         (FirstsStand-of order (drop (i + u') a) (drop (j + v') b) x' y' next (first-of_window n i u' a x' x'_is) (first-of_window n' j v' b y' y'_is) stands)
         counted
 
-    -- four steps from a look on
-    pub Reads-four : (n n' n'' k q : ℕ) (out room wa wb : List K) {count0 i j : ℕ} {r1 r2 r3 : List K} {c0 c1 c2 c3 c4 u1 u2 u3 u4 v1 v2 v3 v4 : ℕ} {h0 h1 h2 h3 h4 : Ordering} {x0 x1 x2 x3 x4 y0 y1 y2 y3 y4 : K}
-        → k ≤ length out → q ≤ length room → 1 ≤ n → 1 ≤ n' → wa ≡ take n (drop i a) → wb ≡ take n' (drop j b)
-        → Reads count0 0 i j i j (take k out) c0 h0 → slice_get (drop i a) 0 ≡ Some x0 → slice_get (drop j b) 0 ≡ Some y0
-        → u1 ≡ 0 + lefts_of h0 → v1 ≡ 0 + rights_of h0
-        → IsAppended alike (items_if (takes (table_from f (is_odd i) (is_odd j)) (is_odd 0) (is_odd 0) (one_of_run h0)) (cond (is_le h0) x0 y0 ∷ [])) [] r1
+    -- four steps from a look on, in windows that begin at i and j, from their items u0 and v0 on
+    pub Reads-four : (n n' i j u0 v0 : ℕ) (front wa wb : List K) {count0 i1 j1 : ℕ} {r0 r1 r2 r3 r4 : List K} {c0 c1 c2 c3 c4 u1 u2 u3 u4 v1 v2 v3 v4 : ℕ} {h0 h1 h2 h3 h4 : Ordering} {x0 x1 x2 x3 x4 y0 y1 y2 y3 y4 : K}
+        → wa ≡ take n (drop i a) → wb ≡ take n' (drop j b)
+        → Reads count0 0 i1 j1 (i + u0) (j + v0) (front ++ r0) c0 h0 → slice_get wa u0 ≡ Some x0 → slice_get wb v0 ≡ Some y0
+        → u1 ≡ u0 + lefts_of h0 → v1 ≡ v0 + rights_of h0
+        → IsAppended alike (items_if (takes (table_from f (is_odd i) (is_odd j)) (is_odd u0) (is_odd v0) (one_of_run h0)) (cond (is_le h0) x0 y0 ∷ [])) r0 r1
         → slice_get wa u1 ≡ Some x1 → slice_get wb v1 ≡ Some y1 → order x1 y1 ≡ h1 → c1 ≡ c0 + 1
         → u2 ≡ u1 + lefts_of h1 → v2 ≡ v1 + rights_of h1
         → IsAppended alike (items_if (takes (table_from f (is_odd i) (is_odd j)) (is_odd u1) (is_odd v1) (one_of_run h1)) (cond (is_le h1) x1 y1 ∷ [])) r1 r2
@@ -436,18 +443,28 @@ module _ {K : Type 0} (alike : K → K → Type 0) (order : K → K → Ordering
         → IsAppended alike (items_if (takes (table_from f (is_odd i) (is_odd j)) (is_odd u2) (is_odd v2) (one_of_run h2)) (cond (is_le h2) x2 y2 ∷ [])) r2 r3
         → slice_get wa u3 ≡ Some x3 → slice_get wb v3 ≡ Some y3 → order x3 y3 ≡ h3 → c3 ≡ c2 + 1
         → u4 ≡ u3 + lefts_of h3 → v4 ≡ v3 + rights_of h3
-        → IsAppended alike (items_if (takes (table_from f (is_odd i) (is_odd j)) (is_odd u3) (is_odd v3) (one_of_run h3)) (cond (is_le h3) x3 y3 ∷ [])) r3 (take q room)
+        → IsAppended alike (items_if (takes (table_from f (is_odd i) (is_odd j)) (is_odd u3) (is_odd v3) (one_of_run h3)) (cond (is_le h3) x3 y3 ∷ [])) r3 r4
         → slice_get wa u4 ≡ Some x4 → slice_get wb v4 ≡ Some y4 → order x4 y4 ≡ h4 → c4 ≡ c3 + 1
-        → Reads count0 4 i j (i + u4) (j + v4) (take (k + q) (put_mid k n'' out room)) c4 h4
-    Reads-four n n' n'' k q out room wa wb {count0} {i} {j} {c0} {u1} {u2} {u3} {v1} {v2} {v3} {h0} {x0} {y0} in_out in_room some some' wa_is wb_is w x0_is y0_is
+        → Reads count0 4 i1 j1 (i + u4) (j + v4) (front ++ r4) c4 h4
+    Reads-four n n' i j u0 v0 front wa wb {u1} {u2} {u3} {v1} {v2} {v3} wa_is wb_is w x0_is y0_is
         l1 r1 p1 x1_is y1_is s1 k1 l2 r2 p2 x2_is y2_is s2 k2 l3 r3 p3 x3_is y3_is s3 k3 l4 r4 p4 x4_is y4_is s4 k4 =
+        let one = Reads-step n n' i j u0 v0 front (omega arith) w (rw wa_is at x0_is) (rw wb_is at y0_is) l1 r1 p1 (rw wa_is at x1_is) (rw wb_is at y1_is) s1 k1 in
+        let two = Reads-step n n' i j u1 v1 front (omega arith) one (rw wa_is at x1_is) (rw wb_is at y1_is) l2 r2 p2 (rw wa_is at x2_is) (rw wb_is at y2_is) s2 k2 in
+        let three = Reads-step n n' i j u2 v2 front (omega arith) two (rw wa_is at x2_is) (rw wb_is at y2_is) l3 r3 p3 (rw wa_is at x3_is) (rw wb_is at y3_is) s3 k3 in
+        Reads-step n n' i j u3 v3 front (omega arith) three (rw wa_is at x3_is) (rw wb_is at y3_is) l4 r4 p4 (rw wa_is at x4_is) (rw wb_is at y4_is) s4 k4
+
+    -- a look at the start of windows
+    pub Reads-window : {count0 i j : ℕ} {out : List K} {count : ℕ} {next : Ordering}
+        → Reads count0 0 i j i j out count next → Reads count0 0 (i + 0) (j + 0) (i + 0) (j + 0) (out ++ []) count next
+    Reads-window {count0} {i} {j} {out} {count} {next} w =
         let i_is : i + 0 ≡ i = omega arith in
         let j_is : j + 0 ≡ j = omega arith in
-        let start : Reads count0 0 i j (i + 0) (j + 0) (take k out ++ []) c0 h0 = rw (append-nil (take k out), i_is, j_is) w in
-        let one = Reads-step n n' 0 0 (take k out) (omega arith) start (window-first n (drop i a) x0 some x0_is) (window-first n' (drop j b) y0 some' y0_is) l1 r1 p1 (rw wa_is at x1_is) (rw wb_is at y1_is) s1 k1 in
-        let two = Reads-step n n' u1 v1 (take k out) (omega arith) one (rw wa_is at x1_is) (rw wb_is at y1_is) l2 r2 p2 (rw wa_is at x2_is) (rw wb_is at y2_is) s2 k2 in
-        let three = Reads-step n n' u2 v2 (take k out) (omega arith) two (rw wa_is at x2_is) (rw wb_is at y2_is) l3 r3 p3 (rw wa_is at x3_is) (rw wb_is at y3_is) s3 k3 in
-        rw (take-window k n'' q out room in_out in_room) (Reads-step n n' u3 v3 (take k out) (omega arith) three (rw wa_is at x3_is) (rw wb_is at y3_is) l4 r4 p4 (rw wa_is at x4_is) (rw wb_is at y4_is) s4 k4)
+        rw (append-nil out, i_is, j_is) w
+
+    -- what was put into a room of out is a part of it
+    pub Reads-put : (n k q : ℕ) (out room : List K) {count0 m i1 j1 i j count : ℕ} {next : Ordering} → k ≤ length out → q ≤ length room
+        → Reads count0 m i1 j1 i j (take k out ++ take q room) count next → Reads count0 m i1 j1 i j (take (k + q) (put_mid k n out room)) count next
+    Reads-put n k q out room in_out in_room w = rw (take-window k n q out room in_out in_room) w
 
     looked-at : {count0 i1 j1 i j : ℕ} {out : List K} {count : ℕ} {next : Ordering}
         → (w : Reads count0 4 i1 j1 i j out count next) → (4 ≤ read_of w.run → goes_on w.run next ≡ false)
@@ -484,13 +501,15 @@ module _ {K : Type 0} (alike : K → K → Type 0) (order : K → K → Ordering
           since = IsSince-none None;
         }
 
-    IsLong-from : (next : Ordering) (i j u v : ℕ) → IsLong next i j (i + u) (j + v) → IsLong next 0 0 u v
-    IsLong-from Less i j u v long = omega (arith, long)
-    IsLong-from Equal i j u v long = long
-    IsLong-from Greater i j u v long = omega (arith, long)
+    IsLong-from : (next : Ordering) (i j u0 v0 u v : ℕ) → IsLong next (i + u0) (j + v0) (i + u) (j + v) → IsLong next u0 v0 u v
+    IsLong-from Less i j u0 v0 u v long = omega (arith, long)
+    IsLong-from Equal i j u0 v0 u v long = long
+    IsLong-from Greater i j u0 v0 u v long = omega (arith, long)
 
     -- it goes on after a look
-    pub Reads-looked : (u v : ℕ) {count0 i j : ℕ} {out : List K} {count : ℕ} {next : Ordering}
-        → Reads count0 4 i j (i + u) (j + v) out count next → (IsLong next 0 0 u v → ⊥) → Reads count0 0 (i + u) (j + v) (i + u) (j + v) out count next
-    Reads-looked u v {i} {j} {next} w ends =
-        looked-at w (ended-at next w.run w.lefts w.rights i j (i + u) (j + v) w.i_is w.j_is (λ long. ends (IsLong-from next i j u v long)) w.since) (eq-zero-or-pos (read_of w.run - 3))
+    pub Reads-looked : (i j u0 v0 u v : ℕ) {count0 : ℕ} {out : List K} {count : ℕ} {next : Ordering}
+        → Reads count0 4 (i + u0) (j + v0) (i + u) (j + v) out count next → (IsLong next u0 v0 u v → ⊥) → Reads count0 0 (i + u) (j + v) (i + u) (j + v) out count next
+    Reads-looked i j u0 v0 u v {next} w ends =
+        looked-at w
+        (ended-at next w.run w.lefts w.rights (i + u0) (j + v0) (i + u) (j + v) w.i_is w.j_is (λ long. ends (IsLong-from next i j u0 v0 u v long)) w.since)
+        (eq-zero-or-pos (read_of w.run - 3))

@@ -15,3 +15,4 @@ pub mod Building
 pub mod Buffers
 pub mod Filling
 pub mod Singly
+pub mod ByPlace

@@ -1,6 +1,7 @@
 //! Merges of strictly sorted lists, run by run, with every comparison counted.
 #![tactic(auto)]
 
+mod by_place;
 mod compare;
 mod galloping;
 mod in_place_builder;
@@ -10,6 +11,7 @@ pub mod laws;
 mod merge_state;
 mod merging;
 mod operations;
+mod pacing;
 mod place;
 mod runs;
 mod searching;

@@ -8,6 +8,7 @@ ghost use Rattle.range_merge.specs.Changes.{Taken, taken_left, taken_right};
 mod bool_op;
 mod buffer;
 mod count;
+mod counting;
 mod grows_at_end;
 mod in_place;
 mod in_place_ref;

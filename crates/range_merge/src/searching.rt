@@ -70,13 +70,19 @@ pub fn count_up_to<K, C: Compare<K>>(items: &[K], key: &K, cmp: &mut C) -> usize
     }
 }
 
-// Whether the items are at hand where they lie: each, as `key`, is a word at most, as numbers are,
-// and all of them together fit into a processor's own cache. Longer items mostly point to what is
-// compared. Where reading takes so long, a branch that is guessed well, and reads ahead, is better
-// than none.
+// Whether the items are at hand where they lie: each, as `key`, is a word at most, and all of them
+// together fit into a processor's own cache. Where reading takes so long, a branch that is guessed
+// well, and reads ahead, is better than none.
 #[inline(always)]
 fn is_read_fast<K>(items: &[K], key: &K) -> bool
     ensures short { result ≡ true → length items.now < 2 ^ 17 }
 {
-    size_of_val(key) <= 8 && items.len() < 1 << 17
+    is_word(key) && items.len() < 1 << 17
+}
+
+/// Whether an item is a word at most, as numbers are. Longer items mostly point to what is
+/// compared.
+#[inline(always)]
+pub(crate) fn is_word<K>(item: &K) -> bool {
+    size_of_val(item) <= 8
 }

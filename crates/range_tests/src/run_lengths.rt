@@ -100,7 +100,7 @@ struct Row {
 // Runs just below a power of two have the fewest comparisons for their items, and those just above
 // it are found last.
 #[rattlefmt::skip]
-const ROWS: [Row; 14] = [
+const ROWS: [Row; 22] = [
     Row { runs: &[1], times: 24 },
     Row { runs: &[2], times: 12 },
     Row { runs: &[3], times: 12 },
@@ -115,6 +115,16 @@ const ROWS: [Row; 14] = [
     Row { runs: &[3, 4, 5, 6, 7], times: 3 },
     Row { runs: &[15, 16, 17, 1], times: 2 },
     Row { runs: &[0, 7, 0, 6, 3, 1], times: 4 },
+
+    // Whole runs come first, for six rounds. From here on short ones are read, too.
+    Row { runs: &[1], times: 120 },
+    Row { runs: &[0, 1], times: 60 },
+    Row { runs: &[3], times: 60 },
+    Row { runs: &[7], times: 34 },
+    Row { runs: &[1, 2, 3], times: 30 },
+    Row { runs: &[3, 4, 5, 6, 7], times: 9 },
+    Row { runs: &[8, 1, 9, 2, 7], times: 8 },
+    Row { runs: &[0, 7, 0, 6, 3, 1], times: 12 },
 ];
 
 // Whether all hold of the pattern, so often.

@@ -6,6 +6,7 @@ ghost use Rattle.range_merge.specs.Counting.{AddsAtMost};
 ghost use Rattle.range_merge.specs.Runs.{weight};
 
 use crate::compare::Compare;
+use crate::merge_state::counting::ByPlace;
 use crate::merge_state::output::Output;
 use crate::merge_state::over_slices::SliceMergeState;
 use crate::merging;
@@ -49,8 +50,9 @@ impl<'a, K> CountMergeState<'a, K> {
         ensures comparisons { AddsAtMost (C.count cmp.old) (C.count cmp.new) (2 * weight C.order a.now b.now) }
     {
         let mut state = Self::new(a, b);
+        let mut reader = ByPlace::of(&state);
         // Nothing is lost: a count never stops a merge, and never fails.
-        let _ = merging::merge(&mut state, op, cmp);
+        let _ = merging::merge_with(&mut state, op, cmp, &mut reader);
         state.result()
     }
 }

@@ -5,6 +5,7 @@
 pub(crate) mod bool_op;
 pub(crate) mod buffer;
 pub(crate) mod count;
+pub(crate) mod counting;
 pub(crate) mod grows_at_end;
 pub(crate) mod in_place;
 pub(crate) mod in_place_ref;

@@ -49,9 +49,9 @@ impl<'a, O: MergeOperation> MergeOperation for Relative<'a, O> {
     }
 }
 
-// Whether the answer differs from the one where both sides are off.
+/// Whether the answer differs from the one where both sides are off.
 #[inline(always)]
-fn is_on<O: MergeOperation>(op: &O, ac: bool, bc: bool) -> bool {
+pub(crate) fn is_on<O: MergeOperation>(op: &O, ac: bool, bc: bool) -> bool {
     (ac & op.takes_a(false)) != (bc & op.takes_b(ac))
 }
 
@@ -104,16 +104,34 @@ fn step<K, P: Copier<K>, O: MergeOperation, C: Compare<K>>(
     Place { i, j, k, next }
 }
 
-// Whether items of one side alone were read since `from`, and the next one is of that side.
+/// Whether items of one side alone were read since `from`, and the next one is of that side.
 #[inline(always)]
-fn is_long(from: Place, at: Place) -> bool {
-    (at.next.is_lt() & (at.j == from.j)) | (at.next.is_gt() & (at.i == from.i))
+pub(crate) fn is_long(from: Place, at: Place) -> bool {
+    (at.j == from.j && at.next.is_lt()) || (at.i == from.i && at.next.is_gt())
 }
 
-// Whether four steps can be made, where so many items are unread and so many have room.
+/// Whether each list has items enough for eight steps, where so many are unread: each step compares
+/// the next ones.
 #[inline(always)]
-fn has_four(lefts: usize, rights: usize, room: usize) -> bool {
-    lefts >= 5 && rights >= 5 && room >= 4
+pub(crate) fn has_nine(lefts: usize, rights: usize) -> bool {
+    lefts >= 9 && rights >= 9
+}
+
+// Whether eight steps can be made, where so many items are unread and so many have room.
+#[inline(always)]
+fn has_eight(lefts: usize, rights: usize, room: usize) -> bool {
+    has_nine(lefts, rights) && room >= 8
+}
+
+/// A place of the whole lists, from one in windows that begin at `start`.
+#[inline(always)]
+pub(crate) fn beyond(start: Place, at: Place) -> Place {
+    Place {
+        i: start.i + at.i,
+        j: start.j + at.j,
+        k: start.k + at.k,
+        next: at.next,
+    }
 }
 
 /// Reads items of both slices, one or both at a step, from their starts on, until a run is long, a
@@ -145,11 +163,11 @@ pub(crate) fn read_singly<K, P: Copier<K>, O: MergeOperation, C: Compare<K>>(
     };
     let mut lefts = a;
     let mut rights = b;
-    while has_four(lefts.len(), rights.len(), out.len() - here.k) {
+    while has_eight(lefts.len(), rights.len(), out.len() - here.k) {
         // The lengths of these are known, so each index is seen to be within them.
-        let left = &lefts[..5];
-        let right = &rights[..5];
-        let room = &mut out[here.k..here.k + 4];
+        let left = &lefts[..9];
+        let right = &rights[..9];
+        let room = &mut out[here.k..here.k + 8];
         let op = &Relative {
             op,
             ac: here.i % 2 == 1,
@@ -165,15 +183,17 @@ pub(crate) fn read_singly<K, P: Copier<K>, O: MergeOperation, C: Compare<K>>(
         let two = step(left, right, one, &mut firsts, op, by, cmp, room, keeps);
         let three = step(left, right, two, &mut firsts, op, by, cmp, room, keeps);
         let four = step(left, right, three, &mut firsts, op, by, cmp, room, keeps);
-        lefts = &lefts[four.i..];
-        rights = &rights[four.j..];
-        here = Place {
-            i: here.i + four.i,
-            j: here.j + four.j,
-            k: here.k + four.k,
-            next: four.next,
-        };
         if is_long(from, four) {
+            return beyond(here, four);
+        }
+        let five = step(left, right, four, &mut firsts, op, by, cmp, room, keeps);
+        let six = step(left, right, five, &mut firsts, op, by, cmp, room, keeps);
+        let seven = step(left, right, six, &mut firsts, op, by, cmp, room, keeps);
+        let eight = step(left, right, seven, &mut firsts, op, by, cmp, room, keeps);
+        lefts = &lefts[eight.i..];
+        rights = &rights[eight.j..];
+        here = beyond(here, eight);
+        if is_long(four, eight) {
             return here;
         }
     }

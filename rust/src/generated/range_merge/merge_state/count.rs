@@ -2,6 +2,7 @@
 //! A merge that only counts what is taken.
 
 use crate::generated::range_merge::compare::Compare;
+use crate::generated::range_merge::merge_state::counting::ByPlace;
 use crate::generated::range_merge::merge_state::output::Output;
 use crate::generated::range_merge::merge_state::over_slices::SliceMergeState;
 use crate::generated::range_merge::merging;
@@ -54,8 +55,9 @@ impl<'a, K> CountMergeState<'a, K> {
         cmp: &mut C,
     ) -> usize {
         let mut state = Self::new(a, b);
+        let mut reader = ByPlace::of(&state);
         // Nothing is lost: a count never stops a merge, and never fails.
-        let _ = merging::merge(&mut state, op, cmp);
+        let _ = merging::merge_with(&mut state, op, cmp, &mut reader);
         state.result()
     }
 }

@@ -5,8 +5,8 @@ use crate::generated::range_merge::compare::{Compare, Copier};
 use crate::generated::range_merge::merge_state::output::Output;
 use crate::generated::range_merge::merge_state::over_slices::SliceMergeState;
 use crate::generated::range_merge::merge_state::small_vec::Copying;
-use crate::generated::range_merge::merge_state::MergeState;
 use crate::generated::range_merge::operations::MergeOperation;
+use crate::generated::range_merge::pacing::{are_few, Rounds};
 use crate::generated::range_merge::short_runs::ShortRuns;
 use crate::generated::range_merge::singly::{copied, read_singly, Place, Relative};
 use crate::support::Vec;
@@ -44,21 +44,12 @@ pub(crate) struct Singly<'p, K, P: Copier<K>> {
     copier: &'p P,
     // For how many items room is made before a read.
     room: usize,
-    // How many rounds come next, if that is more than six.
-    rounds: u32,
-    // Whether the read before came to its end soon.
-    was_short: bool,
+    rounds: Rounds,
     of: PhantomData<K>,
 }
 
 // For so many items room is made at first.
 const ROOM: usize = 64;
-// A read is worth its call from so many items of each list on, and was, if it came so far.
-const FEW: usize = 16;
-// A read costs at most so many comparisons more than its runs allow, and each round leaves one.
-const PAID: u32 = 6;
-// So many rounds at most come between two reads.
-const LONGEST: u32 = 512;
 
 impl<'p, K, P: Copier<K>> Singly<'p, K, P> {
     /// A reader for items that are plain data.
@@ -70,23 +61,15 @@ impl<'p, K, P: Copier<K>> Singly<'p, K, P> {
         Some(Singly {
             copier,
             room: ROOM,
-            rounds: PAID,
-            was_short: false,
+            rounds: Rounds::new(),
             of: PhantomData,
         })
     }
 
-    // Fits the rounds and the room to how far a read came: where runs are soon long again, they are
-    // better taken whole.
+    // Fits the rounds and the room to how far a read came.
     #[inline(always)]
     fn learn(&mut self, at: Place) {
-        let is_short = at.i.max(at.j) < FEW;
-        self.rounds = if is_short && self.was_short {
-            self.rounds.saturating_mul(8).min(LONGEST)
-        } else {
-            PAID
-        };
-        self.was_short = is_short;
+        self.rounds.learn(at);
         self.room = if self.room - at.k.min(self.room) < 8 {
             self.room.saturating_mul(2)
         } else {
@@ -100,7 +83,7 @@ impl<'a, 'p, K, P: Copier<K>, By, L: Room<K, By, P, O, C>, O: MergeOperation, C:
 {
     #[inline(always)]
     fn rounds(&self) -> Option<u32> {
-        Some(self.rounds.max(PAID))
+        Some(self.rounds.count())
     }
 
     #[inline(always)]
@@ -111,7 +94,7 @@ impl<'a, 'p, K, P: Copier<K>, By, L: Room<K, By, P, O, C>, O: MergeOperation, C:
         next: Ordering,
         cmp: &mut C,
     ) -> Ordering {
-        if state.a_len() < FEW || state.b_len() < FEW {
+        if are_few(state) {
             return next;
         }
         let at = read_short_runs(state, self.copier, self.room, op, next, cmp);

@@ -5,8 +5,8 @@ use Rattle.range_merge.proofs.Outputs.{All-rest}
 use Rattle.range_merge.proofs.Pairs.{AllPairs-drop}
 use Rattle.range_merge.proofs.merge_state.reading.SinglyShortRunsSliceMergeState.read.Goals as goal
 
-pub returns-then-a_len-lt-FEW-clause-goes_on : goal.returns-then-a_len-lt-FEW-clause-goes_on
-returns-then-a_len-lt-FEW-clause-goes_on g c = record {
+pub returns-then-are_few-clause-goes_on : goal.returns-then-are_few-clause-goes_on
+returns-then-are_few-clause-goes_on g c = record {
   progress = Progress-none;
   left_ascends = c.requires.left_ascending;
   right_ascends = c.requires.right_ascending;

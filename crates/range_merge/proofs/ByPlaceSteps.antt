@@ -1,0 +1,178 @@
+-- One step of a read by place: what it counts, and how far the read came.
+--     Counts                      how far a read came, so many steps after a look
+--     Counts-start                nothing was read yet
+--     Counts-four, Counts-looked  after four steps, and at a look
+--     Progress-counted            what was counted, with what was counted before
+use Rattle.std.proofs.Common.{◌≡◌, refl, ap, sym, ◌∙◌, ℕ, zero, suc, ◌+◌, ◌-◌, ◌*◌, ◌^◌, ◌<◌, ◌≤◌, Bool, true, false, cond, List, [], ◌∷◌, ◌++◌, length, take, drop, Some, arith}
+use mir.Val.{bool_byte}
+use Rattle.std.specs.List.{AllZip}
+use Rattle.std.proofs.lemmas.List.{drop-drop, length-append, length-map, length-take-le}
+use Rattle.std.proofs.lemmas.List.Elements.{length_all_zip}
+use Rattle.std.specs.Cmp.{IsTotalOrder}
+use Rattle.std.specs.Ordering.{is_le}
+use Rattle.std.specs.declared.cmp.Ordering.{Ordering}
+use Rattle.std.specs.declared.cmp.Ordering.TheVariants.{Less, Equal, Greater}
+use Rattle.range_merge.specs.Boundaries.{IsAscending, is_odd}
+use Rattle.range_merge.specs.ByPlace.{IsCounted}
+use Rattle.range_merge.specs.Changes.{taken_item, taken_items}
+use Rattle.range_merge.specs.Connective.{Table, differ}
+use Rattle.range_merge.specs.Copies.{IsAppended, items_if}
+use Rattle.range_merge.specs.Parts.{Progress}
+use Rattle.range_merge.specs.Runs.{weight}
+use Rattle.range_merge.specs.Singly.{table_from, lefts_of, rights_of, IsLong}
+use Rattle.range_merge.specs.Steps.{FirstsStand, one_of_run, takes}
+use Rattle.range_merge.proofs.SinglySteps.{Reads, Reads-start, Reads-more, Reads-made, Reads-cost, Reads-looked, takes-at}
+use Rattle.range_merge.proofs.Relative.{Progress-from}
+
+-- one if it is taken
+abbrev pub one_if : Bool → ℕ
+one_if t = cond t 1 0
+
+byte-one : (t : Bool) → bool_byte t ≡ one_if t
+byte-one true = refl
+byte-one false = refl
+
+-- a step counts an item, if it is taken
+pub counted-if : (t wanted : Bool) (k : ℕ) → t ≡ wanted → k + bool_byte t ≡ k + one_if wanted
+counted-if t wanted k same = ap (λ n. k + n) (byte-one t ∙ ap one_if same)
+
+module _ {K : Type 0} where
+  alike-same : (xs : List K) → AllZip (λ x y. x ≡ y) xs xs
+  alike-same [] = tt
+  alike-same (x ∷ xs) = (refl, alike-same xs)
+
+  -- the items themselves, put behind others
+  themselves : (items old : List K) → IsAppended (λ x y. x ≡ y) items old (old ++ items)
+  themselves items old = record { copies = items; alike_to = alike-same items; appended = refl }
+
+  length-items_if : (t : Bool) (items : List K) → length items ≡ 1 → length (items_if t items) ≡ one_if t
+  length-items_if true items one = one
+  length-items_if false items one = refl
+
+  -- a step reads one item
+  length-one : (how : Ordering) (l r : List K) → 0 < length l → 0 < length r → length (take 1 (cond (is_le how) l r)) ≡ 1
+  length-one Less l r lefts rights = length-take-le 1 l lefts
+  length-one Equal l r lefts rights = length-take-le 1 l lefts
+  length-one Greater l r lefts rights = length-take-le 1 r rights
+
+  -- the first items of what is behind in a window, and of the whole
+  FirstsStand-take : (order : K → K → Ordering) (m n : ℕ) (l r : List K) (how : Ordering) → FirstsStand order (take m l) (take n r) (Some how) → FirstsStand order l r (Some how)
+  FirstsStand-take order zero n l r how h = absurd (omega (arith, h.0))
+  FirstsStand-take order (suc m) zero l r how h = absurd (omega (arith, h.1))
+  FirstsStand-take order (suc m) (suc n) [] r how h = absurd (omega (arith, h.0))
+  FirstsStand-take order (suc m) (suc n) (x ∷ l) [] how h = absurd (omega (arith, h.1))
+  FirstsStand-take order (suc m) (suc n) (x ∷ l) (y ∷ r) how h = (omega arith, omega arith, h.2)
+
+  take-none : (n : ℕ) → take {A = K} n [] ≡ []
+  take-none zero = refl
+  take-none (suc n) = refl
+
+  drop-of_take : (u n : ℕ) (xs : List K) → drop u (take n xs) ≡ take (n - u) (drop u xs)
+  drop-of_take zero n xs =
+      let same : n ≡ n - 0 = omega arith in
+      ap (λ k. take k xs) same
+  drop-of_take (suc u) zero xs =
+      let same : 0 ≡ 0 - suc u = omega arith in
+      ap (λ k. take k (drop (suc u) xs)) same
+  drop-of_take (suc u) (suc n) [] = sym (take-none (suc n - suc u))
+  drop-of_take (suc u) (suc n) (x ∷ xs) =
+      let same : n - u ≡ suc n - suc u = omega arith in
+      drop-of_take u n xs ∙ ap (λ k. take k (drop u xs)) same
+
+  rest-window : (n i u : ℕ) (xs : List K) → drop u (take n (drop i xs)) ≡ take (n - u) (drop (i + u) xs)
+  rest-window n i u xs = drop-of_take u n (drop i xs) ∙ ap (take (n - u)) (drop-drop u i xs)
+
+  -- the first items of what is behind in windows that begin at i and j, and of the whole
+  FirstsStand-window : (order : K → K → Ordering) (n n' i j u v : ℕ) (l r : List K) (how : Ordering)
+      → FirstsStand order (drop u (take n (drop i l))) (drop v (take n' (drop j r))) (Some how) → FirstsStand order (drop (i + u) l) (drop (j + v) r) (Some how)
+  FirstsStand-window order n n' i j u v l r how h =
+      FirstsStand-take order (n - u) (n' - v) (drop (i + u) l) (drop (j + v) r) how (rw (← rest-window n i u l, ← rest-window n' j v r) h)
+
+module _ {K : Type 0} (order : K → K → Ordering) (f : Table) (a b : List K) where
+  -- how far a read came, m steps after a look at i1 and j1, where k items are taken
+  pub record Counts (count0 m i1 j1 i j k count : ℕ) (next : Ordering) : Type 0 where
+    pub out : List K
+    pub len : length out ≡ k
+    pub reads : Reads (λ x y. x ≡ y) order f a b count0 m i1 j1 i j out count next
+
+  -- nothing was read yet
+  pub Counts-start : (count : ℕ) (next : Ordering) → FirstsStand order a b (Some next) → Counts count 0 0 0 0 0 0 count next
+  Counts-start count next stands = record { out = []; len = refl; reads = Reads-start (λ x y. x ≡ y) order f a b count next stands }
+
+  pub Counts-counted : {count0 m i1 j1 i j k count : ℕ} {next : Ordering} → Counts count0 m i1 j1 i j k count next → IsCounted order f a b i j k next
+  Counts-counted w = record { out = w.out; len = w.len; read = w.reads.read }
+
+  pub Counts-cost : {count0 m i1 j1 i j k count : ℕ} {next : Ordering} → m ≤ 4 → Counts count0 m i1 j1 i j k count next
+      → count + 2 * weight order (drop i a) (drop j b) ≤ count0 + 2 * weight order a b + 6
+  Counts-cost few w = Reads-cost (λ x y. x ≡ y) order f a b few w.reads
+
+  pub Counts-made : {count0 m i1 j1 i j k count : ℕ} {next : Ordering}
+      → m ≤ 4 → length a + length b < 2 ^ 64 → count0 < 2 ^ 127 → Counts count0 m i1 j1 i j k count next → count + 8 < 2 ^ 128 - 1
+  Counts-made few fits made w = Reads-made (λ x y. x ≡ y) order f a b few (omega (arith, fits)) made w.reads
+
+  -- a window begins at a look
+  pub Counts-window : {count0 i j k count : ℕ} {next : Ordering} → Counts count0 0 i j i j k count next
+      → Counts count0 0 (i + 0) (j + 0) (i + 0) (j + 0) (k + 0) count next
+  Counts-window {i} {j} {k} w =
+      let i_is : i + 0 ≡ i = omega arith in
+      let j_is : j + 0 ≡ j = omega arith in
+      let k_is : k + 0 ≡ k = omega arith in
+      rw (i_is, j_is, k_is) w
+
+  module _ (o : IsTotalOrder order) (a_ascends : IsAscending order a) (b_ascends : IsAscending order b) where
+    -- one step more, in windows that begin at i and j
+    pub Counts-step : (n n' i j u v k0 k : ℕ) {count0 m i1 j1 count : ℕ} {how : Ordering} {u' v' k' count' : ℕ} {next : Ordering}
+        → m ≤ 3 → Counts count0 m i1 j1 (i + u) (j + v) (k0 + k) count how → u' ≡ u + lefts_of how → v' ≡ v + rights_of how
+        → k' ≡ k + one_if (takes (table_from f (is_odd i) (is_odd j)) (is_odd u) (is_odd v) (one_of_run how))
+        → FirstsStand order (drop u' (take n (drop i a))) (drop v' (take n' (drop j b))) (Some next) → count' ≡ count + 1
+        → Counts count0 (m + 1) i1 j1 (i + u') (j + v') (k0 + k') count' next
+    Counts-step n n' i j u v k0 k {how} {u'} {v'} {k'} {next} few w left right taken stands counted =
+        let firsts : List K = take 1 (cond (is_le how) (drop (i + u) a) (drop (j + v) b)) in
+        let run = one_of_run how in
+        let wanted : Bool = takes f (is_odd (i + u)) (is_odd (j + v)) run in
+        let many : length (items_if wanted firsts) ≡ one_if wanted =
+        length-items_if wanted firsts (length-one how (drop (i + u) a) (drop (j + v) b) w.reads.read.stands.0 w.reads.read.stands.1) in
+        let same : one_if (takes (table_from f (is_odd i) (is_odd j)) (is_odd u) (is_odd v) run) ≡ one_if wanted = ap one_if (takes-at f i j u v run) in
+        record {
+          out = w.out ++ items_if wanted firsts;
+          len = omega (arith, length-append w.out (items_if wanted firsts), w.len, many, same, taken);
+          reads = Reads-more (λ x y. x ≡ y) order f a b o a_ascends b_ascends few w.reads (omega (arith, left)) (omega (arith, right)) (themselves (items_if wanted firsts) w.out)
+              (FirstsStand-window order n n' i j u' v' a b next stands) counted;
+        }
+
+    -- four steps from a look on, which was at u and v of the windows
+    pub Counts-four : (n n' i j u v k0 k : ℕ) {count0 c0 c1 c2 c3 c4 u1 u2 u3 u4 v1 v2 v3 v4 k1 k2 k3 k4 : ℕ} {h0 h1 h2 h3 h4 : Ordering}
+        → Counts count0 0 (i + u) (j + v) (i + u) (j + v) (k0 + k) c0 h0
+        → u1 ≡ u + lefts_of h0 → v1 ≡ v + rights_of h0 → k1 ≡ k + one_if (takes (table_from f (is_odd i) (is_odd j)) (is_odd u) (is_odd v) (one_of_run h0))
+        → FirstsStand order (drop u1 (take n (drop i a))) (drop v1 (take n' (drop j b))) (Some h1) → c1 ≡ c0 + 1
+        → u2 ≡ u1 + lefts_of h1 → v2 ≡ v1 + rights_of h1 → k2 ≡ k1 + one_if (takes (table_from f (is_odd i) (is_odd j)) (is_odd u1) (is_odd v1) (one_of_run h1))
+        → FirstsStand order (drop u2 (take n (drop i a))) (drop v2 (take n' (drop j b))) (Some h2) → c2 ≡ c1 + 1
+        → u3 ≡ u2 + lefts_of h2 → v3 ≡ v2 + rights_of h2 → k3 ≡ k2 + one_if (takes (table_from f (is_odd i) (is_odd j)) (is_odd u2) (is_odd v2) (one_of_run h2))
+        → FirstsStand order (drop u3 (take n (drop i a))) (drop v3 (take n' (drop j b))) (Some h3) → c3 ≡ c2 + 1
+        → u4 ≡ u3 + lefts_of h3 → v4 ≡ v3 + rights_of h3 → k4 ≡ k3 + one_if (takes (table_from f (is_odd i) (is_odd j)) (is_odd u3) (is_odd v3) (one_of_run h3))
+        → FirstsStand order (drop u4 (take n (drop i a))) (drop v4 (take n' (drop j b))) (Some h4) → c4 ≡ c3 + 1
+        → Counts count0 4 (i + u) (j + v) (i + u4) (j + v4) (k0 + k4) c4 h4
+    Counts-four n n' i j u v k0 k {u1} {u2} {u3} {v1} {v2} {v3} {k1} {k2} {k3} w l1 r1 t1 s1 c1 l2 r2 t2 s2 c2 l3 r3 t3 s3 c3 l4 r4 t4 s4 c4 =
+        let one = Counts-step n n' i j u v k0 k (omega arith) w l1 r1 t1 s1 c1 in
+        let two = Counts-step n n' i j u1 v1 k0 k1 (omega arith) one l2 r2 t2 s2 c2 in
+        let three = Counts-step n n' i j u2 v2 k0 k2 (omega arith) two l3 r3 t3 s3 c3 in
+        Counts-step n n' i j u3 v3 k0 k3 (omega arith) three l4 r4 t4 s4 c4
+
+    -- it goes on after a look
+    pub Counts-looked : (i j u v u' v' : ℕ) {count0 k count : ℕ} {next : Ordering} → Counts count0 4 (i + u) (j + v) (i + u') (j + v') k count next
+        → (IsLong next u v u' v' → ⊥) → Counts count0 0 (i + u') (j + v') (i + u') (j + v') k count next
+    Counts-looked i j u v u' v' w ends = record {
+      out = w.out;
+      len = w.len;
+      reads = Reads-looked (λ x y. x ≡ y) order f a b o a_ascends b_ascends i j u v u' v' w.reads ends;
+    }
+
+-- what was counted from where the sides stand, with what was counted before
+pub Progress-counted : {K : Type 0} (order : K → K → Ordering) (f : Table) (ac bc : Bool) (l r : List K) (i j k was : ℕ) {next : Ordering}
+    → IsCounted order (table_from f ac bc) l r i j k next
+    → Progress order f false l r ac bc (λ ts. was ≡ length ts) (drop i l) (drop j r) (differ ac (is_odd i)) (differ bc (is_odd j)) (λ ts. was + k ≡ length ts)
+Progress-counted order f ac bc l r i j k was w =
+    Progress-from (λ x y. x ≡ y) order f ac bc l r i j (λ ts. was ≡ length ts) (λ ts. was + k ≡ length ts) w.out
+    (λ before ts same so_far.
+    omega (arith, so_far, length-append before ts, length-map ts taken_item, length_all_zip (λ x y. x ≡ y) (taken_items ts) w.out same, w.len))
+    w.read.progress

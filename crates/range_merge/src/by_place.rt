@@ -1,0 +1,125 @@
+//! Short runs of two slices of which only a number is wanted, read without a branch on what is
+//! compared.
+//!
+//! Nothing is copied: a step compares two items where they lie. So items may be of any type, and
+//! as in a read item by item a place's parity says how a side stands, and that of the number how
+//! the answer does.
+ghost use Rattle.std.specs.Prelude.{◌≡◌, ◌+◌, ◌-◌, ◌*◌, ◌^◌, ◌<◌, ◌≤◌, IsTrue, length, drop, Some, if◌then◌else◌};
+ghost use Rattle.range_merge.specs.Boundaries.{IsAscending, is_odd};
+ghost use Rattle.range_merge.specs.ByPlace.{IsCounted};
+ghost use Rattle.range_merge.specs.Runs.{weight};
+ghost use Rattle.range_merge.specs.Singly.{is_answer, lefts_of, rights_of};
+ghost use Rattle.range_merge.specs.Steps.{FirstsStand, one_of_run, takes};
+
+use crate::compare::Compare;
+use crate::operations::MergeOperation;
+use crate::singly::{Place, Relative, beyond, has_nine, is_long, is_on};
+use std::cmp::Ordering;
+
+// Reads the first item, or one of each list where they are equal, and compares the next two.
+#[inline(always)]
+fn step<K, O: MergeOperation, C: Compare<K>>(
+    a: &[K],
+    b: &[K],
+    at: Place,
+    op: &O,
+    cmp: &mut C,
+) -> Place
+    requires left_some { at.i + 1 < length a.now }
+    requires right_some { at.j + 1 < length b.now }
+    requires room { at.k ≤ at.i + at.j }
+    requires fits { length a.now + length b.now < 2 ^ 64 }
+    requires answered { is_odd at.k ≡ is_answer (O.connective op.now) (is_odd at.i) (is_odd at.j) }
+    requires made { C.count cmp.old < 2 ^ 128 - 1 }
+    ensures lefts { result.i ≡ at.i + lefts_of at.next }
+    ensures rights { result.j ≡ at.j + rights_of at.next }
+    ensures answered { is_odd result.k
+        ≡ is_answer (O.connective op.now) (is_odd result.i) (is_odd result.j) }
+    ensures taken { result.k ≡ at.k
+        + (if takes (O.connective op.now) (is_odd at.i) (is_odd at.j) (one_of_run at.next)
+        then 1 else 0) }
+    ensures left_within { result.i ≤ at.i + 1 }
+    ensures right_within { result.j ≤ at.j + 1 }
+    ensures at_most { result.k + (at.i + at.j) ≤ at.k + (result.i + result.j) }
+    ensures next { FirstsStand C.order (drop result.i a.now) (drop result.j b.now)
+        (Some result.next) }
+    ensures counted { C.count cmp.new ≡ C.count cmp.old + 1 }
+{
+    let i = at.i + at.next.is_le() as usize;
+    let j = at.j + at.next.is_ge() as usize;
+    let on = is_on(op, i % 2 == 1, j % 2 == 1);
+    let k = at.k + (on != (at.k % 2 == 1)) as usize;
+    let next = cmp.compare(&a[i], &b[j]);
+    Place { i, j, k, next }
+}
+
+/// Reads items of both slices, one or both at a step, from their starts on, until a run is long or
+/// a slice is nearly used up. It counts what is taken, and returns how far it came.
+///
+/// It looks at the length of a run after each four steps, as a read item by item does.
+#[inline(always)]
+pub(crate) fn read_by_place<K, O: MergeOperation, C: Compare<K>>(
+    a: &[K],
+    b: &[K],
+    next: Ordering,
+    op: &O,
+    cmp: &mut C,
+) -> Place
+    requires left_ascending { IsAscending C.order a.now }
+    requires right_ascending { IsAscending C.order b.now }
+    requires stands { FirstsStand C.order a.now b.now (Some next) }
+    requires fits { length a.now + length b.now < 2 ^ 64 }
+    requires made { C.count cmp.old < 2 ^ 127 }
+    ensures read { IsCounted C.order (O.connective op.now) a.now b.now
+        result.i result.j result.k result.next }
+
+    // Six more than twice the weight of what was read, if that.
+    ensures comparisons { C.count cmp.new
+        + 2 * weight C.order (drop result.i a.now) (drop result.j b.now)
+        ≤ C.count cmp.old + 2 * weight C.order a.now b.now + 6 }
+    ensures made { C.count cmp.old ≤ C.count cmp.new }
+    ensures at_most { result.k ≤ result.i + result.j }
+{
+    let mut here = Place {
+        i: 0,
+        j: 0,
+        k: 0,
+        next,
+    };
+    let mut lefts = a;
+    let mut rights = b;
+    while has_nine(lefts.len(), rights.len()) {
+        // The lengths of these are known, so each index is seen to be within them.
+        let left = &lefts[..9];
+        let right = &rights[..9];
+        let op = &Relative {
+            op,
+            ac: here.i % 2 == 1,
+            bc: here.j % 2 == 1,
+        };
+        let from = Place {
+            i: 0,
+            j: 0,
+            k: 0,
+            next: here.next,
+        };
+        let one = step(left, right, from, op, cmp);
+        let two = step(left, right, one, op, cmp);
+        let three = step(left, right, two, op, cmp);
+        let four = step(left, right, three, op, cmp);
+        if is_long(from, four) {
+            return beyond(here, four);
+        }
+        let five = step(left, right, four, op, cmp);
+        let six = step(left, right, five, op, cmp);
+        let seven = step(left, right, six, op, cmp);
+        let eight = step(left, right, seven, op, cmp);
+        lefts = &lefts[eight.i..];
+        rights = &rights[eight.j..];
+        here = beyond(here, eight);
+        if is_long(four, eight) {
+            return here;
+        }
+    }
+    here
+}
