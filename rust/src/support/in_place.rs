@@ -2,6 +2,7 @@
 //!
 //! In Rattle a gap in a list is filled with blank items, which ask for a default value. Here nothing lies in a gap, so that any element will do: the merge runs over [`Slot`]s of lists that are [`Opened`].
 
+use super::by_bits::ByBits;
 use super::opened::{Given, Opened};
 use super::slot::{BySlots, OfSlots, Slot};
 use super::{AllocError, SmallVec};
@@ -24,13 +25,21 @@ pub struct InPlaceMergeStateRef<K, P, const N: usize>(PhantomData<(K, P)>);
 impl<K, const N: usize> InPlaceMergeState<K, N> {
     /// Leaves in `a` the items at which the connective of `op` changes between two strictly sorted lists. Of two equal items it is the one of `a` that stays.
     ///
-    /// It asks for room in `a` for the items of `b` before it changes anything. If that fails, `a` is as it was and `b` comes back.
+    /// It asks for room in `a` for the items of `b` before it changes anything. Numbers it may merge into a new list. If that fails, `a` is as it was and `b` comes back.
     pub fn merge<O: MergeOperation, C: Compare<K>>(
         a: &mut SmallVec<K, N>,
         mut b: SmallVec<K, N>,
         op: &O,
         cmp: &mut C,
     ) -> Result<(), (AllocError, SmallVec<K, N>)> {
+        match numbers_apart(a, &b, op, cmp) {
+            Ok(None) => {}
+            Ok(Some(merged)) => {
+                *a = merged;
+                return Ok(());
+            }
+            Err(error) => return Err((error, b)),
+        }
         let extra = b.len();
         if let Err(error) = prepared(a, extra) {
             return Err((error, b));
@@ -68,6 +77,26 @@ impl<K, P: Copier<K>, const N: usize> InPlaceMergeStateRef<K, P, N> {
         let right = CopiedRight::<_, OfSlots<P>, _>::over(slots, &mut given);
         merge_opened(a, right, b.len(), op, cmp);
         Ok(())
+    }
+}
+
+/// So many items, or fewer, are moved within room that they have in less time than memory for a new list takes.
+const FEW: usize = 32;
+
+/// Merges numbers into a new list where that is faster, as [`merged_apart`] does, and returns `None` for all other items.
+#[inline(always)]
+fn numbers_apart<K, O: MergeOperation, C: Compare<K>, const N: usize>(
+    a: &SmallVec<K, N>,
+    b: &SmallVec<K, N>,
+    op: &O,
+    cmp: &mut C,
+) -> Result<Option<SmallVec<K, N>>, AllocError> {
+    let both = a.len().saturating_add(b.len());
+    match ByBits::of_numbers() {
+        Some(by_bits) if both <= N || both > FEW.min(a.capacity()) => {
+            merged_apart(a, b.as_slice(), &by_bits, op, cmp)
+        }
+        _ => Ok(None),
     }
 }
 

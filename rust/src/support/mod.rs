@@ -3,6 +3,7 @@
 //! Written by hand and not proved.
 
 mod alloc_error;
+mod by_bits;
 mod clones;
 #[cfg(feature = "c")]
 mod decimal;

@@ -5,8 +5,10 @@ use crate::common::one_in;
 use crate::element::{before_clone, compare, Plan, PLAN};
 use crate::without_messages;
 use range_sets::{RangeSet, RangeSetEntry};
+use std::cell::Cell;
 use std::cmp::Ordering;
 use std::panic::{catch_unwind, AssertUnwindSafe};
+use std::sync::Mutex;
 
 /// Its comparisons and clones go by the plan.
 #[derive(Debug)]
@@ -221,4 +223,73 @@ fn a_set_in_which_a_clone_without_a_drop_panicked_is_empty_or_as_it_was_and_of_u
             }
         }
     });
+}
+
+/// A number that is borrowed for good, and that a comparison of the left side takes away.
+struct Taken(Cell<Option<&'static mut u32>>);
+
+thread_local! {
+    static TAKES: Cell<bool> = const { Cell::new(false) };
+}
+
+/// What was taken. It stays, as what is borrowed for good does.
+static TAKEN: Mutex<Vec<&'static mut u32>> = Mutex::new(Vec::new());
+
+impl Taken {
+    fn number(&self) -> u32 {
+        let borrowed = self.0.take();
+        let number = borrowed.as_ref().map_or(0, |it| **it);
+        self.0.set(borrowed);
+        number
+    }
+}
+
+impl Ord for Taken {
+    fn cmp(&self, other: &Self) -> Ordering {
+        let ordering = self.number().cmp(&other.number());
+        if TAKES.with(Cell::get) {
+            TAKEN.lock().unwrap().extend(self.0.take());
+        }
+        ordering
+    }
+}
+
+impl PartialOrd for Taken {
+    fn partial_cmp(&self, other: &Self) -> Option<Ordering> {
+        Some(self.cmp(other))
+    }
+}
+
+impl PartialEq for Taken {
+    fn eq(&self, other: &Self) -> bool {
+        self.cmp(other) == Ordering::Equal
+    }
+}
+
+impl Eq for Taken {}
+
+#[test]
+fn what_a_comparison_takes_out_of_an_element_without_a_drop_is_there_once() {
+    let set = |first: u32| -> RangeSet<[Taken; 2]> {
+        let numbers: Box<[u32]> = (0..200).map(|i| 2 * i + first).collect();
+        let borrowed = Box::leak(numbers).iter_mut();
+        let list = borrowed.map(|it| Taken(Cell::new(Some(it)))).collect();
+        RangeSet::new(list).unwrap_or_else(|| panic!("they are sorted"))
+    };
+    let (mut a, b) = (set(1), set(2));
+    TAKES.with(|it| it.set(true));
+    a |= b;
+    TAKES.with(|it| it.set(false));
+    let mut taken = TAKEN.lock().unwrap();
+    let n = taken.len();
+    taken.extend(a.boundaries().iter().filter_map(|it| it.0.take()));
+    let mut all: Vec<*const u32> = taken.iter().map(|it| &**it as _).collect();
+    all.sort();
+    all.dedup();
+    assert!(
+        n > 0 && all.len() == taken.len(),
+        "{n}, {} of {}",
+        all.len(),
+        taken.len()
+    );
 }

@@ -524,6 +524,32 @@ fn a_number_needs_no_copy_before_a_change() {
     no_copy_before_a_change::<u128>();
 }
 
+/// The other side is owned. Where both are a few and the set has room, a new list isn't asked for.
+#[test]
+fn a_few_numbers_move_in_room_that_is_there() {
+    let ranges = |first: u64| (0..5).map(move |i| 10 * i + first..10 * i + first + 2);
+    let mut set: range_sets::RangeSet2<u64> = ranges(0).collect();
+    let other: range_sets::RangeSet2<u64> = ranges(5).collect();
+    set.reserve(10);
+    let room = set.capacity();
+    let ((), refused) = refusing(Refusal::From(0), || set |= other);
+    assert_eq!(
+        (set.boundaries().len(), set.capacity(), refused),
+        (20, room, 0)
+    );
+    let ((), refused) = refusing(Refusal::From(0), || set.remove(40..));
+    assert_eq!(
+        (set.boundaries().len(), set.capacity(), refused),
+        (16, room, 0)
+    );
+    // Without memory for a new list, many move too.
+    let mut many: range_sets::RangeSet2<u64> = (0..50).flat_map(|i| ranges(100 * i)).collect();
+    let other: range_sets::RangeSet2<u64> = (0..50).flat_map(|i| ranges(100 * i + 5)).collect();
+    many.reserve(500);
+    let ((), refused) = refusing(Refusal::From(0), || many |= other);
+    assert_eq!((many.boundaries().len(), refused), (1000, 1));
+}
+
 /// A list that grows by one boundary at a time doubles its room.
 #[test]
 fn a_list_that_grows_asks_seldom() {
