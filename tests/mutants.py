@@ -15,20 +15,22 @@ search's failure show anything at a goal whose answer stands there under a name 
 A file is an edit as 'rt must-fail' reads it, with a line 'function: PATH' more, or several. It may add files, code or
 proofs, each by 'add: PATH' and its lines, 'line: TEXT': so a mutant brings a function that it calls, which must be proved.
 
-    tests/mutants.py [--said FOLDER] [--only WORD] [CRATE..]
+    tests/mutants.py [--said FOLDER] [--only WORD] [--minutes N] [CRATE..]
 
 It begins with what 'rt check' or 'rt lib' kept in crates/*/out. It names the mutants that no clause refused, and ends with
 0 if there is no such. With --said it leaves all that the checks said in the folder; --only tries the mutants with WORD in
-their names.
+their names. After so many minutes it ends what it does, and skips the mutants that are left.
 """
 
 import argparse
 import os
 import re
 import shutil
+import signal
 import subprocess
 import sys
 import tempfile
+import threading
 import time
 from concurrent.futures import ThreadPoolExecutor
 from dataclasses import dataclass, field
@@ -57,6 +59,10 @@ GONE = re.compile(r"has no field|is not in scope|has no `|was not admitted")
 
 class BadEdit(Exception):
     """An edit that can't be applied."""
+
+
+class TimeUp(Exception):
+    """A check was ended, since there was no more time."""
 
 
 @dataclass
@@ -213,13 +219,26 @@ def read_said(crate, lines):
     return said
 
 
-def check(copy, flags, keep):
+def check(copy, flags, keep, until=float("inf")):
     """Checks the copy. Returns what is said, line by line, and the processor seconds that it took."""
+    left = until - time.monotonic()
+    if left <= 0:
+        raise TimeUp
     with open(keep, "a+", encoding="utf-8", errors="replace") as said:
         begun = said.tell()
-        ran = subprocess.Popen(["rt", "check", *flags], cwd=copy, stdin=subprocess.DEVNULL, stdout=said, stderr=subprocess.STDOUT)
+        words = {"stdin": subprocess.DEVNULL, "stdout": said, "stderr": subprocess.STDOUT}
+        # In a session of its own, all that the check began can be ended with it.
+        ran = subprocess.Popen(["rt", "check", *flags], cwd=copy, start_new_session=left < float("inf"), **words)
+        end = threading.Timer(left, os.killpg, (ran.pid, signal.SIGKILL)) if left < float("inf") else None
+        if end:
+            end.daemon = True
+            end.start()
         _, status, used = os.wait4(ran.pid, 0)
         ran.returncode = os.waitstatus_to_exitcode(status)
+        if end:
+            end.cancel()
+        if time.monotonic() >= until:
+            raise TimeUp
         said.seek(begun)
         return said.read().splitlines(), used.ru_utime + used.ru_stime
 
@@ -295,13 +314,13 @@ class Tried:
 class Crate:
     """The trial of a crate's mutants in a copy of it."""
 
-    def __init__(self, crate, room, said, flags):
-        self.crate, self.copy, self.flags = crate, room / "crates" / crate.name, flags
+    def __init__(self, crate, room, said, flags, until):
+        self.crate, self.copy, self.flags, self.until = crate, room / "crates" / crate.name, flags, until
         self.said = (said or room) / f"{crate.name}.txt"
         self.seconds, self.refused, self.failed = 0, 0, []
 
     def check(self, *flags):
-        lines, seconds = check(self.copy, [*self.flags, *flags], self.said)
+        lines, seconds = check(self.copy, [*self.flags, *flags], self.said, self.until)
         self.seconds += seconds
         return read_said(self.crate, lines)
 
@@ -367,51 +386,77 @@ class Crate:
         return True
 
 
-def tried(crate, only, said, flags):
-    """Tries the mutants of a crate. Returns how many were refused, the processor seconds, and what failed."""
+@dataclass
+class Count:
+    """How many mutants were refused, how many are left for want of time, the processor seconds, and what failed."""
+
+    refused: int = 0
+    skipped: int = 0
+    seconds: float = 0.0
+    failed: list = field(default_factory=list)
+
+    def add(self, other):
+        self.refused, self.skipped = self.refused + other.refused, self.skipped + other.skipped
+        self.seconds, self.failed = self.seconds + other.seconds, self.failed + other.failed
+
+
+def tried(crate, only, said, flags, until):
+    """Tries the mutants of a crate."""
     try:
         edits = edits_of(crate, only)
     except (BadEdit, OSError) as why:
-        return 0, 0, [f"{crate.name}: {why}"]
-    with tempfile.TemporaryDirectory(prefix="mutants-") as room:
-        copied(Path(room))
-        trial = Crate(crate, Path(room), said, flags)
-        trial.rounds(edits)
-    return trial.refused, trial.seconds, trial.failed
+        return Count(failed=[f"{crate.name}: {why}"])
+    if not edits:
+        return Count()
+    count, trial = Count(), None
+    try:
+        if not (crate / CHECKED).is_dir():
+            print(f"mutants: {crate.name}: no check kept anything, so it is checked first", flush=True)
+            count.seconds = check(crate, flags, os.devnull, until)[1]
+        with tempfile.TemporaryDirectory(prefix="mutants-") as room:
+            copied(Path(room))
+            trial = Crate(crate, Path(room), said, flags, until)
+            trial.rounds(edits)
+    except TimeUp:
+        count.skipped = max(len(edits) - (trial.refused + len(trial.failed) if trial else 0), 0)
+        print(f"mutants: SKIPPED: {crate.name}: {count.skipped} of {len(edits)}, for want of time", flush=True)
+    if trial:
+        count.add(Count(trial.refused, 0, trial.seconds, trial.failed))
+    return count
 
 
-def prepare(crate):
-    """Has something to begin with. Returns the processor seconds."""
-    if (crate / CHECKED).is_dir():
-        return 0
-    print(f"mutants: {crate.name}: no check kept anything, so it is checked first", flush=True)
-    return check(crate, [], os.devnull)[1]
+def lowest_first():
+    """The crates with mutants, each after those that it uses."""
+    lines = (ROOT / "crates.txt").read_text(encoding="utf-8").splitlines()
+    crates = [ROOT / "crates" / re.split(r"[ :]", line)[0] for line in lines if line.strip()]
+    return [it for it in crates if any((it / folder).is_dir() for folder in EDITS)]
 
 
 def main():
     words = argparse.ArgumentParser(description="Tries mutants: each has to leave a clause open.")
     words.add_argument("crates", nargs="*", metavar="CRATE")
     words.add_argument("--only", default="", metavar="WORD", help="tries the mutants with this in their names")
+    words.add_argument("--minutes", type=float, default=float("inf"), metavar="N", help="skips what isn't done by then")
     words.add_argument("--said", type=Path, metavar="FOLDER", help="leaves what the checks said there")
     given = words.parse_args()
-    crates = [it for it in sorted((ROOT / "crates").iterdir()) if any((it / folder).is_dir() for folder in EDITS)]
+    crates = lowest_first()
     if unknown := set(given.crates) - {it.name for it in crates}:
         words.error(f"no mutants of {', '.join(sorted(unknown))}")
     crates = [it for it in crates if not given.crates or it.name in given.crates]
     if given.said:
         given.said.mkdir(parents=True, exist_ok=True)
-    seconds = sum(prepare(crate) for crate in crates)
+    until = time.monotonic() + 60 * given.minutes
     flags = ["--jobs", str(max((os.cpu_count() or 1) // min(AT_ONCE, len(crates)), 1))]
-    refused, failed = 0, []
+    count = Count()
     with ThreadPoolExecutor(AT_ONCE) as pool:
-        for count, used, found in pool.map(lambda crate: tried(crate, given.only, given.said, flags), crates):
-            refused, seconds, failed = refused + count, seconds + used, failed + found
-    for failure in failed:
+        for each in pool.map(lambda crate: tried(crate, given.only, given.said, flags, until), crates):
+            count.add(each)
+    for failure in count.failed:
         print(f"mutants: FAILED: {failure}")
-    print(f"mutants: {seconds / 60:.1f} processor minutes")
-    print(f"mutants: {refused} refused by a clause, {len(failed)} not")
-    print(f"{refused} passed, {len(failed)} failed")
-    return 1 if failed or not refused else 0
+    print(f"mutants: {count.seconds / 60:.1f} processor minutes")
+    print(f"mutants: {count.refused} refused by a clause, {len(count.failed)} not")
+    print(f"{count.refused} passed, {len(count.failed)} failed, {count.skipped} skipped")
+    return 1 if count.failed or not count.refused + count.skipped else 0
 
 
 if __name__ == "__main__":
