@@ -4,6 +4,7 @@ ghost use Rattle.std.specs.Ordering.{is_lt};
 ghost use Rattle.range_collections.specs.Boundaries.{IsAscending, is_odd};
 ghost use Rattle.range_collections.specs.Split.{split_left, split_right};
 ghost use Rattle.range_collections.specs.Ranges.{range_items};
+ghost use Rattle.range_collections.specs.Changes.{changes};
 ghost use Rattle.range_c.specs.Answers.{AreAscending, AnswersList, connective_of};
 
 use range_collections::{
@@ -39,13 +40,16 @@ pub(crate) fn merge<T: Ord + Copy, O: MergeOperation>(
 }
 
 // The same, by the connective that a number tells. The four operations have a merge of their own,
-// which is faster.
+// which is faster. Where there is no room at all, it only counts.
 pub(crate) fn combine<T: Ord + Copy>(a: &[T], b: &[T], connective: u32, out: &mut [T]) -> usize
     requires sorted { AreAscending T.cmp a.now b.now }
     requires off { connective < 8 }
     requires fits { length a.now + length b.now < 2 ^ 64 }
     ensures { AnswersList T.cmp (connective_of connective) a.now b.now out.old out.new result }
 {
+    if out.is_empty() {
+        return combined_len(a, b, connective);
+    }
     if connective == LEFT + RIGHT + BOTH {
         return merge(a, b, &UnionOp, out);
     }
@@ -59,6 +63,18 @@ pub(crate) fn combine<T: Ord + Copy>(a: &[T], b: &[T], connective: u32, out: &mu
         return merge(a, b, &XorOp, out);
     }
     merge(a, b, &decoded(connective), out)
+}
+
+// How many boundaries that is.
+fn combined_len<T: Ord>(a: &[T], b: &[T], connective: u32) -> usize
+    requires sorted { AreAscending T.cmp a.now b.now }
+    requires off { connective < 8 }
+    requires fits { length a.now + length b.now < 2 ^ 64 }
+    ensures { result ≡ length (changes T.cmp (connective_of connective) a.now b.now) }
+{
+    let left = RangeSetRef::new_unchecked(a);
+    let right = RangeSetRef::new_unchecked(b);
+    left.merge_len(right, &decoded(connective), &mut Comparisons::new())
 }
 
 // The connective that a number tells.

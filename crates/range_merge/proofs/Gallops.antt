@@ -2,7 +2,7 @@
 use Rattle.std.proofs.Common.{◌≡◌, ℕ, ◌+◌, ◌-◌, ◌*◌, ◌/◌, ◌^◌, ◌<◌, ◌≤◌, Bool, true, false, Option, List, length, Some, slice_get, HoldsAt, arith, ap, refl, subst, sym, ◌∙◌}
 use Rattle.std.specs.declared.cmp.Ordering.{Ordering}
 use Rattle.std.specs.declared.cmp.Ordering.TheVariants.{Less, Equal, Greater}
-use Rattle.std.specs.Ordering.{is_lt}
+use Rattle.std.specs.Ordering.{is_gt, is_lt}
 use Rattle.std.proofs.lemmas.Option.{get_or_from_slice_get}
 use Rattle.range_merge.specs.Runs.{digits}
 use Rattle.range_merge.specs.Galloping.{IsBracket, StandsAt}
@@ -13,6 +13,11 @@ pub Less-from_test : (b : Bool) (o p : Ordering) → o ≡ p → b ≡ is_lt o �
 Less-from_test b Less p e t h = sym e
 Less-from_test b Equal p e t h = cc
 Less-from_test b Greater p e t h = cc
+
+pub Greater-from_test : (b : Bool) (o p : Ordering) → o ≡ p → b ≡ is_gt o → b ≡ true → p ≡ Greater
+Greater-from_test b Less p e t h = cc
+Greater-from_test b Equal p e t h = cc
+Greater-from_test b Greater p e t h = sym e
 
 pub not_less-from_test : (b : Bool) (o p : Ordering) → o ≡ p → b ≡ is_lt o → b ≡ false → p ≡ Less → ⊥
 not_less-from_test b Less p e t h l = cc

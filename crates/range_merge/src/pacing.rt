@@ -4,51 +4,47 @@ ghost use Rattle.std.specs.Prelude.{◌≡◌, ◌<◌, ◌≤◌, false, length
 use crate::merge_state::MergeState;
 use crate::singly::Place;
 
-// A read is worth its call from so many items of each list on, and was, if it came so far.
+// A read is worth its call from so many items of each list on.
 const FEW: usize = 16;
+// One that came to fewer items of each list met a long run soon: at its first look, or its second.
+const SOON: usize = 5;
+// So many of these in a row are no chance: among random items, too, some runs are long.
+const IN_A_ROW: u32 = 3;
 // A read costs at most so many comparisons more than its runs allow, and each round leaves one.
 const PAID: u32 = 6;
-// So many rounds at most come between two reads.
-const LONGEST: u32 = 512;
+// So many rounds come where runs are mostly long.
+const MANY: u32 = 512;
 
 /// How many rounds come before the next read.
 #[derive(Drop)]
 pub(crate) struct Rounds {
-    // So many, if that is more than six.
-    next: u32,
-    // Whether the read before came to its end soon.
-    was_short: bool,
+    // How many reads in a row met a long run soon.
+    soon: u32,
 }
 
 impl Rounds {
     /// As few as may be.
     #[inline(always)]
     pub(crate) fn new() -> Self {
-        Rounds {
-            next: PAID,
-            was_short: false,
-        }
+        Rounds { soon: 0 }
     }
 
-    /// How many come next.
+    /// How many come next: many if runs are better taken whole.
     #[inline(always)]
     pub(crate) fn count(&self) -> u32
         ensures { 6 ≤ result }
     {
-        self.next.max(PAID)
+        if self.soon < IN_A_ROW { PAID } else { MANY }
     }
 
-    /// Fits them to how far a read came: where runs are soon long again, they are better taken
-    /// whole.
+    /// Learns how far a read came.
     #[inline(always)]
     pub(crate) fn learn(&mut self, at: Place) {
-        let is_short = at.i.max(at.j) < FEW;
-        self.next = if is_short && self.was_short {
-            self.next.saturating_mul(8).min(LONGEST)
+        self.soon = if at.i.max(at.j) < SOON {
+            self.soon.saturating_add(1)
         } else {
-            PAID
+            0
         };
-        self.was_short = is_short;
     }
 }
 

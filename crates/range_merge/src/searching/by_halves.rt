@@ -7,7 +7,6 @@ ghost use Rattle.range_merge.specs.Counting.{AddsAtMost};
 ghost use Rattle.range_merge.specs.Runs.{digits};
 
 use crate::compare::Compare;
-use std::cmp::Ordering;
 
 /// The index of the item that is equal to `key`, or in an `Err` the index where such an item would
 /// go.
@@ -32,10 +31,13 @@ pub(super) fn search_by_halves<K, C: Compare<K>>(
     let mut high = items.len();
     while low < high {
         let mid = low + (high - low) / 2;
-        match cmp.compare(&items[mid], key) {
-            Ordering::Less => low = mid + 1,
-            Ordering::Equal => return Ok(mid),
-            Ordering::Greater => high = mid,
+        let how = cmp.compare(&items[mid], key);
+        if how.is_gt() {
+            high = mid;
+        } else if how.is_lt() {
+            low = mid + 1;
+        } else {
+            return Ok(mid);
         }
     }
     Err(low)

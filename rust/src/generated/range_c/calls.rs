@@ -29,8 +29,11 @@ pub(crate) fn merge<T: Ord + Copy, O: MergeOperation>(
 }
 
 // The same, by the connective that a number tells. The four operations have a merge of their own,
-// which is faster.
+// which is faster. Where there is no room at all, it only counts.
 pub(crate) fn combine<T: Ord + Copy>(a: &[T], b: &[T], connective: u32, out: &mut [T]) -> usize {
+    if out.is_empty() {
+        return combined_len(a, b, connective);
+    }
     if connective == LEFT + RIGHT + BOTH {
         return merge(a, b, &UnionOp, out);
     }
@@ -44,6 +47,13 @@ pub(crate) fn combine<T: Ord + Copy>(a: &[T], b: &[T], connective: u32, out: &mu
         return merge(a, b, &XorOp, out);
     }
     merge(a, b, &decoded(connective), out)
+}
+
+// How many boundaries that is.
+fn combined_len<T: Ord>(a: &[T], b: &[T], connective: u32) -> usize {
+    let left = RangeSetRef::new_unchecked(a);
+    let right = RangeSetRef::new_unchecked(b);
+    left.merge_len(right, &decoded(connective), &mut Comparisons::new())
 }
 
 // The connective that a number tells.
