@@ -37,9 +37,8 @@ Boundaries evenly(std::size_t boundaries, std::int64_t first, std::int64_t step)
     return list;
 }
 
-// Boundaries at distances of 1 to 31, so of 16 in the middle.
-Boundaries at_random(Random& random, std::size_t boundaries) {
-    std::uniform_int_distribution<std::int64_t> distance(1, 31);
+// Boundaries at distances that are drawn.
+template <class Distance> Boundaries at_distances(Random& random, std::size_t boundaries, Distance distance) {
     Boundaries list(boundaries);
     std::int64_t last = 0;
     for (std::int64_t& each : list) {
@@ -47,6 +46,17 @@ Boundaries at_random(Random& random, std::size_t boundaries) {
         each = last;
     }
     return list;
+}
+
+// At distances of 1 to 31, so of 16 in the middle.
+Boundaries at_random(Random& random, std::size_t boundaries) {
+    return at_distances(random, boundaries, std::uniform_int_distribution<std::int64_t>(1, 31));
+}
+
+// Anywhere, as numbers that are drawn lie: each may be a boundary, one of 16 is.
+Boundaries anywhere(Random& random, std::size_t boundaries) {
+    std::geometric_distribution<std::int64_t> gap(1.0 / 16);
+    return at_distances(random, boundaries, [&gap](Random& it) { return 1 + gap(it); });
 }
 
 Pair random_pair(Random& random, std::size_t boundaries) {
@@ -98,6 +108,12 @@ Case random_case(std::size_t size) {
         that.pairs.push_back(random_pair(random, size));
     }
     return that;
+}
+
+Case anywhere_case(std::size_t size) {
+    Random random(size);
+    Boundaries left = anywhere(random, size);
+    return one("anywhere", size, Pair{std::move(left), anywhere(random, size)});
 }
 
 // One range in the middle, from inside a range of the many up to inside another.
@@ -194,6 +210,7 @@ std::vector<Job> all_jobs() {
     jobs.push_back({one("blocks of 64", 65536, run_pair(65536, 64)), joined({new_sets, changes})});
     jobs.push_back({one("one range", 65536, one_range(65536)), joined({new_sets, changes})});
     jobs.push_back({random_case(65536), joined({new_sets, changes})});
+    jobs.push_back({anywhere_case(65536), joined({new_sets, changes})});
     for (std::size_t size : {2, 10, 1000, 100000, 1000000}) {
         jobs.push_back(
             {asked("one set", size), {Task::contains, Task::contains_waiting, Task::split, Task::split_waiting}});
