@@ -61,7 +61,7 @@ pub(crate) fn search<K, C: Compare<K>>(items: &[K], key: &K, cmp: &mut C) -> Res
 /// ensures comparisons: AddsAtMost (C.count cmp.old) (C.count cmp.new) (digits (length
 ///     items.now))
 /// ```
-#[inline]
+#[inline(always)]
 pub(crate) fn count_up_to<K, C: Compare<K>>(items: &[K], key: &K, cmp: &mut C) -> usize {
     if is_read_fast(items, key) {
         return count_branchless(items, key, cmp).len;

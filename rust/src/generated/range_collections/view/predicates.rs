@@ -34,7 +34,7 @@ impl<'a, T: Ord> RangeSetRef<'a, T> {
     /// ensures comparisons: AddsAtMost count.old count.new (digits (length
     ///     self.now.boundaries.now))
     /// ```
-    #[inline]
+    #[inline(always)]
     pub(crate) fn contains_counted(&self, value: &T, count: &mut Comparisons) -> bool {
         is_odd(count_up_to(self.boundaries, value, count))
     }
