@@ -92,7 +92,7 @@ impl<'p, K, P: Copier<K>> Model for Singly<'p, K, P> {
 }
 
 // For so many items room is made at first.
-const ROOM: usize = 64;
+const ROOM: usize = 128;
 
 impl<'p, K, P: Copier<K>> Singly<'p, K, P> {
     /// A reader for items that are plain data.

@@ -49,7 +49,7 @@ pub(crate) struct Singly<'p, K, P: Copier<K>> {
 }
 
 // For so many items room is made at first.
-const ROOM: usize = 64;
+const ROOM: usize = 128;
 
 impl<'p, K, P: Copier<K>> Singly<'p, K, P> {
     /// A reader for items that are plain data.
