@@ -46,7 +46,7 @@ def skipped_field(found, at):
 
 
 def change_attributes(found):
-    """Removes those of proofs, takes `Drop` out of derives, and writes a `derive_where` out."""
+    """Removes those of proofs, takes `Drop` out of derives, writes a `derive_where` out, and has rustc inline some functions."""
     at = 0
     while at < len(found):
         inner = stands(found, at, "#", "!", "[")
@@ -63,9 +63,19 @@ def change_attributes(found):
         elif name == "derive_where":
             write_copy_out(found, at, end)
         elif name in tables.ATTRIBUTES and not inner:
-            at = end + 1
+            if name == "inline" and function_after(found, end) in tables.INLINED:
+                found[opening + 2 : end] = made("(always)", "", found[at].line)
+            at = closing(found, opening) + 1
         else:
             raise Refused(found[at].line, f"the attribute {name} isn't known")
+
+
+def function_after(found, end):
+    """The name of the function that an attribute before it is for, which ends at `end`, or None."""
+    at = end + 1
+    while found[at].text in ("pub", "(", "crate", "super", ")"):
+        at += 1
+    return found[at + 1].text if found[at].text == "fn" else None
 
 
 def remove_attribute(found, at, end):

@@ -56,6 +56,8 @@ SAME = set(
 # Macros, attributes and derives that are the same in Rust.
 MACROS = {"assert", "debug_assert", "unreachable", "write", "writeln"}
 ATTRIBUTES = {"inline", "must_use", "cold", "repr"}
+# Functions that are inlined in any case: rustc else keeps the count of their comparisons in memory.
+INLINED = {"contains_counted", "count_up_to"}
 DERIVES = {"Clone", "Copy", "Debug", "Default", "Eq", "Hash", "Ord", "PartialEq", "PartialOrd"}
 # Those of proofs.
 PROOF_ATTRIBUTES = {"cycle", "tactic"}

@@ -50,7 +50,7 @@ pub fn search<K, C: Compare<K>>(items: &[K], key: &K, cmp: &mut C) -> Result<usi
 ///
 /// The items must be strictly sorted. It makes at most as many comparisons as `items.len()` has
 /// binary digits.
-#[inline(always)]
+#[inline]
 pub fn count_up_to<K, C: Compare<K>>(items: &[K], key: &K, cmp: &mut C) -> usize
     requires ascending { IsAscending C.order items.now }
     requires made { C.count cmp.old < 2 ^ 127 }

@@ -29,7 +29,7 @@ impl<'a, T: Ord> RangeSetRef<'a, T> {
 
     /// The same, counted: at most as many comparisons as the number of boundaries has binary
     /// digits.
-    #[inline(always)]
+    #[inline]
     pub fn contains_counted(&self, value: &T, count: &mut Comparisons) -> bool
         requires { count.old < 2 ^ 64 }
         ensures member { result ≡ member T.cmp self.now.boundaries.now value.now }

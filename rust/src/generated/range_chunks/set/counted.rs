@@ -20,7 +20,7 @@ impl<T: Ord> ChunkedRangeSet<T> {
     /// ensures member: result ≡ member T.cmp self.now value.now
     /// ensures comparisons: AddsAtMost count.old count.new (digits (length self.now) + digits 512)
     /// ```
-    #[inline]
+    #[inline(always)]
     pub(crate) fn contains_counted(&self, value: &T, count: &mut Comparisons) -> bool {
         is_member(self.chunks.as_slice(), value, count)
     }
