@@ -57,20 +57,8 @@ pub extern "C" fn combine(left: usize, right: usize, answers: u32, to: usize) {
             both: answers & 4 != 0,
             neither: answers & 8 != 0,
         };
-        page.sets[to] = combined(&page.sets[left], &page.sets[right], op);
+        page.sets[to] = page.sets[left].combine(&page.sets[right], op);
     });
-}
-
-/// The operations that have a sign are called by it.
-fn combined(left: &Set, right: &Set, op: Connective) -> Set {
-    match op {
-        Connective::UNION => left | right,
-        Connective::INTERSECTION => left & right,
-        Connective::DIFFERENCE => left - right,
-        Connective::SYMMETRIC_DIFFERENCE => left ^ right,
-        Connective::NOT_LEFT => !left,
-        op => left.combine(right, op),
-    }
 }
 
 /// Puts a range into a set.
@@ -88,13 +76,13 @@ pub extern "C" fn remove(place: usize, start: u64, end: u64) {
 /// Puts a range without an end into a set.
 #[no_mangle]
 pub extern "C" fn insert_from(place: usize, start: u64) {
-    with_page(|page| page.sets[place] |= Set::from(start..));
+    with_page(|page| page.sets[place].insert(start..));
 }
 
 /// Takes a range without an end out of a set.
 #[no_mangle]
 pub extern "C" fn remove_from(place: usize, start: u64) {
-    with_page(|page| page.sets[place] -= Set::from(start..));
+    with_page(|page| page.sets[place].remove(start..));
 }
 
 /// Returns 1 if a value is a member.
