@@ -195,13 +195,18 @@ class Trial:
         """Which of the laws and mutants that name the record notice that one field is gone, if any does."""
         naming = self.naming(gone.name, gone.record.crate)
         laws, edits = laws & naming, [it for it in edits if paths(it.functions) <= naming]
-        for these in mutants.side_by_side(edits) or ([[]] if laws else []):
+        rounds = mutants.side_by_side(edits) or ([[]] if laws else [])
+        while rounds:
+            these = rounds.pop(0)
             said, _ = self.check([gone], sorted({*laws, *functions_of(these)}), these)
             if failed := [it for it in sorted(laws) if not is_well(said[f"{gone.record.crate}::{it}"])]:
                 return named(failed[0])
             for edit in these:
                 if all(PROVED.match(said[it].verdict) for it in edit.functions):
                     return f"the mutant `{edit.name}`"
+            # One may call a function whose proof another took away.
+            if len(these) > 1:
+                rounds += [[it] for it in these if all(is_well(said[of]) for of in it.functions)]
         return None
 
     def whole(self, gone):
