@@ -53,7 +53,7 @@ Boundaries at_random(Random& random, std::size_t boundaries) {
     return at_distances(random, boundaries, std::uniform_int_distribution<std::int64_t>(1, 31));
 }
 
-// Anywhere, as numbers that are drawn lie: each may be a boundary, one of 16 is.
+// Anywhere: each number is a boundary with a chance of one in 16.
 Boundaries anywhere(Random& random, std::size_t boundaries) {
     std::geometric_distribution<std::int64_t> gap(1.0 / 16);
     return at_distances(random, boundaries, [&gap](Random& it) { return 1 + gap(it); });
