@@ -1,75 +1,129 @@
-/* The calls for maps from ranges of one type of numbers, before the proved ones. It is included once for each type. */
+/* The calls for maps from ranges of one type of numbers. It is included once for each type. */
 
-/* Before each include NUMBER is the type of the keys, MAP and STRETCH are the header's structs for it, NAME(call) is the name of a call of the header,
- * and PROVED(call) that of the proved call that it stands before: `new` is given no map, {NULL}, and the others a map. */
-bool PROVED(new)(MAP *map);
-void PROVED(free)(MAP *map);
-bool PROVED(insert)(MAP *map, NUMBER start, NUMBER end, uint64_t value);
-bool PROVED(insert_from)(MAP *map, NUMBER start, uint64_t value);
-bool PROVED(remove)(MAP *map, NUMBER start, NUMBER end);
-bool PROVED(remove_from)(MAP *map, NUMBER start);
-bool PROVED(get)(MAP *map, NUMBER key, uint64_t *value);
-bool PROVED(range_at)(MAP *map, NUMBER key, NUMBER *start, bool *has_start, NUMBER *end, bool *has_end, uint64_t *value);
-size_t PROVED(len)(MAP *map);
+/* Before each include NUMBER is the type of the keys, MAP and STRETCH are the header's structs for it, NAME(call) is the name of a call
+ * of the header, and EXPORT(call) that of the export that it stands before, whose keys are WIDE and whose map is HELD: `new` and `copy`
+ * are given no map first, {NULL}, and the others a map. */
 
 range_set_status NAME(new)(MAP *map)
 {
     if (map == NULL) return RANGE_SET_BAD_ARGUMENT;
     map->at = NULL;
-    return PROVED(new)(map) ? RANGE_SET_DONE : RANGE_SET_NO_MEMORY;
+    return EXPORT(new)((HELD *)map) ? RANGE_SET_DONE : RANGE_SET_NO_MEMORY;
 }
 
 void NAME(free)(MAP *map)
 {
-    if (map != NULL && map->at != NULL) PROVED(free)(map);
+    if (map != NULL && map->at != NULL) EXPORT(free)((HELD *)map);
 }
 
 range_set_status NAME(insert)(MAP *map, NUMBER start, NUMBER end, uint64_t value)
 {
     if (map == NULL || map->at == NULL) return RANGE_SET_BAD_ARGUMENT;
-    return PROVED(insert)(map, start, end, value) ? RANGE_SET_DONE : RANGE_SET_NO_MEMORY;
+    return EXPORT(insert)((HELD *)map, start, end, value) ? RANGE_SET_DONE : RANGE_SET_NO_MEMORY;
 }
 
 range_set_status NAME(remove)(MAP *map, NUMBER start, NUMBER end)
 {
     if (map == NULL || map->at == NULL) return RANGE_SET_BAD_ARGUMENT;
-    return PROVED(remove)(map, start, end) ? RANGE_SET_DONE : RANGE_SET_NO_MEMORY;
+    return EXPORT(remove)((HELD *)map, start, end) ? RANGE_SET_DONE : RANGE_SET_NO_MEMORY;
 }
 
 range_set_status NAME(insert_from)(MAP *map, NUMBER start, uint64_t value)
 {
     if (map == NULL || map->at == NULL) return RANGE_SET_BAD_ARGUMENT;
-    return PROVED(insert_from)(map, start, value) ? RANGE_SET_DONE : RANGE_SET_NO_MEMORY;
+    return EXPORT(insert_from)((HELD *)map, start, value) ? RANGE_SET_DONE : RANGE_SET_NO_MEMORY;
 }
 
 range_set_status NAME(remove_from)(MAP *map, NUMBER start)
 {
     if (map == NULL || map->at == NULL) return RANGE_SET_BAD_ARGUMENT;
-    return PROVED(remove_from)(map, start) ? RANGE_SET_DONE : RANGE_SET_NO_MEMORY;
+    return EXPORT(remove_from)((HELD *)map, start) ? RANGE_SET_DONE : RANGE_SET_NO_MEMORY;
 }
 
 bool NAME(get)(MAP map, NUMBER key, uint64_t *value)
 {
     uint64_t it = 0;
-    bool found = map.at != NULL && PROVED(get)(&map, key, &it);
+    bool found = map.at != NULL && EXPORT(get)((HELD *)&map, key, &it);
     if (found && value != NULL) *value = it;
     return found;
 }
 
-STRETCH NAME(range_at)(MAP map, NUMBER key)
+/* The longest range around a key, which may be one that is too wide for the type. */
+static STRETCH NAME(around)(MAP map, WIDE key)
 {
     STRETCH it = {0, 0, 0, false, false, false};
-    if (map.at != NULL) it.has_value = PROVED(range_at)(&map, key, &it.start, &it.has_start, &it.end, &it.has_end, &it.value);
+    WIDE start = 0, end = 0;
+    if (map.at != NULL) it.has_value = EXPORT(range_at)((HELD *)&map, key, &start, &it.has_start, &end, &it.has_end, &it.value);
+    it.start = (NUMBER)start, it.end = (NUMBER)end;
     return it;
+}
+
+STRETCH NAME(range_at)(MAP map, NUMBER key)
+{
+    return NAME(around)(map, key);
+}
+
+size_t NAME(next_ranges)(MAP map, NUMBER from, STRETCH *out, size_t room)
+{
+    enum { SOME = 32 };
+    WIDE ends[2 * SOME], at = from;
+    uint64_t values[SOME];
+    size_t len = 0, some, found, i;
+    if (map.at == NULL || room == 0 || !is_array(out, room, sizeof *out)) return 0;
+    do {
+        some = room - len < SOME ? room - len : SOME;
+        found = EXPORT(overlapping)((HELD *)&map, at, GREATEST, ends, 2 * some, values, some);
+        for (i = 0; 2 * i < found; i++) {
+            const bool has_end = 2 * i + 1 < found;
+            at = has_end ? ends[2 * i + 1] : 0;
+            out[len++] = (STRETCH){(NUMBER)ends[2 * i], (NUMBER)at, values[i], true, has_end, true};
+        }
+    } while (found == 2 * some && len < room);
+    if (len < room && found % 2 == 0) {
+        const STRETCH last = NAME(around)(map, GREATEST);
+        if (last.has_value) out[len++] = last;
+    }
+    return len;
+}
+
+bool NAME(next)(MAP map, NUMBER from, STRETCH *stretch)
+{
+    STRETCH it = NAME(range_at)(map, from);
+    /* After keys without a value come some that have one. */
+    if (!it.has_value && it.has_end) it = NAME(range_at)(map, it.end);
+    if (it.has_value && stretch != NULL) *stretch = it;
+    return it.has_value;
+}
+
+range_set_status NAME(of)(const NUMBER *ranges, const uint64_t *values, size_t count, MAP *map)
+{
+    MAP made;
+    range_set_status status;
+    size_t i;
+    if (map == NULL || !is_array(ranges, count, 2 * sizeof *ranges) || !is_array(values, count, sizeof *values)
+        || overlap(map, sizeof *map, ranges, 2 * count * sizeof *ranges) || overlap(map, sizeof *map, values, count * sizeof *values))
+        return RANGE_SET_BAD_ARGUMENT;
+    status = NAME(new)(&made);
+    for (i = 0; status == RANGE_SET_DONE && i < count; i++) status = NAME(insert)(&made, ranges[2 * i], ranges[2 * i + 1], values[i]);
+    if (status != RANGE_SET_DONE) NAME(free)(&made);
+    *map = made;
+    return status;
+}
+
+range_set_status NAME(copy)(MAP map, MAP *copy)
+{
+    if (copy == NULL) return RANGE_SET_BAD_ARGUMENT;
+    if (map.at == NULL) return NAME(new)(copy);
+    copy->at = NULL;
+    return EXPORT(copy)((HELD *)copy, (HELD *)&map) ? RANGE_SET_DONE : RANGE_SET_NO_MEMORY;
 }
 
 size_t NAME(len)(MAP map)
 {
-    return map.at != NULL ? PROVED(len)(&map) : 0;
+    return map.at != NULL ? EXPORT(len)((HELD *)&map) : 0;
 }
 
 #undef NUMBER
 #undef MAP
 #undef STRETCH
 #undef NAME
-#undef PROVED

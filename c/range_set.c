@@ -1,11 +1,29 @@
-/* The layer before the proved calls: what can be told of pointers in C alone, and the statuses. It makes a set of a
+/* The layer before the exports of range_c: what only C can say of pointers, and the statuses. It makes a set of a
  * list that is strictly sorted, refuses a null pointer with a length, a length that no array has, and a buffer or result
- * that overlaps another argument, puts a valid address for a null pointer, and calls the proved function. Owned sets are made
- * of these calls. It is tested and not proved. */
+ * that overlaps another argument, puts a valid address for a null pointer, and calls the export. Owned sets are made
+ * of these calls. It is tested and not proved.
+ *
+ * The exports are those of the proved object; or, where RANGE_SET_PLAIN is defined, those of the Rust crate, which
+ * tools/plain-rust writes from the same source. */
 #include "range_set.h"
 
 #include <stdlib.h>
 #include <string.h>
+
+#ifdef RANGE_SET_PLAIN
+#define EXPORTED(name) plain_##name
+#else
+#define EXPORTED(name) proved_##name
+#endif
+
+/* A function that isn't inlined, so that what calls it last needs no frame; and one that is, for its constant arguments. */
+#ifdef __GNUC__
+#define APART __attribute__((noinline))
+#define WITHIN inline __attribute__((always_inline))
+#else
+#define APART
+#define WITHIN inline
+#endif
 
 const char *range_set_version(void)
 {
@@ -22,6 +40,7 @@ const char *range_set_status_text(range_set_status status)
     case RANGE_SET_NO_MEMORY: return "an allocation failed";
     case RANGE_SET_MALFORMED: return "the text isn't one of ranges";
     case RANGE_SET_OUT_OF_RANGE: return "a number of the text doesn't fit the type";
+    case RANGE_SET_MORE: return "the buffer is full, and more ranges follow";
     }
     return "this is no status";
 }
@@ -30,10 +49,10 @@ const char *range_set_status_text(range_set_status status)
 static inline bool overlap(const void *p, size_t size, const void *q, size_t other_size)
 {
     uintptr_t from = (uintptr_t)p, other = (uintptr_t)q;
-    return (size != 0) & (other_size != 0) & ((from - other < other_size) | (other - from < size));
+    return (from - other < other_size || other - from < size) && size != 0 && other_size != 0;
 }
 
-/* Whether so many bytes can stand there. */
+/* Whether an array of `len` items can stand there. */
 static inline bool is_array(const void *items, size_t len, size_t item_size)
 {
     return len <= PTRDIFF_MAX / item_size && (items != NULL || len == 0);
@@ -58,6 +77,107 @@ static void release(void *context, void *memory, size_t size)
     free(memory);
 }
 
+/* What sets in chunks and maps have their memory from: malloc, where there is no function. */
+static range_set_allocator heap;
+
+/* Before memory of an allocator stands its size, in as many bytes as keep each alignment that an export asks for. */
+enum { HEAD = 16 };
+
+void range_set_use_allocator(const range_set_allocator *allocator)
+{
+    static const range_set_allocator by_malloc = {NULL, NULL, NULL, NULL};
+    heap = allocator != NULL ? *allocator : by_malloc;
+}
+
+static void *behind_head(void *memory, size_t size)
+{
+    if (memory == NULL) return NULL;
+    memcpy(memory, &size, sizeof size);
+    return (char *)memory + HEAD;
+}
+
+static void *with_head(void *memory, size_t *size)
+{
+    memory = (char *)memory - HEAD;
+    memcpy(size, memory, sizeof *size);
+    return memory;
+}
+
+/* These stand for malloc, realloc and free below the exports. No size is above PTRDIFF_MAX, and no memory null. */
+void *range_heap_malloc(size_t size);
+void *range_heap_realloc(void *memory, size_t size);
+void range_heap_free(void *memory);
+
+void *range_heap_malloc(size_t size)
+{
+    if (heap.allocate == NULL) return malloc(size);
+    return behind_head(heap.allocate(heap.context, size + HEAD), size + HEAD);
+}
+
+void *range_heap_realloc(void *memory, size_t size)
+{
+    size_t old_size;
+    if (heap.allocate == NULL) return realloc(memory, size);
+    memory = with_head(memory, &old_size);
+    return behind_head(heap.resize(heap.context, memory, old_size, size + HEAD), size + HEAD);
+}
+
+void range_heap_free(void *memory)
+{
+    size_t size;
+    if (heap.allocate == NULL) {
+        free(memory);
+        return;
+    }
+    memory = with_head(memory, &size);
+    heap.release(heap.context, memory, size);
+}
+
+/* What stands from `from` to below `to` in a text, between two separators: `len` bytes at `text`, of which `status` and `told` are what
+ * check_text says. Of a number alone these bytes are the range from it on, in `from_on`, which has two numbers. */
+typedef struct part {
+    size_t from, to, len, told;
+    const char *text;
+    uint32_t status;
+    bool is_alone;
+    char from_on[32];
+} part;
+
+/* How many bytes of blanks stand before a range. */
+static size_t blanks_before(const char *text, size_t len)
+{
+    size_t at = 0;
+    while (at < len && ((unsigned char)text[at] <= ' ' || (unsigned char)text[at] > '~')) at++;
+    return at;
+}
+
+static bool is_digit(char it)
+{
+    return it >= '0' && it <= '9';
+}
+
+/* Makes the part the range from its number on, which ends where it stops being a text of ranges. More than DIGITS digits after the
+ * zeros fit no type, so the others are left out. */
+static void take_alone(part *it)
+{
+    enum { DIGITS = 24 };
+    const char *number = it->text + blanks_before(it->text, it->told), *end = it->text + it->told;
+    it->len = 0;
+    if (!is_digit(*number)) it->from_on[it->len++] = *number++;
+    while (end - number > 1 && *number == '0') number++;
+    for (; number < end && it->len < DIGITS; number++) it->from_on[it->len++] = *number;
+    memcpy(it->from_on + it->len, "..", 2);
+    it->len += 2;
+    it->text = it->from_on;
+}
+
+/* Writes where a text is refused, and returns the status. */
+static range_set_status refused_at(range_set_status status, size_t at, size_t *fault)
+{
+    if (fault != NULL) *fault = at;
+    return status;
+}
+
 #define NUMBER int32_t
 #define COUNT uint32_t
 #define MOST INT32_MAX
@@ -67,7 +187,7 @@ static void release(void *context, void *memory, size_t size)
 #define OWNED range_set_i32_owned
 #define CHUNKED range_set_i32_chunked
 #define NAME(call) range_set_i32_##call
-#define PROVED(call) proved_range_set_i32_##call
+#define EXPORT(call) EXPORTED(range_set_i32_##call)
 #include "range_set_calls.h"
 
 #define NUMBER uint32_t
@@ -79,7 +199,7 @@ static void release(void *context, void *memory, size_t size)
 #define OWNED range_set_u32_owned
 #define CHUNKED range_set_u32_chunked
 #define NAME(call) range_set_u32_##call
-#define PROVED(call) proved_range_set_u32_##call
+#define EXPORT(call) EXPORTED(range_set_u32_##call)
 #include "range_set_calls.h"
 
 #define NUMBER int64_t
@@ -91,7 +211,7 @@ static void release(void *context, void *memory, size_t size)
 #define OWNED range_set_i64_owned
 #define CHUNKED range_set_i64_chunked
 #define NAME(call) range_set_i64_##call
-#define PROVED(call) proved_range_set_i64_##call
+#define EXPORT(call) EXPORTED(range_set_i64_##call)
 #include "range_set_calls.h"
 
 #define NUMBER uint64_t
@@ -103,19 +223,52 @@ static void release(void *context, void *memory, size_t size)
 #define OWNED range_set_u64_owned
 #define CHUNKED range_set_u64_chunked
 #define NAME(call) range_set_u64_##call
-#define PROVED(call) proved_range_set_u64_##call
+#define EXPORT(call) EXPORTED(range_set_u64_##call)
 #include "range_set_calls.h"
+
+/* Maps with keys of 32 bits are kept as maps with keys of 64. */
+#define EXPORT(call) EXPORTED(range_map_i64_##call)
+#define WIDE int64_t
+#define GREATEST INT64_MAX
+#define HELD range_map_i64
 
 #define NUMBER int64_t
 #define MAP range_map_i64
 #define STRETCH range_map_i64_stretch
 #define NAME(call) range_map_i64_##call
-#define PROVED(call) proved_range_map_i64_##call
+#include "range_map_exports.h"
 #include "range_map_calls.h"
+
+#define NUMBER int32_t
+#define MAP range_map_i32
+#define STRETCH range_map_i32_stretch
+#define NAME(call) range_map_i32_##call
+#include "range_map_calls.h"
+
+#undef EXPORT
+#undef WIDE
+#undef GREATEST
+#undef HELD
+
+#define EXPORT(call) EXPORTED(range_map_u64_##call)
+#define WIDE uint64_t
+#define GREATEST UINT64_MAX
+#define HELD range_map_u64
 
 #define NUMBER uint64_t
 #define MAP range_map_u64
 #define STRETCH range_map_u64_stretch
 #define NAME(call) range_map_u64_##call
-#define PROVED(call) proved_range_map_u64_##call
+#include "range_map_exports.h"
 #include "range_map_calls.h"
+
+#define NUMBER uint32_t
+#define MAP range_map_u32
+#define STRETCH range_map_u32_stretch
+#define NAME(call) range_map_u32_##call
+#include "range_map_calls.h"
+
+#undef EXPORT
+#undef WIDE
+#undef GREATEST
+#undef HELD

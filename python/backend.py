@@ -1,9 +1,9 @@
 """Builds the wheel of range_sets. It needs a C compiler and Python's headers.
 
 The compiler is CC, or else cc. On x86-64 Linux the library is that of dist/, and nothing comes from the network. Elsewhere
-cargo builds it of the crate in rust/, which is written from the same proved source: CARGO is the command with its options. Both
-folders lie beside this one in the repository, or inside it in a source distribution. The config setting `library` chooses
-between `proved` and `rust` on any platform, and so does RANGE_SETS_LIBRARY.
+it is the layer in c/ over what cargo builds of the crate in rust/, which is written from the same proved source: CARGO is the
+command with its options. These folders lie beside this one in the repository, or inside it in a source distribution. The config
+setting `library` chooses between `proved` and `rust` on any platform, and so does RANGE_SETS_LIBRARY.
 """
 
 import base64
@@ -23,15 +23,19 @@ from pathlib import Path
 try:
     import tomllib
 except ModuleNotFoundError:
-    sys.exit("range_sets: Python 3.11 or later is wanted, not " + sys.version.split()[0])
+    sys.exit("range_sets: expected Python 3.11 or later, not " + sys.version.split()[0])
 
 HERE = Path(__file__).resolve().parent
 PROJECT = tomllib.loads((HERE / "pyproject.toml").read_text(encoding="utf-8"))["project"]
 NAME = PROJECT["name"].replace("-", "_")
 STEM = f"{NAME}-{PROJECT['version']}"
 SOURCES = [it for it in sorted((HERE / "src" / NAME).iterdir()) if it.is_file()]
-DIST = next((it for it in (HERE / "dist", HERE.parent / "dist") if it.is_dir()), HERE.parent / "dist")
-RUST = next((it for it in (HERE / "rust", HERE.parent / "rust") if it.is_dir()), HERE.parent / "rust")
+C, DIST, RUST = (
+    next((it for it in (HERE / name, HERE.parent / name) if it.is_dir()), HERE.parent / name) for name in ("c", "dist", "rust")
+)
+# The layer in C, which the library of dist/ has in it: its headers, and what is compiled before what cargo builds.
+HEADERS = ["include/range_set.h", *(f"range_{it}.h" for it in ("set_calls", "set_exports", "map_calls", "map_exports"))]
+LAYER = "range_set.c"
 LICENSES = ["LICENSE-MIT", "LICENSE-APACHE"]
 # The platform of the proved library.
 PROVED_FOR = "linux-x86_64"
@@ -65,11 +69,16 @@ def build_wheel(wheel_directory, config_settings=None, metadata_directory=None):
     return wheel
 
 
+def build_editable(wheel_directory, config_settings=None, metadata_directory=None):
+    """There is none: the compiled module lies beside the others."""
+    sys.exit("range_sets: an editable install isn't possible, since a part is compiled: run pip install again after each change")
+
+
 def build_sdist(sdist_directory, config_settings=None):
     """Writes the source distribution, with the library in it, and answers its name."""
     files = {it: HERE / it for it in ("pyproject.toml", "backend.py", "README.md")}
     files |= {f"src/{NAME}/{it.name}": it for it in SOURCES}
-    files |= {f"dist/{it}": DIST / it for it in ("librange_set.a", "range_set.h")}
+    files |= {"dist/librange_set.a": DIST / "librange_set.a"} | {f"c/{it}": C / it for it in (LAYER, *HEADERS)}
     files |= {f"rust/{it.relative_to(RUST).as_posix()}": it for it in crate()}
     files |= {it: found for it in LICENSES if (found := beside(it))}
     archive = f"{STEM}.tar.gz"
@@ -124,23 +133,24 @@ def metadata():
 
 def crate():
     """The files of the crate that cargo needs to build it."""
-    return [RUST / "Cargo.toml", RUST / "README.md", *(it for name in ("src", "examples") for it in sorted((RUST / name).rglob("*.rs")))]
+    below = [it for name in ("src", "examples") for it in sorted((RUST / name).rglob("*.rs"))]
+    return [*(RUST / it for it in ("Cargo.toml", "build.rs", "README.md")), *below]
 
 
 def library(settings, work):
-    """The static library: the proved one, or one that cargo builds in the folder `work`."""
+    """What the extension is linked with: the proved library, or the layer and what cargo builds in the folder `work`."""
     platform = sysconfig.get_platform()
     kind = (settings or {}).get("library") or os.environ.get("RANGE_SETS_LIBRARY")
     if kind not in (None, "proved", "rust"):
         sys.exit(f"range_sets: the library is proved or rust, and not {kind}")
     if kind == "rust" or (kind is None and platform != PROVED_FOR):
-        return built(work)
+        return ["-DRANGE_SET_PLAIN", C / LAYER, built(work)]
     if platform != PROVED_FOR:
         sys.exit(f"range_sets: there is no proved library for {platform}: dist/ has that of x86-64 Linux alone")
     archive = DIST / "librange_set.a"
     if not archive.is_file():
         sys.exit(f"range_sets: the library {archive} is missing: build from a whole clone, or from the source distribution")
-    return archive
+    return [archive]
 
 
 def built(work):
@@ -158,8 +168,8 @@ def built(work):
     return work / "built" / "release" / "librange_sets.a"
 
 
-def compiled(archive, suffix):
-    """The bytes of the extension module."""
+def compiled(linked, suffix):
+    """The bytes of the extension module, over a library."""
     compiler, include = shlex.split(os.environ.get("CC", "cc")), sysconfig.get_path("include")
     if not shutil.which(compiler[0]):
         sys.exit(f"range_sets: the C compiler {compiler[0]} is missing: install gcc, or name another in CC")
@@ -170,7 +180,7 @@ def compiled(archive, suffix):
         shared = ["-bundle", "-undefined", "dynamic_lookup"] if sys.platform == "darwin" else ["-shared", "-Wl,--exclude-libs,ALL"]
         flags = ["-std=c99", "-O2", "-DNDEBUG", "-fPIC", "-fvisibility=hidden", *shared]
         sources = [it for it in SOURCES if it.suffix == ".c"]
-        words = [*compiler, *flags, f"-I{include}", f"-I{DIST}", *sources, archive, "-o", module]
+        words = [*compiler, *flags, f"-I{include}", f"-I{C / 'include'}", *sources, *linked, "-o", module]
         if subprocess.run(words).returncode:
             sys.exit("range_sets: the C compiler refused the extension; what it said stands above")
         return module.read_bytes()

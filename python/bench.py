@@ -3,12 +3,16 @@
     python3 bench.py [--pairs N]
 
 Each package makes a set of N pairs (100,000), the union of two such sets, and says whether numbers are members; then the same of
-N / 10 pairs of times; sets grow by N ranges one by one; and numpy and pandas do as much over arrays. Their answers are compared.
-A package that is missing is named and left out. Times are the least of some rounds.
+N / 10 pairs of times; sets grow by N ranges one by one; numpy and pandas do as much over arrays; calls touch a few of 10 N ranges; a
+map has N; and arrays have N questions, 10 N floats and small numbers. Their answers are compared. A package that is missing is named
+and left out. Times are the least of some rounds.
 """
 
 import argparse
 import importlib
+import itertools
+import math
+import pickle
 import random
 import sys
 import time
@@ -16,7 +20,7 @@ from array import array
 from bisect import bisect_left, bisect_right
 from datetime import datetime, timedelta
 
-from range_sets import MutableRangeSet, RangeSet, _core, union
+from range_sets import MutableRangeSet, RangeMap, RangeSet, _core, union
 
 SPACE = 100_000_000
 LONGEST = 1000
@@ -287,6 +291,116 @@ def arrays(count):
     table(["", "RangeSet", "numpy by hand", "pandas.IntervalIndex"], rows)
 
 
+def of_many(count):
+    """What touches a few of many ranges, in a set and in one that has just changed; calls over arrays beside numpy; and small calls."""
+    flat = array("q", range(0, 20 * count, 10))
+    many, few, changing = (
+        RangeSet.from_boundaries(flat),
+        RangeSet([(5, 15), (10 * count + 3, 10 * count + 5)]),
+        MutableRangeSet.from_boundaries(flat),
+    )
+    packed, copied = pickle.dumps(many), RangeSet.from_boundaries(flat)
+    starts = itertools.cycle(random.Random(5).sample(range(0, 20 * count, 20), 1000))
+
+    def row(label, call, times=200):
+        taken = min(seconds(call, times) for _ in range(ROUNDS))
+        return [label, shown(taken)]
+
+    def changed(call):
+        def change():
+            start = next(starts)
+            changing.add(start + 12, start + 14)
+            call(start)
+
+        return change
+
+    rows = [
+        row("`s.gaps(a, b)`", lambda: many.gaps(5005, 5105)),
+        row("`s.isdisjoint((a, b))`", lambda: many.isdisjoint((5001, 5003))),
+        row("`few <= s`", lambda: few <= many),
+        row("`s & few`", lambda: many & few),
+        row("`m.add(a, b)`", changed(lambda start: None)),
+        row("`s.rank(a)`", lambda: many.rank(5005)),
+        row("`s.split(a)`", lambda: many.split(10 * count + 5)),
+        row("`s == t`", lambda: many == copied, times=1),
+        row("`pickle.loads`", lambda: pickle.loads(packed), times=1),
+        row("`list(m)`", changed(lambda start: list(changing)), times=1),
+        row("and `m.range_at(a)`", changed(changing.range_at)),
+        row("and `m.discard(a, b)`", changed(lambda start: changing.discard(start + 12, start + 13))),
+        row("and `m.first_fit(5, a)`", changed(lambda start: changing.first_fit(5, start))),
+        row("and `m.gaps(a, b)`", changed(lambda start: changing.gaps(start, start + 100))),
+        row("and `m |= few`", changed(lambda start: changing.__ior__(few))),
+        row("and `m -= few`", changed(lambda start: changing.__isub__(few))),
+        row("and `m.rank(a)`", changed(changing.rank)),
+        row("`RangeSet([(a, b)])`", lambda: RangeSet([(3, 5)]), times=2000),
+        row("`m.add(7)`", lambda: changing.add(7), times=2000),
+    ]
+    table([f"{count:,} ranges", "Time"], rows)
+
+
+def asked_over_arrays(count):
+    """Questions of many numbers, and sets of ten times as many others, beside numpy."""
+    try:
+        numpy = importlib.import_module("numpy")
+    except ImportError:
+        return
+    made_up_by = numpy.random.default_rng(5)
+    flat = numpy.arange(0, 20 * count, 10)
+    many, asked = RangeSet.from_boundaries(flat), made_up_by.integers(0, 20 * count, count)
+    copied, flat_copied, packed, packed_flat = RangeSet.from_boundaries(flat), flat.copy(), pickle.dumps(many), pickle.dumps(flat)
+    ends, ordered, floats = asked + 100, numpy.sort(asked), numpy.sort(made_up_by.random(10 * count))
+    of_floats, below = RangeSet.from_boundaries(floats), numpy.concatenate(([0], numpy.cumsum(flat[1::2] - flat[::2])))
+    small = numpy.arange(0, 100 * count, 10, dtype="i4")
+    far = numpy.unique(made_up_by.integers(-(2**63), 2**63 - 1, 2 * count))
+    packed_far, packed_flat_far = pickle.dumps(RangeSet.from_boundaries(far)), pickle.dumps(far)
+    names, values = RangeMap(((20 * at, 20 * at + 10), at % 7) for at in range(count)), numpy.arange(count).astype(object) % 7
+
+    def found(numbers, boundaries=flat):
+        return numpy.searchsorted(boundaries, numbers, side="right")
+
+    def rank(numbers):
+        at = found(numbers)
+        return below[at // 2] + numpy.where(at % 2 == 1, numbers - flat[at - 1], 0)
+
+    def meets(numbers):
+        return (found(numbers) % 2 == 1) | (found(numbers + 4) > found(numbers))
+
+    def gotten(numbers):
+        at = found(numbers)
+        return numpy.where(at % 2 == 1, values[at // 2 % count], None)
+
+    def compared(head, *calls):
+        rows = []
+        for label, call, by_hand in calls:
+            (taken, answer), (beside, expected) = least(call), least(by_hand)
+            if not numpy.array_equal(answer, expected):
+                sys.exit("bench: the answers differ")
+            rows.append([label, shown(taken), shown(beside)])
+        table([head, "RangeSet", "numpy by hand"], rows)
+
+    compared(
+        f"{count:,} ranges and numbers",
+        ("members, in order", lambda: many.contains(ordered), lambda: found(ordered) % 2 == 1),
+        ("members, in any order", lambda: many.contains(asked), lambda: found(asked) % 2 == 1),
+        ("`rank`", lambda: many.rank(asked), lambda: rank(asked)),
+        ("`covered_within`", lambda: many.covered_within(asked, ends), lambda: rank(ends) - rank(asked)),
+        ("`overlaps`", lambda: many.overlaps(asked, ends), lambda: (found(asked) % 2 == 1) | (found(ends - 1) > found(asked))),
+        ("which windows have members, `overlaps`, in order", lambda: many.overlaps(ordered, ordered + 5), lambda: meets(ordered)),
+        ("`get` of a map", lambda: names.get(asked), lambda: gotten(asked)),
+        ("`==`", lambda: many == copied, lambda: numpy.array_equal(flat, flat_copied)),
+        ("`pickle.loads`", lambda: numpy.asarray(pickle.loads(packed)), lambda: pickle.loads(packed_flat)),
+        ("of ranges far apart", lambda: numpy.asarray(pickle.loads(packed_far)), lambda: pickle.loads(packed_flat_far)),
+    )
+    compared(
+        f"{10 * count:,} floats, {10 * count:,} numbers",
+        ("`covered` of a set of floats", of_floats.covered, lambda: math.fsum(floats[1::2] - floats[::2])),
+        ("`asarray` of it", lambda: numpy.asarray(of_floats), lambda: floats.copy()),
+        ("its members", lambda: of_floats.contains(floats), lambda: found(floats, floats) % 2 == 1),
+        ("a set of a table of floats", lambda: numpy.asarray(RangeSet(floats.reshape(-1, 2))), lambda: floats.copy()),
+        ("of a table of int32", lambda: numpy.asarray(RangeSet(small.reshape(-1, 2))), lambda: small.astype("i8")),
+    )
+
+
 def alone(count):
     """What an operation costs beside the call in C that it stands on."""
     a, b = RangeSet([(0, 10)]), RangeSet([(5, 20)])
@@ -305,8 +419,6 @@ def alone(count):
         return [label, shown(taken), shown(beside) if beside else "", f"{taken / beside:.2f}" if beside else ""]
 
     rows = [
-        row("`5 in a`, of 2 boundaries", lambda: 5 in a, times=2000),
-        row("`a | b`, of 2 boundaries each", lambda: a | b, times=2000),
         row(f"`from_ranges`, of an array of {count:,} ranges", lambda: RangeSet.from_ranges(flat)),
         row(f"`a | b`, {count:,} boundaries each, alternating", lambda: long | other, in_c(long, other)),
         row("the same, in blocks of 64", lambda: blocks[0] | blocks[1], in_c(*blocks)),
@@ -314,6 +426,58 @@ def alone(count):
         row("`a.covered()`", long.covered, lambda: _core.covered(long.boundaries)),
     ]
     table(["", "Time", "The call in C", "Ratio"], rows)
+    x, y = frozenset(range(3)), frozenset(range(2, 5))
+    rows = [
+        row("`a | b`", lambda: a | b, lambda: x | y, times=2000),
+        row("`5 in a`", lambda: 5 in a, lambda: 5 in x, times=2000),
+        row("`a.isdisjoint(b)`", lambda: a.isdisjoint(b), lambda: x.isdisjoint(y), times=2000),
+        row("`RangeSet([(0, 10)])`", lambda: RangeSet([(0, 10)]), lambda: frozenset([(0, 10)]), times=2000),
+    ]
+    table(["2 boundaries each", "Time", "A frozenset's of 3", "Ratio"], rows)
+
+
+def of_maps(count):
+    """What a map takes: to be made, to be asked for a few of its ranges, and to be gone over."""
+    pairs = [((20 * at, 20 * at + 10), at % 7) for at in range(count)]
+    shuffled, made, other = random.Random(5).sample(pairs, count), RangeMap(pairs), RangeMap(pairs)
+    each, shifted = (RangeMap(((20 * at + first, 20 * at + first + 10), str(at)) for at in range(count)) for first in (0, 5))
+    packed, packed_each, at = pickle.dumps(made), pickle.dumps(each), 10 * count
+    if not made == RangeMap(shuffled) == made.copy() == made.combine(other, max) == pickle.loads(packed):
+        sys.exit("bench: the maps differ")
+    if not each == each.copy() == each.combine(each, max) == pickle.loads(packed_each):
+        sys.exit("bench: the maps differ")
+    rows = [
+        [label, shown(least(call)[0])]
+        for label, call in (
+            ("made of pairs in order", lambda: RangeMap(pairs)),
+            ("of shuffled pairs", lambda: RangeMap(shuffled)),
+            ("`m.domain()`", made.domain),
+            ("`m.find(v)`", lambda: made.find(3)),
+            ("`list(m.items())`", lambda: list(made.items())),
+            ("`list(m.keys())`", lambda: list(made.keys())),
+            ("`m.combine(other, how)`", lambda: made.combine(other, max)),
+            ("`m == other`", lambda: made == other),
+            ("`m.copy()`", made.copy),
+            ("`pickle.dumps`", lambda: pickle.dumps(made)),
+            ("`pickle.loads`", lambda: pickle.loads(packed)),
+            ("`m.copy()`, each range with a value of its own", each.copy),
+            ("`m.combine(other, how)` of these, where each range meets one", lambda: each.combine(shifted, max)),
+            ("`pickle.loads` of these", lambda: pickle.loads(packed_each)),
+        )
+    ]
+    rows += [
+        [label, shown(min(seconds(call, 200) for _ in range(ROUNDS)))]
+        for label, call in (
+            ("`m[a]`", lambda: made[at]),
+            ("`m.range_at(a)`", lambda: made.range_at(at)),
+            ("`m.overlapping(a, b)`", lambda: made.overlapping(at, at + 20)),
+            ("`m.gaps(a, b)`", lambda: made.gaps(at, at + 20)),
+            ("`m[a:b]`", lambda: made[at : at + 20]),
+            ("`m[a:b] = v`", lambda: made.put(at, at + 15, 3)),
+            ("`m.update` of two", lambda: made.update([((at, at + 15), 3), ((at + 20, at + 25), 4)])),
+        )
+    ]
+    table([f"A map of {count:,} ranges", "Time"], rows)
 
 
 def main():
@@ -324,6 +488,9 @@ def main():
     numbers_and_times(count)
     growth(count)
     arrays(count)
+    of_many(10 * count)
+    of_maps(count)
+    asked_over_arrays(count)
 
 
 if __name__ == "__main__":

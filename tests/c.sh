@@ -23,15 +23,19 @@ strict="-Wall -Wextra -Wpedantic -Wconversion -Werror -Ic/include"
 archive=dist/librange_set.a
 version=$(awk '$2 == "RANGE_SET_VERSION" { gsub("\"", ""); print $3 }' c/include/range_set.h)
 
-# The checksums, and the headers, which are those of c/.
+# The checksum.
 is_whole() {
-    (cd dist && sha256sum --quiet -c SHA256SUMS) && cmp c/include/range_set.h dist/range_set.h &&
-        cmp c/include/range_set.hpp dist/range_set.hpp
+    (cd dist && sha256sum --quiet -c SHA256SUMS)
+}
+
+# No line of the header is longer than 120 characters.
+is_narrow() {
+    [ -s c/include/range_set.h ] && ! grep -n '.\{121\}' c/include/range_set.h
 }
 
 # What clang-format 14 says of the C and C++ of c/ and bench/, each by the .clang-format of its folder.
 looks_right() {
-    clang-format --dry-run --Werror c/*.c c/*.h c/*.cpp bench/src/* bench/peers/*.c bench/peers/*.h bench/peers/*.cpp bench/peers/*.hpp
+    clang-format --dry-run --Werror c/*.[ch] c/tests/* c/examples/* bench/src/* bench/peers/*.c bench/peers/*.h bench/peers/*.cpp bench/peers/*.hpp
 }
 
 # No name stands in the library for others but those of the header.
@@ -40,11 +44,24 @@ has_only_its_names() {
         ! nm -g --defined-only "$archive" | awk 'NF == 3 { print $3 }' | grep -v '^range_\(set\|map\)_'
 }
 
-# A generated file that was edited is told, and the status says so.
-tells_of_an_edit() {
+# The check names a generated file that was edited, and fails.
+names_an_edit() {
     mkdir "$work/types" && cp -r tools c "$work/types" && ln -s "$PWD/crates" "$work/types/crates" && "$work/types/tools/c-types" --check &&
         echo '/* edited */' >>"$work/types/c/include/range_set.h" && ! "$work/types/tools/c-types" --check >"$work/said" &&
         [ "$(cat "$work/said")" = 'c-types: c/include/range_set.h is not what tools/c_types says: run tools/c-types' ]
+}
+
+# What man shows under DESCRIPTION: the head of the header, from its first sentence to its last.
+has_a_description() {
+    awk '/^\.SH/ { on = $2 == "DESCRIPTION"; next } on' c/range_set.3 >"$work/description" &&
+        head -n 1 "$work/description" | grep -q '^Sets of whole numbers as strictly sorted arrays' &&
+        tail -n 2 "$work/description" | grep -q 'under the same layer' && grep -q '^  RANGE_SET_MORE ' "$work/description" &&
+        ! grep -q SPDX c/range_set.3
+}
+
+# The rows that the proved calls are tested with, as far as C has calls for them.
+reads_the_tables() {
+    compiles c/tests/test_rows.c rows && "$work/rows" crates/range_rows/data
 }
 
 # Whether another library has the same names for others.
@@ -52,10 +69,12 @@ has_the_names_of() {
     cmp <(nm -g --defined-only "$archive" | awk 'NF == 3 { print $3 }' | sort) <(nm -g --defined-only "$1" | awk 'NF == 3 { print $3 }' | sort)
 }
 
-# Takes the proved object out of dist/: there the layer's own names are hidden, and the proved ones made visible.
+# Takes the proved object out of dist/: there the layer's own names are hidden, and the proved ones made visible. Its memory comes from
+# the layer that it is linked with, if there is one.
 takes_the_proved_object() {
     (cd "$work" && ar x "$OLDPWD/dist/librange_set.a" &&
-        objcopy -w --globalize-symbol='proved_*' --localize-symbol='range_set_*' --localize-symbol='range_map_*' range_set.o proved.o)
+        objcopy -w --globalize-symbol='proved_*' --localize-symbol='range_set_*' --localize-symbol='range_map_*' \
+            --globalize-symbol='range_heap_*' range_set.o proved.o && objcopy -w --weaken-symbol='range_heap_*' proved.o)
 }
 
 # Compiles the layer as dist/make does, and makes an archive of it and the proved object, so that the tests see each edit of it.
@@ -71,17 +90,24 @@ compiles() {
 
 # The tests over dist/librange_set.a.
 tests_dist() {
-    compiles c/test.c of_dist && "$work/of_dist" 1000
+    compiles c/tests/test.c of_dist && "$work/of_dist" 1000
 }
 
 # The tests of sets in chunks, with each request for memory refused in turn.
 refuses_memory() {
-    compiles c/test_refused.c refused -Wl,--wrap=malloc,--wrap=realloc && "$work/refused"
+    compiles c/tests/test_refused.c refused -Wl,--wrap=malloc,--wrap=realloc && "$work/refused"
+}
+
+# Two threads that ask one set and one map; and two that search a set, of which helgrind must see that they write.
+may_be_shared() {
+    compiles c/tests/test_shared.c shared -lpthread &&
+        valgrind -q --tool=helgrind --error-exitcode=9 "$work/shared" &&
+        ! valgrind -q --tool=helgrind --error-exitcode=9 "$work/shared" writes >"$work/said" 2>&1 && grep -q 'data race' "$work/said"
 }
 
 # The same of chunked_range_set, which throws.
 refuses_memory_in_cpp() {
-    g++ -std=c++17 -O1 -g $strict -Wshadow c/test_refused.cpp "$archive" -Wl,--wrap=malloc,--wrap=realloc -o "$work/refused.cpp" &&
+    g++ -std=c++17 -O1 -g $strict -Wshadow c/tests/test_refused.cpp "$archive" -Wl,--wrap=malloc,--wrap=realloc -o "$work/refused.cpp" &&
         "$work/refused.cpp"
 }
 
@@ -93,12 +119,12 @@ prints_its_lines() {
 
 # The allocator of addresses, and the calendar in C++, and what they print.
 runs_the_allocator() {
-    compiles c/allocator.c allocator && "$work/allocator" | cmp - <(printf '%s\n' '400 at 1000' '300 at 1400' '200 at 1704' \
+    compiles c/examples/allocator.c allocator && "$work/allocator" | cmp - <(printf '%s\n' '400 at 1000' '300 at 1400' '200 at 1704' \
         'no 305 in a row are free' '250 at 1400' '850 are taken')
 }
 
 runs_the_calendar() {
-    g++ -std=c++17 -O2 $strict c/calendar.cpp "$archive" -o "$work/calendar" && "$work/calendar" | cmp - <(printf '%s\n' \
+    g++ -std=c++17 -O2 $strict "$@" c/examples/calendar.cpp "$archive" -o "$work/calendar" && "$work/calendar" | cmp - <(printf '%s\n' \
         'Ada is busy' '11:15 to 13:00' '14:00 to 17:00' '285 minutes in all' 'two hours from 14:00 on')
 }
 
@@ -129,12 +155,12 @@ runs_cpp_page() {
 compiles_as_cpp() {
     echo '#include "range_set.h"' >"$work/header.cpp"
     g++ -std=c++11 $strict -c "$work/header.cpp" -o "$work/header.o" &&
-        g++ -std=c++11 -O2 $strict -x c++ c/example.c -x none "$archive" -o "$work/example.cpp" && prints_its_lines example.cpp
+        g++ -std=c++11 -O2 $strict -x c++ c/examples/download.c -x none "$archive" -o "$work/example.cpp" && prints_its_lines example.cpp
 }
 
-# The tests of the header for C++17.
+# The tests of a header for C++17. Most of their time is the compiler's, and --more has it optimize them.
 tests_cpp() {
-    g++ -std=c++17 -O1 -g $strict -Wshadow c/test.cpp "$archive" -o "$work/test.cpp" && "$work/test.cpp"
+    g++ -std=c++17 -O0 $strict -Wshadow "$@" "$archive" -o "$work/test.cpp" && "$work/test.cpp"
 }
 
 # Whether the header says in one sentence that a language is too old for it.
@@ -144,10 +170,18 @@ says_that_cpp_is_too_old() {
         grep -q 'range_set.hpp is for C++17 and later' "$work/said"
 }
 
-# Installs the library into a folder with a blank in its name.
+# Whether the header says in a sentence which values a map can't have.
+says_that_values_need_an_order() {
+    printf '%s\n' '#include "range_map.hpp"' 'struct owner {};' 'range_sets::range_map<int, owner> map;' >"$work/unordered.cpp"
+    ! g++ -std=c++17 -Ic/include -fsyntax-only "$work/unordered.cpp" 2>"$work/said" &&
+        grep -q 'error: static assertion failed: the values of a range_map are numbers, enums or pointers, or need an operator <' "$work/said"
+}
+
+# Installs the library, and moves it into a folder with a blank in its name.
 prefix="$work/a place" makes=(BACKEND=proved LIBRARY="$PWD/$archive")
 installs() {
-    rm -rf "$work/c" "$prefix" && cp -r c LICENSE-* "$work" && make -s -C "$work/c" install "${makes[@]}" PREFIX="$prefix" &&
+    rm -rf "$work/c" "$prefix" && cp -r c LICENSE-* "$work" && make -s -C "$work/c" install "${makes[@]}" PREFIX="$work/its place" &&
+        mv "$work/its place" "$prefix" &&
         cmp LICENSE-MIT "$prefix/share/doc/range_set/LICENSE-MIT" &&
         cmp LICENSE-APACHE "$prefix/share/doc/range_set/LICENSE-APACHE"
 }
@@ -160,40 +194,16 @@ builds_by_cargo() {
         make -s -C "$work/by_cargo" build/librange_set.a BACKEND=rust RUST="$PWD/rust" CARGO="cargo $offline"
 }
 
-# Builds a shared library by cargo alone, of the copy that make has made, looks at its names, and runs the tests over it.
-runs_over_cdylib() {
-    local built=$work/by_cargo/build/cargo/release/librange_sets.so
-    (cd "$work/by_cargo/build/rust" && eval "CARGO_TARGET_DIR=../cargo cargo $offline" rustc --quiet --release --features c --lib \
-        --crate-type cdylib) && cmp <(nm -D --defined-only "$built" | awk '{ print $3 }' | sort) \
-        <(nm -g --defined-only dist/librange_set.a | awk 'NF == 3 { print $3 }' | sort) &&
-        gcc -std=c99 -O1 $strict c/test.c "$built" -o "$work/over" && LD_LIBRARY_PATH="${built%/*}" "$work/over" 1000
-}
-
 # Whether a make without a cargo says so in one sentence.
 says_that_cargo_is_missing() {
     ! make -s -C "$work/by_cargo" build/librange_set.a BACKEND=rust RUST="$PWD/rust" CARGO=no-such-cargo --always-make \
         2>"$work/said" && head -n 1 "$work/said" | grep -qx 'range_set: no-such-cargo is missing, which builds the library here: install cargo 1.64 or later'
 }
 
-# Whether two libraries have the same version and the same sentences on statuses.
-say_the_same() {
-    cat >"$work/say.c" <<'END' && gcc -std=c99 $strict "$work/say.c" "$1" -o "$work/say_1" && gcc -std=c99 $strict "$work/say.c" "$2" -o "$work/say_2"
-#include "range_set.h"
-#include <stdio.h>
-
-int main(void)
-{
-    for (int status = 0; status < 6; status++) puts(range_set_status_text((range_set_status)status));
-    return puts(range_set_version()) < 0;
-}
-END
-    "$work/say_1" >"$work/said_1" && "$work/say_2" >"$work/said_2" && [ "$(wc -l <"$work/said_1")" = 7 ] && cmp "$work/said_1" "$work/said_2"
-}
-
 # Whether cargo and the crates that it asks for are there. What is missing is named, and what it is for is skipped.
 has_cargo() {
     local missing
-    if ! command -v cargo >/dev/null; then
+    if ! is_there cargo; then
         missing="cargo is missing; on Debian the package cargo brings it"
     elif ! ls -d "$packages"/{smallvec,serde_json}-[0-9]* >/dev/null 2>&1; then
         missing="the crates smallvec, serde_json aren't there; on Debian: librust-smallvec-dev librust-serde-json-dev"
@@ -213,16 +223,18 @@ over_rust() {
     local by="by cargo"
     step "$by: the library" builds_by_cargo
     step "$by: a make without cargo" says_that_cargo_is_missing
-    step "$by: the sentences" say_the_same dist/librange_set.a "$work/by_cargo/build/librange_set.a"
+    step "$by: its exports answer as the proved ones" answer_alike
     archive=$work/by_cargo/build/librange_set.a makes=(BACKEND=rust LIBRARY="$archive")
     step_by nm binutils "$by: the names in the library" has_only_its_names
     step "$by: they are those of dist/" has_the_names_of dist/librange_set.a
-    step "$by: the tests compile" compiles c/test.c test
+    step "$by: the tests compile" compiles c/tests/test.c test
     step "$by: memory refused" refuses_memory
     step "$by: the tests" "$work/test"
-    step "$by: the example compiles" compiles c/example.c example
+    step "$by: the rows of the tables" reads_the_tables
+    step "$by: the example compiles" compiles c/examples/download.c example
     step "$by: the example" prints_its_lines example
-    step_by g++ g++ "$by: the header for C++17" tests_cpp
+    step_by g++ g++ "$by: the header for C++17" tests_cpp c/tests/test.cpp
+    step_by g++ g++ "$by: its maps" tests_cpp c/tests/test_maps.cpp
     step "$by: make install" installs
     step_by pkg-config pkg-config "$by: a program by pkg-config" is_found_by_pkg_config
     step_by cmake cmake "$by: a program by CMake" is_found_by_cmake
@@ -230,18 +242,24 @@ over_rust() {
     step "$by: what isn't called is dropped" drops_what_is_not_called
 }
 
+# Runs a step over what 'make install' left, by its tool as step_by does.
+over_install() {
+    if is_there make; then step_by "$@"; else step_by make make "$3"; fi
+}
+
 # The example against what was installed, found by pkg-config: with the shared library, and with the static one.
 is_found_by_pkg_config() {
     local found
     export PKG_CONFIG_PATH="$prefix/lib/pkgconfig"
     found=$(pkg-config --cflags --libs range_set) && [ "$(pkg-config --modversion range_set)" = "$version" ] &&
-        eval "gcc -std=c99 c/example.c $found" -o '"$work/found"' && LD_LIBRARY_PATH="$prefix/lib" prints_its_lines found &&
-        eval "gcc -std=c99 -static c/example.c $found" -o '"$work/found"' && prints_its_lines found
+        eval "gcc -std=c99 c/examples/download.c $found" -o '"$work/found"' && LD_LIBRARY_PATH="$prefix/lib" prints_its_lines found &&
+        found=$(pkg-config --static --cflags --libs range_set) &&
+        eval "gcc -std=c99 -static c/examples/download.c $found" -o '"$work/found"' && prints_its_lines found && is_small found
 }
 
 # The same by CMake, for each of the two libraries.
 is_found_by_cmake() {
-    rm -rf "$work/by cmake" && mkdir "$work/by cmake" && cp c/example.c "$work/by cmake" && cat >"$work/by cmake/CMakeLists.txt" <<END || return
+    rm -rf "$work/by cmake" && mkdir "$work/by cmake" && cp c/examples/download.c "$work/by cmake" && cat >"$work/by cmake/CMakeLists.txt" <<END || return
 cmake_minimum_required(VERSION 3.10)
 project(example C)
 find_package(range_set 0.1 QUIET)
@@ -252,26 +270,29 @@ find_package(range_set 0 REQUIRED)
 find_package(range_set ${version%.*} REQUIRED)
 find_package(range_set $version REQUIRED)
 foreach(kind IN ITEMS range_set static)
-    add_executable(by_\${kind} example.c)
+    add_executable(by_\${kind} download.c)
     target_link_libraries(by_\${kind} range_set::\${kind})
 endforeach()
 END
     cmake -S "$work/by cmake" -B "$work/by cmake/build" -DCMAKE_PREFIX_PATH="$prefix" && cmake --build "$work/by cmake/build" &&
-        prints_its_lines "by cmake/build/by_range_set" && prints_its_lines "by cmake/build/by_static"
+        prints_its_lines "by cmake/build/by_range_set" && prints_its_lines "by cmake/build/by_static" && is_small "by cmake/build/by_static"
 }
 
 # The names of the shared library, which is found by its soname.
 is_shared() {
     nm -D --defined-only "$prefix/lib/librange_set.so" | awk '{ print $3 }' | grep -q '^range_set_i64_union\|^range_set_i64_combine$' &&
         ! nm -D --defined-only "$prefix/lib/librange_set.so" | awk '{ print $3 }' | grep -v '^range_\(set\|map\)_' &&
-        readelf -d "$prefix/lib/librange_set.so" | grep -q 'soname: \[librange_set.so.0\]'
+        readelf -d "$prefix/lib/librange_set.so" | grep -q "soname: \[librange_set.so.${version%.*}\]"
 }
 
-# What isn't called is dropped from a program, where the linker is told so. The example calls five functions, some of which are
+# What isn't called is dropped from a program that is linked by --gc-sections. The example calls five functions, some of which are
 # those of another type under two names.
+is_small() {
+    [ "$(nm "$work/$1" | grep -c ' T range_set_')" -lt 10 ] && ! nm "$work/$1" | grep -q 'range_set_u64_combine$'
+}
+
 drops_what_is_not_called() {
-    gcc -std=c99 -O2 -Ic/include -Wl,--gc-sections c/example.c "$archive" -o "$work/small" && prints_its_lines small &&
-        [ "$(nm "$work/small" | grep -c ' T range_set_')" -lt 10 ] && ! nm "$work/small" | grep -q 'range_set_u64_combine$'
+    gcc -std=c99 -O2 -Ic/include -Wl,--gc-sections c/examples/download.c "$archive" -o "$work/small" && prints_its_lines small && is_small small
 }
 
 uninstalls() {
@@ -286,58 +307,67 @@ sane_library() {
 # The tests under the sanitizers.
 is_sane() {
     local flags="-std=c99 -O1 -g -fsanitize=address,undefined -fno-sanitize-recover=all"
-    sane_library gcc $flags && gcc $flags $strict c/test.c "$work/layer.o" "$work/proved.o" -o "$work/sane" && "$work/sane" 1000 &&
-        gcc $flags $strict c/test_refused.c "$work/layer.o" "$work/proved.o" -Wl,--wrap=malloc,--wrap=realloc -o "$work/sane" && "$work/sane"
+    sane_library gcc $flags && gcc $flags $strict c/tests/test.c "$work/layer.o" "$work/proved.o" -o "$work/sane" && "$work/sane" 1000 &&
+        gcc $flags $strict c/tests/test_refused.c "$work/layer.o" "$work/proved.o" -Wl,--wrap=malloc,--wrap=realloc -o "$work/sane" && "$work/sane"
 }
 
-# The tests of one language as a compiler builds them.
+# The tests of one language as a compiler builds them. It optimizes one C and one C++, which has views of a set: that takes four
+# times as long.
 builds_as() {
-    local compiler=$1 language=$2 source=$3
-    "$compiler" -std="$language" -O2 $strict "$source" "$archive" -o "$work/built" && "$work/built" 2000
+    local compiler=$1 language=$2 source=$3 level=-O0
+    case $language in c2x | c++20) level=-O2 ;; esac
+    "$compiler" -std="$language" $level $strict "$source" "$archive" -o "$work/built" && "$work/built" 2000
 }
 
 # The tests under clang's sanitizers.
 is_sane_by_clang() {
     local flags="-O1 -g -fsanitize=address,undefined -fno-sanitize-recover=all"
     sane_library clang -std=c11 $flags &&
-        clang -std=c11 $flags $strict c/test.c "$work/layer.o" "$work/proved.o" -o "$work/sane" && "$work/sane" 1000 &&
-        clang++ -std=c++17 $flags $strict c/test.cpp "$work/layer.o" "$work/proved.o" -o "$work/sane" && "$work/sane"
+        clang -std=c11 $flags $strict c/tests/test.c "$work/layer.o" "$work/proved.o" -o "$work/sane" && "$work/sane" 1000 &&
+        clang++ -std=c++17 $flags $strict c/tests/test.cpp "$work/layer.o" "$work/proved.o" -o "$work/sane" && "$work/sane" &&
+        clang++ -std=c++17 $flags $strict c/tests/test_maps.cpp "$work/layer.o" "$work/proved.o" -o "$work/sane" && "$work/sane"
 }
 
 # The tests of the header in C++20, which has views of a set, under gcc's sanitizers.
 is_sane_in_cpp20() {
     local flags="-O0 -g -fsanitize=address,undefined -fno-sanitize-recover=all"
     sane_library gcc -std=c99 $flags &&
-        g++ -std=c++20 $flags $strict c/test.cpp "$work/layer.o" "$work/proved.o" -o "$work/sane" && "$work/sane"
+        g++ -std=c++20 $flags $strict c/tests/test.cpp "$work/layer.o" "$work/proved.o" -o "$work/sane" && "$work/sane" &&
+        g++ -std=c++20 $flags $strict c/tests/test_maps.cpp "$work/layer.o" "$work/proved.o" -o "$work/sane" && "$work/sane"
 }
 
 # The layer and the header for C++ under a fuzzer, which sees what they branch on.
 fuzzes() {
     local flags="-O1 -g -fsanitize=fuzzer,address,undefined -fno-sanitize-recover=all"
     sane_library clang -std=c99 -O1 -g -fsanitize=fuzzer-no-link,address,undefined -fno-sanitize-recover=all &&
-        clang++ -std=c++17 $flags $strict c/fuzz.cpp "$work/layer.o" "$work/proved.o" -o "$work/fuzz" &&
+        clang++ -std=c++17 $flags $strict c/tests/fuzz.cpp "$work/layer.o" "$work/proved.o" -o "$work/fuzz" &&
         (cd "$work" && ./fuzz -max_total_time=60 -max_len=64 -verbosity=0 -print_final_stats=1)
 }
 
-# Whether the twins make each call of the header.
-asks_each_call() {
-    ! grep -oE '\brange_(set|map)_i64_[a-z_]+\(' c/include/range_set.h | sed 's/range_set_i64_/CALL(/; s/range_map_i64_/MAP_CALL(/; s/($/)/' |
-        sort -u | grep -vxFf <(grep -oE '(MAP_)?CALL\([a-z_]+\)' c/twins_calls.h)
+# Whether the twins ask each export.
+asks_each_export() {
+    ! grep -ohE '\bEXPORT\([a-z_]+\)' c/range_*_exports.h | sort -u | grep -vxFf <(grep -oE '\bEXPORT\([a-z_]+\)' c/tests/twins_calls.h)
 }
 
-# What twins.c answers over one library, as an object that has one name for others.
-twin() {
-    clang -std=c99 $counted $strict -DANSWERS="$1" -c c/twins.c -o "$work/twins.o" && ld -r "$work/twins.o" "${@:2}" -o "$work/$1.o" &&
-        objcopy --keep-global-symbol="$1" "$work/$1.o"
+# Compiles what asks the exports of both libraries and compares the answers, by a compiler and its flags.
+twins() {
+    local prefix cargo=$work/by_cargo/build/librange_sets.a
+    takes_the_proved_object || return
+    for prefix in proved plain; do
+        "$1" -std=c99 -O1 $strict ${3-} -DPREFIX="${prefix}_" -DANSWERS="answers_of_$prefix" -c c/tests/twins.c -o "$work/$prefix.twin.o" || return
+    done
+    "$1" -std=c99 -O1 $strict $2 c/tests/twins_compare.c "$work"/{proved,plain}.twin.o "$work/proved.o" "$cargo" -lpthread -ldl -lm -o "$work/twins"
 }
 
-# The proved library and the one that cargo builds, by a fuzzer that compares all that they answer and write.
+# What lies under the layer in both libraries, on inputs that are made up.
 answer_alike() {
-    local counted="-O1 -g -fsanitize=fuzzer-no-link" cargo=$work/by_cargo/build/librange_set.a
-    takes_the_proved_object && clang -std=c99 $counted $strict -c c/range_set.c -o "$work/layer.o" &&
-        twin answers_of_proved "$work/layer.o" "$work/proved.o" && twin answers_of_cargo "$cargo" &&
-        clang -std=c99 -O1 -g -fsanitize=fuzzer $strict c/twins_fuzz.c "$work"/answers_of_{proved,cargo}.o -o "$work/twins" &&
-        (cd "$work" && ./twins -max_total_time=60 -max_len=200 -len_control=0 -verbosity=0 -print_final_stats=1)
+    twins gcc -DCASES=3000 && "$work/twins"
+}
+
+# The same by a fuzzer.
+answer_alike_for_a_minute() {
+    twins clang -fsanitize=fuzzer -fsanitize=fuzzer-no-link &&
+        (cd "$work" && ./twins -max_total_time=60 -max_len=256 -len_control=0 -verbosity=0 -print_final_stats=1)
 }
 
 # Whether clang finds what a fuzzer is linked with.
@@ -348,12 +378,14 @@ has_fuzzer() {
 
 if [ "${1:-}" = --more ]; then
     for language in c99 c11 c17 c2x; do
-        step_by gcc gcc "$language by gcc" builds_as gcc "$language" c/test.c
-        step_by clang clang "$language by clang" builds_as clang "$language" c/test.c
+        step_by gcc gcc "$language by gcc" builds_as gcc "$language" c/tests/test.c
+        step_by clang clang "$language by clang" builds_as clang "$language" c/tests/test.c
     done
     for language in c++17 c++20 c++2b; do
-        step_by g++ g++ "$language by g++" builds_as g++ "$language" c/test.cpp
-        step_by clang++ clang "$language by clang++" builds_as clang++ "$language" c/test.cpp
+        for source in test test_maps; do
+            step_by g++ g++ "$source in $language by g++" builds_as g++ "$language" c/tests/$source.cpp
+            step_by clang++ clang "$source in $language by clang++" builds_as clang++ "$language" c/tests/$source.cpp
+        done
     done
     step_by clang++ clang "clang's sanitizers" is_sane_by_clang
     step_by g++ g++ "gcc's sanitizers in C++20" is_sane_in_cpp20
@@ -365,12 +397,11 @@ if [ "${1:-}" = --more ]; then
     fi
     if command -v valgrind >/dev/null && has_cargo; then
         step "by cargo: the library" builds_by_cargo
-        step "each call is made of both libraries" asks_each_call
-        has_fuzzer && step "both libraries answer alike, by a fuzzer for a minute" answer_alike
+        has_fuzzer && step "both libraries answer alike, by a fuzzer for a minute" answer_alike_for_a_minute
         archive=$work/by_cargo/build/librange_set.a
-        step "by cargo: the tests compile" compiles c/test.c test
+        step "by cargo: the tests compile" compiles c/tests/test.c test
         step "by cargo: the tests under valgrind" valgrind -q --error-exitcode=9 --leak-check=full "$work/test" 1000
-        step "by cargo: a shared library without a C compiler" runs_over_cdylib
+        step "by cargo: a set that two threads ask" may_be_shared
     fi
     ended
 fi
@@ -379,7 +410,11 @@ if [ "${1:-}" = --rust ]; then
     ended
 fi
 step_by python3 python3 "what stands once for each type is what tools/c-types writes" tools/c-types --check
-step_by python3 python3 "an edit of it is told" tells_of_an_edit
+step_by python3 python3 "an edit of it is named" names_an_edit
+step_by python3 python3 "the layer calls what the Rust crate exports" python3 tests/c_heads.py
+step "the twins ask each export" asks_each_export
+step "the manual page has its description" has_a_description
+step "the lines of the header" is_narrow
 if ! command -v clang-format >/dev/null || clang-format --version | grep -q 'version 14\.'; then
     step_by clang-format clang-format "the looks" looks_right
 else
@@ -391,10 +426,11 @@ step_by nm binutils "the names in the library" has_only_its_names
 step "the tests over it" tests_dist
 step_by objcopy binutils "the layer, and the proved object under it" builds_the_layer
 archive=$work/built.a
-step "the tests compile" compiles c/test.c test
+step "the tests compile" compiles c/tests/test.c test
 step "the tests" "$work/test"
+step "the rows of the tables" reads_the_tables
 step "memory refused" refuses_memory
-step "the example compiles" compiles c/example.c example
+step "the example compiles" compiles c/examples/download.c example
 step "the example" prints_its_lines example
 step "an allocator of addresses" runs_the_allocator
 step_by g++ g++ "a calendar in C++" runs_the_calendar
@@ -402,17 +438,21 @@ step "the lines in C of c/README.md" runs_page c/README.md
 step_by g++ g++ "the statements in c/README.md" compiles_statements c/README.md
 step_by objcopy binutils "the sanitizers" is_sane
 step_by g++ g++ "C++11" compiles_as_cpp
-step_by g++ g++ "the header for C++17" tests_cpp
+step_by g++ g++ "the header for C++17" tests_cpp c/tests/test.cpp
+step_by g++ g++ "its maps, without exceptions" tests_cpp c/tests/test_maps.cpp -fno-exceptions
+step_by g++ g++ "a calendar without exceptions" runs_the_calendar -fno-exceptions
 step_by g++ g++ "the header for C++17: memory refused" refuses_memory_in_cpp
 step_by g++ g++ "C++14" says_that_cpp_is_too_old
+step_by g++ g++ "a map of values without an order" says_that_values_need_an_order
 step_by g++ g++ "the lines in C++ of c/README.md" runs_cpp_page c/README.md
 archive=dist/librange_set.a
 step_by make make "make install" installs
-step_by pkg-config pkg-config "a program by pkg-config" is_found_by_pkg_config
-step_by cmake cmake "a program by CMake" is_found_by_cmake
-step_by readelf binutils "the shared library" is_shared
+over_install pkg-config pkg-config "a program by pkg-config" is_found_by_pkg_config
+over_install cmake cmake "a program by CMake" is_found_by_cmake
+over_install readelf binutils "the shared library" is_shared
 step "what isn't called is dropped" drops_what_is_not_called
 step_by make make "make uninstall" uninstalls
 step_by valgrind valgrind "the tests under valgrind" valgrind -q --error-exitcode=9 --leak-check=full "$work/test" 1000
+step_by valgrind valgrind "a set that two threads ask" may_be_shared
 over_rust
 ended

@@ -1,10 +1,12 @@
-"""The records of the crates' definitions, the laws, and which fields of public records no law's proof reads and no mutant
-names: for tests/fields.py, which says what these words mean."""
+"""The records of the crates' definitions, the laws, and which of them or which mutant is known to notice a field: for
+tests/fields.py, which says what these words mean and what else is taken as a record."""
 
 import re
 from dataclasses import dataclass, field
+from itertools import accumulate
 
 import mutants
+from edits import edits_of
 
 CRATES = mutants.ROOT / "crates"
 NAME = r"[^\W\d][\w-]*"
@@ -19,9 +21,15 @@ GHOST = re.compile(r"^ *ghost (?!use)\w+ ?[=:].*?;$", re.M | re.S)
 CLAUSE = re.compile(r"\bensures (\w*) ?\{(.*?)(?=\bensures\b|\Z)", re.S)
 
 
+# What opens and closes, or stands between, the parts of what a definition says; and one that brings a name, which others need.
+MARK = re.compile(r"[({})]|→|↔|×")
+BINDER = re.compile(rf"\(({NAME} )+: ")
+
+
 @dataclass
 class Record:
-    """A record of specs/: its crate and file, the numbers of each field's lines, and the words of its type."""
+    """A record of specs/, or another definition whose parts are taken as its fields: its crate and file, what replaces which
+    stretch of the file where a field is gone, and the words of a field's type."""
 
     crate: str
     file: str
@@ -40,9 +48,33 @@ class Gone:
     name: str
     record: Record
     field: str
+    # As an edit, it adds no file.
+    added = {}
+
+    @property
+    def key(self):
+        return self.name, self.field
+
+    @property
+    def place(self):
+        return self.record.file, *self.record.fields[self.field][:2]
+
+    @property
+    def changes(self):
+        return {self.record.file: [self.record.fields[self.field]]}
+
+    @property
+    def is_part(self):
+        """Whether it is none of a record, but a part by its number."""
+        return self.field.isdigit()
 
     def __str__(self):
         return f"{self.name}.{self.field}"
+
+    def text(self):
+        """What stands there, in one line."""
+        file, start, end = self.place
+        return " ".join(text_of(CRATES / self.record.crate / file)[start:end].split())
 
 
 def text_of(file):
@@ -72,6 +104,50 @@ def declarations(file):
     return found
 
 
+def parts_of(text, start, end):
+    """What replaces which stretch, so that a part of what stands there is gone: of a product each that brings no name, and of
+    an equivalence each direction. Premises aren't parts."""
+    start, end = end - len(text[start:end].lstrip()), start + len(text[start:end].rstrip())
+    marks, depth = [], 0
+    for at in MARK.finditer(text, start, end):
+        depth -= at[0] in ")}"
+        marks += [(at[0], at)] if depth == 0 else []
+        depth += at[0] in "({"
+    of = lambda mark: [at for it, at in marks if it == mark]
+    if len(marks) == 2 and text[start] == "(" and marks[1][1].end() == end:
+        return parts_of(text, start + 1, end - 1)
+    if of("→"):
+        return parts_of(text, of("→")[-1].end(), end)
+    if of("↔"):
+        one, other = text[start : of("↔")[0].start()], text[of("↔")[0].end() : end]
+        return [(start, end, f"(({other}) → {one})"), (start, end, f"({one} → ({other}))")]
+    if of("×"):
+        bounds = [start, *(place for at in of("×") for place in at.span()), end]
+        parts = [part for part in zip(bounds[::2], bounds[1::2]) if not BINDER.match(text[slice(*part)].strip())]
+        return [it for part in parts for it in parts_of(text, *part) or [(*part, " Unit {0} ")]]
+    return []
+
+
+def add_fields(record, lines, starts):
+    """Adds the fields that the numbered lines of a record declare, where the lines of its file start there."""
+    body = next(at for at, (_, line) in enumerate(lines) if line.rstrip().endswith("where"))
+    for number, line in lines[body + 1 :]:
+        if at := FIELD.match(line.strip()):
+            last, first = at[1], starts[number]
+            record.types[last] = set()
+        if record.types:
+            record.fields[last] = (first, starts[number + 1], "")
+            record.types[last] |= words_of(line.partition("--")[0])
+
+
+def add_parts(record, name, text, start):
+    """Adds the parts of a definition's equations, which stand from there to the end of the text, by their numbers."""
+    equations = [*re.compile(rf"^ *{re.escape(name)}\b[^:=\n]*=(?=\s)", re.M).finditer(text, start)]
+    ends = [*(at.start() for at in equations[1:]), len(text)]
+    found = [it for at, end in zip(equations, ends) for it in parts_of(text, at.end(), end)]
+    record.fields.update((str(number), it) for number, it in enumerate(found, 1))
+
+
 class Definitions:
     """The words of specs/ and the records among them, and which records each word leads to."""
 
@@ -80,20 +156,14 @@ class Definitions:
         for file in sorted(CRATES.glob("*/specs/*.antt")):
             for name, lines in declarations(file):
                 self.words.setdefault(name, set()).update(words_of("\n".join(line for _, line in lines)))
+                record = Record(file.parts[-3], f"specs/{file.name}")
+                starts = [0, *accumulate(map(len, text_of(file).splitlines(keepends=True)))]
                 if lines[0][1].strip().startswith("pub record "):
-                    self.add(name, file, lines)
-
-    def add(self, name, file, lines):
-        record, last = Record(file.parts[-3], f"specs/{file.name}"), None
-        body = next(at for at, (_, line) in enumerate(lines) if line.rstrip().endswith("where"))
-        for number, line in lines[body + 1 :]:
-            if at := FIELD.match(line.strip()):
-                last = record.fields.setdefault(at[1], [])
-                record.types[at[1]] = set()
-            if last is not None:
-                last.append(number)
-                record.types[[*record.fields][-1]] |= words_of(line.partition("--")[0])
-        self.records.setdefault(name, []).append(record)
+                    add_fields(record, lines, starts)
+                else:
+                    add_parts(record, name, text_of(file)[: starts[lines[-1][0] + 1]], starts[lines[0][0]])
+                if record.fields:
+                    self.records.setdefault(name, []).append(record)
 
     def of(self, words):
         """The records that these words lead to, through other definitions."""
@@ -176,18 +246,19 @@ def read_by_laws(definitions):
 
 
 def named_by_mutants():
-    """The fields that mutants name as refusing them."""
+    """The fields that mutants name as refusing them, and the mutant."""
     found = {}
-    for file in sorted(CRATES.glob("*/mutants/*.edit")):
-        for record, it in re.findall(r"^field: (\w+)\.(\w+)$", text_of(file), re.M):
-            found.setdefault((record, it), file.stem)
+    for crate in sorted(CRATES.iterdir()):
+        for edit in edits_of(crate):
+            for it in edit.fields:
+                found.setdefault(tuple(it.split(".")), edit.name)
     return found
 
 
-def unread(definitions):
-    """The fields of public records that no law's proof reads and no mutant names."""
-    known = {**read_by_laws(definitions), **named_by_mutants()}
-    return [it for it in fields_of(definitions, sorted(public(definitions))) if (it.name, it.field) not in known]
+def known(definitions):
+    """What is known to notice each field: the law whose proof reads it, and else the mutant that names it."""
+    by_mutants = {it: f"the mutant `{edit}`" for it, edit in named_by_mutants().items()}
+    return {**by_mutants, **{it: f"the law `{law}`" for it, law in read_by_laws(definitions).items()}}
 
 
 def fields_of(definitions, names):

@@ -1,5 +1,6 @@
 #!/usr/bin/env bash
 # Proves and builds the static library for C, compares it with the one in dist/, and runs the tests in C over what was built.
+# The libraries below it are those that 'rt ci' built, if it did, and else are proved too.
 #
 #   tests/dist.sh
 #
@@ -11,6 +12,7 @@ cd "$(dirname "$0")/.." || exit 1
 
 needs gcc gcc
 needs ar binutils
+needs python3 python3
 command -v rt >/dev/null || {
     echo "dist: SKIPPED: rt, the command of the Rattle kit, is missing"
     exit 77
@@ -19,8 +21,7 @@ work=$(mktemp -d) || exit 1
 trap 'rm -rf "$work"' EXIT
 
 builds() {
-    rm -f crates/range_c/out/librange_c.a
-    dist/make "$work"
+    python3 tests/built.py range_c "$work/proved.a" && dist/make "$work" "$work/proved.a"
 }
 
 # The proved object, whatever made the rest.
@@ -30,13 +31,19 @@ is_the_proved_object() {
 
 is_in_dist() {
     local file
-    for file in librange_set.a range_set.h range_set.hpp SHA256SUMS; do
+    for file in librange_set.a SHA256SUMS; do
         cmp "$work/$file" "dist/$file" || return
     done
 }
 
 tests_pass() {
-    gcc -std=c99 -O2 -g -Wall -Wextra -Wpedantic -Werror -Ic/include c/test.c "$work/librange_set.a" -o "$work/test" && "$work/test"
+    gcc -std=c99 -O2 -g -Wall -Wextra -Wpedantic -Werror -Ic/include c/tests/test.c "$work/librange_set.a" -o "$work/test" && "$work/test"
+}
+
+# On a processor without SSE4.2 a program says so, and doesn't start.
+says_what_processor_it_needs() {
+    gcc -std=c99 -O2 -Ic/include c/examples/download.c "$work/librange_set.a" -o "$work/example" && ! qemu-x86_64 -cpu core2duo "$work/example" \
+        >"$work/said" 2>&1 && [ "$(cat "$work/said")" = "$work/example: CPU ISA level is lower than required" ]
 }
 
 step "dist/make builds the library" builds
@@ -48,4 +55,5 @@ else
     echo "$name: SKIPPED: dist/ was linked by other tools than those here: $(tail -n +2 dist/PROVED | paste -sd ';')"
 fi
 step "the tests over it" tests_pass
+step_by qemu-x86_64 qemu-user "on an older processor" says_what_processor_it_needs
 ended

@@ -3,9 +3,13 @@
 a law, or is what a mutant names as refusing it; or else it is taken away here, and a law, a mutant or a proof must fail.
 
     tests/fields.py                    takes away each field that no law's proof reads and no mutant names
-    tests/fields.py --list             lists these fields alone, without a check
+    tests/fields.py --list             lists all fields and what is known to notice each, without a check
     tests/fields.py --crate CRATE      takes away, or lists, those of one crate
     tests/fields.py RECORD[.FIELD]..   takes away these fields, or all of a record, whether or not they are read
+
+The parts of a definition that is no record are taken as fields, by their numbers through its equations: of a product each
+that brings no name, of an equivalence each direction. IsRefusal.3 is the first of the second equation. 'Unit' stands where a
+part was, at which a proof that gives it fails for no reason: of a part only what the search doesn't prove counts.
 
 A law's proof reads a field where it, or a lemma that it cites, has '.FIELD' beside a word of the record. A mutant names the
 field that refuses it by a line 'field: RECORD.FIELD'. A field is noticed, in its own crate, where another field of the record
@@ -31,7 +35,9 @@ from concurrent.futures import ThreadPoolExecutor
 from pathlib import Path
 
 import mutants
-from definitions import CRATES, FUNCTION, NAME, Definitions, fields_of, laws, lemmas, sources, text_of, unread, words_of
+from definitions import CRATES, FUNCTION, NAME, Definitions, fields_of, known, laws, lemmas
+from definitions import named_by_mutants, public, sources, text_of, words_of
+from edits import edits_of
 
 PROVED = re.compile(r"proved|no holes")
 # What a check says of a proof that reads a field which is gone.
@@ -44,8 +50,9 @@ MISSING = re.compile(r"(?:note: )?(?:\./)?(proofs/\S+\.antt):(\d+):\d+: error: .
 # What it says of proofs that rest on one which isn't admitted.
 DEPENDS = re.compile(r"error: \d+ declarations? that depends? on `([^`]+)`, which was [^:]*: (.*)")
 VIA = re.compile(r" \(via [^)]*\)| and \d+ more")
-# How many processors each check takes.
-JOBS = str(max((os.cpu_count() or 1) // mutants.AT_ONCE, 1))
+# How many crates are tried at once, and how many processors each check takes.
+AT_ONCE = 2
+JOBS = str(max((os.cpu_count() or 1) // AT_ONCE, 1))
 
 
 def without(text, names, gone, kept):
@@ -79,15 +86,11 @@ class Trial:
     def lay(self, gone, edits):
         """Lays the crate of these fields into the copy without them, and with these edits."""
         crate = gone[0].record.crate
-        copy, taken, records = self.room / "crates" / crate, {}, {}
-        mutants.lay(CRATES / crate, copy, edits)
+        copy, records = self.room / "crates" / crate, {}
+        # Of the directions of an equivalence, which stand in one place, one goes.
+        mutants.lay(CRATES / crate, copy, [*{it.place: it for it in gone}.values(), *edits])
         for it in gone:
-            taken.setdefault(it.record.file, set()).update(it.record.fields[it.field])
             records.setdefault(it.name, (it.record.fields, set()))[1].add(it.field)
-        for file, numbers in taken.items():
-            lines = text_of(copy / file).splitlines(keepends=True)
-            kept = "".join(line for number, line in enumerate(lines) if number not in numbers)
-            (copy / file).write_text(kept, encoding="utf-8")
         for file in copy.glob("proofs/**/*.antt"):
             text = text_of(file)
             for name, (fields, taken) in records.items():
@@ -102,7 +105,8 @@ class Trial:
         only, known = [word for it in functions for word in ("--only", it)], None
         while known != len(self.others):
             known, copy = len(self.others), self.lay(gone, edits)
-            lines, _ = mutants.check(copy, ["--jobs", JOBS, *only], self.room / "said.txt")
+            (copy / mutants.CHECKED).mkdir(parents=True, exist_ok=True)
+            lines, _ = mutants.check(copy, only, self.room / "said.txt", command=mutants.command(copy.name, JOBS))
             for at in filter(None, map(MISSING.match, lines)):
                 self.others.setdefault((copy / at[1], int(at[2])), at[3])
         said = mutants.read_said(copy, lines)
@@ -172,7 +176,8 @@ class Trial:
         crate, found = gone[0].record.crate, []
         naming = set().union(*(self.naming(name, crate) for name in {it.name for it in gone}))
         laws = {it for it in naming if not is_no_law(it)}
-        rounds = mutants.side_by_side([it for it in mutants.edits_of(CRATES / crate) if paths(it.functions) <= naming])
+        edits = [it for it in edits_of(CRATES / crate) if not it.error and paths(it.functions) <= naming]
+        rounds = mutants.side_by_side(edits)
         if laws:
             said, _ = self.check(gone, sorted(laws))
             laws = {it for it in laws if not is_well(said[f"{crate}::{it}"])}
@@ -191,7 +196,7 @@ class Trial:
                 found += again
         return laws, found
 
-    def told(self, gone, laws, edits):
+    def noticed(self, gone, laws, edits):
         """Which of the laws and mutants that name the record notice that one field is gone, if any does."""
         naming = self.naming(gone.name, gone.record.crate)
         laws, edits = laws & naming, [it for it in edits if paths(it.functions) <= naming]
@@ -199,7 +204,7 @@ class Trial:
         while rounds:
             these = rounds.pop(0)
             said, _ = self.check([gone], sorted({*laws, *functions_of(these)}), these)
-            if failed := [it for it in sorted(laws) if not is_well(said[f"{gone.record.crate}::{it}"])]:
+            if failed := [it for it in sorted(laws) if is_missed(gone, said[f"{gone.record.crate}::{it}"])]:
                 return named(failed[0])
             for edit in these:
                 if all(PROVED.match(said[it].verdict) for it in edit.functions):
@@ -210,12 +215,14 @@ class Trial:
         return None
 
     def whole(self, gone):
-        """The function that isn't proved without the field, if any isn't."""
-        return unproved(self.check([gone])[0])
+        """The first function that isn't proved without the field, and a law if there is one."""
+        said, _ = self.check([gone])
+        found = sorted((it.partition("::")[2] for it in said if is_missed(gone, said[it])), key=is_no_law)
+        return named(found[0]) if found else None
 
     def naming(self, name, crate):
         """The functions whose contracts name the record, by the paths of their proofs or of the mutants' lines."""
-        known = paths(of for it in mutants.edits_of(CRATES / crate) for of in it.functions)
+        known = paths(of for it in edits_of(CRATES / crate) for of in it.functions)
         known |= {path_of(file) for file in (CRATES / crate / "proofs").glob("**/Answers.antt")}
         known |= {law.path for law in laws() if law.crate == crate}
         functions = [at for of, _, text in sources() if of == crate for at in FUNCTION.finditer(text)]
@@ -228,6 +235,11 @@ def is_well(said):
     return PROVED.match(said.verdict) or mutants.WELL.match(said.verdict)
 
 
+def is_missed(gone, said):
+    """Whether a function isn't proved for a reason of its own. Where an answer gives all parts, that one is gone is none."""
+    return not is_well(said) and bool(not gone.is_part or said.searched - said.answered.keys())
+
+
 def functions_of(edits):
     """The paths of the functions of mutants."""
     return sorted(paths(of for it in edits for of in it.functions))
@@ -235,12 +247,6 @@ def functions_of(edits):
 
 def is_no_law(path):
     return not path.startswith("laws::")
-
-
-def unproved(said):
-    """The first function that isn't proved for a reason of its own, and a law if there is one."""
-    found = sorted((it.partition("::")[2] for it in said if not is_well(said[it])), key=is_no_law)
-    return named(found[0]) if found else None
 
 
 def named(function):
@@ -282,7 +288,7 @@ class Run:
 
     def __init__(self, definitions, folder):
         self.definitions, self.rooms, self.noticed = definitions, queue.SimpleQueue(), 0
-        for number in range(mutants.AT_ONCE):
+        for number in range(AT_ONCE):
             self.rooms.put(Trial(definitions, folder / str(number)))
 
     def within(self, ask, *given):
@@ -312,7 +318,8 @@ class Run:
     def of_crate(self, gone):
         """Takes the fields of a crate away at once. Returns those that no law and no proof is known to notice, and the laws and
         mutants that may."""
-        left, kept, more = [it for it in gone if not it.record.within(it.field)], 0, True
+        # No proof has a word of its own for a part.
+        left, kept, more = [it for it in gone if not it.record.within(it.field)], 0, not gone[0].is_part
         for it in gone:
             if it not in left:
                 self.say(it, f"the field `{it.record.within(it.field)}` of the same record")
@@ -328,10 +335,10 @@ class Run:
     def all(self, tried):
         crates = {}
         for it in tried:
-            crates.setdefault(it.record.crate, []).append(it)
-        with ThreadPoolExecutor(mutants.AT_ONCE) as pool:
+            crates.setdefault((it.record.crate, it.is_part), []).append(it)
+        with ThreadPoolExecutor(AT_ONCE) as pool:
             left = [it for found in pool.map(self.of_crate, sorted(crates.values(), key=len, reverse=True)) for it in found]
-            for ask in (Trial.told, lambda trial, it, *_: trial.whole(it)):
+            for ask in (Trial.noticed, lambda trial, it, *_: trial.whole(it)):
                 asked, left = left, []
                 for (it, *may), (by, why) in zip(asked, pool.map(lambda given: self.within(ask, *given), asked)):
                     if by:
@@ -347,16 +354,20 @@ def main():
     words = argparse.ArgumentParser(description="Takes fields of definitions away: something has to notice.")
     words.add_argument("named", nargs="*", metavar="RECORD[.FIELD]")
     words.add_argument("--crate", default="", help="tries the fields of this crate alone")
-    words.add_argument("--list", action="store_true", help="lists the fields that no law's proof reads and no mutant names")
+    words.add_argument("--list", action="store_true", help="lists all, with what is known to notice each, without a check")
     given = words.parse_args()
     definitions = Definitions()
-    every = fields_of(definitions, sorted(definitions.records))
-    if unknown := set(given.named) - {word for it in every for word in (it.name, str(it))}:
+    every, by = fields_of(definitions, sorted(definitions.records)), known(definitions)
+    if unknown := {*given.named, *map(".".join, named_by_mutants())} - {word for it in every for word in (it.name, str(it))}:
         words.error(f"no record or field {', '.join(sorted(unknown))}")
-    tried = [it for it in every if {it.name, str(it)} & set(given.named)] if given.named else unread(definitions)
+    if given.named:
+        tried = [it for it in every if {it.name, str(it)} & set(given.named)]
+    else:
+        tried = [it for it in fields_of(definitions, sorted(public(definitions))) if given.list or it.key not in by]
     tried = [it for it in tried if given.crate in ("", it.record.crate)]
     if given.list:
-        print("\n".join(map(str, tried)))
+        for it in tried:
+            print(f"{it}{f', `{it.text()}`' if it.is_part else ''}: {by.get(it.key, 'nothing known')}")
         return 0
     with tempfile.TemporaryDirectory(prefix="fields-") as folder:
         run = Run(definitions, Path(folder))

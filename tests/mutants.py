@@ -1,25 +1,28 @@
 #!/usr/bin/env python3
 """Tries the mutants in crates/*/mutants/, and those that 'rt ci' tries, in crates/*/must-fail/: with each in the place of
-the right body, a clause of the function that it names must be open, and the script says which.
+the right body, a clause of the function that it names must be open, and the script says which. Some the language refuses
+before, by an error that they name.
 
 A function is proved against the contracts of those that it calls, never against their bodies. So mutants of different
 functions stand side by side in a copy of the crate, and one check says what is amiss with each function: goals of its own
 that aren't proved, or only that it calls a function that isn't. A function with a mutant must have such a goal, and one
-with its own body must have none. Of several mutants of one function each round of checks has one.
+that a mutant adds must have none. Of several mutants of one function each round of checks has one.
 
 A goal is open where the prover's search doesn't prove it, or where the answer that a proof file gives doesn't fit. What
 no longer fits may still be true; so its answer is taken away, and the search must fail, too. Where the answer names what
 the mutant took away, that shows nothing: such a goal counts only if values are found at which it is false. Nor does the
 search's failure show anything at a goal whose answer stands there under a name that the mutant changed.
 
-A file is an edit as 'rt must-fail' reads it, with a line 'function: PATH' more, or several. It may add files, code or
-proofs, each by 'add: PATH' and its lines, 'line: TEXT': so a mutant brings a function that it calls, which must be proved.
+edits.py says in which form mutants stand. What a clause refused is put on record with a sum of all that this rests on
+(record.py). Only mutants are tried whose sum is another, and of the rest every tenth, by the commit's number. Of all crates
+those come first that aren't on record, or whose own code or proofs changed.
 
-    tests/mutants.py [--said FOLDER] [--only WORD] [--minutes N] [CRATE..]
+    tests/mutants.py [--all] [--list] [--said FOLDER] [--only WORD] [--minutes N] [CRATE..]
 
-It begins with what 'rt check' or 'rt lib' kept in crates/*/out. It names the mutants that no clause refused, and ends with
-0 if there is no such. With --said it leaves all that the checks said in the folder; --only tries the mutants with WORD in
-their names. After so many minutes it ends what it does, and skips the mutants that are left.
+It begins with the libraries that 'rt ci' or 'rt lib' left in crates/*/out, and with what 'rt check' kept. It names the
+mutants that no clause refused, and ends with 0 if there is no such. --all tries all mutants; --only those with WORD in their
+names; --list names those that it would try, and tries none. With --said it leaves all that the checks said in the folder.
+When these minutes are over it ends what it does, and names the mutants that are left.
 """
 
 import argparse
@@ -32,17 +35,17 @@ import sys
 import tempfile
 import threading
 import time
-from concurrent.futures import ThreadPoolExecutor
 from dataclasses import dataclass, field
 from pathlib import Path
 
-ROOT = Path(__file__).resolve().parent.parent
-# What a crate is made of; where its edits stand; what builds keep of it, and checks.
-SOURCES = ("src", "specs", "proofs")
-EDITS = ("mutants", "must-fail")
-BUILT, CHECKED = "out/rlib", "out/incremental"
-# How many crates are tried at once.
-AT_ONCE = 2
+import built
+import record
+from built import BUILT, CHECKED, ROOT, SOURCES
+from edits import EDITS, BadEdit, edits_of
+from turns import at_once, in_turn
+
+# What the trial of a crate takes of memory at most, in gigabytes, and how many mutants a round has where time is short.
+OF_MEMORY, MOST = 7, 30
 
 # What a check says of a function, and of a goal: in the function's code, or where a proof file answers it.
 VERDICT = re.compile(r"fn (\S+): (.*)")
@@ -57,76 +60,16 @@ FALSE = "allow values at which this goal is false"
 GONE = re.compile(r"has no field|is not in scope|has no `|was not admitted")
 
 
-class BadEdit(Exception):
-    """An edit that can't be applied."""
-
-
 class TimeUp(Exception):
     """A check was ended, since there was no more time."""
 
 
-@dataclass
-class Edit:
-    """A mutant: the functions of which it must leave a clause open, what replaces which stretch of each file, and the files
-    that it adds."""
-
-    name: str
-    functions: list = field(default_factory=list)
-    changes: dict = field(default_factory=dict)
-    added: dict = field(default_factory=dict)
-
-    def collides(self, other):
-        if not set(self.functions).isdisjoint(other.functions) or not set(self.added).isdisjoint(other.added):
-            return True
-        return any(
-            start < other_end and other_start < end
-            for path, changes in self.changes.items()
-            for start, end, _ in changes
-            for other_start, other_end, _ in other.changes.get(path, [])
-        )
-
-
-def read_edit(file, crate):
-    """Reads an edit, each of whose old texts stands once in its file."""
-    edit, path, old = Edit(file.stem), None, None
-    for line in file.read_text(encoding="utf-8").splitlines():
-        key, _, value = line.partition(":")
-        value = value.removeprefix(" ")
-        if key == "function":
-            edit.functions.append(value)
-        elif key == "file":
-            path = value
-        elif key == "old":
-            old = value
-        elif key == "new":
-            text = (crate / path).read_text(encoding="utf-8")
-            if text.count(old) != 1:
-                raise BadEdit(f"{edit.name}: an old text stands in {path} {text.count(old)} times, and not once")
-            start = text.index(old)
-            edit.changes.setdefault(path, []).append((start, start + len(old), value))
-        elif key == "add":
-            path = value
-            edit.added[path] = ""
-        elif key == "line":
-            edit.added[path] += value + "\n"
-    if not edit.functions or not edit.changes:
-        raise BadEdit(f"{edit.name}: it names no function, or changes nothing")
-    return edit
-
-
-def edits_of(crate, only=""):
-    """The mutants of a crate, by name."""
-    files = (file for folder in EDITS for file in (crate / folder).glob("*.edit") if only in file.stem)
-    files = sorted(files, key=lambda file: file.stem)
-    return [read_edit(file, crate) for file in files]
-
-
-def side_by_side(edits):
-    """Parts the edits into rounds, in each of which no two collide."""
+def side_by_side(edits, most=float("inf")):
+    """Parts the edits into rounds, in each of which no two collide, and none has more than the most."""
     rounds = []
     for edit in edits:
         for others in rounds:
-            if not any(edit.collides(other) for other in others):
+            if len(others) < most and not any(edit.collides(other) for other in others):
                 others.append(edit)
                 break
         else:
@@ -142,9 +85,9 @@ def link_or_copy(one, other):
         shutil.copy2(one, other)
 
 
-def lay(crate, copy, edits):
+def lay(crate, copy, edits, parts=(*SOURCES, CHECKED)):
     """Lays the crate into the copy, with these edits and with what checks of its own bodies kept."""
-    for part in (*SOURCES, CHECKED):
+    for part in parts:
         shutil.rmtree(copy / part, ignore_errors=True)
         if (crate / part).is_dir():
             linked = lambda one, other: (link_or_copy if one.endswith(".oantt") else shutil.copy2)(one, other)
@@ -219,7 +162,14 @@ def read_said(crate, lines):
     return said
 
 
-def check(copy, flags, keep, until=float("inf")):
+def command(crate, jobs):
+    """What checks a copy of a crate: rattle itself takes the libraries that 'rt ci' left, if they fit."""
+    if built.all_fit(crate):
+        return built.rattle("check", crate, "--incremental", CHECKED, jobs=jobs)
+    return ["rt", "check", "--jobs", str(jobs)]
+
+
+def check(copy, flags, keep, until=float("inf"), command=("rt", "check")):
     """Checks the copy. Returns what is said, line by line, and the processor seconds that it took."""
     left = until - time.monotonic()
     if left <= 0:
@@ -228,7 +178,7 @@ def check(copy, flags, keep, until=float("inf")):
         begun = said.tell()
         words = {"stdin": subprocess.DEVNULL, "stdout": said, "stderr": subprocess.STDOUT}
         # In a session of its own, all that the check began can be ended with it.
-        ran = subprocess.Popen(["rt", "check", *flags], cwd=copy, start_new_session=left < float("inf"), **words)
+        ran = subprocess.Popen([*command, *flags], cwd=copy, start_new_session=left < float("inf"), **words)
         end = threading.Timer(left, os.killpg, (ran.pid, signal.SIGKILL)) if left < float("inf") else None
         if end:
             end.daemon = True
@@ -314,23 +264,38 @@ class Tried:
 class Crate:
     """The trial of a crate's mutants in a copy of it."""
 
-    def __init__(self, crate, room, said, flags, until):
-        self.crate, self.copy, self.flags, self.until = crate, room / "crates" / crate.name, flags, until
-        self.said = (said or room) / f"{crate.name}.txt"
-        self.seconds, self.refused, self.failed = 0, 0, []
+    def __init__(self, crate, room, given, until, jobs):
+        self.crate, self.copy, self.until = crate, room / "crates" / crate.name, until
+        self.said = (given.said or room) / f"{crate.name}.txt"
+        # Where libraries don't fit, rt builds what is missing, and once for all.
+        self.jobs, self.seconds = jobs, 0
+        first = command(crate.name, jobs())
+        if first[0] == "rt":
+            self.seconds = check(crate, ["--only", ""], os.devnull, until, first)[1]
+            copied(room)
+        (self.copy / CHECKED).mkdir(parents=True, exist_ok=True)
+        # What a round checked is kept for the next.
+        self.parts = (*SOURCES, CHECKED)
+        self.refused, self.let_through, self.failed = set(), set(), []
 
-    def check(self, *flags):
-        lines, seconds = check(self.copy, [*self.flags, *flags], self.said, self.until)
-        self.seconds += seconds
+    def check(self, functions):
+        """Checks these functions of the copy."""
+        only = [word for it in functions for word in ("--only", it.partition("::")[2])]
+        lines, seconds = check(self.copy, only, self.said, self.until, command(self.crate.name, self.jobs()))
+        self.seconds, self.last = self.seconds + seconds, lines[-1] if lines else "it said nothing"
+        self.errors = [line for line in lines if ": error[" in line]
         return read_said(self.crate, lines)
 
-    def fail(self, text):
-        self.failed.append(f"{self.crate.name}: {text}")
+    def fail(self, edit, text):
+        self.let_through.add(edit.name)
+        self.failed.append(f"{self.crate.name}: {edit.name}: {text}")
 
     def rounds(self, edits):
         """Tries the edits side by side. Those that no clause is known to refuse are tried once more, each alone: the search
-        doesn't try the goals of a function that calls one whose proof another mutant took away."""
-        rounds, alone, seen, number = side_by_side(edits), [], set(), 0
+        doesn't try the goals of a function that calls one whose proof another mutant took away. What a check says of a function
+        comes at its end, so where the time may be up before, a round has fewer."""
+        most = MOST if self.until < float("inf") else float("inf")
+        rounds, alone, seen, number = side_by_side(edits, most), [], set(), 0
         while rounds or alone:
             number += 1
             these, start = rounds.pop(0) if rounds else [alone.pop(0)], time.monotonic()
@@ -345,19 +310,43 @@ class Crate:
 
     def round(self, edits, seen):
         """Tries edits that stand side by side. Returns those to try again."""
-        lay(self.crate, self.copy, edits)
-        said = self.check()
-        if not said:
-            self.fail(f"no function was tried with {', '.join(edit.name for edit in edits)}")
+        lay(self.crate, self.copy, edits, self.parts)
+        self.parts = SOURCES
+        functions = [function for edit in edits for function in edit.functions]
+        said = self.check([*functions, *(it for edit in edits for it in edit.modules(self.crate.name))])
+        if edits[0].error:
+            self.tell_error(edits[0])
             return []
-        tried = {function: Tried(said.get(function, Said())) for edit in edits for function in edit.functions}
+        tried = {function: Tried(said.get(function, Said())) for function in functions}
         for it in tried.values():
             it.first()
-        self.without_answers(tried)
-        for function, it in said.items():
-            if function not in tried and not WELL.match(it.verdict):
-                self.fail(f"{function}, with its own body: {it.verdict}")
-        return [edit for edit in edits if not self.tell(edit, tried, edit.name in seen)]
+        try:
+            self.without_answers(tried)
+        except TimeUp:
+            # What the first check said stands.
+            for edit in edits:
+                self.is_amiss(edit, said) or self.report(edit, tried, is_last=False)
+            raise
+        return [edit for edit in edits if not (self.is_amiss(edit, said) or self.report(edit, tried, edit.name in seen))]
+
+    def tell_error(self, edit):
+        """Says whether the language refuses a mutant, which was tried alone, by the error that it names, and by no other."""
+        others = [it for it in self.errors if f": error[{edit.error}]: " not in it]
+        if others or not self.errors:
+            self.fail(edit, f"another error: {others[0][:160]}" if others else f"no error: {self.last[:160]}")
+            return
+        print(f"{self.crate.name}: {edit.name}: error: {edit.error}", flush=True)
+        self.refused.add(edit.name)
+
+    def is_amiss(self, edit, said):
+        """Says whether nothing was tried with a mutant, or what it adds isn't proved."""
+        if not said:
+            self.fail(edit, f"no function was tried: {self.last[:160]}")
+        for module in edit.modules(self.crate.name):
+            added = {function: it.verdict for function, it in said.items() if function.startswith(f"{module}::")}
+            if bad := [function for function, verdict in added.items() if not WELL.match(verdict)] or [module][: not added]:
+                self.fail(edit, f"{bad[0]}, which it adds: {added.get(bad[0], 'no such function')}")
+        return edit.name in self.let_through
 
     def without_answers(self, tried):
         """Tries those once more of which no clause is known to be open, without the answers that don't fit."""
@@ -366,63 +355,92 @@ class Crate:
             file = answers_of(self.copy, function)
             if file.is_file():
                 file.write_text(without(file.read_text(encoding="utf-8"), tried[function].said.answered), encoding="utf-8")
-        only = [word for function in unknown for word in ("--only", function.partition("::")[2])]
-        for function, said in self.check(*only).items() if only else ():
+        for function, said in self.check(unknown).items() if unknown else ():
             if function in unknown:
                 tried[function].again(said)
 
-    def tell(self, edit, tried, is_last):
+    def report(self, edit, tried, is_last):
         """Says which clauses a mutant leaves open. Returns whether it is done with."""
         for function in edit.functions:
             if not tried[function].open:
                 if is_last:
-                    self.fail(f"{edit.name}: {function}: no clause is known to be open: {tried[function].why_not()}")
+                    self.fail(edit, f"{function}: no clause is known to be open: {tried[function].why_not()}")
                 return is_last
         lone = lambda function: lone_clause(self.crate, function)
         open_of = lambda function: ", ".join(sorted({clause(goal, lone(function)) for goal in tried[function].open}))
         words = "; ".join(f"{function.rpartition('::')[2]}: {open_of(function)}" for function in edit.functions)
         print(f"{self.crate.name}: {edit.name}: {words}", flush=True)
-        self.refused += 1
+        self.refused.add(edit.name)
         return True
 
 
 @dataclass
 class Count:
-    """How many mutants were refused, how many are left for want of time, the processor seconds, and what failed."""
+    """How many mutants were refused, how many are left since the time was up, how many stay as they are on record, the
+    processor seconds, and what failed."""
 
     refused: int = 0
     skipped: int = 0
+    kept: int = 0
     seconds: float = 0.0
     failed: list = field(default_factory=list)
 
     def add(self, other):
-        self.refused, self.skipped = self.refused + other.refused, self.skipped + other.skipped
+        self.refused, self.skipped, self.kept = self.refused + other.refused, self.skipped + other.skipped, self.kept + other.kept
         self.seconds, self.failed = self.seconds + other.seconds, self.failed + other.failed
 
 
-def tried(crate, only, said, flags, until):
-    """Tries the mutants of a crate."""
-    try:
-        edits = edits_of(crate, only)
-    except (BadEdit, OSError) as why:
-        return Count(failed=[f"{crate.name}: {why}"])
-    if not edits:
-        return Count()
-    count, trial = Count(), None
-    try:
-        if not (crate / CHECKED).is_dir():
-            print(f"mutants: {crate.name}: no check kept anything, so it is checked first", flush=True)
-            count.seconds = check(crate, flags, os.devnull, until)[1]
-        with tempfile.TemporaryDirectory(prefix="mutants-") as room:
-            copied(Path(room))
-            trial = Crate(crate, Path(room), said, flags, until)
-            trial.rounds(edits)
-    except TimeUp:
-        count.skipped = max(len(edits) - (trial.refused + len(trial.failed) if trial else 0), 0)
-        print(f"mutants: SKIPPED: {crate.name}: {count.skipped} of {len(edits)}, for want of time", flush=True)
-    if trial:
-        count.add(Count(trial.refused, 0, trial.seconds, trial.failed))
-    return count
+class Trial:
+    """The mutants of a crate that are to be tried, in stages, of which the first come before those of other crates too."""
+
+    def __init__(self, crate, given, until):
+        self.crate, self.given, self.until = crate, given, until
+        self.edits, self.stages, self.sums, self.tried, self.room, self.is_up = [], [], {}, None, None, False
+        self.count = Count()
+        try:
+            self.edits = edits_of(crate)
+            self.sums = record.Repository().sums(crate.name, self.edits)
+        except (BadEdit, OSError) as why:
+            self.count.failed.append(f"{crate.name}: {why}")
+            return
+        self.recorded = record.read(crate, record.logic())
+        all_at_once = [[*self.sums]] if given.all or given.only else None
+        for names in all_at_once or record.stages(self.sums, self.recorded, record.commit()):
+            self.stages.append([it for it in self.edits if it.name in names and given.only in it.name])
+        self.these = [edit for stage in self.stages for edit in stage]
+        self.count.kept = 0 if given.only else len(self.edits) - len(self.these)
+        if given.list:
+            print("\n".join(f"{crate.name}: {edit.name}" for edit in self.these))
+        elif self.count.kept and self.these:
+            what = f"{self.count.kept} of {len(self.edits)} are on record, with all that they rest on as it was"
+            print(f"mutants: {crate.name}: {what}", flush=True)
+
+    def run(self, stage, jobs):
+        """Tries the mutants of a stage, each check with as many processes as the call says."""
+        try:
+            if self.tried is None and not self.is_up:
+                self.room = tempfile.TemporaryDirectory(prefix="mutants-")
+                self.tried = Crate(self.crate, Path(self.room.name), self.given, self.until, jobs)
+            if not self.is_up:
+                self.tried.rounds(self.stages[stage])
+        except TimeUp:
+            self.is_up = True
+
+    def ended(self):
+        """Names those that are left, and puts those on record that a clause refused. Returns what is counted."""
+        if self.is_up:
+            done = self.tried.refused | self.tried.let_through if self.tried else set()
+            left = sorted({edit.name for edit in self.these} - done)
+            self.count.skipped = len(left)
+            what = f"{len(left)} of {len(self.edits)}, since the time was up: {', '.join(left)}"
+            print(f"mutants: SKIPPED: {self.crate.name}: {what}", flush=True)
+        if it := self.tried:
+            self.count.add(Count(len(it.refused), 0, 0, it.seconds, it.failed))
+            known = {name for name, sum in self.recorded.items() if self.sums.get(name) == sum} - it.let_through | it.refused
+            record.write(self.crate, record.logic(), {name: self.sums[name] for name in known})
+        if self.room:
+            self.room.cleanup()
+        return self.count
 
 
 def lowest_first():
@@ -435,6 +453,8 @@ def lowest_first():
 def main():
     words = argparse.ArgumentParser(description="Tries mutants: each has to leave a clause open.")
     words.add_argument("crates", nargs="*", metavar="CRATE")
+    words.add_argument("--all", action="store_true", help="tries those too that are on record as refused")
+    words.add_argument("--list", action="store_true", help="names the mutants that it would try, and tries none")
     words.add_argument("--only", default="", metavar="WORD", help="tries the mutants with this in their names")
     words.add_argument("--minutes", type=float, default=float("inf"), metavar="N", help="skips what isn't done by then")
     words.add_argument("--said", type=Path, metavar="FOLDER", help="leaves what the checks said there")
@@ -446,15 +466,20 @@ def main():
     if given.said:
         given.said.mkdir(parents=True, exist_ok=True)
     until = time.monotonic() + 60 * given.minutes
-    flags = ["--jobs", str(max((os.cpu_count() or 1) // min(AT_ONCE, len(crates)), 1))]
+    trials = [Trial(it, given, until) for it in crates]
+    if not given.list:
+        turns = [(stage, -len(edits), it) for it in trials for stage, edits in enumerate(it.stages) if edits]
+        turns.sort(key=lambda it: it[:2])
+        in_turn([(it, stage) for stage, _, it in turns], at_once(OF_MEMORY), os.cpu_count() or 1)
     count = Count()
-    with ThreadPoolExecutor(AT_ONCE) as pool:
-        for each in pool.map(lambda crate: tried(crate, given.only, given.said, flags, until), crates):
-            count.add(each)
+    for it in trials:
+        count.add(it.count if given.list else it.ended())
     for failure in count.failed:
         print(f"mutants: FAILED: {failure}")
+    if given.list:
+        return 1 if count.failed else 0
     print(f"mutants: {count.seconds / 60:.1f} processor minutes")
-    print(f"mutants: {count.refused} refused by a clause, {len(count.failed)} not")
+    print(f"mutants: {count.refused} refused by a clause, {len(count.failed)} not, {count.kept} on record")
     print(f"{count.refused} passed, {len(count.failed)} failed, {count.skipped} skipped")
     return 1 if count.failed or not count.refused + count.skipped else 0
 

@@ -1,7 +1,8 @@
 #!/usr/bin/env python3
 """Whether the pages are true of the tree: links lead somewhere, files and names that a page gives are there, a word of the
 model is defined, what CALLING and PROMISES quote of a source stands there, what there is to read for the headline has as
-many lines as PROMISES says, and each public call stands in CALLING, in PROMISES or on the page of its language.
+many lines as PROMISES says, each folder has the lines that ARCHITECTURE gives, each public call stands in CALLING, in PROMISES or
+on the page of its language, and the table of calls is what tools/calls.py writes. And which mutants a change has tried again, by the rows of record_rows.py.
 
     tests/pages.py
 
@@ -11,28 +12,43 @@ Its last line is 'N passed, M failed'. What fails is named with its page.
 import os
 import re
 import sys
+from fnmatch import fnmatch
 from pathlib import Path
 
 ROOT = Path(__file__).resolve().parent.parent
+sys.path.append(str(ROOT / "tools"))
+
+import calls as calls_by_language  # noqa: E402
+import record_rows  # noqa: E402
+
 # Folders that hold what was built.
-BUILT = {"out", "target", ".git"}
+BUILT = {"out", "target", "build", "__pycache__", ".git"}
 FENCED = re.compile(r"^```.*?^```", re.M | re.S)
 LINK = re.compile(r"\]\(([^)\s]+)\)")
 FILE = re.compile(r"[\w./-]*\w\.(?:rt|antt|py|sh|rs)\b")
 NAME = re.compile(r"[A-Za-z]\w*")
+# A table with its head, and a prefix of names in code.
+TABLE = re.compile(r"^[^\n]*\|[^\n]*\n[-:| ]+\n(?:[^\n]*\|[^\n]*\n)+", re.M)
+PREFIX = re.compile(r"`(\w+_)`")
 # What PROMISES has one read for its headline: words, the file that defines them, how many lines that is; and all together.
-READING = re.compile(r"^(`.*`) \| (\S+) \| (\d+)$", re.M)
+READING = re.compile(r"^(`.*`)\|([^\s|]+)\|(\d+)$", re.M)
 READ = re.compile(r"(\d+) lines with their comments")
+# The words of std on which those lines stand, and what brings such words into a file.
+STOOD_ON = re.compile(r"^They stand on (\d+) words of std: (.*)\.$", re.M)
+STD = re.compile(r"\buse Rattle\.std[\w.]*\.\{([^}]*)\}")
 MOST_TO_READ = 250
+# A folder and its lines, where ARCHITECTURE draws the tree, and by how much they may differ.
+DRAWN = re.compile(r"^([\w*/]+) +([\d,]+)(?:  .*)?$", re.M)
+ROUNDED = 0.15
 # The crates whose public calls a page has to have.
-PROVED = ("range_merge", "range_entry", "range_collections", "range_chunks", "range_map", "range_tracker", "range_calc_answers", "range_track_answers")
+PROVED = ("range_merge", "range_entry", "range_collections", "range_list", "range_chunks", "range_map", "range_tracker", "range_chunked_tracker", "range_calc_answers", "range_track_answers")
 # What a crate exports; what declares a call in Rattle: the type or trait that it belongs to, if any, and its name.
 EXPORTED = re.compile(r"^pub use [^;]*;", re.M)
 BLOCK = re.compile(r"^(?:impl\b(?P<impl>[^{;]*)\{|pub trait (?P<trait>\w+))|^(?P<indent> *)(?P<pub>pub )?(?:const )?fn (?P<name>\w+)", re.M)
 # What declares one in C, by one of the four types, and in C++.
 C_CALL = re.compile(r"\brange_set_(?:i64_)?(\w+)\(")
 CPP_CALL = re.compile(r"^    (?! |friend|return|explicit)[\w:<>,& *]*[ &*](?!operator\b)([a-z]\w*)\(", re.M)
-CPP_PRIVATE = re.compile(r"^ *private:.*?^\};", re.M | re.S)
+CPP_PRIVATE = re.compile(r"^ *private:.*?^\};|^namespace detail \{.*?^\} // namespace detail", re.M | re.S)
 # The same of Python's classes and functions.
 PYTHON_CALL = re.compile(r"^(?:    )?def ([a-z]\w*)", re.M)
 # What stands in code on a page and is no name of the sources: variables, and words of a clause.
@@ -103,9 +119,9 @@ def wrong_names(page, words):
 def undefined_words(page, specs):
     """Words that the model lists and no definition has."""
     for line in prose(page).splitlines():
-        if not line.startswith("- `"):
+        if not line.startswith("`") or "|" not in line:
             continue
-        for code in re.findall(r"`([^`]+)`", line.split(":")[0]):
+        for code in re.findall(r"`([^`]+)`", line.split("|")[0]):
             word = NAME.match(code)
             if word and word[0] not in specs:
                 yield f"no definition has the word {word[0]}"
@@ -140,11 +156,67 @@ def wrong_readings(page):
         yield f"there are {total} lines to read for the headline"
 
 
+def lines_of(paths):
+    """How many lines the files have, of those that are text."""
+    return sum((ROOT / it).read_bytes().count(b"\n") for it in paths if not it.endswith((".png", ".a", ".pyc")))
+
+
+def wrong_lines(page, paths):
+    """Folders whose lines the page gives otherwise than they are. A file counts for the longest path that it lies below."""
+    drawn = {folder: int(lines.replace(",", "")) for folder, lines in DRAWN.findall(page.read_text(encoding="utf-8"))}
+    below = {folder: [] for folder in drawn}
+    for path in paths:
+        folders = [it for it in drawn if fnmatch(path, f"{it}/*")]
+        if folders:
+            below[max(folders, key=len)].append(path)
+    for folder, lines in drawn.items():
+        found = lines_of(below[folder])
+        if abs(found - lines) > max(ROUNDED * lines, 500):
+            yield f"{folder} has {found} lines"
+    if not drawn:
+        yield "no folder has its lines"
+
+
+def words_of_std(page):
+    """The words of std in the lines that PROMISES has one read."""
+    found = set()
+    for words, file, _ in READING.findall(page.read_text(encoding="utf-8")):
+        text = (ROOT / "crates" / file).read_text(encoding="utf-8")
+        lines = "\n".join(line for it in re.findall(r"`(\w+)`", words) for line in definition(text, it))
+        tokens = set(re.findall(r"\[\]|[^\s()\[\]{},;.]+", re.sub(r"(?:--|//).*", "", lines)))
+        for name in re.split(r",\s*", ", ".join(STD.findall(text))):
+            word, _, other = name.partition(" as ")
+            if (other or word).strip("◌") in tokens:
+                found.add(word.strip("◌"))
+    return found
+
+
+def wrong_words_of_std(page):
+    """Words of std on which the lines to read for the headline stand, and that the page doesn't name, or others."""
+    for number, named in STOOD_ON.findall(page.read_text(encoding="utf-8")):
+        named, used = set(re.findall(r"`([^`]+)`", named)), words_of_std(page)
+        if named != used or int(number) != len(used):
+            yield f"the headline stands on {len(used)} words of std: wrong are {sorted(named ^ used)}"
+        return
+    yield "the words of std on which the headline stands aren't named"
+
+
 def words_in_code(pages):
     """The names in the code of the pages, in blocks and in lines."""
     text = "\n".join(it.read_text(encoding="utf-8") for it in pages)
     code = FENCED.findall(text) + re.findall(r"`([^`\n]+)`", FENCED.sub("", text))
     return set(NAME.findall("\n".join(code)))
+
+
+def prefixed_words(page):
+    """The names in code of the columns whose head has a prefix in code, as `chunked_`, with that prefix."""
+    found = set()
+    for table in TABLE.findall(prose(page)):
+        head, _, *rows = ([cell.strip() for cell in line.strip("| ").split("|")] for line in table.splitlines())
+        for at, prefix in ((at, PREFIX.search(cell)) for at, cell in enumerate(head)):
+            cells = "".join(row[at] for row in rows if prefix and at < len(row))
+            found |= {prefix[1] + name for code in re.findall(r"`([^`]+)`", cells) for name in NAME.findall(code)}
+    return found
 
 
 def type_of(header):
@@ -185,12 +257,13 @@ def calls_beyond_the_crates(paths):
     def read(path):
         return (ROOT / path).read_text(encoding="utf-8")
 
-    layer = [it for it in paths if re.match(r"rust/src/(?!generated|support|c/|c\.rs)", it) and it.endswith(".rs")]
+    layer = [it for it in paths if re.match(r"rust/src/(?!generated|support)", it) and it.endswith(".rs")]
     rust = {name for it in layer for name in re.findall(r"^ *pub fn (\w+)", read(it), re.M)}
     ours = {it for it in C_CALL.findall(read("c/include/range_set.h")) if not re.match(r"[iu](32|64)_", it)}
-    python = [f"python/src/range_sets/{it}.py" for it in ("_buffers", "_ranges", "_sets", "dask")]
+    python = [f"python/src/range_sets/{it}.py" for it in ("_buffers", "_ranges", "_sets", "_maps", "dask")]
+    cpp = read("c/include/range_set.hpp") + read("c/include/range_map.hpp")
     yield "rust/README.md", rust
-    yield "c/README.md", ours | set(CPP_CALL.findall(CPP_PRIVATE.sub("", read("c/include/range_set.hpp"))))
+    yield "c/README.md", ours | set(CPP_CALL.findall(CPP_PRIVATE.sub("", cpp)))
     yield "python/README.md", {name for it in python for name in PYTHON_CALL.findall(read(it))}
 
 
@@ -220,13 +293,21 @@ def main():
     checks += [(calling, "quotes", list(wrong_quotes(calling, "rust", sources)))]
     checks += [(docs / "PROMISES.md", "quotes", list(wrong_quotes(docs / "PROMISES.md", "antt", specs)))]
     checks += [(docs / "PROMISES.md", "lines to read", list(wrong_readings(docs / "PROMISES.md")))]
+    checks += [(docs / "ARCHITECTURE.md", "lines of folders", list(wrong_lines(docs / "ARCHITECTURE.md", paths)))]
+    checks += [(docs / "PROMISES.md", "words of std", list(wrong_words_of_std(docs / "PROMISES.md")))]
     shared = [ROOT / it for it in paths if it.endswith("CALLING.md")] + [docs / "PROMISES.md"]
     for crate in PROVED:
         own = [it for it in pages if it.parent == ROOT / "crates" / crate]
         found = missing_calls(calls_of_crate(crate, paths), words_in_code(shared + own))
         checks.append((ROOT / "crates" / crate, "public calls", list(found)))
     for page, calls in calls_beyond_the_crates(paths):
-        checks.append((ROOT / page, "public calls", list(missing_calls(calls, words_in_code([*shared, ROOT / page])))))
+        prefixed = prefixed_words(ROOT / page)
+        found = [f"there is no call {it}" for it in sorted(prefixed - calls)]
+        found += missing_calls(calls, prefixed | words_in_code([*shared, ROOT / page]))
+        checks.append((ROOT / page, "public calls", found))
+    written = [] if calls_by_language.is_written() else ["tools/calls.py writes another table"]
+    checks.append((docs / "DIFFERENCES.md", "calls", written))
+    checks += [(ROOT / "tests/record_rows.py", name, [] if holds else ["it doesn't hold"]) for name, holds in record_rows.rows()]
     failed = 0
     for page, what, found in checks:
         failed += bool(found)

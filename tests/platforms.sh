@@ -1,6 +1,6 @@
 #!/usr/bin/env bash
 # Builds the Rust crate and runs its tests natively by two Rusts, on 32 bits, with emulated processors of other kinds, and
-# as WebAssembly in node; but for the last, the tests in C too, over the library that its feature `c` gives.
+# as WebAssembly in node; but for the last, the tests in C too, over the layer in C and what the feature `c` gives it.
 #
 #   tests/platforms.sh [WORD..]     those whose names begin with one of the words: native, i386, aarch64, s390x, wasm32
 #
@@ -38,7 +38,7 @@ wanted() {
 
 # Where the copy of the crate lies that cargo of a folder builds.
 copy_for() {
-    echo "$work/crate-$(echo "$1" | tr / -)"
+    echo "$work/for-$(echo "$1" | tr / -)/rust"
 }
 
 # Calls cargo of a folder, with the compiler beside it, in a copy of the crate: it writes a lock file, and of another version.
@@ -46,7 +46,7 @@ cargo_of() {
     local bin=$1 copy
     shift
     copy=$(copy_for "$bin")
-    [ -d "$copy" ] || { mkdir "$copy" && tar c -C rust --exclude=./target --exclude=./Cargo.lock . | tar x -C "$copy"; } || return 1
+    [ -d "$copy" ] || copies_rust "${copy%/rust}" || return 1
     (cd "$copy" && RUSTC=$bin/rustc RUSTDOC=$bin/rustdoc "$bin/cargo" "$1" "${offline[@]}" "${@:2}")
 }
 
@@ -63,15 +63,15 @@ tests_of() {
     [ "$many" -gt 0 ]
 }
 
-# The tests in C over the library of cargo of a folder: a C compiler, the platform's folder of what cargo built, the words of
-# cargo, and after -- what runs a program.
+# The tests in C over the layer and the library of cargo of a folder: a C compiler, the platform's folder of what cargo built, the
+# words of cargo, and after -- what runs a program.
 tests_c() {
     local compiler=$1 built=$2 bin=$3 words=()
     shift 3
     while [ $# -gt 0 ] && [ "$1" != -- ]; do words+=("$1") && shift; done
-    cargo_of "$bin" rustc --quiet --features c --lib --crate-type staticlib "${words[@]}" &&
-        "$compiler" -std=c99 -O1 -Wall -Wextra -Ic/include c/test.c "$(copy_for "$bin")/target/$built/librange_sets.a" \
-            -lpthread -ldl -lm -o "$work/test_c" && "${@:2}" "$work/test_c" 500
+    cargo_of "$bin" rustc --quiet --features c --lib --crate-type staticlib "${words[@]}" -- --cfg range_sets_heap &&
+        "$compiler" -std=c99 -O1 -Wall -Wextra -DRANGE_SET_PLAIN -Ic/include c/tests/test.c c/range_set.c \
+            "$(copy_for "$bin")/target/$built/librange_sets.a" -lpthread -ldl -lm -o "$work/test_c" && "${@:2}" "$work/test_c" 500
 }
 
 # The names of the tests, without those in documentation.
@@ -169,9 +169,9 @@ for crate in smallvec serde serde_json; do
 done
 for bin in "$debian" "$newer"; do
     wanted native || break
-    if [ -x "$bin/cargo" ]; then native "$bin"; else skip "the tests by $bin/cargo" "it isn't there"; fi
+    if is_there "$bin/cargo"; then native "$bin"; else skip "the tests by $bin/cargo" "it isn't there"; fi
 done
-if [ -x "$debian/cargo" ]; then
+if is_there "$debian/cargo"; then
     foreign "i386, 32 bits" i686-unknown-linux-gnu i386 i686-linux-gnu-gcc gcc-i686-linux-gnu \
         /usr/i686-linux-gnu/lib/ld-linux.so.2 --library-path /usr/i686-linux-gnu/lib
     foreign "aarch64 by qemu" aarch64-unknown-linux-gnu arm64 aarch64-linux-gnu-gcc gcc-aarch64-linux-gnu \

@@ -3,10 +3,11 @@
 #
 #   tests/python.sh           all tests, with some seconds of made-up cases
 #   tests/python.sh --more    long runs of made-up cases, the example on a cluster of two processes, the benchmark's answers;
-#                             the tests over a wheel whose library cargo builds of rust/, and by a later Python
+#                             a wheel over what cargo builds of rust/; the tests by a later Python
 #
 # The interpreter is PYTHON, or else the first of python3 and /usr/bin/python3 that has numpy and hypothesis, or else python3.
 # Interpreters with locks of their own, and a Python without the lock, are tested by another Python if one is at hand.
+# What runs for MOST seconds is ended, and says where it was.
 # Its last line is 'N passed, M failed, K skipped'. It ends with 77 if a tool is missing.
 set -u
 cd "$(dirname "$0")/../python" || exit 1
@@ -38,7 +39,13 @@ interpreter() {
 
 python=${PYTHON:-$(interpreter)}
 here=$PWD
+MOST=600
 venv=$work/venv/bin/python
+
+# Runs the installed package.
+runs() {
+    within $MOST "$venv" -X faulthandler "$@"
+}
 
 installs() {
     "$python" -m venv --system-site-packages "$work/venv" && "$venv" -m pip install --no-index --quiet "$here"
@@ -46,7 +53,7 @@ installs() {
 
 # Runs the tests of some modules outside of the tree, so that what is imported is what was installed.
 tests() {
-    (cd "$work" && "$venv" -m unittest discover -s "$here/tests" -t "$here/tests" "$@")
+    (cd "$work" && runs -m unittest discover -s "$here/tests" -t "$here/tests" "$@")
 }
 
 # Runs the lines of a page, word for word, that are marked as Python, or as Python with one more word.
@@ -54,12 +61,12 @@ runs_page() {
     local page=$1
     shift
     awk -v fence="\`\`\`$*" '/^```/ { on = $0 == fence; next } on' "$page" >"$work/page.py"
-    [ -s "$work/page.py" ] && (cd "$work" && "$venv" page.py)
+    [ -s "$work/page.py" ] && (cd "$work" && runs page.py)
 }
 
 prints_the_difference() {
     local line='from range_sets import RangeSet; print(RangeSet([(0, 10), (20, None)]) - RangeSet([(3, 5)]))'
-    [ "$(cd "$work" && "$venv" -c "$line")" = "0..3, 5..10, 20.." ]
+    [ "$(cd "$work" && runs -c "$line")" = "0..3, 5..10, 20.." ]
 }
 
 # The types of the package, and of a program that uses it.
@@ -94,20 +101,24 @@ builds_from_source() {
         (cd "$work" && "$venv" -m pip wheel --no-index --quiet --wheel-dir=wheels source/*.tar.gz && ls wheels/*.whl)
 }
 
-# Installs a wheel of the source distribution whose library cargo builds, in a venv of its own, and runs the tests over it. Cargo
-# finds the crates that Debian packages.
+# Installs a wheel of the source distribution over what cargo builds, in a venv of its own, and runs the examples over it. Cargo finds
+# the crates that Debian packages. The layer in C is the same, and tests/c.sh compares what lies under it.
 packages=/usr/share/cargo/registry
 installs_by_cargo() {
     export RANGE_SETS_LIBRARY=rust
     export CARGO="cargo --offline --config 'source.crates-io.replace-with=\"debian\"' --config 'source.debian.directory=\"$packages\"'"
     venv=$work/by_cargo/bin/python
     "$python" -m venv --system-site-packages "$work/by_cargo" &&
-        "$venv" -m pip install --no-index --quiet "$work"/source/*.tar.gz && has_no_proved_code && tests
+        "$venv" -m pip install --no-index --quiet "$work"/source/*.tar.gz && has_no_proved_code && prints_the_difference &&
+        tests -p test_examples.py
 }
 
 # Whether the module is the one that cargo built: Rust's library leaves its sentences in it.
 has_no_proved_code() {
-    grep -q 'RUST_BACKTRACE' "$(cd "$work" && "$venv" -c 'import range_sets._core; print(range_sets._core.__file__)')"
+    grep -q 'RUST_BACKTRACE' "$(cd "$work" && "$venv" -c 'import range_sets._core; print(range_sets._core.__file__)')" || {
+        echo "the module isn't the one that cargo built"
+        return 1
+    }
 }
 
 skip() {
@@ -174,21 +185,22 @@ has "$python" "sysconfig, os; os.stat(sysconfig.get_path('include') + '/Python.h
 step "it is installed" installs
 if [ "${1:-}" = --more ]; then
     by_another "the tests by a Python from 3.12 on" "$has_own_locks" tests
+    MOST=1200
     export RANGE_SETS_EXAMPLES=1000 RANGE_SETS_SECONDS=20 RANGE_SETS_TEXTS=400000 RANGE_SETS_PICKLES=185000
     step "threads and processes" tests -p test_processes.py
     step_with hypothesis python3-hypothesis "long runs of made-up cases" tests -p with_hypothesis.py
     step "made-up texts" tests -p test_texts.py
     step "damaged pickles" tests -p test_pickles.py
     step_with "dask.bag, distributed, numpy" "python3-dask python3-distributed python3-numpy" \
-        "the example on two processes" "$venv" examples/received.py --ranges 100000
+        "the example on two processes" runs examples/received.py --ranges 100000
     step "a wheel of the source distribution" builds_from_source
     if ls -d "$packages"/{smallvec,serde_json}-[0-9]* >/dev/null 2>&1; then
-        step_by cargo cargo "the tests over a library that cargo builds" installs_by_cargo
+        step_by cargo cargo "a wheel over what cargo builds, and the examples over it" installs_by_cargo
     else
         skip "a library that cargo builds" "the crates smallvec, serde_json aren't there; on Debian: librust-smallvec-dev librust-serde-json-dev"
     fi
     step_with "intervaltree, sortedcontainers, netaddr" "python3-intervaltree python3-sortedcontainers python3-netaddr" \
-        "the benchmark's answers" "$venv" bench.py --pairs 2000
+        "the benchmark's answers" runs bench.py --pairs 2000
     ended
 fi
 [ "$(uname)" != Linux ] || step_by readelf binutils "it links libc alone" links_libc_alone
@@ -196,6 +208,12 @@ step "the first line of the page" prints_the_difference
 step "the tests" tests
 step_with numpy python3-numpy "the tests with numpy" tests -p with_numpy.py
 step_with pandas python3-pandas "the tests with pandas" tests -p with_pandas.py
+if command -v initdb >/dev/null || ls /usr/lib/postgresql/*/bin/initdb >/dev/null 2>&1; then
+    step "the tests beside PostgreSQL" tests -p with_postgres.py
+    has "$venv" psycopg || skip "what psycopg makes of multiranges" "$python has no psycopg; on Debian: python3-psycopg"
+else
+    skip "the tests beside PostgreSQL" "its server is missing; on Debian: postgresql"
+fi
 if command -v chromedriver >/dev/null; then
     step_with selenium python3-selenium "pictures in Chromium" tests -p with_chromium.py
 else

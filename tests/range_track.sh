@@ -40,7 +40,7 @@ for program in "$@"; do
     seen=$(seq 1 500001 | sed 's/.*/+ &0 &5/' | timeout 100 "$program" | sort | uniq -c | tr -s ' ')
     [ "$seen" = " 500000 ok"$'\n'" 1 too many 1000002" ] || fail "$program without an argument: $seen"
 
-    # In an address space of so many KiB: 20,000 ranges and what isn't there. A range that finds no memory is answered so, and the
+    # In an address space of a given number of KiB: 20,000 ranges and what isn't there. A range that finds no memory is answered so, and the
     # next line is read; what isn't there takes none. From where the system can't load the program on, up to where there is enough.
     refused=0 answered=0
     for kib in $(seq 1024 32 4096); do

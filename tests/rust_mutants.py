@@ -5,7 +5,7 @@
     tests/rust_mutants.py WORD..       those whose names have one of the words
 
 A mutant is one replacement in one file, whose text must be there exactly once, and the test file that must see it: one of
-the crate's tests, or "c", the tests in C of the library that cargo builds with the feature `c`.
+the crate's tests, or "c", the tests in C over the layer and what cargo builds with the feature `c`.
 Everything happens in a copy in a folder of its own. The last line is 'N passed, M failed, K skipped', and the status
 is 77 where a tool or a crate is missing.
 """
@@ -20,6 +20,7 @@ from pathlib import Path
 
 RUST = Path(__file__).resolve().parent.parent / "rust"
 C = RUST.parent / "c"
+TABLES = "crates/range_rows/data"
 PACKAGES = Path("/usr/share/cargo/registry")
 OFFLINE = [
     "--offline",
@@ -29,7 +30,7 @@ OFFLINE = [
 SKIPPED = 77
 # How many made-up cases of each type the tests in C run.
 CASES = "300"
-# A test that runs for so many seconds goes round in circles.
+# A test that runs for this many seconds goes round in circles.
 LONGEST = 600
 
 
@@ -53,14 +54,12 @@ MUTANTS = [
            "self.skip_to(at);\n        self.front = at + n;", "self.skip_to(at);", "hostile"),
     Mutant("after a panic the kept items stay alive", "support/opened.rs",
            "drop_items(self.items, 0, self.front);", "", "hostile"),
-    Mutant("a list of its own is dropped, and the left side stays", "support/in_place.rs",
-           "copier, op, cmp)? {\n            *a = merged;", "copier, op, cmp)? {\n            drop(merged);", "hostile"),
-    Mutant("numbers of an owned side are lost", "support/in_place.rs",
-           "Ok(Some(merged)) => {\n                *a = merged;", "Ok(Some(merged)) => {\n                drop(merged);", "rows"),
+    Mutant("plain elements are merged twice", "support/in_place.rs",
+           "if merged_plainly(a, b, copier, op, cmp)? {", "if merged_plainly(a, b, copier, op, cmp)? && b.is_empty() {", "tables"),
+    Mutant("numbers of a left side are lost beside an owned one", "support/in_place.rs",
+           "Ok(true) => return Ok(()),", "Ok(true) => a.truncate(0),", "rows"),
     Mutant("each element without a drop is taken for a number", "support/by_bits.rs",
            "is_number::<K>().then_some", "(!mem::needs_drop::<K>()).then_some", "hostile"),
-    Mutant("a few numbers with room are merged into a new list", "support/in_place.rs",
-           "both <= N || both > FEW.min(a.capacity())", "both > 0", "memory"),
     Mutant("two items are turned one place short", "support/turning.rs", "rotate_right(2)", "rotate_right(1)", "rows"),
     Mutant("a list is cut while items are dropped", "support/small_vec.rs",
            "let mut list = Opened::over(self);",
@@ -68,12 +67,12 @@ MUTANTS = [
     Mutant("items are written over before the list is cut", "generated/range_collections/range_set/splicing.rs",
            "(at + 1, Some(mem::replace(&mut items[at], item)))", "{\n            items[at] = item;\n            (at + 1, None)\n        }",
            "hostile"),
-    Mutant("a chunk's first boundary is dropped before the chunk is whole", "generated/range_chunks/chunk.rs",
+    Mutant("a chunk's first boundary is dropped before the chunk is whole", "generated/range_list/chunk.rs",
            "mem::swap(&mut self.first, &mut self.rest[len - 1]);\n            remove_first(&mut self.rest, len);",
            "self.first = self.rest.remove(len - 1);\n            remove_first(&mut self.rest, len - 1);", "hostile"),
-    Mutant("a boundary that is replaced is dropped before the others are removed", "generated/range_chunks/splicing.rs",
+    Mutant("a boundary that is replaced is dropped before the others are removed", "generated/range_list/splicing.rs",
            "let (mid, _first) = overwrite", "let (mid, _) = overwrite", "hostile"),
-    Mutant("a set in chunks is cut where it lies", "generated/range_chunks/removing.rs",
+    Mutant("a set in chunks is cut where it lies", "generated/range_list/removing.rs",
            "cut_across(&mut taken, from, to);\n    *chunks = taken;", "*chunks = taken;\n    cut_across(chunks, from, to);",
            "hostile"),
     Mutant("half of a chunk can't be refused", "support/vec.rs",
@@ -83,30 +82,30 @@ MUTANTS = [
            "self.rest = rest.into_inner().into_iter();", "self.chunks = alloc::vec::Vec::new().into_iter();\n        self.rest = rest.into_inner().into_iter();",
            "chunked"),
     Mutant("sets in chunks with the same first boundaries are equal", "chunked/traits.rs",
-           "self.0 == that.0", "self.boundaries().zip(that.boundaries()).all(|(a, b)| a == b)", "chunked"),
+           "self.proved() == that.proved()", "self.boundaries().zip(that.boundaries()).all(|(a, b)| a == b)", "chunked"),
     Mutant("a space's copy is empty", "space.rs", "self.as_set().clone().into()", "Self::new()", "manners"),
     Mutant("a space's copy can't be refused", "fallible/space.rs",
-           "self.as_set().try_copied()?", "self.as_set().clone()", "memory"),
-    Mutant("a space takes each place for an aligned one", "space.rs",
-           "self.0.first_fit_aligned(within, count, align)", "self.0.first_fit_aligned(within, count, 1)", "space"),
+           "self.as_set().proved().try_clone()?", "self.as_set().clone().into_proved()", "memory"),
+    Mutant("a space takes each place for an aligned one", "space/calls.rs",
+           "first_fit_aligned(within, count, align)", "first_fit_aligned(within, count, 1)", "space"),
     Mutant("a space frees what it is extended by", "space.rs",
            "self.insert(range.into());", "self.remove(range.into());", "manners"),
-    Mutant("spaces that are as full are equal", "space.rs",
+    Mutant("spaces that are as full are equal", "space/calls.rs",
            "self.as_set() == that.as_set()", "self.covered() == that.covered()", "manners"),
-    Mutant("what extends a space goes on after a refusal", "fallible/space.rs",
-           ".try_for_each(|range| self.0.try_insert(range.into()))",
-           ".map(|range| self.0.try_insert(range.into()))\n            .last()\n            .unwrap_or(Ok(()))", "memory"),
-    Mutant("a space's text has no width", "space.rs",
+    Mutant("what extends a space goes on after a refusal", "fallible.rs",
+           ".try_for_each(|range| self.insert(range.into()))",
+           ".map(|range| self.insert(range.into()))\n                    .last()\n                    .unwrap_or(Ok(()))", "memory"),
+    Mutant("a space's text has no width", "space/calls.rs",
            "self.as_set().fmt(f)\n", 'write!(f, "{}", self.as_set())\n', "space"),
     Mutant("equal sets in chunks have the hash of their chunks", "chunked/traits.rs",
-           "let mut len = 0;", "let mut len = self.0.chunks.len();", "chunked"),
-    Mutant("a clone of a tracker in chunks has no boundaries to count", "tracker/chunked.rs",
+           "let mut len = 0;", "let mut len = self.0.list.chunks.len();", "chunked"),
+    Mutant("a clone of a tracker in chunks has no boundaries to count", "tracker.rs",
            "copy.0.len = self.0.len;", "", "chunked"),
     Mutant("a set in chunks that is refused memory is read as none", "json.rs",
-           "Self::try_from(set).map_err(D::Error::custom)", "Ok(Self::try_from(set).unwrap_or_default())", "memory"),
+           "$form::or_error::<T, _, _>(chunks, D::Error::custom).map(Self::of_proved)",
+           "Ok(chunks.map_or_else(|_| Self::new(), Self::of_proved))", "memory"),
     Mutant("a view is loaded into an empty set", "fallible/chunked.rs",
-           "chunked::ChunkedRangeSet::try_from_view(view).map(ChunkedRangeSet)",
-           "chunked::ChunkedRangeSet::try_from_view(view).map(|_| Self::new())", "chunked"),
+           "view.proved()).map(Self::of_proved)", "view.proved()).map(|_| Self::new())", "chunked"),
     Mutant("a map is changed where it lies", "map.rs",
            "let mut taken = mem::replace(&mut self.0, proved::RangeMap::new(Global));\n        let result = change(&mut taken);\n        self.0 = taken;\n        result",
            "let _ = mem::size_of::<K>();\n        change(&mut self.0)", "hostile"),
@@ -119,10 +118,10 @@ MUTANTS = [
     Mutant("a refused copy of a value is a panic", "map/kept.rs",
            "C::copied(&self.value).map(Self::new)", "match C::copied(&self.value) {\n            Ok(value) => Ok(Self::new(value)),\n            Err(_) => panic!(),\n        }", "memory"),
     Mutant("a map that was taken by value has ends of its own", "map/iter.rs",
-           "let end = self.keys.peek().cloned();", "let end = self.keys.next();", "map"),
+           "let end = self.steps.peek().map(|next| next.key.clone());", "let end = self.steps.next().map(|next| next.key);", "map"),
     Mutant("hashes of maps are those of their values", "map/traits.rs",
            "entry.hash(state);", "entry.1.hash(state);", "map"),
-    Mutant("a value that comes back is told as out of memory", "map.rs",
+    Mutant("a value that comes back is out of memory", "map.rs",
            "InsertError::NotFree(kept) => InsertError::NotFree(kept.value),", "InsertError::NotFree(kept) => InsertError::OutOfMemory(kept.value),", "map"),
     Mutant("an open list still has its items", "support/opened.rs", "(*list).set_len(0);", "", "hostile"),
     Mutant("a few equal items are turned round", "support/sorting.rs",
@@ -150,20 +149,19 @@ MUTANTS = [
     Mutant("no memory is a panic", "memory.rs",
            "handle_alloc_error(Layout::new::<T>())", 'panic!("{:?}", handle_alloc_error as fn(Layout) -> !)', "memory"),
     Mutant("one isn't the least of non-zero numbers", "entry.rs", "self.get() == 1", "self.get() == 2", "rows"),
-    Mutant("negation of a reference is a copy", "range_set.rs", "if op.neither {", "if !op.neither {", "rows"),
+    Mutant("negation of a reference is a copy", "array.rs", "if op.neither {", "if !op.neither {", "tables"),
     Mutant("some sets that wait to be joined are lost", "range_set/joining.rs",
            "while self.waiting.len() > 1 {", "while self.waiting.len() > 2 {", "ranges"),
     Mutant("joined sets lose what they share", "range_set/joining.rs",
-           "that.into_list(), &UnionOp)", "that.into_list(), &crate::generated::range_merge::XorOp)", "ranges"),
+           "list.merge_owned(that, &UnionOp)", "list.merge_owned(that, &crate::generated::range_merge::XorOp)", "ranges"),
     Mutant("insert takes out", "range_set/in_place.rs", "set_range(range.into(), true)", "set_range(range.into(), false)", "rows"),
     Mutant("remove puts in", "range_set/in_place.rs", "set_range(range.into(), false)", "set_range(range.into(), true)", "rows"),
     Mutant("a range without an end is taken out where it is put in", "array.rs",
            "self.merge_owned(that, &UnionOp)", "self.merge_owned(that, &DiffOp)", "any_range"),
-    Mutant("a range without an end is in if its start is", "view/questions.rs",
+    Mutant("a range without an end is in if its start is", "asked.rs",
            "self.next_gap(&range.start).is_none(),", "self.contains(&range.start),", "any_range"),
-    Mutant("a range without an end meets what begins in it", "view/questions.rs",
-           "RangeSetRange::RangeFrom(range) => self.next_member(&range.start).is_some(),\n        }\n    }\n\n    /// Whether",
-           "RangeSetRange::RangeFrom(range) => self.contains(&range.start),\n        }\n    }\n\n    /// Whether", "any_range"),
+    Mutant("a range without an end meets what begins in it", "asked.rs",
+           "self.next_member(&range.start).is_some(),", "self.contains(&range.start),", "any_range"),
     Mutant("a range up to a last value leaves it out", "range.rs",
            "Self::of_ends(start, last.next_value())", "Self::of_ends(start, Some(last))", "any_range"),
     Mutant("a range that was iterated to its end has its last value", "range.rs", "if is_empty {", "if start > last {", "any_range"),
@@ -174,44 +172,46 @@ MUTANTS = [
     Mutant("a last value lies after its part", "any_range/within.rs",
            "let (from, to) = (up_to(set, start), up_to(set, last));",
            "let (from, to) = (up_to(set, start), set.boundaries().partition_point(|it| it < last));", "any_range"),
-    Mutant("nothing is below the least value, and yet told", "any_range/within.rs", "if self.end.is_min_value() {", "if false {", "any_range"),
-    Mutant("a change is told where there is none", "view/questions.rs",
-           "self.gaps(&range.start..&range.end).next().is_some()", "range.start < range.end", "any_range"),
+    Mutant("nothing is below the least value, and yet returned", "any_range/within.rs", "if self.end.is_min_value() {", "if false {", "any_range"),
+    Mutant("a change is returned where there is none", "view/questions.rs",
+           "!self\n                    .proved()\n                    .has_all_within(&range.start, &range.end, &mut count)",
+           "range.start < range.end", "any_range"),
     Mutant("a tracker takes the last number for an offset", "tracker.rs", "range.start..u64::MAX,", "range.start..range.start,", "any_range"),
-    Mutant("a clone of a tracker has no limit", "tracker.rs", "Self::new(self.0.limit)", "Self::new(usize::MAX - 2)", "any_range"),
+    Mutant("a clone of a tracker has no limit", "tracker.rs", "Self::new(self.0.limit);", "Self::new(usize::MAX - 2);", "any_range"),
     Mutant("what isn't kept is dropped from a list that has it", "array.rs",
            "let len = list.len();\n        list.drain(kept..len);\n        *self = list;",
            "*self = list;\n        self.as_inner_mut().truncate(kept);", "hostile"),
     Mutant("the first range is taken without its end", "array.rs", "self.len().min(2)", "self.len().min(1)", "manners"),
     Mutant("the last range is taken without its start", "array.rs", "list.len() % 2 == 1", "list.len() % 2 == 0", "manners"),
     Mutant("items are cleared from the last on", "array.rs", "self.drain(0..len);", "self.as_inner_mut().clear();", "hostile"),
-    Mutant("a set split in two keeps all", "range_set/taking.rs", "self.difference_with(from);", "", "manners"),
-    Mutant("a refused append takes the other set", "fallible/taking.rs", "*that = back;", "drop(back);", "memory"),
+    Mutant("a set split in two keeps all", "range_set/taking.rs", "list.merge_ref(from, &$form::Copier, &DiffOp)?;", "", "manners"),
+    Mutant("a refused append takes the other set", "range_set/taking.rs", "that.list = back;", "drop(back);", "memory"),
     Mutant("a set gives no room back", "array.rs", "support::SmallVec::shrink_to_fit(self);", "", "manners"),
-    Mutant("a reversed pair is none", "pairs.rs", "*end < start", "false", "json"),
-    Mutant("an address isn't its number", "entry.rs", "u32::from(*self).into()", "u32::from(*self).swap_bytes().into()", "elements"),
+    Mutant("a pair has no end", "pairs.rs", "RangeSetRange::of_ends(start, end)", "RangeSetRange::of_ends(start, None)", "json"),
+    Mutant("an address isn't its number", "entry.rs", "$number::from(*self).into()", "$number::from(*self).swap_bytes().into()", "elements"),
     Mutant("a second isn't the next of a nanosecond", "any_range.rs", "Duration::from_nanos(1)", "Duration::from_micros(1)", "any_range"),
     Mutant("&= is |=", "range_set/operators.rs",
-           "BitAndAssign bitand_assign = IntersectionOp ", "BitAndAssign bitand_assign = UnionOp ", "rows"),
-    Mutant("- is ^", "range_set/operators.rs", "Sub sub = difference;", "Sub sub = symmetric_difference;", "rows"),
+           "BitAndAssign bitand_assign = IntersectionOp ", "BitAndAssign bitand_assign = UnionOp ", "tables"),
+    Mutant("- is ^", "range_set/operators.rs", "Sub sub = difference;", "Sub sub = symmetric_difference;", "tables"),
+    Mutant("the first of windows far apart is changed first", "chunked/combining.rs", "made.into_iter().rev()", "made.into_iter()", "chunked"),
+    Mutant("ranges close together have the first one's window", "chunked/combining.rs", "last.1 = to;", "", "chunked"),
+    Mutant("extend of an empty set gives room up", "range_set/conversions.rs", " && self.capacity() <= that.capacity()", "", "room"),
     Mutant("extend keeps what is shared", "range_set/conversions.rs",
-           "*self |= Self::from_ranges(", "*self &= Self::from_ranges(", "rows"),
-    Mutant("true gives nothing", "range_set/conversions.rs", "if everything {", "if !everything {", "rows"),
-    Mutant("true gives nothing where memory may be refused", "fallible/conversions.rs",
-           "if everything {", "if !everything {", "rows"),
+           "*self |= that;", "*self &= that;", "rows"),
+    Mutant("true gives nothing", "range_set/conversions.rs", "all.then(", "(!all).then(", "rows"),
     Mutant("the order of sets is turned round", "range_set/traits.rs",
            "self.view().cmp(that.view())", "that.view().cmp(self.view())", "laws"),
     Mutant("the hash of a set isn't its view's", "range_set/traits.rs",
            "self.view().hash(state)", "self.view().is_empty().hash(state)", "laws"),
     Mutant("a superset is a subset", "view/questions.rs",
-           "self.proved().is_superset(that.proved())", "self.proved().is_subset(that.proved())", "rows"),
-    Mutant("a length without a start is told", "view/questions.rs",
+           "self.proved().is_superset(that.proved())", "self.proved().is_subset(that.proved())", "tables"),
+    Mutant("a length without a start is returned", "view/questions.rs",
            "!op.neither,", "true,", "operations"),
     Mutant("the parts of a split are exchanged", "view/parts.rs",
-           "(Self::of_proved(left), Self::of_proved(right))", "(Self::of_proved(right), Self::of_proved(left))", "rows"),
-    Mutant("the next member is the next gap", "view/parts.rs",
+           "(Self::of_proved(left), Self::of_proved(right))", "(Self::of_proved(right), Self::of_proved(left))", "tables"),
+    Mutant("the next member is the next gap", "asked.rs",
            "self.proved().next_member(from)", "self.proved().next_gap(from)", "questions"),
-    Mutant("the next gap is where it was asked", "view/parts.rs",
+    Mutant("the next gap is where it was asked", "asked.rs",
            "self.proved().next_gap(from)", "Some(from)", "questions"),
     Mutant("an owned iterator counts pairs alone", "iter.rs",
            "let left = len / 2 + len % 2;", "let left = len / 2;", "questions"),
@@ -219,41 +219,70 @@ MUTANTS = [
            "range.start.clone()..range.end.clone()", "range.end.clone()..range.start.clone()", "rows"),
     Mutant("a width is each number's", "text.rs", 'write!(f, "{text}")?;', "text.fmt(f)?;", "text"),
     Mutant("a text in the middle stands at the left", "text.rs", "=> missing / 2,", "=> 0,", "text"),
-    Mutant("flags don't reach the elements", "text.rs", "f.debug_set().entries(self.iter()).finish()",
+    Mutant("flags don't reach the elements", "range_set/traits.rs", "f.debug_set().entries(self.iter()).finish()",
            'write!(f, "{:?}", self.iter().collect::<alloc::collections::VecDeque<_>>())', "text"),
     Mutant("a boast of a format reserves all", "json.rs", ".min(trusted)", ".max(trusted)", "json"),
     Mutant("boundaries are read unsorted", "json.rs",
-           "Ok(Self::of_unsorted(", "Ok(Self::of_list(", "json"),
-    Mutant("boundaries of a fallible set are read unsorted", "json.rs", "list.and_then(List::sorted)", "list", "json"),
-    Mutant("boundaries are sorted by their places", "range_set.rs", "list.sort();", "", "memory"),
+           "list.and_then(|list| list.sorted($form::SORTING))", "list", "json"),
+    Mutant("boundaries are sorted by their places", "array.rs", "self.as_mut_slice().sort();", "", "memory"),
     Mutant("of equal boundaries any may stay", "array.rs",
            "self.as_mut_slice().sort();", "self.as_mut_slice().sort_unstable();", "rows"),
-    Mutant("a fallible -= is ^=", "fallible/changes.rs", "sub_assign = DiffOp;", "sub_assign = XorOp;", "operations"),
+    Mutant("a fallible -= is ^=", "fallible/changes.rs", "sub_assign = DiffOp,", "sub_assign = XorOp,", "operations"),
     Mutant("a tracker takes a limit past a list's", "tracker.rs", "usize::MAX - 2,", "usize::MAX,", "rows"),
-    Mutant("a null pointer of C has a length", "c/lists.rs", "&& (!items.is_null() || len == 0)", "", "c"),
-    Mutant("a null result of C is one", "c/lists.rs", "!result.is_null() && !Bytes", "!Bytes", "c"),
-    Mutant("overlap is told on one side", "c/lists.rs", "(begins_within || has_its_begin)", "begins_within", "c"),
-    Mutant("overlap is told by items", "c/lists.rs", "len.wrapping_mul(size_of::<T>())", "len", "c"),
-    Mutant("a result may lie in a set's list", "c/operations.rs", "&& is_result(result, set.bytes())", "", "c"),
-    Mutant("no room is a bad argument", "c/operations.rs", "        Status::NoRoom\n", "        Status::BadArgument\n", "c"),
-    Mutant("a set in a buffer may be longer than its room", "c/lists.rs", "&& self.set.len <= self.room", "", "c"),
-    Mutant("the needed room isn't told", "c/lists.rs", "buffer.needed = len;", "", "c"),
-    Mutant("an end that isn't there is written", "c/lists.rs", "if has_end {", "if !has_end {", "c"),
-    Mutant("an open range loses its start", "c/operations.rs", "            2 * count + 1\n", "            2 * count\n", "c"),
-    Mutant("a text may lie over the list", "c/texts.rs", "|| bytes.overlap(set.bytes())", "", "c"),
-    Mutant("where a text stops isn't told", "c/texts.rs", "unsafe { put(self.fault, told) };", "", "c"),
-    Mutant("an owned set keeps the memory that it leaves", "c/owned.rs",
-           "unsafe { self.release(self.within.items, self.within.room) };", "", "c"),
-    Mutant("memory that is refused is no room", "c/owned.rs",
-           "        if moved.is_null() {\n            return Status::NoMemory;",
-           "        if moved.is_null() {\n            return Status::NoRoom;", "c"),
-    Mutant("an owned set has no room for the least number", "c/calls.rs",
-           "let more = usize::from(keep & NEITHER != 0);", "let more = 0;", "c"),
-    Mutant("a part of an owned set stays where it was", "c/owned.rs",
-           "other.boundaries = unsafe { set.boundaries.add(at) };", "let _ = at;", "c"),
-    Mutant("an owned set takes in what stands after it", "c/owned.rs",
-           "if at > len || other.length() > len - at {", "if at > self.within.room {", "c"),
+    Mutant("a range has what is below its start", "range.rs", "!self.start().is_above(value) && ", "", "ranges"),
+    Mutant("a range is as long as its end is high", "range.rs",
+           "Some(self.end()?.place().saturating_sub(self.start().place()))", "Some(self.end()?.place())", "ranges"),
+    Mutant("an empty part comes last", "any_range/by_value.rs", "*limit <= start", "*limit < start", "kinds"),
+    Mutant("behind a map's last key a gap begins at it", "any_range/by_value.rs", "cmp::max(*last.end()?, from)", "*last.end()?", "kinds"),
+    Mutant("the last gap of a tracker ends", "any_range/by_value.rs", ".filter(|end| *end < u64::MAX)", "", "kinds"),
+    Mutant("rows in a range without an end are nowhere", "any_range/by_value.rs", "end.unwrap_or_else(T::greatest)", "end.unwrap_or(start)", "kinds"),
+    Mutant("of ranges without an end one too many is passed over", "any_range/by_value.rs", "left.nth(before - 1);", "left.nth(before);", "kinds"),
+    Mutant("ranges that are met begin with an end", "view/parts.rs", "&items[from - from % 2..]", "&items[from..]", "kinds"),
+    Mutant("ranges of a map end before its last key", "map.rs", "range.start..all.end", "range.start..all.start", "kinds"),
+    Mutant("ranges in chunks end before the last boundary", "chunked/taking.rs", "range.start..all.end", "range.start..all.start", "kinds"),
+    Mutant("a length below 0 is one", "entry.rs", "u128::try_from(self).ok()", "Some(self.place())", "elements"),
+    Mutant("a duration of a place has no seconds", "entry.rs", "u64::try_from(place / NANOS)", "u64::try_from(place % NANOS)", "elements"),
+    Mutant("the least of non-zero numbers has one below it", "entry.rs", "(self.get() - 1).place()", "self.get().place()", "elements"),
+    Mutant("an escape may have a sign", "text/values.rs", ".filter(|_| is_hex)", "", "text"),
+    Mutant("a lone dot is named at its place", "text/values.rs", "dots.strip_prefix('.').unwrap_or(dots)", "dots", "text"),
+    Mutant("a map's last range is its first", "map/more.rs", "cloned(self.last()?)", "cloned(self.first()?)", "composed"),
+    Mutant("a map keeps what it retains not", "map/more.rs", "answers.next() == Some(true)", "answers.next() != Some(true)", "composed"),
+    Mutant("a map that is split keeps all", "map/more.rs", "self.remove(at.clone()..);", "", "composed"),
+    Mutant("a map that is split gives all", "map/more.rs", "above.remove((*first.start()).clone()..at.clone());", "let _ = first;", "composed"),
+    Mutant("a set in chunks that is split keeps all", "chunked/taking.rs", "self.remove(at.clone()..);", "", "composed"),
+    Mutant("a set in chunks by value has no end from the back", "iter.rs", "self.0.len() % 2 == 1;", "false;", "composed"),
+    Mutant("from the front the highest chunk is lost", "chunked/iter.rs",
+           "self.last_first.take().or_else(|| self.last_rest.next())", "None", "composed"),
+    Mutant("&= of a set in chunks is |=", "chunked/traits.rs",
+           "BitAndAssign bitand_assign = intersection_with;", "BitAndAssign bitand_assign = union_with;", "composed"),
+    Mutant("- of a set in chunks keeps it", "chunked/traits.rs", "self.$assign(that);\n                self", "let _ = that;\n                self", "composed"),
+    Mutant("! of a set in chunks is a copy", "chunked/traits.rs", "!self.clone()", "self.clone()", "composed"),
+    Mutant("a space is always changed", "space/calls.rs", "let changes = !self.contains_range(range.clone());", "let changes = true;", "composed"),
+    Mutant("what is free is freed", "space/calls.rs", "let changes = self.intersects_range(range.clone());", "let changes = true;", "composed"),
+    Mutant("keys without a value are left out of an update", "map/combining.rs",
+           "Some(()) => op(value),", "Some(()) => value.and_then(|value| op(Some(value))),", "map"),
+    Mutant("of two maps the other one's value stays", "map/combining.rs", "self.try_union_with_left(that: by_ref)", "self.try_union_with_right(that: by_ref)", "composed"),
+    Mutant("a map keeps what lies outside of a set", "map/combining.rs", "self.try_restrict(set: set_by_ref)", "self.try_without(set: set_by_ref)", "map"),
+    Mutant("an iterator from the back runs from the front", "iter.rs", "self.0.next_back()$(.map($of))?", "self.0.next()$(.map($of))?", "map"),
+    Mutant("keys have another value than the one", "map/combining.rs", "*it == $value", "*it != $value", "composed"),
+    Mutant("a start that is left out of a multirange is in", "multirange.rs", "Some(before) => before.next_value(),", "before => before,", "multirange"),
+    Mutant("an end of a multirange is left out", "multirange.rs", "last.next_value(),\n        end", "Some(last),\n        end", "multirange"),
+    Mutant("a multirange ends with its brace", "multirange.rs", "self.expect(self.rest.is_empty()).map(|()| None)", "Ok(None)", "multirange"),
+    Mutant("the least number without a sign is none", "multirange.rs", "T::zero() > 0 && ", "", "multirange"),
+    Mutant("a number past its type is no bound", "multirange.rs", ".map(Some)\n            .ok_or(", ".map(Some)\n            .or(Some(None))\n            .ok_or(", "multirange"),
+    Mutant("trackers of other limits are equal", "tracker/calls.rs", "self.limit() == that.limit() && ", "", "composed"),
+    Mutant("a limit past a list's is read", "json.rs", "if limit > usize::MAX - 2 {", "if false {", "composed"),
+    Mutant("the hash of a space isn't its set's", "space/calls.rs", "self.as_set().hash(state);", "self.as_set().is_empty().hash(state);", "composed"),
+    Mutant("a slice of C is one shorter", "support/boxed.rs",
+           "unsafe { slice::from_raw_parts(items, len) }", "unsafe { slice::from_raw_parts(items, len.saturating_sub(1)) }", "c"),
+    Mutant("room of C is one shorter", "support/boxed.rs",
+           "unsafe { slice::from_raw_parts_mut(items, len) }", "unsafe { slice::from_raw_parts_mut(items, len.saturating_sub(1)) }", "c"),
 ]
+
+
+def is_there(tool):
+    """Whether a tool runs. Where rustup put a shim for cargo, there may be nothing behind it."""
+    return bool(shutil.which(tool)) and subprocess.run([tool, "--version"], capture_output=True, check=False).returncode == 0
 
 
 class Crate:
@@ -262,6 +291,8 @@ class Crate:
     def __init__(self, folder):
         self.source, self.built = folder / "rust", folder / "built"
         shutil.copytree(RUST, self.source, ignore=shutil.ignore_patterns("target", "Cargo.lock"))
+        # The tables that a test reads stand beside the crate.
+        shutil.copytree(RUST.parent / TABLES, folder / TABLES)
 
     def cargo(self, *words):
         command = ["cargo", *words[:1], *OFFLINE, "--quiet", "--features", "serde", *words[1:]]
@@ -279,7 +310,8 @@ class Crate:
         if test != "c":
             return self.cargo("test", "--test", test).returncode == 0
         program, library = self.built / "test_c", self.built / "debug" / "librange_sets.a"
-        words = ["cc", "-std=c99", "-O1", f"-I{C / 'include'}", C / "test.c", library, "-lpthread", "-ldl", "-lm", "-o", program]
+        sources = [C / "tests" / "test.c", C / "range_set.c"]
+        words = ["cc", "-std=c99", "-O1", "-DRANGE_SET_PLAIN", f"-I{C / 'include'}", *sources, library, "-lpthread", "-ldl", "-lm", "-o", program]
         subprocess.run(words, check=True)
         return subprocess.run([program, CASES], capture_output=True, timeout=LONGEST, check=False).returncode == 0
 
@@ -290,19 +322,21 @@ class Crate:
         if kept.count(mutant.text) != 1:
             return f"its text stands {kept.count(mutant.text)} times in {mutant.file}"
         path.write_text(kept.replace(mutant.text, mutant.other), encoding="utf-8")
+        is_built = False
         try:
             built = self.build(mutant.test)
             if built.returncode != 0:
                 return f"it doesn't compile:\n{built.stdout[-2000:]}"
+            is_built = True
             return "no test sees it" if self.passes(mutant.test) else None
         except subprocess.TimeoutExpired:
-            return None
+            return None if is_built else f"it isn't built after {LONGEST} s"
         finally:
             path.write_text(kept, encoding="utf-8")
 
 
 def main(words):
-    missing = [it for it in ("cargo", "cc") if not shutil.which(it)]
+    missing = [it for it in ("cargo", "cc") if not is_there(it)]
     missing += [f"the crate {it}" for it in ("smallvec", "serde", "serde_json") if not [*PACKAGES.glob(f"{it}-[0-9]*")]]
     if missing:
         print(f"rust_mutants: SKIPPED: {missing[0]} is missing")

@@ -51,7 +51,7 @@ for list in "$left" "$right"; do
     [ "${#list}" -lt 131072 ] || fail "a list is longer than an argument may be"
 done
 
-# Runs a command under so many KiB, or under no limit, and says in $seen what came of it.
+# Runs a command under a limit in KiB, or under none, and says in $seen what came of it.
 try() {
     local kib=$1 command=$2 limit=unlimited
     [ "$kib" = unlimited ] || limit=$((kib * 1024))

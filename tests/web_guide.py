@@ -22,7 +22,11 @@ STEPS = [
     ("not A", "2..5, 10..14", [(2, 5), (10, 14)], "", [], COMPLEMENT),
 ]
 BOTH_OR_NEITHER = INTERSECTION | WORDS["neither"]
-FIRST = ("2..5, 10..14", "5..8, 12..", UNION)
+FIRST = ("9..11, 13..15", "10..11, 14..17", UNION)
+# Their ranges.
+HOURS = [(9, 11), (13, 15)], [(10, 11), (14, 17)]
+# What is asked of the first content: the words of the link, and the operation.
+ASKED = [("one busy", UNION), ("both busy", INTERSECTION), ("both free", WORDS["neither"])]
 # An address, and the texts and the operation with which the page then is.
 LINKS = [
     ("sets", *FIRST),
@@ -30,16 +34,40 @@ LINKS = [
     ("something", *FIRST),
     ("sets&a=1..2,4..&b=3..9&op=left", "1..2, 4..", "3..9", DIFFERENCE),
     ("sets&a=12..4&b=&op=", "12..4", "", 0),
-    ("sets&a=0..3%2C%205..&op=left,right,neither", "0..3, 5..", "5..8, 12..", 11),
-    ("sets&b=7..8", "2..5, 10..14", "7..8", UNION),
-    ("sets&op=both,whatever,__proto__", "2..5, 10..14", "5..8, 12..", INTERSECTION),
-    ("sets&whatever&__proto__=1&b=%", "2..5, 10..14", "%", UNION),
+    ("sets&a=0..3%2C%205..&op=left,right,neither", "0..3, 5..", FIRST[1], 11),
+    ("sets&b=7..8", FIRST[0], "7..8", UNION),
+    ("sets&op=both,whatever,__proto__", *FIRST[:2], INTERSECTION),
+    ("sets&op=xyz", *FIRST),
+    ("sets&op=__proto__,Left", *FIRST),
+    ("sets&whatever&__proto__=1&b=%", FIRST[0], "%", UNION),
 ]
+
+
+def first_screen(page, check):
+    """What is seen before anything is scrolled: the busy hours of two people, what can be asked of them, and the answer."""
+    for width, height in ((1440, 900), (380, 800)):
+        page.size(width, height)
+        page.open()
+        bottom = page.run("return document.querySelector('#sets-result-row .picture').getBoundingClientRect().bottom")
+        check.same(f"the result at {width} by {height}", bottom <= height, True)
+        check.same(f"the explanation is folded at {width}", page.all(".about")[0].get_property("open"), False)
+    page.size(1200, 1300)
+    page.open()
+    check.same("the first content", "Busy hours of two people" in page.all(".story")[0].text, True)
+    check.same("its sets", page.sets(), FIRST)
+    for link, (words, answers) in zip(page.all(".story a"), ASKED, strict=True):
+        check.same("a question", link.text, words)
+        page.type("sets-a", "3..4")
+        link.click()
+        page.fragment()
+        check.same(f"{words}: the sets", page.sets(), (*FIRST[:2], answers))
+        check_result(page, check, words, combined(members(*HOURS[0]), members(*HOURS[1]), answers))
 
 
 def explanations(page, check):
     """What a range set is, in two sentences and a picture, and how to draw."""
     page.open()
+    page.all(".about summary")[0].click()
     about = page.all(".about p")[0].text
     check.same("the sentences", (len(re.findall(r"\.(?: |$)", about)), "A range set is a set of numbers" in about, "odd number of boundaries" in about), (2, True, True))
     texts = page.run("return [...document.querySelectorAll('.sketch text')].map((it) => [it.textContent, Number(it.getAttribute('x')), it.matches('.in, .in *')])")
@@ -56,7 +84,7 @@ def explanations(page, check):
     for row in ("sets-a", "sets-b"):
         keys = page.id(page.line(row).get_attribute("aria-describedby"))
         check.same(f"{row}: the keys, for a screen reader", "Enter puts the selection in" in keys.get_property("textContent"), True)
-    page.all("summary")[0].click()
+    page.all(".hints summary")[0].click()
     check.same("the keys, for the eye", page.id("sets-keys").is_displayed(), True)
     for view, word in (("pieces", "The tracker keeps"), ("characters", "A class of characters is")):
         page.open(view)
@@ -143,7 +171,7 @@ def undoing(page, check):
         page.press(Keys.ENTER)
     check.same("all of it undone, by key", (page.sets(), able()), (FIRST, (False, True)))
     check.same("the button keeps the focus", page.run("return document.activeElement === arguments[0]", undo), True)
-    check_result(page, check, "all of it undone", combined(members((2, 5), (10, 14)), members((5, 8), (12, None)), UNION))
+    check_result(page, check, "all of it undone", combined(members(*HOURS[0]), members(*HOURS[1]), UNION))
     page.press(Keys.CONTROL, "y")
     check.same("Ctrl+Y", page.sets(), states[1])
     page.press(Keys.CONTROL, "z")
@@ -195,13 +223,13 @@ def undoing_elsewhere(page, check):
     check.same("pieces: what was played undone", (page.chips("pieces-there"), len(page.all("#pieces-log li"))), ([0, 2048], 2))
     page.focus(page.id("pieces-limit"))
     page.press(Keys.ARROW_RIGHT * 4)
-    check.same("pieces: a limit", page.text("pieces-used"), "2 of 12")
+    check.same("pieces: a limit", page.text("pieces-used"), "2 of 36")
     page.button("pieces", "Undo").click()
-    check.same("pieces: a limit undone", (page.text("pieces-used"), page.id("pieces-limit").get_property("value")), ("2 of 8", "8"))
+    check.same("pieces: a limit undone", (page.text("pieces-used"), page.id("pieces-limit").get_property("value")), ("2 of 32", "32"))
     page.focus(page.id("pieces-limit"))
     page.press(Keys.ARROW_RIGHT)
     page.button("pieces", "Undo").click()
-    check.same("pieces: a limit after one that was undone", (page.text("pieces-used"), page.chips("pieces-there")), ("2 of 8", [0, 2048]))
+    check.same("pieces: a limit after one that was undone", (page.text("pieces-used"), page.chips("pieces-there")), ("2 of 32", [0, 2048]))
     page.open("characters")
     page.id("characters-union").find_element(By.XPATH, "..").click()
     many = page.text("characters-count")
@@ -228,7 +256,7 @@ def links(page, check):
     page.choose(SYMMETRIC_DIFFERENCE)
     page.drag("sets-b", 20, 22)
     written, state = page.fragment(), page.sets()
-    check.same("what the address says", written, "sets&a=1..3,7..4&b=5..8,12..20,22..&op=left,right")
+    check.same("what the address says", written, "sets&a=1..3,7..4&b=10..11,14..17,20..22&op=left,right")
     check.same("that it's a link", page.text("linked"), "The address is a link to this state.")
     page.open(written)
     check.same("the link brings it back", (page.sets(), page.fragment()), (state, written))
@@ -260,7 +288,7 @@ def links(page, check):
     page.id("sets-a").send_keys(";")
     check.same("a text with a fault isn't written", page.fragment().split("&")[1], "a=1..3")
     page.open("sets&a=5")
-    check.same("a link with a fault", (page.sets()[0], page.text("sets-a-fault"), page.chips("sets-a")), ("5", "For one number write 5..6 instead.", [2, 5, 10, 14]))
+    check.same("a link with a fault", (page.sets()[0], page.text("sets-a-fault"), page.chips("sets-a")), ("5", "For one number write 5..6 instead.", [9, 11, 13, 15]))
     page.open()
     page.all(".example")[-1].click()
     check.same("a state that is too long", (page.fragment(), page.text("linked")), ("sets", "This state is too long for a link."))
@@ -270,7 +298,7 @@ def links(page, check):
     written = page.fragment()
     check.same("pieces: what isn't of the file is left out", written, "pieces&limit=12&did=0..2048,8192..9216,-1024..2048")
     page.open("pieces&limit=some&did=0..2048")
-    check.same("pieces: a limit that is no number", (page.chips("pieces-there"), page.text("pieces-used"), page.fragment()), ([0, 2048], "2 of 8", "pieces&limit=8&did=0..2048"))
+    check.same("pieces: a limit that is no number", (page.chips("pieces-there"), page.text("pieces-used"), page.fragment()), ([0, 2048], "2 of 32", "pieces&limit=32&did=0..2048"))
     page.open(written)
     page.id("pieces-lose").click()
     page.id("pieces-random").click()

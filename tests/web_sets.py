@@ -67,7 +67,7 @@ def typed_sets(page, check):
 
 def named_operations(page, check):
     """Each operation that has a name, by its button: it sets the boxes too."""
-    a, b = members((2, 5), (10, 14)), members((5, 8), (12, None))
+    a, b = members((9, 11), (13, 15)), members((10, 11), (14, 17))
     for name, answers in NAMED.items():
         page.open()
         page.choose(0)
@@ -246,14 +246,19 @@ def linking(page, check):
     page.open()
     page.focus(page.all("#sets-a-boundaries .chip")[1])
     marked = "return [...document.querySelectorAll('#view-sets .dot.linked')].map((it) => it.closest('.row').id)"
-    check.same("a boundary of both sets, from the list", page.run(marked), ["sets-a-row", "sets-b-row"])
+    check.same("a boundary of both sets, from the list", page.run(marked), ["sets-a-row", "sets-b-row", "sets-result-row"])
+    page.choose(SYMMETRIC_DIFFERENCE)
+    page.focus(page.all("#sets-a-boundaries .chip")[1])
+    check.same("the result has it no more", page.run(marked), ["sets-a-row", "sets-b-row"])
+    page.choose(UNION)
+    page.focus(page.all("#sets-a-boundaries .chip")[1])
     check.same("a line through every picture", len(page.all("#view-sets .link")), 3)
     line = page.line("sets-b")
-    ActionChains(page.driver, duration=20).move_to_element_with_offset(line, page.x("sets-b", 8), -10).perform()
+    ActionChains(page.driver, duration=20).move_to_element_with_offset(line, page.x("sets-b", 17), -10).perform()
     listed = "return [...document.querySelectorAll('#view-sets .chip.linked')].map((it) => [it.closest('.row').id, it.dataset.value])"
-    check.same("a boundary from the picture", page.run(listed), [["sets-b-row", "8"], ["sets-result-row", "8"]])
-    rows = {"sets-a": members((2, 5), (10, 14)), "sets-b": members((5, 8), (12, None)), "sets-result": members((2, 8), (10, None))}
-    for value in (0, 4, 5, 8, 12, 23):
+    check.same("a boundary from the picture", page.run(listed), [["sets-b-row", "17"], ["sets-result-row", "17"]])
+    rows = {"sets-a": members((9, 11), (13, 15)), "sets-b": members((10, 11), (14, 17)), "sets-result": members((9, 11), (13, 17))}
+    for value in (0, 9, 10, 11, 14, 17, 23):
         ActionChains(page.driver, duration=20).move_to_element_with_offset(line, page.x("sets-b", value), 25).perform()
         for row, has in rows.items():
             many = sum(it <= value for it in boundaries(has))

@@ -16,7 +16,7 @@ def held(commands, limit):
     there, refused = set(), False
     for name, start, end in commands:
         pieces = set(range(start // 1024, end // 1024))
-        after = there | pieces if name == "record" else there - pieces
+        after = there | pieces if name == "Arrived" else there - pieces
         refused = len(boundaries(lambda it: it in after, 66)) > limit
         there = there if refused else after
     return there, refused
@@ -25,13 +25,14 @@ def held(commands, limit):
 def pieces(page, check):
     """Pieces arrive and are lost, under a limit."""
     page.open("pieces")
-    check.same("at first", (page.text("pieces-received"), page.text("pieces-used")), ("0 of 65,536 bytes", "0 of 8"))
+    check.same("at first", (page.text("pieces-received"), page.text("pieces-used")), ("0 of 65,536 bytes", "0 of 32"))
+    page.open("pieces&limit=8")
     commands, refusals = [], 0
     for name in ["next"] * 3 + ["random"] * 14 + ["lose"] * 3 + ["next"] * 2:
         page.id(f"pieces-{name}").click()
         said = page.all("#pieces-log li")[0].text
-        word, start, end = re.match(r"(record|forget)\((\d+)\.\.(\d+)\)", said).groups()
-        commands.append((word, int(start), int(end)))
+        word, start, end = re.match(r"(Arrived|Lost): ([0-9,]+)\.\.([0-9,]+)", said).groups()
+        commands.append((word, int(start.replace(",", "")), int(end.replace(",", ""))))
         there, refused = held(commands, 8)
         refusals += refused
         found = [it * 1024 for it in boundaries(lambda it: it in there, 66)]
@@ -41,13 +42,22 @@ def pieces(page, check):
         check.same(f"{name}: how much", page.text("pieces-received"), f"{1024 * len(there):,} of 65,536 bytes")
         check.same(f"{name}: the bar", page.run("return document.getElementById('pieces-progress').value"), 1024 * len(there))
         check.same(f"{name}: the boundaries", (page.text("pieces-used"), len(page.all(".slot.used"))), (f"{len(found)} of 8", len(found)))
-        check.same(f"{name}: a refusal", ("TooMany" in page.text("pieces-answer"), "TooMany" in said), (refused, refused))
+        check.same(f"{name}: a refusal", ("Refused" in page.text("pieces-answer"), "refused" in said), (refused, refused))
+        words = re.findall(r"Err|Ok|TooMany|[{}()]", page.text("view-pieces"))
+        check.same(f"{name}: words that are no code", words, [])
     check.same("the limit was met", refusals > 0, True)
     check.same("no arrow where the file ends", len(page.all("#view-pieces .arrow")), 0)
     page.focus(page.id("pieces-limit"))
     page.press(Keys.END)
-    there, _ = held(commands, 32)
-    check.same("under a higher limit", (page.text("pieces-received"), page.text("pieces-used")), (f"{1024 * len(there):,} of 65,536 bytes", f"{len(boundaries(lambda it: it in there, 66))} of 32"))
+    there, _ = held(commands, 64)
+    check.same("under a higher limit", (page.text("pieces-received"), page.text("pieces-used")), (f"{1024 * len(there):,} of 65,536 bytes", f"{len(boundaries(lambda it: it in there, 66))} of 64"))
+    page.open("pieces")
+    refusals = 0
+    while page.text("pieces-received") != "65,536 of 65,536 bytes":
+        page.id("pieces-random").click()
+        refusals += "Refused" in page.text("pieces-answer")
+    # Three of them on average, and by a limit of 8 two hundred.
+    check.same("few random pieces are refused", refusals < 25, True)
     page.id("pieces-again").click()
     page.id("pieces-play").click()
     WebDriverWait(page.driver, 10).until(lambda it: len(page.all("#pieces-log li")) > 1)

@@ -36,6 +36,17 @@ std::vector<GrowingKind> growing_kinds() {
     return kinds;
 }
 
+std::vector<ByHand> rows_by_hand() {
+    std::vector<ByHand> rows;
+#ifdef WITH_PLAIN_RUST
+    rows = by_hand_in_rust();
+#endif
+    for (ByHand& row : by_hand_in_c()) {
+        rows.push_back(std::move(row));
+    }
+    return rows;
+}
+
 std::vector<MapKind> map_kinds() {
     std::vector<MapKind> kinds;
 #ifdef WITH_PLAIN_RUST

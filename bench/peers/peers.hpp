@@ -1,6 +1,7 @@
 // The contenders, one a file.
 #pragma once
 
+#include "by_hand.hpp"
 #include "growing.hpp"
 #include "maps.hpp"
 #include "peer.hpp"
@@ -23,3 +24,7 @@ GrowingKind growing_roaring();
 // Of maps.
 std::vector<MapKind> maps_in_rust();
 MapKind map_icl();
+
+// Of calls beside what is written by hand.
+std::vector<ByHand> by_hand_in_rust();
+std::vector<ByHand> by_hand_in_c();

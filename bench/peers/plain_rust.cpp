@@ -15,6 +15,7 @@ decltype(range_bench_copy) plain_rust_copy;
 decltype(range_bench_is_disjoint) plain_rust_is_disjoint;
 decltype(range_bench_is_subset) plain_rust_is_subset;
 decltype(range_bench_union_len) plain_rust_union_len;
+std::size_t plain_rust_union_len_text(const char* left, std::size_t left_len, const char* right, std::size_t right_len);
 decltype(range_bench_contains) plain_rust_contains;
 decltype(range_bench_split) plain_rust_split;
 decltype(range_bench_iter) plain_rust_iter;
@@ -61,6 +62,15 @@ struct PlainRust {
     static constexpr auto* members = plain_rust_contains;
     static constexpr auto* cut = plain_rust_split;
     static constexpr auto* ranges = plain_rust_iter;
+};
+
+// With what no other contender exports.
+struct WholePlainRust : Exported<PlainRust> {
+    static constexpr unsigned offers = Exported<PlainRust>::offers | Group::text_lengths;
+
+    static std::size_t union_len_text(const Texts& left, const Texts& right) {
+        return plain_rust_union_len_text(left.data(), left.size(), right.data(), right.size());
+    }
 };
 
 struct List {
@@ -152,5 +162,5 @@ std::vector<GrowingKind> growing_in_rust() {
 }
 
 std::unique_ptr<Peer> plain_rust_peer() {
-    return std::make_unique<Held<Exported<PlainRust>>>();
+    return std::make_unique<Held<WholePlainRust>>();
 }

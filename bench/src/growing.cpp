@@ -18,31 +18,34 @@ using Clock = std::chrono::steady_clock;
 constexpr std::size_t fewest = 1000;
 constexpr std::size_t asked = 100000;
 
-// Each round has a set of its own. The least of the rounds counts. So many ranges have one round alone.
+// Each round has a set of its own. The least of the rounds counts. From `timed_once` ranges on there is one round alone.
 constexpr std::size_t rounds = 3;
 constexpr std::size_t timed_once = 10000000;
 
 // Who took longer for each range isn't asked for ten times as many, which may take a hundred times as long.
 constexpr double longest_ns = 5000;
 
-// Of so many ranges gaps are read where each search reads all.
+// Gaps that each search reads whole are read up to this many in all.
 constexpr std::size_t most_read = 100000000;
 
 volatile std::size_t kept;
 
-// So many ranges of 6 at distances of 10, put in in one random order and taken out in another, and values among them.
+// Ranges of 6 at distances of 10, put in in one random order and taken out in another, and values among them.
 // A few of them are replaced before, each by as many numbers at the lowest place.
 struct Work {
+    Commands in_order;
     Commands in;
     Commands out;
     Commands replaced;
     Boundaries values;
 };
 
-Commands shuffled(std::size_t ranges, std::mt19937_64& random) {
+Commands all_ranges(std::size_t ranges, std::mt19937_64* random) {
     std::vector<std::int64_t> places(ranges);
     std::iota(places.begin(), places.end(), 0);
-    std::shuffle(places.begin(), places.end(), random);
+    if (random != nullptr) {
+        std::shuffle(places.begin(), places.end(), *random);
+    }
     Commands commands;
     for (std::int64_t place : places) {
         commands.starts.push_back(10 + place * 10);
@@ -58,7 +61,7 @@ Commands front_of(const Commands& all, std::size_t len) {
 
 Work work_of(std::size_t ranges) {
     std::mt19937_64 random(ranges);
-    Work work{shuffled(ranges, random), shuffled(ranges, random), {}, {}};
+    Work work{all_ranges(ranges, nullptr), all_ranges(ranges, &random), all_ranges(ranges, &random), {}, {}};
     work.replaced = front_of(work.out, std::min(ranges / 100, most_read / ranges));
     std::uniform_int_distribution<std::int64_t> any(0, static_cast<std::int64_t>(ranges) * 10 + 20);
     for (std::size_t i = 0; i < asked; i++) {
@@ -95,6 +98,9 @@ struct Times {
     double replace = 0;
     double remove = 0;
     double bytes = 0;
+
+    // Of ranges that were put in in order.
+    double bytes_in_order = 0;
 };
 
 Times timed(const GrowingKind& kind, const Work& work) {
@@ -102,6 +108,11 @@ Times timed(const GrowingKind& kind, const Work& work) {
     Times times;
     std::size_t before = live_bytes();
     std::unique_ptr<Growing> set = kind.make();
+    set->insert(work.in_order);
+    times.bytes_in_order = static_cast<double>(live_bytes() - before) / ranges;
+    set.reset();
+    before = live_bytes();
+    set = kind.make();
     times.insert = ns_of([&] { set->insert(work.in); }) / ranges;
     times.bytes = static_cast<double>(live_bytes() - before) / ranges;
     times.contains = ns_of([&] { kept = set->contains(work.values); }) / static_cast<double>(asked);
@@ -119,8 +130,13 @@ Times timed(const GrowingKind& kind, const Work& work) {
 }
 
 Times least(const Times& a, const Times& b) {
-    return {std::min(a.insert, b.insert),   std::min(a.contains, b.contains), std::min(a.iter, b.iter),
-            std::min(a.replace, b.replace), std::min(a.remove, b.remove),     std::min(a.bytes, b.bytes)};
+    return {std::min(a.insert, b.insert),
+            std::min(a.contains, b.contains),
+            std::min(a.iter, b.iter),
+            std::min(a.replace, b.replace),
+            std::min(a.remove, b.remove),
+            std::min(a.bytes, b.bytes),
+            std::min(a.bytes_in_order, b.bytes_in_order)};
 }
 
 [[noreturn]] void fail(const GrowingKind& kind, const std::string& what) {
@@ -187,9 +203,9 @@ void time_growing(const std::vector<GrowingKind>& kinds, std::size_t most, const
     if (!file) {
         throw std::runtime_error("cannot write " + csv);
     }
-    file << "ranges,contender,insert_ns,contains_ns,iter_ns,replace_ns,remove_ns,bytes\n";
-    std::printf("%8s %-16s %9s %9s %7s %9s %9s %6s\n", "ranges", "contender", "insert", "contains", "iter", "replace",
-                "remove", "bytes");
+    file << "ranges,contender,insert_ns,contains_ns,iter_ns,replace_ns,remove_ns,bytes,bytes_in_order\n";
+    std::printf("%8s %-16s %9s %9s %7s %9s %9s %6s %8s\n", "ranges", "contender", "insert", "contains", "iter",
+                "replace", "remove", "bytes", "in order");
     std::vector<bool> too_slow(kinds.size());
     for (std::size_t ranges = fewest; ranges <= most; ranges *= 10) {
         Work work = work_of(ranges);
@@ -208,10 +224,10 @@ void time_growing(const std::vector<GrowingKind>& kinds, std::size_t most, const
             }
             const Times& times = all[i];
             const char* name = kinds[i].name.c_str();
-            std::printf("%8zu %-16s %9.0f %9.1f %7.1f %9.0f %9.0f %6.1f\n", ranges, name, times.insert, times.contains,
-                        times.iter, times.replace, times.remove, times.bytes);
+            std::printf("%8zu %-16s %9.0f %9.1f %7.1f %9.0f %9.0f %6.1f %8.1f\n", ranges, name, times.insert,
+                        times.contains, times.iter, times.replace, times.remove, times.bytes, times.bytes_in_order);
             file << ranges << ',' << name << ',' << times.insert << ',' << times.contains << ',' << times.iter << ','
-                 << times.replace << ',' << times.remove << ',' << times.bytes << '\n';
+                 << times.replace << ',' << times.remove << ',' << times.bytes << ',' << times.bytes_in_order << '\n';
             too_slow[i] = times.insert > longest_ns;
         }
         std::fflush(stdout);

@@ -22,6 +22,7 @@ enum class Group : unsigned {
     texts = 256,
     at_once = 512,
     places = 1024,
+    text_lengths = 2048,
 };
 
 constexpr unsigned operator|(Group a, Group b) {
@@ -48,6 +49,8 @@ inline Group group_of(Task task) {
         return Group::tests;
     case Task::union_len:
         return Group::lengths;
+    case Task::union_len_text:
+        return Group::text_lengths;
     case Task::contains:
     case Task::contains_waiting:
         return Group::contains;
@@ -85,6 +88,10 @@ public:
         if (offers(Group::texts) && that.shape == texts_shape) {
             text_set = texts_of(that.pairs.front().left);
             text_values = texts_of(values);
+        }
+        text_sides = {};
+        if (offers(Group::text_lengths) && that.shape == two_texts_shape) {
+            text_sides = {texts_of(that.pairs.front().left), texts_of(that.pairs.front().right)};
         }
         if (offers(Group::places)) {
             places.load(that.pairs.front());
@@ -132,13 +139,13 @@ private:
         if constexpr (offers(Group::in_place)) {
             switch (task) {
             case Task::union_borrowed:
-                return run(lend<Operation::unite>);
+                return run(borrow<Operation::unite>);
             case Task::intersection_borrowed:
-                return run(lend<Operation::intersect>);
+                return run(borrow<Operation::intersect>);
             case Task::difference_borrowed:
-                return run(lend<Operation::subtract>);
+                return run(borrow<Operation::subtract>);
             case Task::symmetric_difference_borrowed:
-                return run(lend<Operation::differ>);
+                return run(borrow<Operation::differ>);
             case Task::union_owned:
                 return run(hand_over<Operation::unite>);
             case Task::intersection_owned:
@@ -180,6 +187,13 @@ private:
         if constexpr (offers(Group::lengths)) {
             if (task == Task::union_len) {
                 return run([](const Sides& sides, Boundaries*) { return Kind::union_len(sides.first, sides.second); });
+            }
+        }
+        if constexpr (offers(Group::text_lengths)) {
+            if (task == Task::union_len_text) {
+                return run([this](const Sides&, Boundaries*) {
+                    return Kind::union_len_text(text_sides.first, text_sides.second);
+                });
             }
         }
         if constexpr (offers(Group::contains)) {
@@ -238,7 +252,7 @@ private:
         return Kind::template combine<operation>(sides.first, sides.second, out);
     }
 
-    template <Operation operation> static std::size_t lend(const Sides& sides, Boundaries* out) {
+    template <Operation operation> static std::size_t borrow(const Sides& sides, Boundaries* out) {
         return Kind::template change_by_borrowed<operation>(sides.first, sides.second, out);
     }
 
@@ -246,7 +260,7 @@ private:
         return Kind::template change_by_owned<operation>(sides.first, sides.second, out);
     }
 
-    // The union of the first pair's lists, so many bytes into a page.
+    // The union of the first pair's lists, `place` bytes into a page.
     std::size_t unite_at(std::size_t place, Boundaries* out) {
         std::int64_t* room = places.room(place);
         std::size_t made = Kind::unite_into(places.left(), places.left_len, places.right(), places.right_len, room);
@@ -262,4 +276,5 @@ private:
     Commands commands;
     Texts text_set;
     Texts text_values;
+    std::pair<Texts, Texts> text_sides;
 };

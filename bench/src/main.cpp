@@ -1,4 +1,5 @@
 // The benchmark's driver: it compares all contenders with a plain merge, and times them.
+#include "by_hand.hpp"
 #include "growing.hpp"
 #include "library.h"
 #include "maps.hpp"
@@ -24,11 +25,11 @@ constexpr std::size_t longest_run = 65536;
 constexpr std::size_t fewest = 1024;
 constexpr std::size_t most = 16777216;
 
-// Ranges that come one by one: so many are timed, and the fewer are compared with a plain merge.
+// How many ranges that come one by one are timed, and how many are compared with a plain merge.
 constexpr std::size_t many_ranges = 100000;
 constexpr std::size_t compared_ranges = 2000;
 
-// So many ranges are the most that sets grow to, one by one.
+// How many ranges sets grow to at most, one by one.
 constexpr std::size_t most_ranges = 10000000;
 
 // Loads the case into each peer that can hold it.
@@ -62,7 +63,7 @@ Job growth_job(std::size_t run) {
     return {runs(grown, run), {Task::union_new}};
 }
 
-// Two sets of so many boundaries that alternate one by one.
+// Two sets of `size` boundaries each, which alternate one by one.
 Job size_job(std::size_t size) {
     return {runs(size, 1), {Task::union_new}};
 }
@@ -81,6 +82,7 @@ void check(const Peers& peers) {
     compared += checked_lines(peers, size_job(fewest)).size();
     compared += check_growing(growing_kinds(), compared_ranges);
     compared += check_maps(map_kinds(), compared_ranges);
+    compared += check_by_hand(rows_by_hand(), compared_ranges);
     std::printf("%zu results compared with a plain merge, all right\n", compared);
 }
 
@@ -147,7 +149,7 @@ void time_unions(const Peers& peers, const std::string& csv, const char* number,
     }
 }
 
-// One contender at one task, so many times: callgrind counts what runs inside `counted`.
+// One contender at one task, `passes` times: callgrind counts what runs inside `counted`.
 extern "C" __attribute__((noinline)) std::size_t counted(Peer& peer, Task task, std::size_t passes) {
     std::size_t sum = 0;
     for (std::size_t i = 0; i < passes; i++) {
@@ -188,7 +190,7 @@ void count(const Peers& peers, const std::string& name, const std::string& shape
 
 int usage() {
     std::fprintf(stderr, "usage: driver check | times CSV | growth CSV | sizes CSV | commands CSV | "
-                         "ranges CSV | maps CSV | count CONTENDER SHAPE SIZE TASK\n");
+                         "ranges CSV | maps CSV | by_hand CSV | contenders | count CONTENDER SHAPE SIZE TASK\n");
     return 2;
 }
 
@@ -210,6 +212,13 @@ int run(const std::vector<std::string>& words) {
     } else if (words.size() == 2 && words[0] == "maps") {
         check_maps(map_kinds(), compared_ranges);
         time_maps(map_kinds(), words[1]);
+    } else if (words.size() == 2 && words[0] == "by_hand") {
+        check_by_hand(rows_by_hand(), compared_ranges);
+        time_by_hand(rows_by_hand(), rounds, words[1]);
+    } else if (words.size() == 1 && words[0] == "contenders") {
+        for (const auto& peer : peers) {
+            std::printf("%s\n", peer->name().c_str());
+        }
     } else if (words.size() == 5 && words[0] == "count") {
         count(peers, words[1], words[2], words[3], words[4]);
     } else {

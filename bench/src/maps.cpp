@@ -19,12 +19,12 @@ constexpr std::size_t combined = 4096;
 // Each round has maps of its own. The least of the rounds counts.
 constexpr std::size_t rounds = 9;
 
-// So many values there are: neighbours may have equal ones.
+// How many values there are: neighbours may have equal ones.
 constexpr std::uint64_t kinds_of_values = 5;
 
 volatile std::uint64_t kept;
 
-// So many ranges of 6 at distances of 10, each with a value, from a place on.
+// Ranges of 6 at distances of 10, each with a value, from a place on.
 Entries entries_from(std::int64_t from, std::size_t ranges, std::mt19937_64* shuffled) {
     std::vector<std::int64_t> places(ranges);
     std::iota(places.begin(), places.end(), 0);

@@ -22,6 +22,7 @@ constexpr const char* names[] = {
     "is_disjoint",
     "is_subset",
     "union length",
+    "union length, texts",
     "contains",
     "contains, one by one",
     "contains, texts",

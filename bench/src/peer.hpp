@@ -29,6 +29,7 @@ enum class Task {
     is_disjoint,
     is_subset,
     union_len,
+    union_len_text,
     contains,
     contains_waiting,
     contains_text,

@@ -26,7 +26,7 @@ public:
     const std::int64_t* left() const { return memory.data() + start; }
     const std::int64_t* right() const { return memory.data() + start + right_at; }
 
-    // Room for both lists, so many bytes into a page.
+    // Room for both lists, `place` bytes into a page.
     std::int64_t* room(std::size_t place) { return memory.data() + start + room_at + place / sizeof(std::int64_t); }
 
     std::size_t left_len = 0;
@@ -35,7 +35,7 @@ public:
 private:
     static constexpr std::size_t in_page = page / sizeof(std::int64_t);
 
-    // The pages that so many items fill, in items.
+    // The whole pages that hold the items, in items.
     static constexpr std::size_t whole_pages(std::size_t items) { return (items + in_page - 1) / in_page * in_page; }
 
     Boundaries memory;

@@ -51,6 +51,7 @@ std::size_t right_answer(Task task, const Pair& pair, const Case& that) {
     case Task::is_subset:
         return plain(Operation::subtract, pair.left, pair.right).empty();
     case Task::union_len:
+    case Task::union_len_text:
         return plain(Operation::unite, pair.left, pair.right).size();
     case Task::contains:
     case Task::contains_text:

@@ -26,7 +26,7 @@ constexpr bool is_on(Operation operation, bool left, bool right) {
     return false;
 }
 
-// Texts of so many characters, one after the other.
+// Texts of `text_len` characters, one after the other.
 constexpr std::size_t text_len = 32;
 using Texts = std::string;
 
@@ -57,8 +57,9 @@ template <class Ask> std::size_t asked_one_by_one(const Boundaries& values, Ask 
     return sum;
 }
 
-// The shape whose one set is asked as a set of texts.
+// The shapes whose one set, or whose two, are sets of texts.
 constexpr const char* texts_shape = "one set of texts";
+constexpr const char* two_texts_shape = "two sets of texts";
 
 struct Case {
     std::string shape;

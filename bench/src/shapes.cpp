@@ -73,16 +73,40 @@ Pair run_pair(std::size_t boundaries, std::size_t run) {
     return pair;
 }
 
-// Runs of 1 to 16 boundaries, as long as chance has it. Each set has an end, since ICU's have one.
-Pair mixed_pair(std::size_t boundaries) {
-    Random random(boundaries);
+// Adds the boundaries from one place to another, in runs of 1 to 16, as long as chance has it.
+void add_mixed_runs(Pair& pair, std::size_t from, std::size_t to) {
+    Random random(to);
     std::uniform_int_distribution<std::size_t> length(1, 16);
-    Pair pair;
     bool on_left = true;
-    for (std::size_t i = 0; i < 2 * boundaries; on_left = !on_left) {
-        for (std::size_t end = std::min(2 * boundaries, i + length(random)); i < end; i++) {
+    for (std::size_t i = from; i < to; on_left = !on_left) {
+        for (std::size_t end = std::min(to, i + length(random)); i < end; i++) {
             (on_left ? pair.left : pair.right).push_back(static_cast<std::int64_t>(i) * 4 + 4);
         }
+    }
+    // Each set has an end, since ICU's have one.
+    for (Boundaries* side : {&pair.left, &pair.right}) {
+        side->resize(side->size() / 2 * 2);
+    }
+}
+
+Pair mixed_pair(std::size_t boundaries) {
+    Pair pair;
+    add_mixed_runs(pair, 0, 2 * boundaries);
+    return pair;
+}
+
+// Half of the boundaries alternate one by one; then they come in runs.
+Pair alternating_then_mixed(std::size_t boundaries) {
+    Pair pair = run_pair(boundaries / 2, 1);
+    add_mixed_runs(pair, boundaries, 2 * boundaries);
+    return pair;
+}
+
+// Runs of 5 of the left, and single boundaries of the right between them.
+Pair five_to_one(std::size_t boundaries) {
+    Pair pair;
+    for (std::size_t i = 0; i < 2 * boundaries / 6 * 6; i++) {
+        (i % 6 < 5 ? pair.left : pair.right).push_back(static_cast<std::int64_t>(i) * 4 + 4);
     }
     for (Boundaries* side : {&pair.left, &pair.right}) {
         side->resize(side->size() / 2 * 2);
@@ -116,6 +140,15 @@ Case anywhere_case(std::size_t size) {
     return one("anywhere", size, Pair{std::move(left), anywhere(random, size)});
 }
 
+// One boundary of 64 lies elsewhere.
+Pair nearly_equal(std::size_t size) {
+    Pair pair{evenly(size, 4, 4), evenly(size, 4, 4)};
+    for (std::size_t i = 31; i < size; i += 64) {
+        pair.right[i] += 2;
+    }
+    return pair;
+}
+
 // One range in the middle, from inside a range of the many up to inside another.
 Pair one_range(std::size_t size) {
     auto middle = static_cast<std::int64_t>(size) * 2;
@@ -132,7 +165,7 @@ Case asked(const char* shape, std::size_t size) {
     return that;
 }
 
-// Ranges inside gaps (`inserted`), or holes inside ranges, of a set of so many boundaries: 256 at random.
+// Ranges inside gaps (`inserted`), or holes inside ranges, of a set of `size` boundaries: 256 at random.
 Case changed(std::size_t size, bool inserted) {
     Random random(size);
     Case that = one("single ranges", size, Pair{evenly(size, 16, 16), {}});
@@ -153,8 +186,9 @@ void add_shapes(std::vector<Job>& jobs, std::size_t size) {
     jobs.push_back({one("interleaved", size, run_pair(size, 1)), joined({all, places})});
     jobs.push_back({one("blocks of 64", size, run_pair(size, 64)), all});
     jobs.push_back({one("one range", size, one_range(size)), all});
-    jobs.push_back({random_case(size), all});
+    jobs.push_back({random_case(size), joined({all, places})});
     jobs.push_back({one("equal", size, Pair{evenly(size, 4, 4), evenly(size, 4, 4)}), joined({all, places})});
+    jobs.push_back({one("nearly equal", size, nearly_equal(size)), joined({new_sets, changes})});
     jobs.push_back({one("disjoint by twos", size, run_pair(size, 2)), all});
 }
 
@@ -203,15 +237,18 @@ std::vector<Job> all_jobs() {
     }
     add_shapes(jobs, 4096);
     add_tests(jobs, 4096);
+    jobs.push_back({one(two_texts_shape, 4096, run_pair(4096, 3)), {Task::union_len_text}});
     jobs.push_back({one("runs of 4", 4096, run_pair(4096, 4)), joined({new_sets, changes})});
     jobs.push_back({one("runs of 8", 4096, run_pair(4096, 8)), joined({new_sets, changes})});
     jobs.push_back({one("runs of 1 to 16", 4096, mixed_pair(4096)), joined({new_sets, changes})});
+    jobs.push_back({one("runs of 5 and of 1", 4096, five_to_one(4096)), joined({new_sets, rest})});
     jobs.push_back({one("interleaved", 65536, run_pair(65536, 1)), joined({new_sets, changes})});
     jobs.push_back({one("blocks of 64", 65536, run_pair(65536, 64)), joined({new_sets, changes})});
     jobs.push_back({one("one range", 65536, one_range(65536)), joined({new_sets, changes})});
     jobs.push_back({random_case(65536), joined({new_sets, changes})});
     jobs.push_back({anywhere_case(65536), joined({new_sets, changes})});
-    for (std::size_t size : {2, 10, 1000, 100000, 1000000}) {
+    jobs.push_back({one("1, then 1 to 16", 65536, alternating_then_mixed(65536)), new_sets});
+    for (std::size_t size : {2, 10, 1000, 100000, 200000, 1000000}) {
         jobs.push_back(
             {asked("one set", size), {Task::contains, Task::contains_waiting, Task::split, Task::split_waiting}});
     }

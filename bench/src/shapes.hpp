@@ -13,8 +13,8 @@ struct Job {
 // All that is timed in one table.
 std::vector<Job> all_jobs();
 
-// Two sets of so many boundaries each, which alternate in runs of `run`.
+// Two sets of `boundaries` boundaries each, which alternate in runs of `run`.
 Case runs(std::size_t boundaries, std::size_t run);
 
-// So many ranges put in, or a hole put into each: in order, or at random.
+// Ranges put in, or a hole put into each: in order, or at random.
 std::vector<Job> command_jobs(std::size_t ranges);

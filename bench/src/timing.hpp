@@ -20,7 +20,7 @@ struct Line {
     Allocations allocations;
 };
 
-// Fills in the times and allocations of all lines, in so many rounds: in each, every line has its turn.
+// Fills in the times and allocations of all lines, in `rounds` rounds: in each, every line has its turn.
 void time_all(std::vector<Line>& lines, std::size_t answers, std::size_t rounds);
 
 // The same by one pass of each line, for tasks that take long.

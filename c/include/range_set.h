@@ -11,37 +11,44 @@
  *     if (range_set_i64_contains(free, 16)) puts("free at four");
  *
  * A set is a pointer and a length: `view` makes one of an array, which it checks once, and every call that writes a set
- * makes one. Calls take sets by value and don't check them again, so only such sets may be given to a call. {NULL, 0} is
- * the empty set. An array that a set stands for has to stay as it is while the set is used.
+ * makes one. Calls take sets by value and don't check them again, so only such sets may be given to a call. {NULL, 0}
+ * is the empty set. An array that a set stands for has to stay as it is while the set is used.
  *
  * What can't fail answers its value. What can fail answers a status, which is 0 where the call was done:
  *
  *   RANGE_SET_DONE           the call was done.
  *   RANGE_SET_NOT_SORTED     the array isn't strictly sorted. Nothing was written.
- *   RANGE_SET_NO_ROOM        the buffer is too short, and the length that it needs is told. Of a call that writes a set the
- *                            result has null for its boundaries and that length as its `len`, and what stands in the buffer
- *                            means nothing. A call that changes a set in its buffer has changed nothing.
- *   RANGE_SET_BAD_ARGUMENT   a null pointer with a length above 0, a null result, a length that no array has, or a buffer
- *                            or result that overlaps another argument. Nothing was written.
+ *   RANGE_SET_NO_ROOM        the buffer is too short. Of a call that writes a set the result has null for its
+ *                            boundaries and the length that it needs as its `len`, and the buffer's contents are
+ *                            unspecified. A call that changes a set in its buffer has changed nothing.
+ *   RANGE_SET_BAD_ARGUMENT   a null pointer with a length above 0, null for a result or for what is changed, a length
+ *                            that no array has, or a buffer or result that overlaps another argument. Nothing was
+ *                            written.
  *   RANGE_SET_NO_MEMORY      of a set or map that grows alone: an allocation failed. It is as it was.
- *   RANGE_SET_MALFORMED      of `parse` alone: the text isn't one of ranges. Nothing was written but where it stops being one.
- *   RANGE_SET_OUT_OF_RANGE   of `parse` alone: a number of the text doesn't fit the type, or has a minus where the type has no
- *                            sign. Nothing was written.
+ *   RANGE_SET_MALFORMED      of `parse` and `parse_by` alone: the text isn't one of ranges. Nothing was written but
+ *                            where it stops being one.
+ *   RANGE_SET_OUT_OF_RANGE   of the same: a number of the text doesn't fit the type, or has a minus where the type has
+ *                            no sign. Nothing was written but where its range begins.
+ *   RANGE_SET_MORE           of `chunked_overlapping` and `chunked_next_ranges` alone: the buffer is full, and more
+ *                            ranges follow.
  *
- * A call that writes a set takes a buffer `out` with room for `room` numbers. After the set the buffer is as it was, but for
- * `from_values`, `union_all` and `parse`. A buffer may be null with room 0, which asks for the length alone. The result of an operation has
- * at most as many boundaries as both sets together. A set that grows range by range, as those of a download, stands in a
- * buffer and changes there: `buffer_of`, `insert`, `remove`. An owned set has a buffer that grows.
+ * A call that writes a set takes a buffer `out` with room for `room` numbers. After the set the buffer is as it was,
+ * but for `from_values`, `union_all`, `parse` and `parse_by`. A buffer may be null with room 0, which asks for the
+ * length alone. The result of an operation has at most as many boundaries as both sets together. A set that grows range
+ * by range, as those of a download, stands in a buffer and changes there: `buffer_of`, `insert`, `remove`. An owned set
+ * has a buffer that grows.
  *
- * But for those of owned sets, sets in chunks and maps no call takes memory. None keeps state, and all are safe to call from several threads, each of
- * which changes sets of its own.
+ * But for those of owned sets, sets in chunks and maps no call takes memory. None but `range_set_use_allocator` keeps
+ * state. Several threads may ask one set or map at the same time; while a thread changes one, no other may use it.
  *
  * There are sets of int32_t, uint32_t, int64_t and uint64_t: the calls of one type have i32, u32, i64 or u64 in their
  * names, and are described once for each. tools/c-types says how to have another type.
  *
- * In the library for x86-64 Linux the calls are proved, but for the layer in C before them (range_set.c), which tells null
- * pointers and overlap, makes the statuses, owns sets, and makes union_all, from_values, parse, chunked_next and
- * chunked_next_ranges of other calls. That is tested, as is all of the library that cargo builds for other machines.
+ * In the library for x86-64 Linux the calls are proved, but for the layer in C before them (range_set.c), which finds
+ * null pointers and overlap, makes the statuses, owns sets, takes memory from an allocator, and makes of other calls
+ * union_all, from_values, parse, parse_by, chunked_next, chunked_next_ranges, chunked_gaps, chunked_combine, what ends
+ * with _changed, and `next`, `next_ranges`, `of`, `copy` and keys of 32 bits of maps. That is tested, as is what cargo
+ * builds for other machines, under the same layer.
  */
 #ifndef RANGE_SET_H
 #define RANGE_SET_H
@@ -78,7 +85,8 @@ typedef enum range_set_status {
     RANGE_SET_BAD_ARGUMENT = 3,
     RANGE_SET_NO_MEMORY = 4,
     RANGE_SET_MALFORMED = 5,
-    RANGE_SET_OUT_OF_RANGE = 6
+    RANGE_SET_OUT_OF_RANGE = 6,
+    RANGE_SET_MORE = 7
 } range_set_status;
 
 /* A sentence on a status, without a full stop, as "the buffer is too short". */
@@ -96,8 +104,9 @@ const char *range_set_status_text(range_set_status status);
 #define RANGE_SET_DIFFERENCE RANGE_SET_LEFT
 #define RANGE_SET_SYMMETRIC_DIFFERENCE (RANGE_SET_LEFT | RANGE_SET_RIGHT)
 
-/* Where the memory of an owned set comes from. `allocate` answers `size` bytes, for any number, or null; `resize` moves memory
- * with `old_size` bytes to `size` bytes, or answers null and leaves it; `release` takes it back. `context` is handed to each. */
+/* Where memory comes from. `allocate` answers `size` bytes, for any number, or null; `resize` moves memory with
+ * `old_size` bytes to `size` bytes, or answers null and leaves it; `release` takes it back. `context` is handed to
+ * each. */
 typedef struct range_set_allocator {
     void *(*allocate)(void *context, size_t size);
     void *(*resize)(void *context, void *memory, size_t old_size, size_t size);
@@ -105,10 +114,17 @@ typedef struct range_set_allocator {
     void *context;
 } range_set_allocator;
 
+/* Has the memory of all sets in chunks and maps come from `allocator`, of which it keeps a copy, or from malloc again
+ * where that is null. Call it while there is none of them, and no other thread makes a call. `allocate` and `resize`
+ * have to answer memory that is aligned for any type, as malloc does, on most machines to 16 bytes. They are asked for
+ * 16 bytes more than a set or map uses, by each thread that changes one. Where they answer null the call answers
+ * RANGE_SET_NO_MEMORY, and nothing has changed. An owned set has an allocator of its own. */
+void range_set_use_allocator(const range_set_allocator *allocator);
+
 /* ---- Sets of int32_t ---- */
 
-/* A set. Its fields may be read, and are for the library alone to write: a set that was made otherwise, and isn't strictly
- * sorted, gets answers that mean nothing. Where `boundaries` is null the set is empty. */
+/* A set. Its fields may be read, and are for the library alone to write: a set that was made otherwise, and isn't
+ * strictly sorted, gets answers that mean nothing. Where `boundaries` is null the set is empty. */
 typedef struct range_set_i32 {
     const int32_t *boundaries;
     size_t len;
@@ -120,8 +136,8 @@ typedef struct range_set_i32_range {
     bool has_end;
 } range_set_i32_range;
 
-/* A set in a buffer of the caller's, which can change. `items` has room for `room` numbers, and `set` stands at their front. Where
- * a call answers RANGE_SET_NO_ROOM, `needed` is the room that it needs. The fields may be read. */
+/* A set in a buffer of the caller's, which can change. `items` has room for `room` numbers, and `set` stands at their
+ * front. Where a call answers RANGE_SET_NO_ROOM, `needed` is the room that it needs. The fields may be read. */
 typedef struct range_set_i32_buffer {
     int32_t *items;
     size_t room, needed;
@@ -131,30 +147,30 @@ typedef struct range_set_i32_buffer {
 /* Makes a set of a list that is strictly sorted, or answers RANGE_SET_NOT_SORTED. Goes over the list once. */
 RANGE_SET_STATUS range_set_i32_view(const int32_t *list, size_t len, range_set_i32 *set);
 
-/* Makes the set whose boundaries are these numbers, in any order, in place: the distinct ones in order stand at the front
- * then, and nothing is said of what stands after them. Sorts without memory, in some len * log(len) steps. */
+/* Makes the set whose boundaries are these numbers, in any order, in place: the distinct ones in order stand at the
+ * front then, and nothing is said of what stands after them. Sorts without memory, in some len * log(len) steps. */
 RANGE_SET_STATUS range_set_i32_from_unsorted(int32_t *items, size_t len, range_set_i32 *set);
 
-/* Makes the set of the numbers in some range, in place: `ranges` has `count` pairs of numbers, a start and an end each, in
- * any order. They may overlap and touch, and one with end <= start holds no number. The set stands at the front then, and
- * nothing is said of what stands after it. Sorts without memory, in some count * log(count) steps. */
+/* Makes the set of the numbers in some range, in place: `ranges` has `count` pairs of numbers, a start and an end each,
+ * in any order. They may overlap and touch, and one with end <= start holds no number. The set stands at the front
+ * then, and nothing is said of what stands after it. Sorts without memory, in some count * log(count) steps. */
 RANGE_SET_STATUS range_set_i32_from_ranges(int32_t *ranges, size_t count, range_set_i32 *set);
 
-/* Writes the set of these numbers, in any order, some of them more than once. The buffer has to have room for two numbers for each,
- * also where the set has fewer. Nothing is said of what stands after the set in the buffer. Sorts without other memory, in some
- * count * log(count) steps. */
+/* Writes the set of these numbers, in any order, some of them more than once. The buffer has to have room for two
+ * numbers for each, also where the set has fewer. Nothing is said of what stands after the set in the buffer. Sorts
+ * without other memory, in some count * log(count) steps. */
 RANGE_SET_STATUS range_set_i32_from_values(const int32_t *values, size_t count, int32_t *out, size_t room,
-                                                range_set_i32 *result);
+                                           range_set_i32 *result);
 
 /* Whether `value` is a member. At most as many comparisons as set.len has binary digits. */
 bool range_set_i32_contains(range_set_i32 set, int32_t value);
 
-/* Whether each number from `start` on, up to below `end`, is a member; it is true where end <= start. At most twice as many
- * comparisons as set.len has binary digits, and one. */
+/* Whether each number from `start` on, up to below `end`, is a member; it is true where end <= start. At most twice as
+ * many comparisons as set.len has binary digits, and one. */
 bool range_set_i32_contains_range(range_set_i32 set, int32_t start, int32_t end);
 
-/* Whether some number from `start` on, up to below `end`, is a member; it is false where end <= start. At most twice as many
- * comparisons as set.len has binary digits, and one. */
+/* Whether some number from `start` on, up to below `end`, is a member; it is false where end <= start. At most twice as
+ * many comparisons as set.len has binary digits, and one. */
 bool range_set_i32_intersects_range(range_set_i32 set, int32_t start, int32_t end);
 
 /* Whether no number is a member: whether there is no boundary. */
@@ -163,26 +179,28 @@ bool range_set_i32_is_empty(range_set_i32 set);
 /* Whether each number of the type is a member. */
 bool range_set_i32_is_all(range_set_i32 set);
 
-/* Whether `value` is a member, and then the range of the set that holds it. Where it is no member `range` is as it was, and
- * where the range has no end `range->end` is. `range` may be null. At most as many comparisons as set.len has binary digits. */
+/* Whether `value` is a member, and then the range of the set that holds it. Where it is no member `range` is as it was,
+ * and where the range has no end `range->end` is. `range` may be null. At most as many comparisons as set.len has
+ * binary digits. */
 bool range_set_i32_range_at(range_set_i32 set, int32_t value, range_set_i32_range *range);
 
-/* Whether there is a range that holds `value` or lies above it, and then the first such: the next one to look at, from any number
- * on. `range` is written as by `range_at`. At most twice as many comparisons as set.len has binary digits. */
+/* Whether there is a range that holds `value` or lies above it, and then the first such: the next one to look at, from
+ * any number on. `range` is written as by `range_at`. At most twice as many comparisons as set.len has binary
+ * digits. */
 bool range_set_i32_range_from(range_set_i32 set, int32_t value, range_set_i32_range *range);
 
-/* Whether some number at or above `from` is a member, isn't one, and then the least such. Else `next` is as it was. It may be
- * null. At most as many comparisons as set.len has binary digits. */
+/* Whether some number at or above `from` is a member, isn't one, and then the least such. Else `next` is as it was. It
+ * may be null. At most as many comparisons as set.len has binary digits. */
 bool range_set_i32_next_member(range_set_i32 set, int32_t from, int32_t *next);
 bool range_set_i32_next_gap(range_set_i32 set, int32_t from, int32_t *next);
 
-/* Whether some number at or below `from` is a member, isn't one, and then the greatest such. Else `previous` is as it was. It may
- * be null. At most as many comparisons as set.len has binary digits. */
+/* Whether some number at or below `from` is a member, isn't one, and then the greatest such. Else `previous` is as it
+ * was. It may be null. At most as many comparisons as set.len has binary digits. */
 bool range_set_i32_prev_member(range_set_i32 set, int32_t from, int32_t *previous);
 bool range_set_i32_prev_gap(range_set_i32 set, int32_t from, int32_t *previous);
 
-/* Whether the set has more than `k` members, and then the one with `k` others below it. Else `at` is as it was. It may be null.
- * Looks at each boundary up to the answer once. */
+/* Whether the set has more than `k` members, and then the one with `k` others below it. Else `at` is as it was. It may
+ * be null. Looks at each boundary up to the answer once. */
 bool range_set_i32_select(range_set_i32 set, uint64_t k, int32_t *at);
 
 /* How many members are below `at`. Looks at each boundary below `at` once. */
@@ -201,8 +219,8 @@ bool range_set_i32_last(range_set_i32 set, range_set_i32_range *range);
 /* How many ranges the set has. */
 size_t range_set_i32_ranges_len(range_set_i32 set);
 
-/* A place among the members of a set, which is good until the set changes: where `has_value` is true, at the member `value`. The
- * other fields are for the library alone. */
+/* A place among the members of a set, which is good until the set changes: where `has_value` is true, at the member
+ * `value`. The other fields are for the library alone. */
 typedef struct range_set_i32_members {
     int32_t value;
     bool has_value;
@@ -217,8 +235,8 @@ static inline int32_t range_set_i32_range_last(range_set_i32_range range)
     return range.has_end ? range.end - 1 : INT32_MAX;
 }
 
-/* The place of the lowest member, of the highest one. A loop over all of them, which `members_last` and `members_prev` make
- * downwards:
+/* The place of the lowest member, of the highest one. A loop over all of them, which `members_last` and `members_prev`
+ * make downwards:
  *
  *     range_set_i32_members it = range_set_i32_members_first(set);
  *     for (; it.has_value; range_set_i32_members_next(&it)) .. it.value ..
@@ -242,7 +260,8 @@ static inline range_set_i32_members range_set_i32_members_last(range_set_i32 set
     return members;
 }
 
-/* Goes to the next member above, below. Where there is none it is at no member from then on. It has to be at one before. */
+/* Goes to the next member above, below. Where there is none it is at no member from then on. It has to be at one
+ * before. */
 static inline void range_set_i32_members_next(range_set_i32_members *members)
 {
     if (members->value != range_set_i32_range_last(members->range)) {
@@ -263,12 +282,12 @@ static inline void range_set_i32_members_prev(range_set_i32_members *members)
     }
 }
 
-/* Whether the set has an end, so whether its members can be counted, and then how many there are, which always fits. Where it
- * has none `count` is as it was. Goes over the set once. */
+/* Whether the set has an end, so whether its members can be counted, and then how many there are, which always fits.
+ * Where it has none `count` is as it was. Goes over the set once. */
 bool range_set_i32_covered(range_set_i32 set, uint64_t *count);
 
-/* Whether no number is a member of both. Stops at the first one that is. At most 2 * (a.len + b.len) comparisons, and few where
- * long parts of one set lie between two boundaries of the other. So do the calls below. */
+/* Whether no number is a member of both. Stops at the first one that is. At most 2 * (a.len + b.len) comparisons, and
+ * few where long parts of one set lie between two boundaries of the other. So do the calls below. */
 bool range_set_i32_is_disjoint(range_set_i32 a, range_set_i32 b);
 
 /* Whether some number is a member of both. */
@@ -286,45 +305,44 @@ static inline bool range_set_i32_is_superset(range_set_i32 a, range_set_i32 b)
 /* Whether both sets have the same members. Goes over both once. */
 bool range_set_i32_equal(range_set_i32 a, range_set_i32 b);
 
-/* Cuts the set at `at` into two parts of its own list: `below` has the set's members below `at`, and `from` has those from
- * `at` on. Both are the shortest such lists, so a range that goes over `at` has no end in `below`, and has its start in `from`.
- * Either may be null. At most as many comparisons as set.len has binary digits. */
+/* Cuts the set at `at` into two parts of its own list: `below` has the set's members below `at`, and `from` has those
+ * from `at` on. Both are the shortest such lists, so a range that goes over `at` has no end in `below`, and has its
+ * start in `from`. Either may be null. At most as many comparisons as set.len has binary digits. */
 void range_set_i32_split(range_set_i32 set, int32_t at, range_set_i32 *below, range_set_i32 *from);
 
 /* Writes the set of the numbers that `keep` names: those in the left set alone (RANGE_SET_LEFT), in the right alone
- * (RANGE_SET_RIGHT), in both (RANGE_SET_BOTH) and in neither (RANGE_SET_NEITHER), as their sum. Other bits of `keep` have no
- * meaning. A room of a.len + b.len is always enough, and with RANGE_SET_NEITHER one more. */
-RANGE_SET_STATUS range_set_i32_combine(range_set_i32 a, range_set_i32 b, unsigned keep, int32_t *out,
-                                            size_t room, range_set_i32 *result);
+ * (RANGE_SET_RIGHT), in both (RANGE_SET_BOTH) and in neither (RANGE_SET_NEITHER), as their sum. Other bits of `keep`
+ * have no meaning. A room of a.len + b.len is always enough, and with RANGE_SET_NEITHER one more. */
+RANGE_SET_STATUS range_set_i32_combine(range_set_i32 a, range_set_i32 b, unsigned keep, int32_t *out, size_t room,
+                                       range_set_i32 *result);
 
 /* How many boundaries that set has. */
 size_t range_set_i32_combine_len(range_set_i32 a, range_set_i32 b, unsigned keep);
 
 /* Writes the set of the numbers in either set. */
 static inline RANGE_SET_STATUS range_set_i32_union(range_set_i32 a, range_set_i32 b, int32_t *out, size_t room,
-                                                        range_set_i32 *result)
+                                                   range_set_i32 *result)
 {
     return range_set_i32_combine(a, b, RANGE_SET_UNION, out, room, result);
 }
 
 /* Writes the set of the numbers in both sets. */
-static inline RANGE_SET_STATUS range_set_i32_intersection(range_set_i32 a, range_set_i32 b, int32_t *out,
-                                                               size_t room, range_set_i32 *result)
+static inline RANGE_SET_STATUS range_set_i32_intersection(range_set_i32 a, range_set_i32 b, int32_t *out, size_t room,
+                                                          range_set_i32 *result)
 {
     return range_set_i32_combine(a, b, RANGE_SET_INTERSECTION, out, room, result);
 }
 
 /* Writes the set of the numbers in the left set and not in the right. */
-static inline RANGE_SET_STATUS range_set_i32_difference(range_set_i32 a, range_set_i32 b, int32_t *out,
-                                                             size_t room, range_set_i32 *result)
+static inline RANGE_SET_STATUS range_set_i32_difference(range_set_i32 a, range_set_i32 b, int32_t *out, size_t room,
+                                                        range_set_i32 *result)
 {
     return range_set_i32_combine(a, b, RANGE_SET_DIFFERENCE, out, room, result);
 }
 
 /* Writes the set of the numbers in one of the two sets and not in the other. */
-static inline RANGE_SET_STATUS range_set_i32_symmetric_difference(range_set_i32 a, range_set_i32 b,
-                                                                       int32_t *out, size_t room,
-                                                                       range_set_i32 *result)
+static inline RANGE_SET_STATUS range_set_i32_symmetric_difference(range_set_i32 a, range_set_i32 b, int32_t *out,
+                                                                  size_t room, range_set_i32 *result)
 {
     return range_set_i32_combine(a, b, RANGE_SET_SYMMETRIC_DIFFERENCE, out, room, result);
 }
@@ -350,57 +368,64 @@ static inline size_t range_set_i32_symmetric_difference_len(range_set_i32 a, ran
     return range_set_i32_combine_len(a, b, RANGE_SET_SYMMETRIC_DIFFERENCE);
 }
 
-/* Writes the set of the numbers that are no members: without a first boundary that is the least number, INT32_MIN, or else with
- * that before it. A room of set.len + 1 is always enough. */
+/* Writes the set of the numbers that are no members: without a first boundary that is the least number, INT32_MIN, or
+ * else with that before it. A room of set.len + 1 is always enough. */
 RANGE_SET_STATUS range_set_i32_negation(range_set_i32 set, int32_t *out, size_t room, range_set_i32 *result);
 
-/* Writes the set of the numbers from `start` to below `end` that are no members: the gaps of the set between the two. A room
- * of set.len + 2 is always enough. */
+/* Writes the set of the numbers from `start` to below `end` that are no members: the gaps of the set between the two. A
+ * room of set.len + 2 is always enough. */
 RANGE_SET_STATUS range_set_i32_gaps(range_set_i32 set, int32_t start, int32_t end, int32_t *out, size_t room,
+                                    range_set_i32 *result);
+
+/* Writes the set of the numbers in any of `count` sets. The buffer has to have room for the boundaries of all of them
+ * together, also where the set has fewer. Nothing is said of what stands after the set in the buffer. Copies and sorts
+ * the boundaries, in some n * log(n) steps for n of them. */
+RANGE_SET_STATUS range_set_i32_union_all(const range_set_i32 *sets, size_t count, int32_t *out, size_t room,
                                          range_set_i32 *result);
 
-/* Writes the set of the numbers in any of `count` sets. The buffer has to have room for the boundaries of all of them together,
- * also where the set has fewer. Nothing is said of what stands after the set in the buffer. Copies and sorts the boundaries, in
- * some n * log(n) steps for n of them. */
-RANGE_SET_STATUS range_set_i32_union_all(const range_set_i32 *sets, size_t count, int32_t *out, size_t room,
-                                              range_set_i32 *result);
-
-/* Writes the set as a text, "0..10, 20..": its ranges with a comma and a space between them, and no byte for the empty set. No zero
- * stands after it. `len` is its length in bytes. Where the buffer has no room for all of it the buffer is as it was; it may be null
- * with room 0, which asks for the length alone. A room of 13 * set.len is always enough. A set of more than SIZE_MAX / 32
- * boundaries is refused as a length that no array has. */
+/* Writes the set as a text, "0..10, 20..": its ranges with a comma and a space between them, and no byte for the empty
+ * set. No zero stands after it. `len` is its length in bytes. Where the buffer has no room for all of it the buffer is
+ * as it was; it may be null with room 0, which asks for the length alone. A room of 13 * set.len is always enough. A
+ * set of more than SIZE_MAX / 32 boundaries is refused as a length that no array has. */
 RANGE_SET_STATUS range_set_i32_print(range_set_i32 set, char *text, size_t room, size_t *len);
 
-/* Reads a set from a text of ranges, "0..10, 20..": in any order, with commas between them and blanks around each. Numbers may have
- * a sign and zeros before them. A range whose end isn't above its start has no number. An empty text, or one of blanks, is the
- * empty set. The text is `text_len` bytes of UTF-8, or null with length 0.
+/* Reads a set from a text of ranges, "0..10, 20..": in any order, with commas between them and blanks around each.
+ * Numbers may have a sign and zeros before them. A range whose end isn't above its start has no number. An empty text,
+ * or one of blanks, is the empty set. The text is `text_len` bytes of UTF-8, or null with length 0.
  *
- * The buffer has to have room for as many numbers as the text has, also where the set has fewer. Nothing is said of what stands
- * after the set in the buffer. `fault` may be null. Where the answer is RANGE_SET_MALFORMED it is the byte at which the text stops
- * being one of ranges, and its length where more was expected; of bytes that aren't UTF-8 it is the first that isn't, whatever
- * stands before. Else it is as it was.
+ * The buffer has to have room for as many numbers as the text has, also where the set has fewer. Nothing is said of
+ * what stands after the set in the buffer. `fault` may be null. Where the answer is RANGE_SET_MALFORMED it is the byte
+ * at which the text stops being one of ranges, and its length where more was expected; of bytes that aren't UTF-8 it is
+ * the first that isn't, whatever stands before. Where it is RANGE_SET_OUT_OF_RANGE it is the byte at which the first
+ * range with such a number begins. Else it is as it was.
  *
  * Takes some n * log(n) steps for n ranges, in any order. */
-RANGE_SET_STATUS range_set_i32_parse(const char *text, size_t text_len, int32_t *out, size_t room, range_set_i32 *result,
-                                          size_t *fault);
+RANGE_SET_STATUS range_set_i32_parse(const char *text, size_t text_len, int32_t *out, size_t room,
+                                     range_set_i32 *result, size_t *fault);
 
-/* Whether there is a number from which on `count` numbers lie in `start` to below `end` and none of them is a member, and then
- * the least one: the first place where so many fit. Where there is none `first` is as it was. It may be null. A count of 0 fits
- * at `start`, if end >= start. Looks at each boundary from `start` on, up to the answer. */
+/* As `parse`, with another byte in place of the comma, as '\n' for one range on each line. Between two of them may also
+ * stand a lone number, which is the range of that number and needs room for two, or blanks alone, which are no range. A
+ * separator that isn't ASCII, or is a digit, '+', '-' or '.', is RANGE_SET_BAD_ARGUMENT. `fault` is in the first part
+ * between two that is malformed, or else in the first with a number that doesn't fit. Goes over the text some times. */
+RANGE_SET_STATUS range_set_i32_parse_by(const char *text, size_t text_len, char separator, int32_t *out, size_t room,
+                                        range_set_i32 *result, size_t *fault);
+
+/* Whether there is a number from which on `count` numbers lie in `start` to below `end` and none of them is a member,
+ * and then the least one: the first place where they fit. Where there is none `first` is as it was. It may be null.
+ * A count of 0 fits at `start`, if end >= start. Looks at each boundary from `start` on, up to the answer. */
 bool range_set_i32_first_fit(range_set_i32 set, int32_t start, int32_t end, uint32_t count, int32_t *first);
 
-/* The same, but only where as many numbers of the type are below the first as a multiple of `align`: the first itself is one where
- * the type has no sign or `align` is a power of two. An `align` of 0 fits nowhere. */
+/* The same, but only where the first is a multiple of `align`, above 0 or below. An `align` of 0 fits nowhere. */
 bool range_set_i32_first_fit_aligned(range_set_i32 set, int32_t start, int32_t end, uint32_t count, uint32_t align,
-                                          int32_t *first);
+                                     int32_t *first);
 
-/* Whether `count` members in a row lie in `start` to below `end`, and then the least number that such begin with. Else, and with a
- * count of 0, as `first_fit`. Looks at each boundary from `start` on, up to the answer. */
+/* Whether `count` members in a row lie in `start` to below `end`, and then the least number that such begin with. Else,
+ * and with a count of 0, as `first_fit`. Looks at each boundary from `start` on, up to the answer. */
 bool range_set_i32_first_run(range_set_i32 set, int32_t start, int32_t end, uint32_t count, int32_t *first);
 
 /* ---- Sets of int32_t that change in their buffer ---- */
 
-/* The empty set in a buffer with room for so many numbers. */
+/* The empty set in a buffer of `room` numbers. */
 static inline range_set_i32_buffer range_set_i32_buffer_of(int32_t *items, size_t room)
 {
     range_set_i32_buffer buffer;
@@ -415,16 +440,17 @@ static inline range_set_i32_buffer range_set_i32_buffer_of(int32_t *items, size_
 /* The set of the first `len` numbers in a buffer with room for `room`, or RANGE_SET_NOT_SORTED. Goes over them once. */
 RANGE_SET_STATUS range_set_i32_buffer_view(int32_t *items, size_t len, size_t room, range_set_i32_buffer *buffer);
 
-/* Puts the numbers from `start` to below `end` into the set, which are none where end <= start. Searches for both, and moves
- * once what stands after them. Where the buffer has no room nothing has changed: set.len + 2 is always enough. */
+/* Puts the numbers from `start` to below `end` into the set, which are none where end <= start. Searches for both, and
+ * moves once what stands after them. Where the buffer has no room nothing has changed: set.len + 2 is always enough. */
 RANGE_SET_STATUS range_set_i32_insert(range_set_i32_buffer *buffer, int32_t start, int32_t end);
 
 /* Takes the numbers from `start` to below `end` out of the set. As `insert`. */
 RANGE_SET_STATUS range_set_i32_remove(range_set_i32_buffer *buffer, int32_t start, int32_t end);
 
-/* Leaves in the buffer the numbers that `keep` names of its set and another, as `combine`, but for RANGE_SET_NEITHER, which is
- * refused: RANGE_SET_BAD_ARGUMENT. The set moves to the end of the buffer, and the result is written at its front. So there has
- * to be room for both: 2 * set.len + other.len is always enough. The other set mustn't lie in the buffer. */
+/* Leaves in the buffer the numbers that `keep` names of its set and another, as `combine`, but for RANGE_SET_NEITHER,
+ * which is refused: RANGE_SET_BAD_ARGUMENT. The set moves to the end of the buffer, and the result is written at its
+ * front. So there has to be room for both: 2 * set.len + other.len is always enough. The other set mustn't lie in the
+ * buffer. */
 RANGE_SET_STATUS range_set_i32_combine_with(range_set_i32_buffer *buffer, range_set_i32 other, unsigned keep);
 
 /* The four operations in the buffer. */
@@ -444,53 +470,80 @@ static inline RANGE_SET_STATUS range_set_i32_difference_with(range_set_i32_buffe
 }
 
 static inline RANGE_SET_STATUS range_set_i32_symmetric_difference_with(range_set_i32_buffer *buffer,
-                                                                            range_set_i32 other)
+                                                                       range_set_i32 other)
 {
     return range_set_i32_combine_with(buffer, other, RANGE_SET_SYMMETRIC_DIFFERENCE);
 }
 
 /* ---- Owned sets of int32_t ---- */
 
-/* A set in a buffer that it owns and that grows: `in.set` is the set, which may be read until the owned set is changed. */
+/* A set in a buffer that it owns and that grows: `in.set` is the set, which may be read until the owned set is
+ * changed. */
 typedef struct range_set_i32_owned {
     range_set_i32_buffer in;
     range_set_allocator allocator;
 } range_set_i32_owned;
 
-/* Makes an owned set without a member, which takes no memory yet. Its memory comes from `allocator`, of which it keeps a copy, or
- * from malloc where that is null. It has to be freed. */
+/* Makes an owned set without a member, which takes no memory yet. Its memory comes from `allocator`, of which it keeps
+ * a copy, or from malloc where that is null. It has to be freed. Does nothing where `owned` is null, of which each call
+ * below that answers a status says RANGE_SET_BAD_ARGUMENT. */
 void range_set_i32_owned_init(range_set_i32_owned *owned, const range_set_allocator *allocator);
 
-/* Gives the memory back, and leaves a set without a member, which may be used again. Does nothing where `owned` is null. */
+/* Gives the memory back, and leaves a set without a member, which may be used again. Does nothing where `owned` is
+ * null. */
 void range_set_i32_owned_free(range_set_i32_owned *owned);
 
-/* Sees that there is room for so many boundaries. */
+/* Makes room for `room` boundaries. */
 RANGE_SET_STATUS range_set_i32_owned_reserve(range_set_i32_owned *owned, size_t room);
 
 /* Leaves a copy of the set in `owned`. */
 RANGE_SET_STATUS range_set_i32_owned_assign(range_set_i32_owned *owned, range_set_i32 set);
 
-/* Puts the numbers from `start` to below `end` in, takes them out: as `insert` and `remove`, but that the buffer grows. */
+/* Puts the numbers from `start` to below `end` in, takes them out: as `insert` and `remove`, but that the buffer
+ * grows. */
 RANGE_SET_STATUS range_set_i32_owned_insert(range_set_i32_owned *owned, int32_t start, int32_t end);
 RANGE_SET_STATUS range_set_i32_owned_remove(range_set_i32_owned *owned, int32_t start, int32_t end);
 
 /* Leaves in `owned` the numbers that `keep` names, as `combine`: of RANGE_SET_UNION those in either set, of
- * RANGE_SET_INTERSECTION those in both, of RANGE_SET_DIFFERENCE those that aren't in `other`. With a room of
- * 2 * in.set.len + other.len, and with RANGE_SET_NEITHER one more, it takes no memory; else the buffer grows. `other` may be a
- * part of the set, as `split` makes one. RANGE_SET_BAD_ARGUMENT says that it lies elsewhere in the buffer or in the struct. */
+ * RANGE_SET_INTERSECTION those in both, of RANGE_SET_DIFFERENCE those that aren't in `other`. With a room of 2 *
+ * in.set.len + other.len, and with RANGE_SET_NEITHER one more, it takes no memory; else the buffer grows. `other` may
+ * be a part of the set, as `split` makes one. RANGE_SET_BAD_ARGUMENT says that it lies elsewhere in the buffer or in
+ * the struct. */
 RANGE_SET_STATUS range_set_i32_owned_combine(range_set_i32_owned *owned, range_set_i32 other, unsigned keep);
+
+/* Puts all numbers from `start` on in, takes them out: the union with their set, the difference from it. */
+static inline RANGE_SET_STATUS range_set_i32_owned_insert_from(range_set_i32_owned *owned, int32_t start)
+{
+    range_set_i32 rest = {&start, 1};
+    return range_set_i32_owned_combine(owned, rest, RANGE_SET_UNION);
+}
+
+static inline RANGE_SET_STATUS range_set_i32_owned_remove_from(range_set_i32_owned *owned, int32_t start)
+{
+    range_set_i32 rest = {&start, 1};
+    return range_set_i32_owned_combine(owned, rest, RANGE_SET_DIFFERENCE);
+}
+
+/* Takes all numbers out, and keeps the buffer. Does nothing where `owned` is null. */
+static inline void range_set_i32_owned_clear(range_set_i32_owned *owned)
+{
+    if (owned) owned->in.set.len = 0;
+}
 
 /* ---- Sets of int32_t that grow to millions of ranges ---- */
 
-/* A set in chunks of at most 512 boundaries: a change searches for its range and moves the boundaries of one chunk, so it takes
- * about as long in a set of a million ranges as in a small one. Its memory comes from malloc. The field is for the library alone.
- * {NULL} is no set: it has no member, and no call changes it. Only one call at a time may be given a set, also of those that ask;
- * nothing is proved of a set that goes from one thread to another. */
+/* A set in chunks of at most 512 boundaries: a change searches for its range and moves the boundaries of one chunk, so
+ * it takes about as long in a set of a million ranges as in a small one. Its memory comes from malloc, unless
+ * `range_set_use_allocator` named another. The field is for the library alone. {NULL} is no set: it has no member, and
+ * no call changes it. Calls that take a set itself only read, so several threads may make them at once. Those that take
+ * its address write, `chunked_first_fit` and `chunked_first_fit_aligned` too, which remember: no other call may be
+ * given the set meanwhile. Nothing is proved of a set that goes from one thread to another. */
 typedef struct range_set_i32_chunked {
     void *at;
 } range_set_i32_chunked;
 
-/* Makes a set without a member, or one with the members of a list. It has to be freed. Where an allocation fails there is none. */
+/* Makes a set without a member, or one with the members of a list. It has to be freed. Where an allocation fails there
+ * is none. */
 RANGE_SET_STATUS range_set_i32_chunked_new(range_set_i32_chunked *set);
 RANGE_SET_STATUS range_set_i32_chunked_of(range_set_i32 list, range_set_i32_chunked *set);
 
@@ -535,35 +588,36 @@ bool range_set_i32_chunked_next_gap(range_set_i32_chunked set, int32_t from, int
  */
 bool range_set_i32_chunked_next(range_set_i32_chunked set, int32_t from, range_set_i32_range *range);
 
-/* As the calls of these names for lists, and they pass over some 512 gaps at a time where they are known to be too short: the set
- * remembers what a search learns of them, until something is taken out there. Of gaps that are long enough it remembers only for
- * the last `align` that no multiple fits. Without memory it remembers less. */
+/* As the calls of these names for lists, and they pass over some 512 gaps at a time where they are known to be too
+ * short: the set remembers what a search learns of them, until something is taken out there. Of gaps that are long
+ * enough it remembers only for the last `align` that no multiple fits. Without memory it remembers less. */
 bool range_set_i32_chunked_first_fit(range_set_i32_chunked *set, int32_t start, int32_t end, uint32_t count,
-                                          int32_t *first);
+                                     int32_t *first);
 bool range_set_i32_chunked_first_fit_aligned(range_set_i32_chunked *set, int32_t start, int32_t end, uint32_t count,
-                                                  uint32_t align, int32_t *first);
+                                             uint32_t align, int32_t *first);
 
 /* As `first_run`. It remembers nothing, and looks at each range from `start` on, up to the answer. */
 bool range_set_i32_chunked_first_run(range_set_i32_chunked set, int32_t start, int32_t end, uint32_t count,
-                                          int32_t *first);
+                                     int32_t *first);
 
-/* Writes the ranges that share a number with `start` to below `end`, whole, as a list: from the lowest on, and the first room / 2
- * of them where there are more. */
+/* Writes the ranges that share a number with `start` to below `end`, whole, as a list. Where there are more than the
+ * buffer has room for it writes the first room / 2, and answers RANGE_SET_MORE; where it has room for none,
+ * RANGE_SET_NO_ROOM, and goes over all of them for the length. */
 RANGE_SET_STATUS range_set_i32_chunked_overlapping(range_set_i32_chunked set, int32_t start, int32_t end,
-                                                        int32_t *out, size_t room, range_set_i32 *result);
+                                                   int32_t *out, size_t room, range_set_i32 *result);
 
-/* Writes the ranges that have a number at or above `from` in the same way. It is two searches, so to go over many ranges it is
- * much faster than `next`. The next ones are those from the end of the last one on:
+/* Writes the ranges that have a number at or above `from` in the same way. It is two searches, so to go over many
+ * ranges it is much faster than `next`. The next ones are those from the end of the last one on:
  *
  *     int32_t some[64], from = INT32_MIN;
  *     do {
- *         range_set_i32_chunked_next_ranges(set, from, some, 64, &part);
+ *         status = range_set_i32_chunked_next_ranges(set, from, some, 64, &part);
  *         for (size_t i = 0; range_set_i32_get(part, i, &range); i++) ..
  *         from = some[63];
- *     } while (part.len == 64);
+ *     } while (status == RANGE_SET_MORE);
  */
-RANGE_SET_STATUS range_set_i32_chunked_next_ranges(range_set_i32_chunked set, int32_t from, int32_t *out,
-                                                        size_t room, range_set_i32 *result);
+RANGE_SET_STATUS range_set_i32_chunked_next_ranges(range_set_i32_chunked set, int32_t from, int32_t *out, size_t room,
+                                                   range_set_i32 *result);
 
 /* How many ranges the set has, how many boundaries. Adds up the chunks. */
 size_t range_set_i32_chunked_ranges_len(range_set_i32_chunked set);
@@ -571,12 +625,86 @@ size_t range_set_i32_chunked_boundaries_len(range_set_i32_chunked set);
 
 /* Writes the set as a list, as other calls write sets. */
 RANGE_SET_STATUS range_set_i32_chunked_copy(range_set_i32_chunked set, int32_t *out, size_t room,
-                                                 range_set_i32 *result);
+                                            range_set_i32 *result);
+
+/* Writes the numbers from `start` to below `end` that are no members, by two searches each. */
+RANGE_SET_STATUS range_set_i32_chunked_gaps(range_set_i32_chunked set, int32_t start, int32_t end, int32_t *out,
+                                            size_t room, range_set_i32 *result);
+
+/* Leaves in the set the numbers that `keep` names, as `combine`. It makes a list and new chunks of both sets, and where
+ * an allocation fails the set is as it was. */
+RANGE_SET_STATUS range_set_i32_chunked_combine(range_set_i32_chunked *set, range_set_i32 other, unsigned keep);
+
+/* As `insert`, `remove`, `chunked_insert` and `chunked_remove`, and where that was done `changed` is whether the set
+ * has other members now. */
+RANGE_SET_STATUS range_set_i32_insert_changed(range_set_i32_buffer *buffer, int32_t start, int32_t end,
+                                              bool *changed);
+RANGE_SET_STATUS range_set_i32_remove_changed(range_set_i32_buffer *buffer, int32_t start, int32_t end,
+                                              bool *changed);
+RANGE_SET_STATUS range_set_i32_chunked_insert_changed(range_set_i32_chunked *set, int32_t start, int32_t end,
+                                                      bool *changed);
+RANGE_SET_STATUS range_set_i32_chunked_remove_changed(range_set_i32_chunked *set, int32_t start, int32_t end,
+                                                      bool *changed);
+
+/* ---- Maps from ranges of int32_t to numbers ---- */
+
+/* A map that gives ranges values. A key has the value of the last range that was put around it, or none; ranges that
+ * touch and have equal values are one. It lies in chunks: among n ranges a search makes about log n comparisons, and a
+ * change moves a chunk's items at most. Its memory comes from where that of sets in chunks does, the field is for the
+ * library alone, {NULL} is no map, and calls that take a map itself only read. */
+typedef struct range_map_i32 {
+    void *at;
+} range_map_i32;
+
+/* The longest range whose keys have one value, or all have none. Without a start it has all lower keys, without an end
+ * all higher ones. */
+typedef struct range_map_i32_stretch {
+    int32_t start, end;
+    uint64_t value;
+    bool has_start, has_end, has_value;
+} range_map_i32_stretch;
+
+/* Makes a map in which no key has a value. It has to be freed. Where an allocation fails there is none. */
+RANGE_SET_STATUS range_map_i32_new(range_map_i32 *map);
+
+/* Gives the memory back, and leaves {NULL}. Does nothing where `map` is null or no map. */
+void range_map_i32_free(range_map_i32 *map);
+
+/* Gives the keys from `start` to below `end` the value, takes their values away; or those of all keys from `start` on.
+ * Where an allocation fails the map is as it was. */
+RANGE_SET_STATUS range_map_i32_insert(range_map_i32 *map, int32_t start, int32_t end, uint64_t value);
+RANGE_SET_STATUS range_map_i32_remove(range_map_i32 *map, int32_t start, int32_t end);
+RANGE_SET_STATUS range_map_i32_insert_from(range_map_i32 *map, int32_t start, uint64_t value);
+RANGE_SET_STATUS range_map_i32_remove_from(range_map_i32 *map, int32_t start);
+
+/* Whether the key has a value, and then which. `value` may be null. */
+bool range_map_i32_get(range_map_i32 map, int32_t key, uint64_t *value);
+
+/* The longest range around the key whose keys have its value, or as it none. */
+range_map_i32_stretch range_map_i32_range_at(range_map_i32 map, int32_t key);
+
+/* Whether a key at or above `from` has a value, and then the longest range of the first such. A loop over all of them:
+ *
+ *     bool more = range_map_i32_next(map, INT32_MIN, &it);
+ *     for (; more; more = it.has_end && range_map_i32_next(map, it.end, &it)) ..
+ */
+bool range_map_i32_next(range_map_i32 map, int32_t from, range_map_i32_stretch *stretch);
+
+/* Writes the first of those ranges, as many as there is room for, and answers how many these are: by one search. */
+size_t range_map_i32_next_ranges(range_map_i32 map, int32_t from, range_map_i32_stretch *out, size_t room);
+
+/* Makes a map of `count` ranges, a start and an end each, with their values; where they overlap the later one's holds.
+ * Makes a copy. They have to be freed. Where an allocation fails there is none. */
+RANGE_SET_STATUS range_map_i32_of(const int32_t *ranges, const uint64_t *values, size_t count, range_map_i32 *map);
+RANGE_SET_STATUS range_map_i32_copy(range_map_i32 map, range_map_i32 *copy);
+
+/* How many ranges have a value. */
+size_t range_map_i32_len(range_map_i32 map);
 
 /* ---- Sets of uint32_t ---- */
 
-/* A set. Its fields may be read, and are for the library alone to write: a set that was made otherwise, and isn't strictly
- * sorted, gets answers that mean nothing. Where `boundaries` is null the set is empty. */
+/* A set. Its fields may be read, and are for the library alone to write: a set that was made otherwise, and isn't
+ * strictly sorted, gets answers that mean nothing. Where `boundaries` is null the set is empty. */
 typedef struct range_set_u32 {
     const uint32_t *boundaries;
     size_t len;
@@ -588,8 +716,8 @@ typedef struct range_set_u32_range {
     bool has_end;
 } range_set_u32_range;
 
-/* A set in a buffer of the caller's, which can change. `items` has room for `room` numbers, and `set` stands at their front. Where
- * a call answers RANGE_SET_NO_ROOM, `needed` is the room that it needs. The fields may be read. */
+/* A set in a buffer of the caller's, which can change. `items` has room for `room` numbers, and `set` stands at their
+ * front. Where a call answers RANGE_SET_NO_ROOM, `needed` is the room that it needs. The fields may be read. */
 typedef struct range_set_u32_buffer {
     uint32_t *items;
     size_t room, needed;
@@ -599,30 +727,30 @@ typedef struct range_set_u32_buffer {
 /* Makes a set of a list that is strictly sorted, or answers RANGE_SET_NOT_SORTED. Goes over the list once. */
 RANGE_SET_STATUS range_set_u32_view(const uint32_t *list, size_t len, range_set_u32 *set);
 
-/* Makes the set whose boundaries are these numbers, in any order, in place: the distinct ones in order stand at the front
- * then, and nothing is said of what stands after them. Sorts without memory, in some len * log(len) steps. */
+/* Makes the set whose boundaries are these numbers, in any order, in place: the distinct ones in order stand at the
+ * front then, and nothing is said of what stands after them. Sorts without memory, in some len * log(len) steps. */
 RANGE_SET_STATUS range_set_u32_from_unsorted(uint32_t *items, size_t len, range_set_u32 *set);
 
-/* Makes the set of the numbers in some range, in place: `ranges` has `count` pairs of numbers, a start and an end each, in
- * any order. They may overlap and touch, and one with end <= start holds no number. The set stands at the front then, and
- * nothing is said of what stands after it. Sorts without memory, in some count * log(count) steps. */
+/* Makes the set of the numbers in some range, in place: `ranges` has `count` pairs of numbers, a start and an end each,
+ * in any order. They may overlap and touch, and one with end <= start holds no number. The set stands at the front
+ * then, and nothing is said of what stands after it. Sorts without memory, in some count * log(count) steps. */
 RANGE_SET_STATUS range_set_u32_from_ranges(uint32_t *ranges, size_t count, range_set_u32 *set);
 
-/* Writes the set of these numbers, in any order, some of them more than once. The buffer has to have room for two numbers for each,
- * also where the set has fewer. Nothing is said of what stands after the set in the buffer. Sorts without other memory, in some
- * count * log(count) steps. */
+/* Writes the set of these numbers, in any order, some of them more than once. The buffer has to have room for two
+ * numbers for each, also where the set has fewer. Nothing is said of what stands after the set in the buffer. Sorts
+ * without other memory, in some count * log(count) steps. */
 RANGE_SET_STATUS range_set_u32_from_values(const uint32_t *values, size_t count, uint32_t *out, size_t room,
-                                                range_set_u32 *result);
+                                           range_set_u32 *result);
 
 /* Whether `value` is a member. At most as many comparisons as set.len has binary digits. */
 bool range_set_u32_contains(range_set_u32 set, uint32_t value);
 
-/* Whether each number from `start` on, up to below `end`, is a member; it is true where end <= start. At most twice as many
- * comparisons as set.len has binary digits, and one. */
+/* Whether each number from `start` on, up to below `end`, is a member; it is true where end <= start. At most twice as
+ * many comparisons as set.len has binary digits, and one. */
 bool range_set_u32_contains_range(range_set_u32 set, uint32_t start, uint32_t end);
 
-/* Whether some number from `start` on, up to below `end`, is a member; it is false where end <= start. At most twice as many
- * comparisons as set.len has binary digits, and one. */
+/* Whether some number from `start` on, up to below `end`, is a member; it is false where end <= start. At most twice as
+ * many comparisons as set.len has binary digits, and one. */
 bool range_set_u32_intersects_range(range_set_u32 set, uint32_t start, uint32_t end);
 
 /* Whether no number is a member: whether there is no boundary. */
@@ -631,26 +759,28 @@ bool range_set_u32_is_empty(range_set_u32 set);
 /* Whether each number of the type is a member. */
 bool range_set_u32_is_all(range_set_u32 set);
 
-/* Whether `value` is a member, and then the range of the set that holds it. Where it is no member `range` is as it was, and
- * where the range has no end `range->end` is. `range` may be null. At most as many comparisons as set.len has binary digits. */
+/* Whether `value` is a member, and then the range of the set that holds it. Where it is no member `range` is as it was,
+ * and where the range has no end `range->end` is. `range` may be null. At most as many comparisons as set.len has
+ * binary digits. */
 bool range_set_u32_range_at(range_set_u32 set, uint32_t value, range_set_u32_range *range);
 
-/* Whether there is a range that holds `value` or lies above it, and then the first such: the next one to look at, from any number
- * on. `range` is written as by `range_at`. At most twice as many comparisons as set.len has binary digits. */
+/* Whether there is a range that holds `value` or lies above it, and then the first such: the next one to look at, from
+ * any number on. `range` is written as by `range_at`. At most twice as many comparisons as set.len has binary
+ * digits. */
 bool range_set_u32_range_from(range_set_u32 set, uint32_t value, range_set_u32_range *range);
 
-/* Whether some number at or above `from` is a member, isn't one, and then the least such. Else `next` is as it was. It may be
- * null. At most as many comparisons as set.len has binary digits. */
+/* Whether some number at or above `from` is a member, isn't one, and then the least such. Else `next` is as it was. It
+ * may be null. At most as many comparisons as set.len has binary digits. */
 bool range_set_u32_next_member(range_set_u32 set, uint32_t from, uint32_t *next);
 bool range_set_u32_next_gap(range_set_u32 set, uint32_t from, uint32_t *next);
 
-/* Whether some number at or below `from` is a member, isn't one, and then the greatest such. Else `previous` is as it was. It may
- * be null. At most as many comparisons as set.len has binary digits. */
+/* Whether some number at or below `from` is a member, isn't one, and then the greatest such. Else `previous` is as it
+ * was. It may be null. At most as many comparisons as set.len has binary digits. */
 bool range_set_u32_prev_member(range_set_u32 set, uint32_t from, uint32_t *previous);
 bool range_set_u32_prev_gap(range_set_u32 set, uint32_t from, uint32_t *previous);
 
-/* Whether the set has more than `k` members, and then the one with `k` others below it. Else `at` is as it was. It may be null.
- * Looks at each boundary up to the answer once. */
+/* Whether the set has more than `k` members, and then the one with `k` others below it. Else `at` is as it was. It may
+ * be null. Looks at each boundary up to the answer once. */
 bool range_set_u32_select(range_set_u32 set, uint64_t k, uint32_t *at);
 
 /* How many members are below `at`. Looks at each boundary below `at` once. */
@@ -669,8 +799,8 @@ bool range_set_u32_last(range_set_u32 set, range_set_u32_range *range);
 /* How many ranges the set has. */
 size_t range_set_u32_ranges_len(range_set_u32 set);
 
-/* A place among the members of a set, which is good until the set changes: where `has_value` is true, at the member `value`. The
- * other fields are for the library alone. */
+/* A place among the members of a set, which is good until the set changes: where `has_value` is true, at the member
+ * `value`. The other fields are for the library alone. */
 typedef struct range_set_u32_members {
     uint32_t value;
     bool has_value;
@@ -685,8 +815,8 @@ static inline uint32_t range_set_u32_range_last(range_set_u32_range range)
     return range.has_end ? range.end - 1 : UINT32_MAX;
 }
 
-/* The place of the lowest member, of the highest one. A loop over all of them, which `members_last` and `members_prev` make
- * downwards:
+/* The place of the lowest member, of the highest one. A loop over all of them, which `members_last` and `members_prev`
+ * make downwards:
  *
  *     range_set_u32_members it = range_set_u32_members_first(set);
  *     for (; it.has_value; range_set_u32_members_next(&it)) .. it.value ..
@@ -710,7 +840,8 @@ static inline range_set_u32_members range_set_u32_members_last(range_set_u32 set
     return members;
 }
 
-/* Goes to the next member above, below. Where there is none it is at no member from then on. It has to be at one before. */
+/* Goes to the next member above, below. Where there is none it is at no member from then on. It has to be at one
+ * before. */
 static inline void range_set_u32_members_next(range_set_u32_members *members)
 {
     if (members->value != range_set_u32_range_last(members->range)) {
@@ -731,12 +862,12 @@ static inline void range_set_u32_members_prev(range_set_u32_members *members)
     }
 }
 
-/* Whether the set has an end, so whether its members can be counted, and then how many there are, which always fits. Where it
- * has none `count` is as it was. Goes over the set once. */
+/* Whether the set has an end, so whether its members can be counted, and then how many there are, which always fits.
+ * Where it has none `count` is as it was. Goes over the set once. */
 bool range_set_u32_covered(range_set_u32 set, uint64_t *count);
 
-/* Whether no number is a member of both. Stops at the first one that is. At most 2 * (a.len + b.len) comparisons, and few where
- * long parts of one set lie between two boundaries of the other. So do the calls below. */
+/* Whether no number is a member of both. Stops at the first one that is. At most 2 * (a.len + b.len) comparisons, and
+ * few where long parts of one set lie between two boundaries of the other. So do the calls below. */
 bool range_set_u32_is_disjoint(range_set_u32 a, range_set_u32 b);
 
 /* Whether some number is a member of both. */
@@ -754,45 +885,44 @@ static inline bool range_set_u32_is_superset(range_set_u32 a, range_set_u32 b)
 /* Whether both sets have the same members. Goes over both once. */
 bool range_set_u32_equal(range_set_u32 a, range_set_u32 b);
 
-/* Cuts the set at `at` into two parts of its own list: `below` has the set's members below `at`, and `from` has those from
- * `at` on. Both are the shortest such lists, so a range that goes over `at` has no end in `below`, and has its start in `from`.
- * Either may be null. At most as many comparisons as set.len has binary digits. */
+/* Cuts the set at `at` into two parts of its own list: `below` has the set's members below `at`, and `from` has those
+ * from `at` on. Both are the shortest such lists, so a range that goes over `at` has no end in `below`, and has its
+ * start in `from`. Either may be null. At most as many comparisons as set.len has binary digits. */
 void range_set_u32_split(range_set_u32 set, uint32_t at, range_set_u32 *below, range_set_u32 *from);
 
 /* Writes the set of the numbers that `keep` names: those in the left set alone (RANGE_SET_LEFT), in the right alone
- * (RANGE_SET_RIGHT), in both (RANGE_SET_BOTH) and in neither (RANGE_SET_NEITHER), as their sum. Other bits of `keep` have no
- * meaning. A room of a.len + b.len is always enough, and with RANGE_SET_NEITHER one more. */
-RANGE_SET_STATUS range_set_u32_combine(range_set_u32 a, range_set_u32 b, unsigned keep, uint32_t *out,
-                                            size_t room, range_set_u32 *result);
+ * (RANGE_SET_RIGHT), in both (RANGE_SET_BOTH) and in neither (RANGE_SET_NEITHER), as their sum. Other bits of `keep`
+ * have no meaning. A room of a.len + b.len is always enough, and with RANGE_SET_NEITHER one more. */
+RANGE_SET_STATUS range_set_u32_combine(range_set_u32 a, range_set_u32 b, unsigned keep, uint32_t *out, size_t room,
+                                       range_set_u32 *result);
 
 /* How many boundaries that set has. */
 size_t range_set_u32_combine_len(range_set_u32 a, range_set_u32 b, unsigned keep);
 
 /* Writes the set of the numbers in either set. */
 static inline RANGE_SET_STATUS range_set_u32_union(range_set_u32 a, range_set_u32 b, uint32_t *out, size_t room,
-                                                        range_set_u32 *result)
+                                                   range_set_u32 *result)
 {
     return range_set_u32_combine(a, b, RANGE_SET_UNION, out, room, result);
 }
 
 /* Writes the set of the numbers in both sets. */
-static inline RANGE_SET_STATUS range_set_u32_intersection(range_set_u32 a, range_set_u32 b, uint32_t *out,
-                                                               size_t room, range_set_u32 *result)
+static inline RANGE_SET_STATUS range_set_u32_intersection(range_set_u32 a, range_set_u32 b, uint32_t *out, size_t room,
+                                                          range_set_u32 *result)
 {
     return range_set_u32_combine(a, b, RANGE_SET_INTERSECTION, out, room, result);
 }
 
 /* Writes the set of the numbers in the left set and not in the right. */
-static inline RANGE_SET_STATUS range_set_u32_difference(range_set_u32 a, range_set_u32 b, uint32_t *out,
-                                                             size_t room, range_set_u32 *result)
+static inline RANGE_SET_STATUS range_set_u32_difference(range_set_u32 a, range_set_u32 b, uint32_t *out, size_t room,
+                                                        range_set_u32 *result)
 {
     return range_set_u32_combine(a, b, RANGE_SET_DIFFERENCE, out, room, result);
 }
 
 /* Writes the set of the numbers in one of the two sets and not in the other. */
-static inline RANGE_SET_STATUS range_set_u32_symmetric_difference(range_set_u32 a, range_set_u32 b,
-                                                                       uint32_t *out, size_t room,
-                                                                       range_set_u32 *result)
+static inline RANGE_SET_STATUS range_set_u32_symmetric_difference(range_set_u32 a, range_set_u32 b, uint32_t *out,
+                                                                  size_t room, range_set_u32 *result)
 {
     return range_set_u32_combine(a, b, RANGE_SET_SYMMETRIC_DIFFERENCE, out, room, result);
 }
@@ -818,57 +948,64 @@ static inline size_t range_set_u32_symmetric_difference_len(range_set_u32 a, ran
     return range_set_u32_combine_len(a, b, RANGE_SET_SYMMETRIC_DIFFERENCE);
 }
 
-/* Writes the set of the numbers that are no members: without a first boundary that is the least number, 0, or else with
- * that before it. A room of set.len + 1 is always enough. */
+/* Writes the set of the numbers that are no members: without a first boundary that is the least number, 0, or
+ * else with that before it. A room of set.len + 1 is always enough. */
 RANGE_SET_STATUS range_set_u32_negation(range_set_u32 set, uint32_t *out, size_t room, range_set_u32 *result);
 
-/* Writes the set of the numbers from `start` to below `end` that are no members: the gaps of the set between the two. A room
- * of set.len + 2 is always enough. */
+/* Writes the set of the numbers from `start` to below `end` that are no members: the gaps of the set between the two. A
+ * room of set.len + 2 is always enough. */
 RANGE_SET_STATUS range_set_u32_gaps(range_set_u32 set, uint32_t start, uint32_t end, uint32_t *out, size_t room,
+                                    range_set_u32 *result);
+
+/* Writes the set of the numbers in any of `count` sets. The buffer has to have room for the boundaries of all of them
+ * together, also where the set has fewer. Nothing is said of what stands after the set in the buffer. Copies and sorts
+ * the boundaries, in some n * log(n) steps for n of them. */
+RANGE_SET_STATUS range_set_u32_union_all(const range_set_u32 *sets, size_t count, uint32_t *out, size_t room,
                                          range_set_u32 *result);
 
-/* Writes the set of the numbers in any of `count` sets. The buffer has to have room for the boundaries of all of them together,
- * also where the set has fewer. Nothing is said of what stands after the set in the buffer. Copies and sorts the boundaries, in
- * some n * log(n) steps for n of them. */
-RANGE_SET_STATUS range_set_u32_union_all(const range_set_u32 *sets, size_t count, uint32_t *out, size_t room,
-                                              range_set_u32 *result);
-
-/* Writes the set as a text, "0..10, 20..": its ranges with a comma and a space between them, and no byte for the empty set. No zero
- * stands after it. `len` is its length in bytes. Where the buffer has no room for all of it the buffer is as it was; it may be null
- * with room 0, which asks for the length alone. A room of 12 * set.len is always enough. A set of more than SIZE_MAX / 32
- * boundaries is refused as a length that no array has. */
+/* Writes the set as a text, "0..10, 20..": its ranges with a comma and a space between them, and no byte for the empty
+ * set. No zero stands after it. `len` is its length in bytes. Where the buffer has no room for all of it the buffer is
+ * as it was; it may be null with room 0, which asks for the length alone. A room of 12 * set.len is always enough. A
+ * set of more than SIZE_MAX / 32 boundaries is refused as a length that no array has. */
 RANGE_SET_STATUS range_set_u32_print(range_set_u32 set, char *text, size_t room, size_t *len);
 
-/* Reads a set from a text of ranges, "0..10, 20..": in any order, with commas between them and blanks around each. Numbers may have
- * a sign and zeros before them. A range whose end isn't above its start has no number. An empty text, or one of blanks, is the
- * empty set. The text is `text_len` bytes of UTF-8, or null with length 0.
+/* Reads a set from a text of ranges, "0..10, 20..": in any order, with commas between them and blanks around each.
+ * Numbers may have a sign and zeros before them. A range whose end isn't above its start has no number. An empty text,
+ * or one of blanks, is the empty set. The text is `text_len` bytes of UTF-8, or null with length 0.
  *
- * The buffer has to have room for as many numbers as the text has, also where the set has fewer. Nothing is said of what stands
- * after the set in the buffer. `fault` may be null. Where the answer is RANGE_SET_MALFORMED it is the byte at which the text stops
- * being one of ranges, and its length where more was expected; of bytes that aren't UTF-8 it is the first that isn't, whatever
- * stands before. Else it is as it was.
+ * The buffer has to have room for as many numbers as the text has, also where the set has fewer. Nothing is said of
+ * what stands after the set in the buffer. `fault` may be null. Where the answer is RANGE_SET_MALFORMED it is the byte
+ * at which the text stops being one of ranges, and its length where more was expected; of bytes that aren't UTF-8 it is
+ * the first that isn't, whatever stands before. Where it is RANGE_SET_OUT_OF_RANGE it is the byte at which the first
+ * range with such a number begins. Else it is as it was.
  *
  * Takes some n * log(n) steps for n ranges, in any order. */
-RANGE_SET_STATUS range_set_u32_parse(const char *text, size_t text_len, uint32_t *out, size_t room, range_set_u32 *result,
-                                          size_t *fault);
+RANGE_SET_STATUS range_set_u32_parse(const char *text, size_t text_len, uint32_t *out, size_t room,
+                                     range_set_u32 *result, size_t *fault);
 
-/* Whether there is a number from which on `count` numbers lie in `start` to below `end` and none of them is a member, and then
- * the least one: the first place where so many fit. Where there is none `first` is as it was. It may be null. A count of 0 fits
- * at `start`, if end >= start. Looks at each boundary from `start` on, up to the answer. */
+/* As `parse`, with another byte in place of the comma, as '\n' for one range on each line. Between two of them may also
+ * stand a lone number, which is the range of that number and needs room for two, or blanks alone, which are no range. A
+ * separator that isn't ASCII, or is a digit, '+', '-' or '.', is RANGE_SET_BAD_ARGUMENT. `fault` is in the first part
+ * between two that is malformed, or else in the first with a number that doesn't fit. Goes over the text some times. */
+RANGE_SET_STATUS range_set_u32_parse_by(const char *text, size_t text_len, char separator, uint32_t *out, size_t room,
+                                        range_set_u32 *result, size_t *fault);
+
+/* Whether there is a number from which on `count` numbers lie in `start` to below `end` and none of them is a member,
+ * and then the least one: the first place where they fit. Where there is none `first` is as it was. It may be null.
+ * A count of 0 fits at `start`, if end >= start. Looks at each boundary from `start` on, up to the answer. */
 bool range_set_u32_first_fit(range_set_u32 set, uint32_t start, uint32_t end, uint32_t count, uint32_t *first);
 
-/* The same, but only where as many numbers of the type are below the first as a multiple of `align`: the first itself is one where
- * the type has no sign or `align` is a power of two. An `align` of 0 fits nowhere. */
+/* The same, but only where the first is a multiple of `align`, above 0 or below. An `align` of 0 fits nowhere. */
 bool range_set_u32_first_fit_aligned(range_set_u32 set, uint32_t start, uint32_t end, uint32_t count, uint32_t align,
-                                          uint32_t *first);
+                                     uint32_t *first);
 
-/* Whether `count` members in a row lie in `start` to below `end`, and then the least number that such begin with. Else, and with a
- * count of 0, as `first_fit`. Looks at each boundary from `start` on, up to the answer. */
+/* Whether `count` members in a row lie in `start` to below `end`, and then the least number that such begin with. Else,
+ * and with a count of 0, as `first_fit`. Looks at each boundary from `start` on, up to the answer. */
 bool range_set_u32_first_run(range_set_u32 set, uint32_t start, uint32_t end, uint32_t count, uint32_t *first);
 
 /* ---- Sets of uint32_t that change in their buffer ---- */
 
-/* The empty set in a buffer with room for so many numbers. */
+/* The empty set in a buffer of `room` numbers. */
 static inline range_set_u32_buffer range_set_u32_buffer_of(uint32_t *items, size_t room)
 {
     range_set_u32_buffer buffer;
@@ -883,16 +1020,17 @@ static inline range_set_u32_buffer range_set_u32_buffer_of(uint32_t *items, size
 /* The set of the first `len` numbers in a buffer with room for `room`, or RANGE_SET_NOT_SORTED. Goes over them once. */
 RANGE_SET_STATUS range_set_u32_buffer_view(uint32_t *items, size_t len, size_t room, range_set_u32_buffer *buffer);
 
-/* Puts the numbers from `start` to below `end` into the set, which are none where end <= start. Searches for both, and moves
- * once what stands after them. Where the buffer has no room nothing has changed: set.len + 2 is always enough. */
+/* Puts the numbers from `start` to below `end` into the set, which are none where end <= start. Searches for both, and
+ * moves once what stands after them. Where the buffer has no room nothing has changed: set.len + 2 is always enough. */
 RANGE_SET_STATUS range_set_u32_insert(range_set_u32_buffer *buffer, uint32_t start, uint32_t end);
 
 /* Takes the numbers from `start` to below `end` out of the set. As `insert`. */
 RANGE_SET_STATUS range_set_u32_remove(range_set_u32_buffer *buffer, uint32_t start, uint32_t end);
 
-/* Leaves in the buffer the numbers that `keep` names of its set and another, as `combine`, but for RANGE_SET_NEITHER, which is
- * refused: RANGE_SET_BAD_ARGUMENT. The set moves to the end of the buffer, and the result is written at its front. So there has
- * to be room for both: 2 * set.len + other.len is always enough. The other set mustn't lie in the buffer. */
+/* Leaves in the buffer the numbers that `keep` names of its set and another, as `combine`, but for RANGE_SET_NEITHER,
+ * which is refused: RANGE_SET_BAD_ARGUMENT. The set moves to the end of the buffer, and the result is written at its
+ * front. So there has to be room for both: 2 * set.len + other.len is always enough. The other set mustn't lie in the
+ * buffer. */
 RANGE_SET_STATUS range_set_u32_combine_with(range_set_u32_buffer *buffer, range_set_u32 other, unsigned keep);
 
 /* The four operations in the buffer. */
@@ -912,53 +1050,80 @@ static inline RANGE_SET_STATUS range_set_u32_difference_with(range_set_u32_buffe
 }
 
 static inline RANGE_SET_STATUS range_set_u32_symmetric_difference_with(range_set_u32_buffer *buffer,
-                                                                            range_set_u32 other)
+                                                                       range_set_u32 other)
 {
     return range_set_u32_combine_with(buffer, other, RANGE_SET_SYMMETRIC_DIFFERENCE);
 }
 
 /* ---- Owned sets of uint32_t ---- */
 
-/* A set in a buffer that it owns and that grows: `in.set` is the set, which may be read until the owned set is changed. */
+/* A set in a buffer that it owns and that grows: `in.set` is the set, which may be read until the owned set is
+ * changed. */
 typedef struct range_set_u32_owned {
     range_set_u32_buffer in;
     range_set_allocator allocator;
 } range_set_u32_owned;
 
-/* Makes an owned set without a member, which takes no memory yet. Its memory comes from `allocator`, of which it keeps a copy, or
- * from malloc where that is null. It has to be freed. */
+/* Makes an owned set without a member, which takes no memory yet. Its memory comes from `allocator`, of which it keeps
+ * a copy, or from malloc where that is null. It has to be freed. Does nothing where `owned` is null, of which each call
+ * below that answers a status says RANGE_SET_BAD_ARGUMENT. */
 void range_set_u32_owned_init(range_set_u32_owned *owned, const range_set_allocator *allocator);
 
-/* Gives the memory back, and leaves a set without a member, which may be used again. Does nothing where `owned` is null. */
+/* Gives the memory back, and leaves a set without a member, which may be used again. Does nothing where `owned` is
+ * null. */
 void range_set_u32_owned_free(range_set_u32_owned *owned);
 
-/* Sees that there is room for so many boundaries. */
+/* Makes room for `room` boundaries. */
 RANGE_SET_STATUS range_set_u32_owned_reserve(range_set_u32_owned *owned, size_t room);
 
 /* Leaves a copy of the set in `owned`. */
 RANGE_SET_STATUS range_set_u32_owned_assign(range_set_u32_owned *owned, range_set_u32 set);
 
-/* Puts the numbers from `start` to below `end` in, takes them out: as `insert` and `remove`, but that the buffer grows. */
+/* Puts the numbers from `start` to below `end` in, takes them out: as `insert` and `remove`, but that the buffer
+ * grows. */
 RANGE_SET_STATUS range_set_u32_owned_insert(range_set_u32_owned *owned, uint32_t start, uint32_t end);
 RANGE_SET_STATUS range_set_u32_owned_remove(range_set_u32_owned *owned, uint32_t start, uint32_t end);
 
 /* Leaves in `owned` the numbers that `keep` names, as `combine`: of RANGE_SET_UNION those in either set, of
- * RANGE_SET_INTERSECTION those in both, of RANGE_SET_DIFFERENCE those that aren't in `other`. With a room of
- * 2 * in.set.len + other.len, and with RANGE_SET_NEITHER one more, it takes no memory; else the buffer grows. `other` may be a
- * part of the set, as `split` makes one. RANGE_SET_BAD_ARGUMENT says that it lies elsewhere in the buffer or in the struct. */
+ * RANGE_SET_INTERSECTION those in both, of RANGE_SET_DIFFERENCE those that aren't in `other`. With a room of 2 *
+ * in.set.len + other.len, and with RANGE_SET_NEITHER one more, it takes no memory; else the buffer grows. `other` may
+ * be a part of the set, as `split` makes one. RANGE_SET_BAD_ARGUMENT says that it lies elsewhere in the buffer or in
+ * the struct. */
 RANGE_SET_STATUS range_set_u32_owned_combine(range_set_u32_owned *owned, range_set_u32 other, unsigned keep);
+
+/* Puts all numbers from `start` on in, takes them out: the union with their set, the difference from it. */
+static inline RANGE_SET_STATUS range_set_u32_owned_insert_from(range_set_u32_owned *owned, uint32_t start)
+{
+    range_set_u32 rest = {&start, 1};
+    return range_set_u32_owned_combine(owned, rest, RANGE_SET_UNION);
+}
+
+static inline RANGE_SET_STATUS range_set_u32_owned_remove_from(range_set_u32_owned *owned, uint32_t start)
+{
+    range_set_u32 rest = {&start, 1};
+    return range_set_u32_owned_combine(owned, rest, RANGE_SET_DIFFERENCE);
+}
+
+/* Takes all numbers out, and keeps the buffer. Does nothing where `owned` is null. */
+static inline void range_set_u32_owned_clear(range_set_u32_owned *owned)
+{
+    if (owned) owned->in.set.len = 0;
+}
 
 /* ---- Sets of uint32_t that grow to millions of ranges ---- */
 
-/* A set in chunks of at most 512 boundaries: a change searches for its range and moves the boundaries of one chunk, so it takes
- * about as long in a set of a million ranges as in a small one. Its memory comes from malloc. The field is for the library alone.
- * {NULL} is no set: it has no member, and no call changes it. Only one call at a time may be given a set, also of those that ask;
- * nothing is proved of a set that goes from one thread to another. */
+/* A set in chunks of at most 512 boundaries: a change searches for its range and moves the boundaries of one chunk, so
+ * it takes about as long in a set of a million ranges as in a small one. Its memory comes from malloc, unless
+ * `range_set_use_allocator` named another. The field is for the library alone. {NULL} is no set: it has no member, and
+ * no call changes it. Calls that take a set itself only read, so several threads may make them at once. Those that take
+ * its address write, `chunked_first_fit` and `chunked_first_fit_aligned` too, which remember: no other call may be
+ * given the set meanwhile. Nothing is proved of a set that goes from one thread to another. */
 typedef struct range_set_u32_chunked {
     void *at;
 } range_set_u32_chunked;
 
-/* Makes a set without a member, or one with the members of a list. It has to be freed. Where an allocation fails there is none. */
+/* Makes a set without a member, or one with the members of a list. It has to be freed. Where an allocation fails there
+ * is none. */
 RANGE_SET_STATUS range_set_u32_chunked_new(range_set_u32_chunked *set);
 RANGE_SET_STATUS range_set_u32_chunked_of(range_set_u32 list, range_set_u32_chunked *set);
 
@@ -1003,35 +1168,36 @@ bool range_set_u32_chunked_next_gap(range_set_u32_chunked set, uint32_t from, ui
  */
 bool range_set_u32_chunked_next(range_set_u32_chunked set, uint32_t from, range_set_u32_range *range);
 
-/* As the calls of these names for lists, and they pass over some 512 gaps at a time where they are known to be too short: the set
- * remembers what a search learns of them, until something is taken out there. Of gaps that are long enough it remembers only for
- * the last `align` that no multiple fits. Without memory it remembers less. */
+/* As the calls of these names for lists, and they pass over some 512 gaps at a time where they are known to be too
+ * short: the set remembers what a search learns of them, until something is taken out there. Of gaps that are long
+ * enough it remembers only for the last `align` that no multiple fits. Without memory it remembers less. */
 bool range_set_u32_chunked_first_fit(range_set_u32_chunked *set, uint32_t start, uint32_t end, uint32_t count,
-                                          uint32_t *first);
+                                     uint32_t *first);
 bool range_set_u32_chunked_first_fit_aligned(range_set_u32_chunked *set, uint32_t start, uint32_t end, uint32_t count,
-                                                  uint32_t align, uint32_t *first);
+                                             uint32_t align, uint32_t *first);
 
 /* As `first_run`. It remembers nothing, and looks at each range from `start` on, up to the answer. */
 bool range_set_u32_chunked_first_run(range_set_u32_chunked set, uint32_t start, uint32_t end, uint32_t count,
-                                          uint32_t *first);
+                                     uint32_t *first);
 
-/* Writes the ranges that share a number with `start` to below `end`, whole, as a list: from the lowest on, and the first room / 2
- * of them where there are more. */
+/* Writes the ranges that share a number with `start` to below `end`, whole, as a list. Where there are more than the
+ * buffer has room for it writes the first room / 2, and answers RANGE_SET_MORE; where it has room for none,
+ * RANGE_SET_NO_ROOM, and goes over all of them for the length. */
 RANGE_SET_STATUS range_set_u32_chunked_overlapping(range_set_u32_chunked set, uint32_t start, uint32_t end,
-                                                        uint32_t *out, size_t room, range_set_u32 *result);
+                                                   uint32_t *out, size_t room, range_set_u32 *result);
 
-/* Writes the ranges that have a number at or above `from` in the same way. It is two searches, so to go over many ranges it is
- * much faster than `next`. The next ones are those from the end of the last one on:
+/* Writes the ranges that have a number at or above `from` in the same way. It is two searches, so to go over many
+ * ranges it is much faster than `next`. The next ones are those from the end of the last one on:
  *
  *     uint32_t some[64], from = 0;
  *     do {
- *         range_set_u32_chunked_next_ranges(set, from, some, 64, &part);
+ *         status = range_set_u32_chunked_next_ranges(set, from, some, 64, &part);
  *         for (size_t i = 0; range_set_u32_get(part, i, &range); i++) ..
  *         from = some[63];
- *     } while (part.len == 64);
+ *     } while (status == RANGE_SET_MORE);
  */
-RANGE_SET_STATUS range_set_u32_chunked_next_ranges(range_set_u32_chunked set, uint32_t from, uint32_t *out,
-                                                        size_t room, range_set_u32 *result);
+RANGE_SET_STATUS range_set_u32_chunked_next_ranges(range_set_u32_chunked set, uint32_t from, uint32_t *out, size_t room,
+                                                   range_set_u32 *result);
 
 /* How many ranges the set has, how many boundaries. Adds up the chunks. */
 size_t range_set_u32_chunked_ranges_len(range_set_u32_chunked set);
@@ -1039,12 +1205,86 @@ size_t range_set_u32_chunked_boundaries_len(range_set_u32_chunked set);
 
 /* Writes the set as a list, as other calls write sets. */
 RANGE_SET_STATUS range_set_u32_chunked_copy(range_set_u32_chunked set, uint32_t *out, size_t room,
-                                                 range_set_u32 *result);
+                                            range_set_u32 *result);
+
+/* Writes the numbers from `start` to below `end` that are no members, by two searches each. */
+RANGE_SET_STATUS range_set_u32_chunked_gaps(range_set_u32_chunked set, uint32_t start, uint32_t end, uint32_t *out,
+                                            size_t room, range_set_u32 *result);
+
+/* Leaves in the set the numbers that `keep` names, as `combine`. It makes a list and new chunks of both sets, and where
+ * an allocation fails the set is as it was. */
+RANGE_SET_STATUS range_set_u32_chunked_combine(range_set_u32_chunked *set, range_set_u32 other, unsigned keep);
+
+/* As `insert`, `remove`, `chunked_insert` and `chunked_remove`, and where that was done `changed` is whether the set
+ * has other members now. */
+RANGE_SET_STATUS range_set_u32_insert_changed(range_set_u32_buffer *buffer, uint32_t start, uint32_t end,
+                                              bool *changed);
+RANGE_SET_STATUS range_set_u32_remove_changed(range_set_u32_buffer *buffer, uint32_t start, uint32_t end,
+                                              bool *changed);
+RANGE_SET_STATUS range_set_u32_chunked_insert_changed(range_set_u32_chunked *set, uint32_t start, uint32_t end,
+                                                      bool *changed);
+RANGE_SET_STATUS range_set_u32_chunked_remove_changed(range_set_u32_chunked *set, uint32_t start, uint32_t end,
+                                                      bool *changed);
+
+/* ---- Maps from ranges of uint32_t to numbers ---- */
+
+/* A map that gives ranges values. A key has the value of the last range that was put around it, or none; ranges that
+ * touch and have equal values are one. It lies in chunks: among n ranges a search makes about log n comparisons, and a
+ * change moves a chunk's items at most. Its memory comes from where that of sets in chunks does, the field is for the
+ * library alone, {NULL} is no map, and calls that take a map itself only read. */
+typedef struct range_map_u32 {
+    void *at;
+} range_map_u32;
+
+/* The longest range whose keys have one value, or all have none. Without a start it has all lower keys, without an end
+ * all higher ones. */
+typedef struct range_map_u32_stretch {
+    uint32_t start, end;
+    uint64_t value;
+    bool has_start, has_end, has_value;
+} range_map_u32_stretch;
+
+/* Makes a map in which no key has a value. It has to be freed. Where an allocation fails there is none. */
+RANGE_SET_STATUS range_map_u32_new(range_map_u32 *map);
+
+/* Gives the memory back, and leaves {NULL}. Does nothing where `map` is null or no map. */
+void range_map_u32_free(range_map_u32 *map);
+
+/* Gives the keys from `start` to below `end` the value, takes their values away; or those of all keys from `start` on.
+ * Where an allocation fails the map is as it was. */
+RANGE_SET_STATUS range_map_u32_insert(range_map_u32 *map, uint32_t start, uint32_t end, uint64_t value);
+RANGE_SET_STATUS range_map_u32_remove(range_map_u32 *map, uint32_t start, uint32_t end);
+RANGE_SET_STATUS range_map_u32_insert_from(range_map_u32 *map, uint32_t start, uint64_t value);
+RANGE_SET_STATUS range_map_u32_remove_from(range_map_u32 *map, uint32_t start);
+
+/* Whether the key has a value, and then which. `value` may be null. */
+bool range_map_u32_get(range_map_u32 map, uint32_t key, uint64_t *value);
+
+/* The longest range around the key whose keys have its value, or as it none. */
+range_map_u32_stretch range_map_u32_range_at(range_map_u32 map, uint32_t key);
+
+/* Whether a key at or above `from` has a value, and then the longest range of the first such. A loop over all of them:
+ *
+ *     bool more = range_map_u32_next(map, 0, &it);
+ *     for (; more; more = it.has_end && range_map_u32_next(map, it.end, &it)) ..
+ */
+bool range_map_u32_next(range_map_u32 map, uint32_t from, range_map_u32_stretch *stretch);
+
+/* Writes the first of those ranges, as many as there is room for, and answers how many these are: by one search. */
+size_t range_map_u32_next_ranges(range_map_u32 map, uint32_t from, range_map_u32_stretch *out, size_t room);
+
+/* Makes a map of `count` ranges, a start and an end each, with their values; where they overlap the later one's holds.
+ * Makes a copy. They have to be freed. Where an allocation fails there is none. */
+RANGE_SET_STATUS range_map_u32_of(const uint32_t *ranges, const uint64_t *values, size_t count, range_map_u32 *map);
+RANGE_SET_STATUS range_map_u32_copy(range_map_u32 map, range_map_u32 *copy);
+
+/* How many ranges have a value. */
+size_t range_map_u32_len(range_map_u32 map);
 
 /* ---- Sets of int64_t ---- */
 
-/* A set. Its fields may be read, and are for the library alone to write: a set that was made otherwise, and isn't strictly
- * sorted, gets answers that mean nothing. Where `boundaries` is null the set is empty. */
+/* A set. Its fields may be read, and are for the library alone to write: a set that was made otherwise, and isn't
+ * strictly sorted, gets answers that mean nothing. Where `boundaries` is null the set is empty. */
 typedef struct range_set_i64 {
     const int64_t *boundaries;
     size_t len;
@@ -1056,8 +1296,8 @@ typedef struct range_set_i64_range {
     bool has_end;
 } range_set_i64_range;
 
-/* A set in a buffer of the caller's, which can change. `items` has room for `room` numbers, and `set` stands at their front. Where
- * a call answers RANGE_SET_NO_ROOM, `needed` is the room that it needs. The fields may be read. */
+/* A set in a buffer of the caller's, which can change. `items` has room for `room` numbers, and `set` stands at their
+ * front. Where a call answers RANGE_SET_NO_ROOM, `needed` is the room that it needs. The fields may be read. */
 typedef struct range_set_i64_buffer {
     int64_t *items;
     size_t room, needed;
@@ -1067,30 +1307,30 @@ typedef struct range_set_i64_buffer {
 /* Makes a set of a list that is strictly sorted, or answers RANGE_SET_NOT_SORTED. Goes over the list once. */
 RANGE_SET_STATUS range_set_i64_view(const int64_t *list, size_t len, range_set_i64 *set);
 
-/* Makes the set whose boundaries are these numbers, in any order, in place: the distinct ones in order stand at the front
- * then, and nothing is said of what stands after them. Sorts without memory, in some len * log(len) steps. */
+/* Makes the set whose boundaries are these numbers, in any order, in place: the distinct ones in order stand at the
+ * front then, and nothing is said of what stands after them. Sorts without memory, in some len * log(len) steps. */
 RANGE_SET_STATUS range_set_i64_from_unsorted(int64_t *items, size_t len, range_set_i64 *set);
 
-/* Makes the set of the numbers in some range, in place: `ranges` has `count` pairs of numbers, a start and an end each, in
- * any order. They may overlap and touch, and one with end <= start holds no number. The set stands at the front then, and
- * nothing is said of what stands after it. Sorts without memory, in some count * log(count) steps. */
+/* Makes the set of the numbers in some range, in place: `ranges` has `count` pairs of numbers, a start and an end each,
+ * in any order. They may overlap and touch, and one with end <= start holds no number. The set stands at the front
+ * then, and nothing is said of what stands after it. Sorts without memory, in some count * log(count) steps. */
 RANGE_SET_STATUS range_set_i64_from_ranges(int64_t *ranges, size_t count, range_set_i64 *set);
 
-/* Writes the set of these numbers, in any order, some of them more than once. The buffer has to have room for two numbers for each,
- * also where the set has fewer. Nothing is said of what stands after the set in the buffer. Sorts without other memory, in some
- * count * log(count) steps. */
+/* Writes the set of these numbers, in any order, some of them more than once. The buffer has to have room for two
+ * numbers for each, also where the set has fewer. Nothing is said of what stands after the set in the buffer. Sorts
+ * without other memory, in some count * log(count) steps. */
 RANGE_SET_STATUS range_set_i64_from_values(const int64_t *values, size_t count, int64_t *out, size_t room,
-                                                range_set_i64 *result);
+                                           range_set_i64 *result);
 
 /* Whether `value` is a member. At most as many comparisons as set.len has binary digits. */
 bool range_set_i64_contains(range_set_i64 set, int64_t value);
 
-/* Whether each number from `start` on, up to below `end`, is a member; it is true where end <= start. At most twice as many
- * comparisons as set.len has binary digits, and one. */
+/* Whether each number from `start` on, up to below `end`, is a member; it is true where end <= start. At most twice as
+ * many comparisons as set.len has binary digits, and one. */
 bool range_set_i64_contains_range(range_set_i64 set, int64_t start, int64_t end);
 
-/* Whether some number from `start` on, up to below `end`, is a member; it is false where end <= start. At most twice as many
- * comparisons as set.len has binary digits, and one. */
+/* Whether some number from `start` on, up to below `end`, is a member; it is false where end <= start. At most twice as
+ * many comparisons as set.len has binary digits, and one. */
 bool range_set_i64_intersects_range(range_set_i64 set, int64_t start, int64_t end);
 
 /* Whether no number is a member: whether there is no boundary. */
@@ -1099,26 +1339,28 @@ bool range_set_i64_is_empty(range_set_i64 set);
 /* Whether each number of the type is a member. */
 bool range_set_i64_is_all(range_set_i64 set);
 
-/* Whether `value` is a member, and then the range of the set that holds it. Where it is no member `range` is as it was, and
- * where the range has no end `range->end` is. `range` may be null. At most as many comparisons as set.len has binary digits. */
+/* Whether `value` is a member, and then the range of the set that holds it. Where it is no member `range` is as it was,
+ * and where the range has no end `range->end` is. `range` may be null. At most as many comparisons as set.len has
+ * binary digits. */
 bool range_set_i64_range_at(range_set_i64 set, int64_t value, range_set_i64_range *range);
 
-/* Whether there is a range that holds `value` or lies above it, and then the first such: the next one to look at, from any number
- * on. `range` is written as by `range_at`. At most twice as many comparisons as set.len has binary digits. */
+/* Whether there is a range that holds `value` or lies above it, and then the first such: the next one to look at, from
+ * any number on. `range` is written as by `range_at`. At most twice as many comparisons as set.len has binary
+ * digits. */
 bool range_set_i64_range_from(range_set_i64 set, int64_t value, range_set_i64_range *range);
 
-/* Whether some number at or above `from` is a member, isn't one, and then the least such. Else `next` is as it was. It may be
- * null. At most as many comparisons as set.len has binary digits. */
+/* Whether some number at or above `from` is a member, isn't one, and then the least such. Else `next` is as it was. It
+ * may be null. At most as many comparisons as set.len has binary digits. */
 bool range_set_i64_next_member(range_set_i64 set, int64_t from, int64_t *next);
 bool range_set_i64_next_gap(range_set_i64 set, int64_t from, int64_t *next);
 
-/* Whether some number at or below `from` is a member, isn't one, and then the greatest such. Else `previous` is as it was. It may
- * be null. At most as many comparisons as set.len has binary digits. */
+/* Whether some number at or below `from` is a member, isn't one, and then the greatest such. Else `previous` is as it
+ * was. It may be null. At most as many comparisons as set.len has binary digits. */
 bool range_set_i64_prev_member(range_set_i64 set, int64_t from, int64_t *previous);
 bool range_set_i64_prev_gap(range_set_i64 set, int64_t from, int64_t *previous);
 
-/* Whether the set has more than `k` members, and then the one with `k` others below it. Else `at` is as it was. It may be null.
- * Looks at each boundary up to the answer once. */
+/* Whether the set has more than `k` members, and then the one with `k` others below it. Else `at` is as it was. It may
+ * be null. Looks at each boundary up to the answer once. */
 bool range_set_i64_select(range_set_i64 set, uint64_t k, int64_t *at);
 
 /* How many members are below `at`. Looks at each boundary below `at` once. */
@@ -1137,8 +1379,8 @@ bool range_set_i64_last(range_set_i64 set, range_set_i64_range *range);
 /* How many ranges the set has. */
 size_t range_set_i64_ranges_len(range_set_i64 set);
 
-/* A place among the members of a set, which is good until the set changes: where `has_value` is true, at the member `value`. The
- * other fields are for the library alone. */
+/* A place among the members of a set, which is good until the set changes: where `has_value` is true, at the member
+ * `value`. The other fields are for the library alone. */
 typedef struct range_set_i64_members {
     int64_t value;
     bool has_value;
@@ -1153,8 +1395,8 @@ static inline int64_t range_set_i64_range_last(range_set_i64_range range)
     return range.has_end ? range.end - 1 : INT64_MAX;
 }
 
-/* The place of the lowest member, of the highest one. A loop over all of them, which `members_last` and `members_prev` make
- * downwards:
+/* The place of the lowest member, of the highest one. A loop over all of them, which `members_last` and `members_prev`
+ * make downwards:
  *
  *     range_set_i64_members it = range_set_i64_members_first(set);
  *     for (; it.has_value; range_set_i64_members_next(&it)) .. it.value ..
@@ -1178,7 +1420,8 @@ static inline range_set_i64_members range_set_i64_members_last(range_set_i64 set
     return members;
 }
 
-/* Goes to the next member above, below. Where there is none it is at no member from then on. It has to be at one before. */
+/* Goes to the next member above, below. Where there is none it is at no member from then on. It has to be at one
+ * before. */
 static inline void range_set_i64_members_next(range_set_i64_members *members)
 {
     if (members->value != range_set_i64_range_last(members->range)) {
@@ -1199,12 +1442,12 @@ static inline void range_set_i64_members_prev(range_set_i64_members *members)
     }
 }
 
-/* Whether the set has an end, so whether its members can be counted, and then how many there are, which always fits. Where it
- * has none `count` is as it was. Goes over the set once. */
+/* Whether the set has an end, so whether its members can be counted, and then how many there are, which always fits.
+ * Where it has none `count` is as it was. Goes over the set once. */
 bool range_set_i64_covered(range_set_i64 set, uint64_t *count);
 
-/* Whether no number is a member of both. Stops at the first one that is. At most 2 * (a.len + b.len) comparisons, and few where
- * long parts of one set lie between two boundaries of the other. So do the calls below. */
+/* Whether no number is a member of both. Stops at the first one that is. At most 2 * (a.len + b.len) comparisons, and
+ * few where long parts of one set lie between two boundaries of the other. So do the calls below. */
 bool range_set_i64_is_disjoint(range_set_i64 a, range_set_i64 b);
 
 /* Whether some number is a member of both. */
@@ -1222,45 +1465,44 @@ static inline bool range_set_i64_is_superset(range_set_i64 a, range_set_i64 b)
 /* Whether both sets have the same members. Goes over both once. */
 bool range_set_i64_equal(range_set_i64 a, range_set_i64 b);
 
-/* Cuts the set at `at` into two parts of its own list: `below` has the set's members below `at`, and `from` has those from
- * `at` on. Both are the shortest such lists, so a range that goes over `at` has no end in `below`, and has its start in `from`.
- * Either may be null. At most as many comparisons as set.len has binary digits. */
+/* Cuts the set at `at` into two parts of its own list: `below` has the set's members below `at`, and `from` has those
+ * from `at` on. Both are the shortest such lists, so a range that goes over `at` has no end in `below`, and has its
+ * start in `from`. Either may be null. At most as many comparisons as set.len has binary digits. */
 void range_set_i64_split(range_set_i64 set, int64_t at, range_set_i64 *below, range_set_i64 *from);
 
 /* Writes the set of the numbers that `keep` names: those in the left set alone (RANGE_SET_LEFT), in the right alone
- * (RANGE_SET_RIGHT), in both (RANGE_SET_BOTH) and in neither (RANGE_SET_NEITHER), as their sum. Other bits of `keep` have no
- * meaning. A room of a.len + b.len is always enough, and with RANGE_SET_NEITHER one more. */
-RANGE_SET_STATUS range_set_i64_combine(range_set_i64 a, range_set_i64 b, unsigned keep, int64_t *out,
-                                            size_t room, range_set_i64 *result);
+ * (RANGE_SET_RIGHT), in both (RANGE_SET_BOTH) and in neither (RANGE_SET_NEITHER), as their sum. Other bits of `keep`
+ * have no meaning. A room of a.len + b.len is always enough, and with RANGE_SET_NEITHER one more. */
+RANGE_SET_STATUS range_set_i64_combine(range_set_i64 a, range_set_i64 b, unsigned keep, int64_t *out, size_t room,
+                                       range_set_i64 *result);
 
 /* How many boundaries that set has. */
 size_t range_set_i64_combine_len(range_set_i64 a, range_set_i64 b, unsigned keep);
 
 /* Writes the set of the numbers in either set. */
 static inline RANGE_SET_STATUS range_set_i64_union(range_set_i64 a, range_set_i64 b, int64_t *out, size_t room,
-                                                        range_set_i64 *result)
+                                                   range_set_i64 *result)
 {
     return range_set_i64_combine(a, b, RANGE_SET_UNION, out, room, result);
 }
 
 /* Writes the set of the numbers in both sets. */
-static inline RANGE_SET_STATUS range_set_i64_intersection(range_set_i64 a, range_set_i64 b, int64_t *out,
-                                                               size_t room, range_set_i64 *result)
+static inline RANGE_SET_STATUS range_set_i64_intersection(range_set_i64 a, range_set_i64 b, int64_t *out, size_t room,
+                                                          range_set_i64 *result)
 {
     return range_set_i64_combine(a, b, RANGE_SET_INTERSECTION, out, room, result);
 }
 
 /* Writes the set of the numbers in the left set and not in the right. */
-static inline RANGE_SET_STATUS range_set_i64_difference(range_set_i64 a, range_set_i64 b, int64_t *out,
-                                                             size_t room, range_set_i64 *result)
+static inline RANGE_SET_STATUS range_set_i64_difference(range_set_i64 a, range_set_i64 b, int64_t *out, size_t room,
+                                                        range_set_i64 *result)
 {
     return range_set_i64_combine(a, b, RANGE_SET_DIFFERENCE, out, room, result);
 }
 
 /* Writes the set of the numbers in one of the two sets and not in the other. */
-static inline RANGE_SET_STATUS range_set_i64_symmetric_difference(range_set_i64 a, range_set_i64 b,
-                                                                       int64_t *out, size_t room,
-                                                                       range_set_i64 *result)
+static inline RANGE_SET_STATUS range_set_i64_symmetric_difference(range_set_i64 a, range_set_i64 b, int64_t *out,
+                                                                  size_t room, range_set_i64 *result)
 {
     return range_set_i64_combine(a, b, RANGE_SET_SYMMETRIC_DIFFERENCE, out, room, result);
 }
@@ -1286,57 +1528,64 @@ static inline size_t range_set_i64_symmetric_difference_len(range_set_i64 a, ran
     return range_set_i64_combine_len(a, b, RANGE_SET_SYMMETRIC_DIFFERENCE);
 }
 
-/* Writes the set of the numbers that are no members: without a first boundary that is the least number, INT64_MIN, or else with
- * that before it. A room of set.len + 1 is always enough. */
+/* Writes the set of the numbers that are no members: without a first boundary that is the least number, INT64_MIN, or
+ * else with that before it. A room of set.len + 1 is always enough. */
 RANGE_SET_STATUS range_set_i64_negation(range_set_i64 set, int64_t *out, size_t room, range_set_i64 *result);
 
-/* Writes the set of the numbers from `start` to below `end` that are no members: the gaps of the set between the two. A room
- * of set.len + 2 is always enough. */
+/* Writes the set of the numbers from `start` to below `end` that are no members: the gaps of the set between the two. A
+ * room of set.len + 2 is always enough. */
 RANGE_SET_STATUS range_set_i64_gaps(range_set_i64 set, int64_t start, int64_t end, int64_t *out, size_t room,
+                                    range_set_i64 *result);
+
+/* Writes the set of the numbers in any of `count` sets. The buffer has to have room for the boundaries of all of them
+ * together, also where the set has fewer. Nothing is said of what stands after the set in the buffer. Copies and sorts
+ * the boundaries, in some n * log(n) steps for n of them. */
+RANGE_SET_STATUS range_set_i64_union_all(const range_set_i64 *sets, size_t count, int64_t *out, size_t room,
                                          range_set_i64 *result);
 
-/* Writes the set of the numbers in any of `count` sets. The buffer has to have room for the boundaries of all of them together,
- * also where the set has fewer. Nothing is said of what stands after the set in the buffer. Copies and sorts the boundaries, in
- * some n * log(n) steps for n of them. */
-RANGE_SET_STATUS range_set_i64_union_all(const range_set_i64 *sets, size_t count, int64_t *out, size_t room,
-                                              range_set_i64 *result);
-
-/* Writes the set as a text, "0..10, 20..": its ranges with a comma and a space between them, and no byte for the empty set. No zero
- * stands after it. `len` is its length in bytes. Where the buffer has no room for all of it the buffer is as it was; it may be null
- * with room 0, which asks for the length alone. A room of 22 * set.len is always enough. A set of more than SIZE_MAX / 32
- * boundaries is refused as a length that no array has. */
+/* Writes the set as a text, "0..10, 20..": its ranges with a comma and a space between them, and no byte for the empty
+ * set. No zero stands after it. `len` is its length in bytes. Where the buffer has no room for all of it the buffer is
+ * as it was; it may be null with room 0, which asks for the length alone. A room of 22 * set.len is always enough. A
+ * set of more than SIZE_MAX / 32 boundaries is refused as a length that no array has. */
 RANGE_SET_STATUS range_set_i64_print(range_set_i64 set, char *text, size_t room, size_t *len);
 
-/* Reads a set from a text of ranges, "0..10, 20..": in any order, with commas between them and blanks around each. Numbers may have
- * a sign and zeros before them. A range whose end isn't above its start has no number. An empty text, or one of blanks, is the
- * empty set. The text is `text_len` bytes of UTF-8, or null with length 0.
+/* Reads a set from a text of ranges, "0..10, 20..": in any order, with commas between them and blanks around each.
+ * Numbers may have a sign and zeros before them. A range whose end isn't above its start has no number. An empty text,
+ * or one of blanks, is the empty set. The text is `text_len` bytes of UTF-8, or null with length 0.
  *
- * The buffer has to have room for as many numbers as the text has, also where the set has fewer. Nothing is said of what stands
- * after the set in the buffer. `fault` may be null. Where the answer is RANGE_SET_MALFORMED it is the byte at which the text stops
- * being one of ranges, and its length where more was expected; of bytes that aren't UTF-8 it is the first that isn't, whatever
- * stands before. Else it is as it was.
+ * The buffer has to have room for as many numbers as the text has, also where the set has fewer. Nothing is said of
+ * what stands after the set in the buffer. `fault` may be null. Where the answer is RANGE_SET_MALFORMED it is the byte
+ * at which the text stops being one of ranges, and its length where more was expected; of bytes that aren't UTF-8 it is
+ * the first that isn't, whatever stands before. Where it is RANGE_SET_OUT_OF_RANGE it is the byte at which the first
+ * range with such a number begins. Else it is as it was.
  *
  * Takes some n * log(n) steps for n ranges, in any order. */
-RANGE_SET_STATUS range_set_i64_parse(const char *text, size_t text_len, int64_t *out, size_t room, range_set_i64 *result,
-                                          size_t *fault);
+RANGE_SET_STATUS range_set_i64_parse(const char *text, size_t text_len, int64_t *out, size_t room,
+                                     range_set_i64 *result, size_t *fault);
 
-/* Whether there is a number from which on `count` numbers lie in `start` to below `end` and none of them is a member, and then
- * the least one: the first place where so many fit. Where there is none `first` is as it was. It may be null. A count of 0 fits
- * at `start`, if end >= start. Looks at each boundary from `start` on, up to the answer. */
+/* As `parse`, with another byte in place of the comma, as '\n' for one range on each line. Between two of them may also
+ * stand a lone number, which is the range of that number and needs room for two, or blanks alone, which are no range. A
+ * separator that isn't ASCII, or is a digit, '+', '-' or '.', is RANGE_SET_BAD_ARGUMENT. `fault` is in the first part
+ * between two that is malformed, or else in the first with a number that doesn't fit. Goes over the text some times. */
+RANGE_SET_STATUS range_set_i64_parse_by(const char *text, size_t text_len, char separator, int64_t *out, size_t room,
+                                        range_set_i64 *result, size_t *fault);
+
+/* Whether there is a number from which on `count` numbers lie in `start` to below `end` and none of them is a member,
+ * and then the least one: the first place where they fit. Where there is none `first` is as it was. It may be null.
+ * A count of 0 fits at `start`, if end >= start. Looks at each boundary from `start` on, up to the answer. */
 bool range_set_i64_first_fit(range_set_i64 set, int64_t start, int64_t end, uint64_t count, int64_t *first);
 
-/* The same, but only where as many numbers of the type are below the first as a multiple of `align`: the first itself is one where
- * the type has no sign or `align` is a power of two. An `align` of 0 fits nowhere. */
+/* The same, but only where the first is a multiple of `align`, above 0 or below. An `align` of 0 fits nowhere. */
 bool range_set_i64_first_fit_aligned(range_set_i64 set, int64_t start, int64_t end, uint64_t count, uint64_t align,
-                                          int64_t *first);
+                                     int64_t *first);
 
-/* Whether `count` members in a row lie in `start` to below `end`, and then the least number that such begin with. Else, and with a
- * count of 0, as `first_fit`. Looks at each boundary from `start` on, up to the answer. */
+/* Whether `count` members in a row lie in `start` to below `end`, and then the least number that such begin with. Else,
+ * and with a count of 0, as `first_fit`. Looks at each boundary from `start` on, up to the answer. */
 bool range_set_i64_first_run(range_set_i64 set, int64_t start, int64_t end, uint64_t count, int64_t *first);
 
 /* ---- Sets of int64_t that change in their buffer ---- */
 
-/* The empty set in a buffer with room for so many numbers. */
+/* The empty set in a buffer of `room` numbers. */
 static inline range_set_i64_buffer range_set_i64_buffer_of(int64_t *items, size_t room)
 {
     range_set_i64_buffer buffer;
@@ -1351,16 +1600,17 @@ static inline range_set_i64_buffer range_set_i64_buffer_of(int64_t *items, size_
 /* The set of the first `len` numbers in a buffer with room for `room`, or RANGE_SET_NOT_SORTED. Goes over them once. */
 RANGE_SET_STATUS range_set_i64_buffer_view(int64_t *items, size_t len, size_t room, range_set_i64_buffer *buffer);
 
-/* Puts the numbers from `start` to below `end` into the set, which are none where end <= start. Searches for both, and moves
- * once what stands after them. Where the buffer has no room nothing has changed: set.len + 2 is always enough. */
+/* Puts the numbers from `start` to below `end` into the set, which are none where end <= start. Searches for both, and
+ * moves once what stands after them. Where the buffer has no room nothing has changed: set.len + 2 is always enough. */
 RANGE_SET_STATUS range_set_i64_insert(range_set_i64_buffer *buffer, int64_t start, int64_t end);
 
 /* Takes the numbers from `start` to below `end` out of the set. As `insert`. */
 RANGE_SET_STATUS range_set_i64_remove(range_set_i64_buffer *buffer, int64_t start, int64_t end);
 
-/* Leaves in the buffer the numbers that `keep` names of its set and another, as `combine`, but for RANGE_SET_NEITHER, which is
- * refused: RANGE_SET_BAD_ARGUMENT. The set moves to the end of the buffer, and the result is written at its front. So there has
- * to be room for both: 2 * set.len + other.len is always enough. The other set mustn't lie in the buffer. */
+/* Leaves in the buffer the numbers that `keep` names of its set and another, as `combine`, but for RANGE_SET_NEITHER,
+ * which is refused: RANGE_SET_BAD_ARGUMENT. The set moves to the end of the buffer, and the result is written at its
+ * front. So there has to be room for both: 2 * set.len + other.len is always enough. The other set mustn't lie in the
+ * buffer. */
 RANGE_SET_STATUS range_set_i64_combine_with(range_set_i64_buffer *buffer, range_set_i64 other, unsigned keep);
 
 /* The four operations in the buffer. */
@@ -1380,53 +1630,80 @@ static inline RANGE_SET_STATUS range_set_i64_difference_with(range_set_i64_buffe
 }
 
 static inline RANGE_SET_STATUS range_set_i64_symmetric_difference_with(range_set_i64_buffer *buffer,
-                                                                            range_set_i64 other)
+                                                                       range_set_i64 other)
 {
     return range_set_i64_combine_with(buffer, other, RANGE_SET_SYMMETRIC_DIFFERENCE);
 }
 
 /* ---- Owned sets of int64_t ---- */
 
-/* A set in a buffer that it owns and that grows: `in.set` is the set, which may be read until the owned set is changed. */
+/* A set in a buffer that it owns and that grows: `in.set` is the set, which may be read until the owned set is
+ * changed. */
 typedef struct range_set_i64_owned {
     range_set_i64_buffer in;
     range_set_allocator allocator;
 } range_set_i64_owned;
 
-/* Makes an owned set without a member, which takes no memory yet. Its memory comes from `allocator`, of which it keeps a copy, or
- * from malloc where that is null. It has to be freed. */
+/* Makes an owned set without a member, which takes no memory yet. Its memory comes from `allocator`, of which it keeps
+ * a copy, or from malloc where that is null. It has to be freed. Does nothing where `owned` is null, of which each call
+ * below that answers a status says RANGE_SET_BAD_ARGUMENT. */
 void range_set_i64_owned_init(range_set_i64_owned *owned, const range_set_allocator *allocator);
 
-/* Gives the memory back, and leaves a set without a member, which may be used again. Does nothing where `owned` is null. */
+/* Gives the memory back, and leaves a set without a member, which may be used again. Does nothing where `owned` is
+ * null. */
 void range_set_i64_owned_free(range_set_i64_owned *owned);
 
-/* Sees that there is room for so many boundaries. */
+/* Makes room for `room` boundaries. */
 RANGE_SET_STATUS range_set_i64_owned_reserve(range_set_i64_owned *owned, size_t room);
 
 /* Leaves a copy of the set in `owned`. */
 RANGE_SET_STATUS range_set_i64_owned_assign(range_set_i64_owned *owned, range_set_i64 set);
 
-/* Puts the numbers from `start` to below `end` in, takes them out: as `insert` and `remove`, but that the buffer grows. */
+/* Puts the numbers from `start` to below `end` in, takes them out: as `insert` and `remove`, but that the buffer
+ * grows. */
 RANGE_SET_STATUS range_set_i64_owned_insert(range_set_i64_owned *owned, int64_t start, int64_t end);
 RANGE_SET_STATUS range_set_i64_owned_remove(range_set_i64_owned *owned, int64_t start, int64_t end);
 
 /* Leaves in `owned` the numbers that `keep` names, as `combine`: of RANGE_SET_UNION those in either set, of
- * RANGE_SET_INTERSECTION those in both, of RANGE_SET_DIFFERENCE those that aren't in `other`. With a room of
- * 2 * in.set.len + other.len, and with RANGE_SET_NEITHER one more, it takes no memory; else the buffer grows. `other` may be a
- * part of the set, as `split` makes one. RANGE_SET_BAD_ARGUMENT says that it lies elsewhere in the buffer or in the struct. */
+ * RANGE_SET_INTERSECTION those in both, of RANGE_SET_DIFFERENCE those that aren't in `other`. With a room of 2 *
+ * in.set.len + other.len, and with RANGE_SET_NEITHER one more, it takes no memory; else the buffer grows. `other` may
+ * be a part of the set, as `split` makes one. RANGE_SET_BAD_ARGUMENT says that it lies elsewhere in the buffer or in
+ * the struct. */
 RANGE_SET_STATUS range_set_i64_owned_combine(range_set_i64_owned *owned, range_set_i64 other, unsigned keep);
+
+/* Puts all numbers from `start` on in, takes them out: the union with their set, the difference from it. */
+static inline RANGE_SET_STATUS range_set_i64_owned_insert_from(range_set_i64_owned *owned, int64_t start)
+{
+    range_set_i64 rest = {&start, 1};
+    return range_set_i64_owned_combine(owned, rest, RANGE_SET_UNION);
+}
+
+static inline RANGE_SET_STATUS range_set_i64_owned_remove_from(range_set_i64_owned *owned, int64_t start)
+{
+    range_set_i64 rest = {&start, 1};
+    return range_set_i64_owned_combine(owned, rest, RANGE_SET_DIFFERENCE);
+}
+
+/* Takes all numbers out, and keeps the buffer. Does nothing where `owned` is null. */
+static inline void range_set_i64_owned_clear(range_set_i64_owned *owned)
+{
+    if (owned) owned->in.set.len = 0;
+}
 
 /* ---- Sets of int64_t that grow to millions of ranges ---- */
 
-/* A set in chunks of at most 512 boundaries: a change searches for its range and moves the boundaries of one chunk, so it takes
- * about as long in a set of a million ranges as in a small one. Its memory comes from malloc. The field is for the library alone.
- * {NULL} is no set: it has no member, and no call changes it. Only one call at a time may be given a set, also of those that ask;
- * nothing is proved of a set that goes from one thread to another. */
+/* A set in chunks of at most 512 boundaries: a change searches for its range and moves the boundaries of one chunk, so
+ * it takes about as long in a set of a million ranges as in a small one. Its memory comes from malloc, unless
+ * `range_set_use_allocator` named another. The field is for the library alone. {NULL} is no set: it has no member, and
+ * no call changes it. Calls that take a set itself only read, so several threads may make them at once. Those that take
+ * its address write, `chunked_first_fit` and `chunked_first_fit_aligned` too, which remember: no other call may be
+ * given the set meanwhile. Nothing is proved of a set that goes from one thread to another. */
 typedef struct range_set_i64_chunked {
     void *at;
 } range_set_i64_chunked;
 
-/* Makes a set without a member, or one with the members of a list. It has to be freed. Where an allocation fails there is none. */
+/* Makes a set without a member, or one with the members of a list. It has to be freed. Where an allocation fails there
+ * is none. */
 RANGE_SET_STATUS range_set_i64_chunked_new(range_set_i64_chunked *set);
 RANGE_SET_STATUS range_set_i64_chunked_of(range_set_i64 list, range_set_i64_chunked *set);
 
@@ -1471,35 +1748,36 @@ bool range_set_i64_chunked_next_gap(range_set_i64_chunked set, int64_t from, int
  */
 bool range_set_i64_chunked_next(range_set_i64_chunked set, int64_t from, range_set_i64_range *range);
 
-/* As the calls of these names for lists, and they pass over some 512 gaps at a time where they are known to be too short: the set
- * remembers what a search learns of them, until something is taken out there. Of gaps that are long enough it remembers only for
- * the last `align` that no multiple fits. Without memory it remembers less. */
+/* As the calls of these names for lists, and they pass over some 512 gaps at a time where they are known to be too
+ * short: the set remembers what a search learns of them, until something is taken out there. Of gaps that are long
+ * enough it remembers only for the last `align` that no multiple fits. Without memory it remembers less. */
 bool range_set_i64_chunked_first_fit(range_set_i64_chunked *set, int64_t start, int64_t end, uint64_t count,
-                                          int64_t *first);
+                                     int64_t *first);
 bool range_set_i64_chunked_first_fit_aligned(range_set_i64_chunked *set, int64_t start, int64_t end, uint64_t count,
-                                                  uint64_t align, int64_t *first);
+                                             uint64_t align, int64_t *first);
 
 /* As `first_run`. It remembers nothing, and looks at each range from `start` on, up to the answer. */
 bool range_set_i64_chunked_first_run(range_set_i64_chunked set, int64_t start, int64_t end, uint64_t count,
-                                          int64_t *first);
+                                     int64_t *first);
 
-/* Writes the ranges that share a number with `start` to below `end`, whole, as a list: from the lowest on, and the first room / 2
- * of them where there are more. */
+/* Writes the ranges that share a number with `start` to below `end`, whole, as a list. Where there are more than the
+ * buffer has room for it writes the first room / 2, and answers RANGE_SET_MORE; where it has room for none,
+ * RANGE_SET_NO_ROOM, and goes over all of them for the length. */
 RANGE_SET_STATUS range_set_i64_chunked_overlapping(range_set_i64_chunked set, int64_t start, int64_t end,
-                                                        int64_t *out, size_t room, range_set_i64 *result);
+                                                   int64_t *out, size_t room, range_set_i64 *result);
 
-/* Writes the ranges that have a number at or above `from` in the same way. It is two searches, so to go over many ranges it is
- * much faster than `next`. The next ones are those from the end of the last one on:
+/* Writes the ranges that have a number at or above `from` in the same way. It is two searches, so to go over many
+ * ranges it is much faster than `next`. The next ones are those from the end of the last one on:
  *
  *     int64_t some[64], from = INT64_MIN;
  *     do {
- *         range_set_i64_chunked_next_ranges(set, from, some, 64, &part);
+ *         status = range_set_i64_chunked_next_ranges(set, from, some, 64, &part);
  *         for (size_t i = 0; range_set_i64_get(part, i, &range); i++) ..
  *         from = some[63];
- *     } while (part.len == 64);
+ *     } while (status == RANGE_SET_MORE);
  */
-RANGE_SET_STATUS range_set_i64_chunked_next_ranges(range_set_i64_chunked set, int64_t from, int64_t *out,
-                                                        size_t room, range_set_i64 *result);
+RANGE_SET_STATUS range_set_i64_chunked_next_ranges(range_set_i64_chunked set, int64_t from, int64_t *out, size_t room,
+                                                   range_set_i64 *result);
 
 /* How many ranges the set has, how many boundaries. Adds up the chunks. */
 size_t range_set_i64_chunked_ranges_len(range_set_i64_chunked set);
@@ -1507,20 +1785,39 @@ size_t range_set_i64_chunked_boundaries_len(range_set_i64_chunked set);
 
 /* Writes the set as a list, as other calls write sets. */
 RANGE_SET_STATUS range_set_i64_chunked_copy(range_set_i64_chunked set, int64_t *out, size_t room,
-                                                 range_set_i64 *result);
+                                            range_set_i64 *result);
+
+/* Writes the numbers from `start` to below `end` that are no members, by two searches each. */
+RANGE_SET_STATUS range_set_i64_chunked_gaps(range_set_i64_chunked set, int64_t start, int64_t end, int64_t *out,
+                                            size_t room, range_set_i64 *result);
+
+/* Leaves in the set the numbers that `keep` names, as `combine`. It makes a list and new chunks of both sets, and where
+ * an allocation fails the set is as it was. */
+RANGE_SET_STATUS range_set_i64_chunked_combine(range_set_i64_chunked *set, range_set_i64 other, unsigned keep);
+
+/* As `insert`, `remove`, `chunked_insert` and `chunked_remove`, and where that was done `changed` is whether the set
+ * has other members now. */
+RANGE_SET_STATUS range_set_i64_insert_changed(range_set_i64_buffer *buffer, int64_t start, int64_t end,
+                                              bool *changed);
+RANGE_SET_STATUS range_set_i64_remove_changed(range_set_i64_buffer *buffer, int64_t start, int64_t end,
+                                              bool *changed);
+RANGE_SET_STATUS range_set_i64_chunked_insert_changed(range_set_i64_chunked *set, int64_t start, int64_t end,
+                                                      bool *changed);
+RANGE_SET_STATUS range_set_i64_chunked_remove_changed(range_set_i64_chunked *set, int64_t start, int64_t end,
+                                                      bool *changed);
 
 /* ---- Maps from ranges of int64_t to numbers ---- */
 
-/* A map that gives ranges values. A key has the value of the last range that was put around it, or none; ranges that touch and have
- * equal values are one. It is one list: among n ranges a search makes about log n comparisons, and a change moves all that come
- * after it. As of a set in chunks its memory comes from malloc, the field is for the library alone, {NULL} is no map, and only one
- * call at a time may be given a map. */
+/* A map that gives ranges values. A key has the value of the last range that was put around it, or none; ranges that
+ * touch and have equal values are one. It lies in chunks: among n ranges a search makes about log n comparisons, and a
+ * change moves a chunk's items at most. Its memory comes from where that of sets in chunks does, the field is for the
+ * library alone, {NULL} is no map, and calls that take a map itself only read. */
 typedef struct range_map_i64 {
     void *at;
 } range_map_i64;
 
-/* The longest range whose keys have one value, or all have none. Without a start it has all lower keys, without an end all higher
- * ones. */
+/* The longest range whose keys have one value, or all have none. Without a start it has all lower keys, without an end
+ * all higher ones. */
 typedef struct range_map_i64_stretch {
     int64_t start, end;
     uint64_t value;
@@ -1533,8 +1830,8 @@ RANGE_SET_STATUS range_map_i64_new(range_map_i64 *map);
 /* Gives the memory back, and leaves {NULL}. Does nothing where `map` is null or no map. */
 void range_map_i64_free(range_map_i64 *map);
 
-/* Gives the keys from `start` to below `end` the value, takes their values away; or those of all keys from `start` on. Where an
- * allocation fails the map is as it was. */
+/* Gives the keys from `start` to below `end` the value, takes their values away; or those of all keys from `start` on.
+ * Where an allocation fails the map is as it was. */
 RANGE_SET_STATUS range_map_i64_insert(range_map_i64 *map, int64_t start, int64_t end, uint64_t value);
 RANGE_SET_STATUS range_map_i64_remove(range_map_i64 *map, int64_t start, int64_t end);
 RANGE_SET_STATUS range_map_i64_insert_from(range_map_i64 *map, int64_t start, uint64_t value);
@@ -1543,20 +1840,31 @@ RANGE_SET_STATUS range_map_i64_remove_from(range_map_i64 *map, int64_t start);
 /* Whether the key has a value, and then which. `value` may be null. */
 bool range_map_i64_get(range_map_i64 map, int64_t key, uint64_t *value);
 
-/* The longest range around the key whose keys have its value, or as it none. A loop over all of them:
- *
- *     range_map_i64_stretch it = range_map_i64_range_at(map, INT64_MIN);
- *     for (bool more = true; more; more = it.has_end, it = range_map_i64_range_at(map, it.end)) ..
- */
+/* The longest range around the key whose keys have its value, or as it none. */
 range_map_i64_stretch range_map_i64_range_at(range_map_i64 map, int64_t key);
+
+/* Whether a key at or above `from` has a value, and then the longest range of the first such. A loop over all of them:
+ *
+ *     bool more = range_map_i64_next(map, INT64_MIN, &it);
+ *     for (; more; more = it.has_end && range_map_i64_next(map, it.end, &it)) ..
+ */
+bool range_map_i64_next(range_map_i64 map, int64_t from, range_map_i64_stretch *stretch);
+
+/* Writes the first of those ranges, as many as there is room for, and answers how many these are: by one search. */
+size_t range_map_i64_next_ranges(range_map_i64 map, int64_t from, range_map_i64_stretch *out, size_t room);
+
+/* Makes a map of `count` ranges, a start and an end each, with their values; where they overlap the later one's holds.
+ * Makes a copy. They have to be freed. Where an allocation fails there is none. */
+RANGE_SET_STATUS range_map_i64_of(const int64_t *ranges, const uint64_t *values, size_t count, range_map_i64 *map);
+RANGE_SET_STATUS range_map_i64_copy(range_map_i64 map, range_map_i64 *copy);
 
 /* How many ranges have a value. */
 size_t range_map_i64_len(range_map_i64 map);
 
 /* ---- Sets of uint64_t ---- */
 
-/* A set. Its fields may be read, and are for the library alone to write: a set that was made otherwise, and isn't strictly
- * sorted, gets answers that mean nothing. Where `boundaries` is null the set is empty. */
+/* A set. Its fields may be read, and are for the library alone to write: a set that was made otherwise, and isn't
+ * strictly sorted, gets answers that mean nothing. Where `boundaries` is null the set is empty. */
 typedef struct range_set_u64 {
     const uint64_t *boundaries;
     size_t len;
@@ -1568,8 +1876,8 @@ typedef struct range_set_u64_range {
     bool has_end;
 } range_set_u64_range;
 
-/* A set in a buffer of the caller's, which can change. `items` has room for `room` numbers, and `set` stands at their front. Where
- * a call answers RANGE_SET_NO_ROOM, `needed` is the room that it needs. The fields may be read. */
+/* A set in a buffer of the caller's, which can change. `items` has room for `room` numbers, and `set` stands at their
+ * front. Where a call answers RANGE_SET_NO_ROOM, `needed` is the room that it needs. The fields may be read. */
 typedef struct range_set_u64_buffer {
     uint64_t *items;
     size_t room, needed;
@@ -1579,30 +1887,30 @@ typedef struct range_set_u64_buffer {
 /* Makes a set of a list that is strictly sorted, or answers RANGE_SET_NOT_SORTED. Goes over the list once. */
 RANGE_SET_STATUS range_set_u64_view(const uint64_t *list, size_t len, range_set_u64 *set);
 
-/* Makes the set whose boundaries are these numbers, in any order, in place: the distinct ones in order stand at the front
- * then, and nothing is said of what stands after them. Sorts without memory, in some len * log(len) steps. */
+/* Makes the set whose boundaries are these numbers, in any order, in place: the distinct ones in order stand at the
+ * front then, and nothing is said of what stands after them. Sorts without memory, in some len * log(len) steps. */
 RANGE_SET_STATUS range_set_u64_from_unsorted(uint64_t *items, size_t len, range_set_u64 *set);
 
-/* Makes the set of the numbers in some range, in place: `ranges` has `count` pairs of numbers, a start and an end each, in
- * any order. They may overlap and touch, and one with end <= start holds no number. The set stands at the front then, and
- * nothing is said of what stands after it. Sorts without memory, in some count * log(count) steps. */
+/* Makes the set of the numbers in some range, in place: `ranges` has `count` pairs of numbers, a start and an end each,
+ * in any order. They may overlap and touch, and one with end <= start holds no number. The set stands at the front
+ * then, and nothing is said of what stands after it. Sorts without memory, in some count * log(count) steps. */
 RANGE_SET_STATUS range_set_u64_from_ranges(uint64_t *ranges, size_t count, range_set_u64 *set);
 
-/* Writes the set of these numbers, in any order, some of them more than once. The buffer has to have room for two numbers for each,
- * also where the set has fewer. Nothing is said of what stands after the set in the buffer. Sorts without other memory, in some
- * count * log(count) steps. */
+/* Writes the set of these numbers, in any order, some of them more than once. The buffer has to have room for two
+ * numbers for each, also where the set has fewer. Nothing is said of what stands after the set in the buffer. Sorts
+ * without other memory, in some count * log(count) steps. */
 RANGE_SET_STATUS range_set_u64_from_values(const uint64_t *values, size_t count, uint64_t *out, size_t room,
-                                                range_set_u64 *result);
+                                           range_set_u64 *result);
 
 /* Whether `value` is a member. At most as many comparisons as set.len has binary digits. */
 bool range_set_u64_contains(range_set_u64 set, uint64_t value);
 
-/* Whether each number from `start` on, up to below `end`, is a member; it is true where end <= start. At most twice as many
- * comparisons as set.len has binary digits, and one. */
+/* Whether each number from `start` on, up to below `end`, is a member; it is true where end <= start. At most twice as
+ * many comparisons as set.len has binary digits, and one. */
 bool range_set_u64_contains_range(range_set_u64 set, uint64_t start, uint64_t end);
 
-/* Whether some number from `start` on, up to below `end`, is a member; it is false where end <= start. At most twice as many
- * comparisons as set.len has binary digits, and one. */
+/* Whether some number from `start` on, up to below `end`, is a member; it is false where end <= start. At most twice as
+ * many comparisons as set.len has binary digits, and one. */
 bool range_set_u64_intersects_range(range_set_u64 set, uint64_t start, uint64_t end);
 
 /* Whether no number is a member: whether there is no boundary. */
@@ -1611,26 +1919,28 @@ bool range_set_u64_is_empty(range_set_u64 set);
 /* Whether each number of the type is a member. */
 bool range_set_u64_is_all(range_set_u64 set);
 
-/* Whether `value` is a member, and then the range of the set that holds it. Where it is no member `range` is as it was, and
- * where the range has no end `range->end` is. `range` may be null. At most as many comparisons as set.len has binary digits. */
+/* Whether `value` is a member, and then the range of the set that holds it. Where it is no member `range` is as it was,
+ * and where the range has no end `range->end` is. `range` may be null. At most as many comparisons as set.len has
+ * binary digits. */
 bool range_set_u64_range_at(range_set_u64 set, uint64_t value, range_set_u64_range *range);
 
-/* Whether there is a range that holds `value` or lies above it, and then the first such: the next one to look at, from any number
- * on. `range` is written as by `range_at`. At most twice as many comparisons as set.len has binary digits. */
+/* Whether there is a range that holds `value` or lies above it, and then the first such: the next one to look at, from
+ * any number on. `range` is written as by `range_at`. At most twice as many comparisons as set.len has binary
+ * digits. */
 bool range_set_u64_range_from(range_set_u64 set, uint64_t value, range_set_u64_range *range);
 
-/* Whether some number at or above `from` is a member, isn't one, and then the least such. Else `next` is as it was. It may be
- * null. At most as many comparisons as set.len has binary digits. */
+/* Whether some number at or above `from` is a member, isn't one, and then the least such. Else `next` is as it was. It
+ * may be null. At most as many comparisons as set.len has binary digits. */
 bool range_set_u64_next_member(range_set_u64 set, uint64_t from, uint64_t *next);
 bool range_set_u64_next_gap(range_set_u64 set, uint64_t from, uint64_t *next);
 
-/* Whether some number at or below `from` is a member, isn't one, and then the greatest such. Else `previous` is as it was. It may
- * be null. At most as many comparisons as set.len has binary digits. */
+/* Whether some number at or below `from` is a member, isn't one, and then the greatest such. Else `previous` is as it
+ * was. It may be null. At most as many comparisons as set.len has binary digits. */
 bool range_set_u64_prev_member(range_set_u64 set, uint64_t from, uint64_t *previous);
 bool range_set_u64_prev_gap(range_set_u64 set, uint64_t from, uint64_t *previous);
 
-/* Whether the set has more than `k` members, and then the one with `k` others below it. Else `at` is as it was. It may be null.
- * Looks at each boundary up to the answer once. */
+/* Whether the set has more than `k` members, and then the one with `k` others below it. Else `at` is as it was. It may
+ * be null. Looks at each boundary up to the answer once. */
 bool range_set_u64_select(range_set_u64 set, uint64_t k, uint64_t *at);
 
 /* How many members are below `at`. Looks at each boundary below `at` once. */
@@ -1649,8 +1959,8 @@ bool range_set_u64_last(range_set_u64 set, range_set_u64_range *range);
 /* How many ranges the set has. */
 size_t range_set_u64_ranges_len(range_set_u64 set);
 
-/* A place among the members of a set, which is good until the set changes: where `has_value` is true, at the member `value`. The
- * other fields are for the library alone. */
+/* A place among the members of a set, which is good until the set changes: where `has_value` is true, at the member
+ * `value`. The other fields are for the library alone. */
 typedef struct range_set_u64_members {
     uint64_t value;
     bool has_value;
@@ -1665,8 +1975,8 @@ static inline uint64_t range_set_u64_range_last(range_set_u64_range range)
     return range.has_end ? range.end - 1 : UINT64_MAX;
 }
 
-/* The place of the lowest member, of the highest one. A loop over all of them, which `members_last` and `members_prev` make
- * downwards:
+/* The place of the lowest member, of the highest one. A loop over all of them, which `members_last` and `members_prev`
+ * make downwards:
  *
  *     range_set_u64_members it = range_set_u64_members_first(set);
  *     for (; it.has_value; range_set_u64_members_next(&it)) .. it.value ..
@@ -1690,7 +2000,8 @@ static inline range_set_u64_members range_set_u64_members_last(range_set_u64 set
     return members;
 }
 
-/* Goes to the next member above, below. Where there is none it is at no member from then on. It has to be at one before. */
+/* Goes to the next member above, below. Where there is none it is at no member from then on. It has to be at one
+ * before. */
 static inline void range_set_u64_members_next(range_set_u64_members *members)
 {
     if (members->value != range_set_u64_range_last(members->range)) {
@@ -1711,12 +2022,12 @@ static inline void range_set_u64_members_prev(range_set_u64_members *members)
     }
 }
 
-/* Whether the set has an end, so whether its members can be counted, and then how many there are, which always fits. Where it
- * has none `count` is as it was. Goes over the set once. */
+/* Whether the set has an end, so whether its members can be counted, and then how many there are, which always fits.
+ * Where it has none `count` is as it was. Goes over the set once. */
 bool range_set_u64_covered(range_set_u64 set, uint64_t *count);
 
-/* Whether no number is a member of both. Stops at the first one that is. At most 2 * (a.len + b.len) comparisons, and few where
- * long parts of one set lie between two boundaries of the other. So do the calls below. */
+/* Whether no number is a member of both. Stops at the first one that is. At most 2 * (a.len + b.len) comparisons, and
+ * few where long parts of one set lie between two boundaries of the other. So do the calls below. */
 bool range_set_u64_is_disjoint(range_set_u64 a, range_set_u64 b);
 
 /* Whether some number is a member of both. */
@@ -1734,45 +2045,44 @@ static inline bool range_set_u64_is_superset(range_set_u64 a, range_set_u64 b)
 /* Whether both sets have the same members. Goes over both once. */
 bool range_set_u64_equal(range_set_u64 a, range_set_u64 b);
 
-/* Cuts the set at `at` into two parts of its own list: `below` has the set's members below `at`, and `from` has those from
- * `at` on. Both are the shortest such lists, so a range that goes over `at` has no end in `below`, and has its start in `from`.
- * Either may be null. At most as many comparisons as set.len has binary digits. */
+/* Cuts the set at `at` into two parts of its own list: `below` has the set's members below `at`, and `from` has those
+ * from `at` on. Both are the shortest such lists, so a range that goes over `at` has no end in `below`, and has its
+ * start in `from`. Either may be null. At most as many comparisons as set.len has binary digits. */
 void range_set_u64_split(range_set_u64 set, uint64_t at, range_set_u64 *below, range_set_u64 *from);
 
 /* Writes the set of the numbers that `keep` names: those in the left set alone (RANGE_SET_LEFT), in the right alone
- * (RANGE_SET_RIGHT), in both (RANGE_SET_BOTH) and in neither (RANGE_SET_NEITHER), as their sum. Other bits of `keep` have no
- * meaning. A room of a.len + b.len is always enough, and with RANGE_SET_NEITHER one more. */
-RANGE_SET_STATUS range_set_u64_combine(range_set_u64 a, range_set_u64 b, unsigned keep, uint64_t *out,
-                                            size_t room, range_set_u64 *result);
+ * (RANGE_SET_RIGHT), in both (RANGE_SET_BOTH) and in neither (RANGE_SET_NEITHER), as their sum. Other bits of `keep`
+ * have no meaning. A room of a.len + b.len is always enough, and with RANGE_SET_NEITHER one more. */
+RANGE_SET_STATUS range_set_u64_combine(range_set_u64 a, range_set_u64 b, unsigned keep, uint64_t *out, size_t room,
+                                       range_set_u64 *result);
 
 /* How many boundaries that set has. */
 size_t range_set_u64_combine_len(range_set_u64 a, range_set_u64 b, unsigned keep);
 
 /* Writes the set of the numbers in either set. */
 static inline RANGE_SET_STATUS range_set_u64_union(range_set_u64 a, range_set_u64 b, uint64_t *out, size_t room,
-                                                        range_set_u64 *result)
+                                                   range_set_u64 *result)
 {
     return range_set_u64_combine(a, b, RANGE_SET_UNION, out, room, result);
 }
 
 /* Writes the set of the numbers in both sets. */
-static inline RANGE_SET_STATUS range_set_u64_intersection(range_set_u64 a, range_set_u64 b, uint64_t *out,
-                                                               size_t room, range_set_u64 *result)
+static inline RANGE_SET_STATUS range_set_u64_intersection(range_set_u64 a, range_set_u64 b, uint64_t *out, size_t room,
+                                                          range_set_u64 *result)
 {
     return range_set_u64_combine(a, b, RANGE_SET_INTERSECTION, out, room, result);
 }
 
 /* Writes the set of the numbers in the left set and not in the right. */
-static inline RANGE_SET_STATUS range_set_u64_difference(range_set_u64 a, range_set_u64 b, uint64_t *out,
-                                                             size_t room, range_set_u64 *result)
+static inline RANGE_SET_STATUS range_set_u64_difference(range_set_u64 a, range_set_u64 b, uint64_t *out, size_t room,
+                                                        range_set_u64 *result)
 {
     return range_set_u64_combine(a, b, RANGE_SET_DIFFERENCE, out, room, result);
 }
 
 /* Writes the set of the numbers in one of the two sets and not in the other. */
-static inline RANGE_SET_STATUS range_set_u64_symmetric_difference(range_set_u64 a, range_set_u64 b,
-                                                                       uint64_t *out, size_t room,
-                                                                       range_set_u64 *result)
+static inline RANGE_SET_STATUS range_set_u64_symmetric_difference(range_set_u64 a, range_set_u64 b, uint64_t *out,
+                                                                  size_t room, range_set_u64 *result)
 {
     return range_set_u64_combine(a, b, RANGE_SET_SYMMETRIC_DIFFERENCE, out, room, result);
 }
@@ -1798,57 +2108,64 @@ static inline size_t range_set_u64_symmetric_difference_len(range_set_u64 a, ran
     return range_set_u64_combine_len(a, b, RANGE_SET_SYMMETRIC_DIFFERENCE);
 }
 
-/* Writes the set of the numbers that are no members: without a first boundary that is the least number, 0, or else with
- * that before it. A room of set.len + 1 is always enough. */
+/* Writes the set of the numbers that are no members: without a first boundary that is the least number, 0, or
+ * else with that before it. A room of set.len + 1 is always enough. */
 RANGE_SET_STATUS range_set_u64_negation(range_set_u64 set, uint64_t *out, size_t room, range_set_u64 *result);
 
-/* Writes the set of the numbers from `start` to below `end` that are no members: the gaps of the set between the two. A room
- * of set.len + 2 is always enough. */
+/* Writes the set of the numbers from `start` to below `end` that are no members: the gaps of the set between the two. A
+ * room of set.len + 2 is always enough. */
 RANGE_SET_STATUS range_set_u64_gaps(range_set_u64 set, uint64_t start, uint64_t end, uint64_t *out, size_t room,
+                                    range_set_u64 *result);
+
+/* Writes the set of the numbers in any of `count` sets. The buffer has to have room for the boundaries of all of them
+ * together, also where the set has fewer. Nothing is said of what stands after the set in the buffer. Copies and sorts
+ * the boundaries, in some n * log(n) steps for n of them. */
+RANGE_SET_STATUS range_set_u64_union_all(const range_set_u64 *sets, size_t count, uint64_t *out, size_t room,
                                          range_set_u64 *result);
 
-/* Writes the set of the numbers in any of `count` sets. The buffer has to have room for the boundaries of all of them together,
- * also where the set has fewer. Nothing is said of what stands after the set in the buffer. Copies and sorts the boundaries, in
- * some n * log(n) steps for n of them. */
-RANGE_SET_STATUS range_set_u64_union_all(const range_set_u64 *sets, size_t count, uint64_t *out, size_t room,
-                                              range_set_u64 *result);
-
-/* Writes the set as a text, "0..10, 20..": its ranges with a comma and a space between them, and no byte for the empty set. No zero
- * stands after it. `len` is its length in bytes. Where the buffer has no room for all of it the buffer is as it was; it may be null
- * with room 0, which asks for the length alone. A room of 22 * set.len is always enough. A set of more than SIZE_MAX / 32
- * boundaries is refused as a length that no array has. */
+/* Writes the set as a text, "0..10, 20..": its ranges with a comma and a space between them, and no byte for the empty
+ * set. No zero stands after it. `len` is its length in bytes. Where the buffer has no room for all of it the buffer is
+ * as it was; it may be null with room 0, which asks for the length alone. A room of 22 * set.len is always enough. A
+ * set of more than SIZE_MAX / 32 boundaries is refused as a length that no array has. */
 RANGE_SET_STATUS range_set_u64_print(range_set_u64 set, char *text, size_t room, size_t *len);
 
-/* Reads a set from a text of ranges, "0..10, 20..": in any order, with commas between them and blanks around each. Numbers may have
- * a sign and zeros before them. A range whose end isn't above its start has no number. An empty text, or one of blanks, is the
- * empty set. The text is `text_len` bytes of UTF-8, or null with length 0.
+/* Reads a set from a text of ranges, "0..10, 20..": in any order, with commas between them and blanks around each.
+ * Numbers may have a sign and zeros before them. A range whose end isn't above its start has no number. An empty text,
+ * or one of blanks, is the empty set. The text is `text_len` bytes of UTF-8, or null with length 0.
  *
- * The buffer has to have room for as many numbers as the text has, also where the set has fewer. Nothing is said of what stands
- * after the set in the buffer. `fault` may be null. Where the answer is RANGE_SET_MALFORMED it is the byte at which the text stops
- * being one of ranges, and its length where more was expected; of bytes that aren't UTF-8 it is the first that isn't, whatever
- * stands before. Else it is as it was.
+ * The buffer has to have room for as many numbers as the text has, also where the set has fewer. Nothing is said of
+ * what stands after the set in the buffer. `fault` may be null. Where the answer is RANGE_SET_MALFORMED it is the byte
+ * at which the text stops being one of ranges, and its length where more was expected; of bytes that aren't UTF-8 it is
+ * the first that isn't, whatever stands before. Where it is RANGE_SET_OUT_OF_RANGE it is the byte at which the first
+ * range with such a number begins. Else it is as it was.
  *
  * Takes some n * log(n) steps for n ranges, in any order. */
-RANGE_SET_STATUS range_set_u64_parse(const char *text, size_t text_len, uint64_t *out, size_t room, range_set_u64 *result,
-                                          size_t *fault);
+RANGE_SET_STATUS range_set_u64_parse(const char *text, size_t text_len, uint64_t *out, size_t room,
+                                     range_set_u64 *result, size_t *fault);
 
-/* Whether there is a number from which on `count` numbers lie in `start` to below `end` and none of them is a member, and then
- * the least one: the first place where so many fit. Where there is none `first` is as it was. It may be null. A count of 0 fits
- * at `start`, if end >= start. Looks at each boundary from `start` on, up to the answer. */
+/* As `parse`, with another byte in place of the comma, as '\n' for one range on each line. Between two of them may also
+ * stand a lone number, which is the range of that number and needs room for two, or blanks alone, which are no range. A
+ * separator that isn't ASCII, or is a digit, '+', '-' or '.', is RANGE_SET_BAD_ARGUMENT. `fault` is in the first part
+ * between two that is malformed, or else in the first with a number that doesn't fit. Goes over the text some times. */
+RANGE_SET_STATUS range_set_u64_parse_by(const char *text, size_t text_len, char separator, uint64_t *out, size_t room,
+                                        range_set_u64 *result, size_t *fault);
+
+/* Whether there is a number from which on `count` numbers lie in `start` to below `end` and none of them is a member,
+ * and then the least one: the first place where they fit. Where there is none `first` is as it was. It may be null.
+ * A count of 0 fits at `start`, if end >= start. Looks at each boundary from `start` on, up to the answer. */
 bool range_set_u64_first_fit(range_set_u64 set, uint64_t start, uint64_t end, uint64_t count, uint64_t *first);
 
-/* The same, but only where as many numbers of the type are below the first as a multiple of `align`: the first itself is one where
- * the type has no sign or `align` is a power of two. An `align` of 0 fits nowhere. */
+/* The same, but only where the first is a multiple of `align`, above 0 or below. An `align` of 0 fits nowhere. */
 bool range_set_u64_first_fit_aligned(range_set_u64 set, uint64_t start, uint64_t end, uint64_t count, uint64_t align,
-                                          uint64_t *first);
+                                     uint64_t *first);
 
-/* Whether `count` members in a row lie in `start` to below `end`, and then the least number that such begin with. Else, and with a
- * count of 0, as `first_fit`. Looks at each boundary from `start` on, up to the answer. */
+/* Whether `count` members in a row lie in `start` to below `end`, and then the least number that such begin with. Else,
+ * and with a count of 0, as `first_fit`. Looks at each boundary from `start` on, up to the answer. */
 bool range_set_u64_first_run(range_set_u64 set, uint64_t start, uint64_t end, uint64_t count, uint64_t *first);
 
 /* ---- Sets of uint64_t that change in their buffer ---- */
 
-/* The empty set in a buffer with room for so many numbers. */
+/* The empty set in a buffer of `room` numbers. */
 static inline range_set_u64_buffer range_set_u64_buffer_of(uint64_t *items, size_t room)
 {
     range_set_u64_buffer buffer;
@@ -1863,16 +2180,17 @@ static inline range_set_u64_buffer range_set_u64_buffer_of(uint64_t *items, size
 /* The set of the first `len` numbers in a buffer with room for `room`, or RANGE_SET_NOT_SORTED. Goes over them once. */
 RANGE_SET_STATUS range_set_u64_buffer_view(uint64_t *items, size_t len, size_t room, range_set_u64_buffer *buffer);
 
-/* Puts the numbers from `start` to below `end` into the set, which are none where end <= start. Searches for both, and moves
- * once what stands after them. Where the buffer has no room nothing has changed: set.len + 2 is always enough. */
+/* Puts the numbers from `start` to below `end` into the set, which are none where end <= start. Searches for both, and
+ * moves once what stands after them. Where the buffer has no room nothing has changed: set.len + 2 is always enough. */
 RANGE_SET_STATUS range_set_u64_insert(range_set_u64_buffer *buffer, uint64_t start, uint64_t end);
 
 /* Takes the numbers from `start` to below `end` out of the set. As `insert`. */
 RANGE_SET_STATUS range_set_u64_remove(range_set_u64_buffer *buffer, uint64_t start, uint64_t end);
 
-/* Leaves in the buffer the numbers that `keep` names of its set and another, as `combine`, but for RANGE_SET_NEITHER, which is
- * refused: RANGE_SET_BAD_ARGUMENT. The set moves to the end of the buffer, and the result is written at its front. So there has
- * to be room for both: 2 * set.len + other.len is always enough. The other set mustn't lie in the buffer. */
+/* Leaves in the buffer the numbers that `keep` names of its set and another, as `combine`, but for RANGE_SET_NEITHER,
+ * which is refused: RANGE_SET_BAD_ARGUMENT. The set moves to the end of the buffer, and the result is written at its
+ * front. So there has to be room for both: 2 * set.len + other.len is always enough. The other set mustn't lie in the
+ * buffer. */
 RANGE_SET_STATUS range_set_u64_combine_with(range_set_u64_buffer *buffer, range_set_u64 other, unsigned keep);
 
 /* The four operations in the buffer. */
@@ -1892,53 +2210,80 @@ static inline RANGE_SET_STATUS range_set_u64_difference_with(range_set_u64_buffe
 }
 
 static inline RANGE_SET_STATUS range_set_u64_symmetric_difference_with(range_set_u64_buffer *buffer,
-                                                                            range_set_u64 other)
+                                                                       range_set_u64 other)
 {
     return range_set_u64_combine_with(buffer, other, RANGE_SET_SYMMETRIC_DIFFERENCE);
 }
 
 /* ---- Owned sets of uint64_t ---- */
 
-/* A set in a buffer that it owns and that grows: `in.set` is the set, which may be read until the owned set is changed. */
+/* A set in a buffer that it owns and that grows: `in.set` is the set, which may be read until the owned set is
+ * changed. */
 typedef struct range_set_u64_owned {
     range_set_u64_buffer in;
     range_set_allocator allocator;
 } range_set_u64_owned;
 
-/* Makes an owned set without a member, which takes no memory yet. Its memory comes from `allocator`, of which it keeps a copy, or
- * from malloc where that is null. It has to be freed. */
+/* Makes an owned set without a member, which takes no memory yet. Its memory comes from `allocator`, of which it keeps
+ * a copy, or from malloc where that is null. It has to be freed. Does nothing where `owned` is null, of which each call
+ * below that answers a status says RANGE_SET_BAD_ARGUMENT. */
 void range_set_u64_owned_init(range_set_u64_owned *owned, const range_set_allocator *allocator);
 
-/* Gives the memory back, and leaves a set without a member, which may be used again. Does nothing where `owned` is null. */
+/* Gives the memory back, and leaves a set without a member, which may be used again. Does nothing where `owned` is
+ * null. */
 void range_set_u64_owned_free(range_set_u64_owned *owned);
 
-/* Sees that there is room for so many boundaries. */
+/* Makes room for `room` boundaries. */
 RANGE_SET_STATUS range_set_u64_owned_reserve(range_set_u64_owned *owned, size_t room);
 
 /* Leaves a copy of the set in `owned`. */
 RANGE_SET_STATUS range_set_u64_owned_assign(range_set_u64_owned *owned, range_set_u64 set);
 
-/* Puts the numbers from `start` to below `end` in, takes them out: as `insert` and `remove`, but that the buffer grows. */
+/* Puts the numbers from `start` to below `end` in, takes them out: as `insert` and `remove`, but that the buffer
+ * grows. */
 RANGE_SET_STATUS range_set_u64_owned_insert(range_set_u64_owned *owned, uint64_t start, uint64_t end);
 RANGE_SET_STATUS range_set_u64_owned_remove(range_set_u64_owned *owned, uint64_t start, uint64_t end);
 
 /* Leaves in `owned` the numbers that `keep` names, as `combine`: of RANGE_SET_UNION those in either set, of
- * RANGE_SET_INTERSECTION those in both, of RANGE_SET_DIFFERENCE those that aren't in `other`. With a room of
- * 2 * in.set.len + other.len, and with RANGE_SET_NEITHER one more, it takes no memory; else the buffer grows. `other` may be a
- * part of the set, as `split` makes one. RANGE_SET_BAD_ARGUMENT says that it lies elsewhere in the buffer or in the struct. */
+ * RANGE_SET_INTERSECTION those in both, of RANGE_SET_DIFFERENCE those that aren't in `other`. With a room of 2 *
+ * in.set.len + other.len, and with RANGE_SET_NEITHER one more, it takes no memory; else the buffer grows. `other` may
+ * be a part of the set, as `split` makes one. RANGE_SET_BAD_ARGUMENT says that it lies elsewhere in the buffer or in
+ * the struct. */
 RANGE_SET_STATUS range_set_u64_owned_combine(range_set_u64_owned *owned, range_set_u64 other, unsigned keep);
+
+/* Puts all numbers from `start` on in, takes them out: the union with their set, the difference from it. */
+static inline RANGE_SET_STATUS range_set_u64_owned_insert_from(range_set_u64_owned *owned, uint64_t start)
+{
+    range_set_u64 rest = {&start, 1};
+    return range_set_u64_owned_combine(owned, rest, RANGE_SET_UNION);
+}
+
+static inline RANGE_SET_STATUS range_set_u64_owned_remove_from(range_set_u64_owned *owned, uint64_t start)
+{
+    range_set_u64 rest = {&start, 1};
+    return range_set_u64_owned_combine(owned, rest, RANGE_SET_DIFFERENCE);
+}
+
+/* Takes all numbers out, and keeps the buffer. Does nothing where `owned` is null. */
+static inline void range_set_u64_owned_clear(range_set_u64_owned *owned)
+{
+    if (owned) owned->in.set.len = 0;
+}
 
 /* ---- Sets of uint64_t that grow to millions of ranges ---- */
 
-/* A set in chunks of at most 512 boundaries: a change searches for its range and moves the boundaries of one chunk, so it takes
- * about as long in a set of a million ranges as in a small one. Its memory comes from malloc. The field is for the library alone.
- * {NULL} is no set: it has no member, and no call changes it. Only one call at a time may be given a set, also of those that ask;
- * nothing is proved of a set that goes from one thread to another. */
+/* A set in chunks of at most 512 boundaries: a change searches for its range and moves the boundaries of one chunk, so
+ * it takes about as long in a set of a million ranges as in a small one. Its memory comes from malloc, unless
+ * `range_set_use_allocator` named another. The field is for the library alone. {NULL} is no set: it has no member, and
+ * no call changes it. Calls that take a set itself only read, so several threads may make them at once. Those that take
+ * its address write, `chunked_first_fit` and `chunked_first_fit_aligned` too, which remember: no other call may be
+ * given the set meanwhile. Nothing is proved of a set that goes from one thread to another. */
 typedef struct range_set_u64_chunked {
     void *at;
 } range_set_u64_chunked;
 
-/* Makes a set without a member, or one with the members of a list. It has to be freed. Where an allocation fails there is none. */
+/* Makes a set without a member, or one with the members of a list. It has to be freed. Where an allocation fails there
+ * is none. */
 RANGE_SET_STATUS range_set_u64_chunked_new(range_set_u64_chunked *set);
 RANGE_SET_STATUS range_set_u64_chunked_of(range_set_u64 list, range_set_u64_chunked *set);
 
@@ -1983,35 +2328,36 @@ bool range_set_u64_chunked_next_gap(range_set_u64_chunked set, uint64_t from, ui
  */
 bool range_set_u64_chunked_next(range_set_u64_chunked set, uint64_t from, range_set_u64_range *range);
 
-/* As the calls of these names for lists, and they pass over some 512 gaps at a time where they are known to be too short: the set
- * remembers what a search learns of them, until something is taken out there. Of gaps that are long enough it remembers only for
- * the last `align` that no multiple fits. Without memory it remembers less. */
+/* As the calls of these names for lists, and they pass over some 512 gaps at a time where they are known to be too
+ * short: the set remembers what a search learns of them, until something is taken out there. Of gaps that are long
+ * enough it remembers only for the last `align` that no multiple fits. Without memory it remembers less. */
 bool range_set_u64_chunked_first_fit(range_set_u64_chunked *set, uint64_t start, uint64_t end, uint64_t count,
-                                          uint64_t *first);
+                                     uint64_t *first);
 bool range_set_u64_chunked_first_fit_aligned(range_set_u64_chunked *set, uint64_t start, uint64_t end, uint64_t count,
-                                                  uint64_t align, uint64_t *first);
+                                             uint64_t align, uint64_t *first);
 
 /* As `first_run`. It remembers nothing, and looks at each range from `start` on, up to the answer. */
 bool range_set_u64_chunked_first_run(range_set_u64_chunked set, uint64_t start, uint64_t end, uint64_t count,
-                                          uint64_t *first);
+                                     uint64_t *first);
 
-/* Writes the ranges that share a number with `start` to below `end`, whole, as a list: from the lowest on, and the first room / 2
- * of them where there are more. */
+/* Writes the ranges that share a number with `start` to below `end`, whole, as a list. Where there are more than the
+ * buffer has room for it writes the first room / 2, and answers RANGE_SET_MORE; where it has room for none,
+ * RANGE_SET_NO_ROOM, and goes over all of them for the length. */
 RANGE_SET_STATUS range_set_u64_chunked_overlapping(range_set_u64_chunked set, uint64_t start, uint64_t end,
-                                                        uint64_t *out, size_t room, range_set_u64 *result);
+                                                   uint64_t *out, size_t room, range_set_u64 *result);
 
-/* Writes the ranges that have a number at or above `from` in the same way. It is two searches, so to go over many ranges it is
- * much faster than `next`. The next ones are those from the end of the last one on:
+/* Writes the ranges that have a number at or above `from` in the same way. It is two searches, so to go over many
+ * ranges it is much faster than `next`. The next ones are those from the end of the last one on:
  *
  *     uint64_t some[64], from = 0;
  *     do {
- *         range_set_u64_chunked_next_ranges(set, from, some, 64, &part);
+ *         status = range_set_u64_chunked_next_ranges(set, from, some, 64, &part);
  *         for (size_t i = 0; range_set_u64_get(part, i, &range); i++) ..
  *         from = some[63];
- *     } while (part.len == 64);
+ *     } while (status == RANGE_SET_MORE);
  */
-RANGE_SET_STATUS range_set_u64_chunked_next_ranges(range_set_u64_chunked set, uint64_t from, uint64_t *out,
-                                                        size_t room, range_set_u64 *result);
+RANGE_SET_STATUS range_set_u64_chunked_next_ranges(range_set_u64_chunked set, uint64_t from, uint64_t *out, size_t room,
+                                                   range_set_u64 *result);
 
 /* How many ranges the set has, how many boundaries. Adds up the chunks. */
 size_t range_set_u64_chunked_ranges_len(range_set_u64_chunked set);
@@ -2019,20 +2365,39 @@ size_t range_set_u64_chunked_boundaries_len(range_set_u64_chunked set);
 
 /* Writes the set as a list, as other calls write sets. */
 RANGE_SET_STATUS range_set_u64_chunked_copy(range_set_u64_chunked set, uint64_t *out, size_t room,
-                                                 range_set_u64 *result);
+                                            range_set_u64 *result);
+
+/* Writes the numbers from `start` to below `end` that are no members, by two searches each. */
+RANGE_SET_STATUS range_set_u64_chunked_gaps(range_set_u64_chunked set, uint64_t start, uint64_t end, uint64_t *out,
+                                            size_t room, range_set_u64 *result);
+
+/* Leaves in the set the numbers that `keep` names, as `combine`. It makes a list and new chunks of both sets, and where
+ * an allocation fails the set is as it was. */
+RANGE_SET_STATUS range_set_u64_chunked_combine(range_set_u64_chunked *set, range_set_u64 other, unsigned keep);
+
+/* As `insert`, `remove`, `chunked_insert` and `chunked_remove`, and where that was done `changed` is whether the set
+ * has other members now. */
+RANGE_SET_STATUS range_set_u64_insert_changed(range_set_u64_buffer *buffer, uint64_t start, uint64_t end,
+                                              bool *changed);
+RANGE_SET_STATUS range_set_u64_remove_changed(range_set_u64_buffer *buffer, uint64_t start, uint64_t end,
+                                              bool *changed);
+RANGE_SET_STATUS range_set_u64_chunked_insert_changed(range_set_u64_chunked *set, uint64_t start, uint64_t end,
+                                                      bool *changed);
+RANGE_SET_STATUS range_set_u64_chunked_remove_changed(range_set_u64_chunked *set, uint64_t start, uint64_t end,
+                                                      bool *changed);
 
 /* ---- Maps from ranges of uint64_t to numbers ---- */
 
-/* A map that gives ranges values. A key has the value of the last range that was put around it, or none; ranges that touch and have
- * equal values are one. It is one list: among n ranges a search makes about log n comparisons, and a change moves all that come
- * after it. As of a set in chunks its memory comes from malloc, the field is for the library alone, {NULL} is no map, and only one
- * call at a time may be given a map. */
+/* A map that gives ranges values. A key has the value of the last range that was put around it, or none; ranges that
+ * touch and have equal values are one. It lies in chunks: among n ranges a search makes about log n comparisons, and a
+ * change moves a chunk's items at most. Its memory comes from where that of sets in chunks does, the field is for the
+ * library alone, {NULL} is no map, and calls that take a map itself only read. */
 typedef struct range_map_u64 {
     void *at;
 } range_map_u64;
 
-/* The longest range whose keys have one value, or all have none. Without a start it has all lower keys, without an end all higher
- * ones. */
+/* The longest range whose keys have one value, or all have none. Without a start it has all lower keys, without an end
+ * all higher ones. */
 typedef struct range_map_u64_stretch {
     uint64_t start, end;
     uint64_t value;
@@ -2045,8 +2410,8 @@ RANGE_SET_STATUS range_map_u64_new(range_map_u64 *map);
 /* Gives the memory back, and leaves {NULL}. Does nothing where `map` is null or no map. */
 void range_map_u64_free(range_map_u64 *map);
 
-/* Gives the keys from `start` to below `end` the value, takes their values away; or those of all keys from `start` on. Where an
- * allocation fails the map is as it was. */
+/* Gives the keys from `start` to below `end` the value, takes their values away; or those of all keys from `start` on.
+ * Where an allocation fails the map is as it was. */
 RANGE_SET_STATUS range_map_u64_insert(range_map_u64 *map, uint64_t start, uint64_t end, uint64_t value);
 RANGE_SET_STATUS range_map_u64_remove(range_map_u64 *map, uint64_t start, uint64_t end);
 RANGE_SET_STATUS range_map_u64_insert_from(range_map_u64 *map, uint64_t start, uint64_t value);
@@ -2055,12 +2420,23 @@ RANGE_SET_STATUS range_map_u64_remove_from(range_map_u64 *map, uint64_t start);
 /* Whether the key has a value, and then which. `value` may be null. */
 bool range_map_u64_get(range_map_u64 map, uint64_t key, uint64_t *value);
 
-/* The longest range around the key whose keys have its value, or as it none. A loop over all of them:
- *
- *     range_map_u64_stretch it = range_map_u64_range_at(map, 0);
- *     for (bool more = true; more; more = it.has_end, it = range_map_u64_range_at(map, it.end)) ..
- */
+/* The longest range around the key whose keys have its value, or as it none. */
 range_map_u64_stretch range_map_u64_range_at(range_map_u64 map, uint64_t key);
+
+/* Whether a key at or above `from` has a value, and then the longest range of the first such. A loop over all of them:
+ *
+ *     bool more = range_map_u64_next(map, 0, &it);
+ *     for (; more; more = it.has_end && range_map_u64_next(map, it.end, &it)) ..
+ */
+bool range_map_u64_next(range_map_u64 map, uint64_t from, range_map_u64_stretch *stretch);
+
+/* Writes the first of those ranges, as many as there is room for, and answers how many these are: by one search. */
+size_t range_map_u64_next_ranges(range_map_u64 map, uint64_t from, range_map_u64_stretch *out, size_t room);
+
+/* Makes a map of `count` ranges, a start and an end each, with their values; where they overlap the later one's holds.
+ * Makes a copy. They have to be freed. Where an allocation fails there is none. */
+RANGE_SET_STATUS range_map_u64_of(const uint64_t *ranges, const uint64_t *values, size_t count, range_map_u64 *map);
+RANGE_SET_STATUS range_map_u64_copy(range_map_u64 map, range_map_u64 *copy);
 
 /* How many ranges have a value. */
 size_t range_map_u64_len(range_map_u64 map);

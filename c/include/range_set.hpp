@@ -1,5 +1,6 @@
 // SPDX-License-Identifier: MIT OR Apache-2.0
-// Sets of whole numbers for C++17 and later, over the calls of range_set.h: of the integer types with 32 or 64 bits.
+// Sets of whole numbers for C++17 and later, over the calls of range_set.h: of the integer types with 32 or 64 bits, of char32_t and
+// wchar_t, and of points in time of std::chrono, which such numbers count. range_map.hpp has maps.
 //
 //     using range_sets::range_set;
 //     const range_set<int64_t> day = {{9, 17}}, busy = {{9, 11}, {12, 15}};
@@ -12,9 +13,10 @@
 // name. What it borrows from has to outlive it. A view of a temporary set doesn't compile, nor do its iterators, but each call
 // takes such a set, and so does a for over its ranges. Where memory is refused std::bad_alloc is thrown, and a set that was to change
 // is as it was. Nothing else is thrown, but by the stream of a <<, and std::out_of_range where a number of another integer type
-// doesn't fit the set's, before the call that it was for. std::format doesn't take sets: gcc 12 and clang 14 don't have it.
+// doesn't fit the set's, before the call that it was for. Without exceptions, as by -fno-exceptions, the program is aborted there.
+// std::format doesn't take sets: gcc 12 and clang 14 don't have it.
 //
-// Several threads may ask one set at a time, and none may change it then; a chunked_range_set only one thread at a time may use.
+// Several threads may ask one set at a time, and none may change it then.
 #ifndef RANGE_SET_HPP
 #define RANGE_SET_HPP
 
@@ -28,6 +30,7 @@
 #include <array>
 #include <cstddef>
 #include <cstdint>
+#include <cstdlib>
 #include <functional>
 #include <initializer_list>
 #include <iterator>
@@ -53,6 +56,8 @@
 
 namespace range_sets {
 
+using ::range_set_status;
+
 template <class T> class range_set;
 template <class T> class range_set_view;
 template <class T> class chunked_range_set;
@@ -72,109 +77,101 @@ template <class T> struct range {
 
 namespace detail {
 
+// Throws an error, or aborts the program where it has no exceptions.
+template <class Error> [[noreturn]] void refuse(const Error &error)
+{
+#ifdef __cpp_exceptions
+    throw error;
+#else
+    static_cast<void>(error);
+    std::abort();
+#endif
+}
+
+inline void see_memory(range_set_status status)
+{
+    if (status == RANGE_SET_NO_MEMORY) refuse(std::bad_alloc());
+}
+
 // The calls of the header for one of its types of numbers.
 template <class T> struct calls_of;
 
+#define RANGE_SET_CALL(number, call) static constexpr auto call = range_set_##number##_##call;
 #define RANGE_SET_CALLS(number, T) \
     template <> struct calls_of<T> { \
         using value = T; \
         using set = range_set_##number; \
         using part = range_set_##number##_range; \
         using buffer = range_set_##number##_buffer; \
-        static constexpr auto view = range_set_##number##_view; \
-        static constexpr auto from_unsorted = range_set_##number##_from_unsorted; \
-        static constexpr auto from_ranges = range_set_##number##_from_ranges; \
-        static constexpr auto from_values = range_set_##number##_from_values; \
-        static constexpr auto contains = range_set_##number##_contains; \
-        static constexpr auto contains_range = range_set_##number##_contains_range; \
-        static constexpr auto intersects_range = range_set_##number##_intersects_range; \
-        static constexpr auto is_empty = range_set_##number##_is_empty; \
-        static constexpr auto is_all = range_set_##number##_is_all; \
-        static constexpr auto range_at = range_set_##number##_range_at; \
-        static constexpr auto range_from = range_set_##number##_range_from; \
-        static constexpr auto next_member = range_set_##number##_next_member; \
-        static constexpr auto next_gap = range_set_##number##_next_gap; \
-        static constexpr auto prev_member = range_set_##number##_prev_member; \
-        static constexpr auto prev_gap = range_set_##number##_prev_gap; \
-        static constexpr auto select = range_set_##number##_select; \
         using members = range_set_##number##_members; \
-        static constexpr auto members_first = range_set_##number##_members_first; \
-        static constexpr auto members_last = range_set_##number##_members_last; \
-        static constexpr auto members_next = range_set_##number##_members_next; \
-        static constexpr auto members_prev = range_set_##number##_members_prev; \
-        static constexpr auto rank = range_set_##number##_rank; \
-        static constexpr auto get = range_set_##number##_get; \
-        static constexpr auto last = range_set_##number##_last; \
-        static constexpr auto ranges_len = range_set_##number##_ranges_len; \
-        static constexpr auto covered = range_set_##number##_covered; \
-        static constexpr auto is_disjoint = range_set_##number##_is_disjoint; \
-        static constexpr auto is_subset = range_set_##number##_is_subset; \
-        static constexpr auto equal = range_set_##number##_equal; \
-        static constexpr auto split = range_set_##number##_split; \
-        static constexpr auto combine = range_set_##number##_combine; \
-        static constexpr auto union_all = range_set_##number##_union_all; \
-        static constexpr auto negation = range_set_##number##_negation; \
-        static constexpr auto gaps = range_set_##number##_gaps; \
-        static constexpr auto first_fit = range_set_##number##_first_fit; \
-        static constexpr auto first_fit_aligned = range_set_##number##_first_fit_aligned; \
-        static constexpr auto first_run = range_set_##number##_first_run; \
-        static constexpr auto print = range_set_##number##_print; \
-        static constexpr auto parse = range_set_##number##_parse; \
-        static constexpr auto insert = range_set_##number##_insert; \
-        static constexpr auto remove = range_set_##number##_remove; \
-        static constexpr auto buffer_of = range_set_##number##_buffer_of; \
         using chunked = range_set_##number##_chunked; \
-        static constexpr auto chunked_new = range_set_##number##_chunked_new; \
-        static constexpr auto chunked_of = range_set_##number##_chunked_of; \
-        static constexpr auto chunked_free = range_set_##number##_chunked_free; \
-        static constexpr auto chunked_insert = range_set_##number##_chunked_insert; \
-        static constexpr auto chunked_insert_from = range_set_##number##_chunked_insert_from; \
-        static constexpr auto chunked_remove = range_set_##number##_chunked_remove; \
-        static constexpr auto chunked_remove_from = range_set_##number##_chunked_remove_from; \
-        static constexpr auto chunked_contains = range_set_##number##_chunked_contains; \
-        static constexpr auto chunked_contains_range = range_set_##number##_chunked_contains_range; \
-        static constexpr auto chunked_intersects_range = range_set_##number##_chunked_intersects_range; \
-        static constexpr auto chunked_is_empty = range_set_##number##_chunked_is_empty; \
-        static constexpr auto chunked_is_all = range_set_##number##_chunked_is_all; \
-        static constexpr auto chunked_range_at = range_set_##number##_chunked_range_at; \
-        static constexpr auto chunked_range_from = range_set_##number##_chunked_range_from; \
-        static constexpr auto chunked_first = range_set_##number##_chunked_first; \
-        static constexpr auto chunked_last = range_set_##number##_chunked_last; \
-        static constexpr auto chunked_prev_member = range_set_##number##_chunked_prev_member; \
-        static constexpr auto chunked_prev_gap = range_set_##number##_chunked_prev_gap; \
-        static constexpr auto chunked_select = range_set_##number##_chunked_select; \
-        static constexpr auto chunked_rank = range_set_##number##_chunked_rank; \
-        static constexpr auto chunked_covered = range_set_##number##_chunked_covered; \
-        static constexpr auto chunked_next_member = range_set_##number##_chunked_next_member; \
-        static constexpr auto chunked_next_gap = range_set_##number##_chunked_next_gap; \
-        static constexpr auto chunked_first_fit = range_set_##number##_chunked_first_fit; \
-        static constexpr auto chunked_first_fit_aligned = range_set_##number##_chunked_first_fit_aligned; \
-        static constexpr auto chunked_first_run = range_set_##number##_chunked_first_run; \
-        static constexpr auto chunked_next_ranges = range_set_##number##_chunked_next_ranges; \
-        static constexpr auto chunked_ranges_len = range_set_##number##_chunked_ranges_len; \
-        static constexpr auto chunked_boundaries_len = range_set_##number##_chunked_boundaries_len; \
-        static constexpr auto chunked_copy = range_set_##number##_chunked_copy; \
+        RANGE_SET_CALL(number, view) RANGE_SET_CALL(number, from_ranges) RANGE_SET_CALL(number, from_values) \
+        RANGE_SET_CALL(number, contains) RANGE_SET_CALL(number, contains_range) RANGE_SET_CALL(number, intersects_range) \
+        RANGE_SET_CALL(number, is_empty) RANGE_SET_CALL(number, is_all) RANGE_SET_CALL(number, range_at) \
+        RANGE_SET_CALL(number, range_from) RANGE_SET_CALL(number, next_member) RANGE_SET_CALL(number, next_gap) \
+        RANGE_SET_CALL(number, prev_member) RANGE_SET_CALL(number, prev_gap) RANGE_SET_CALL(number, select) \
+        RANGE_SET_CALL(number, members_first) RANGE_SET_CALL(number, members_last) RANGE_SET_CALL(number, members_next) \
+        RANGE_SET_CALL(number, members_prev) RANGE_SET_CALL(number, rank) RANGE_SET_CALL(number, get) \
+        RANGE_SET_CALL(number, first) RANGE_SET_CALL(number, last) RANGE_SET_CALL(number, ranges_len) \
+        RANGE_SET_CALL(number, covered) \
+        RANGE_SET_CALL(number, is_disjoint) RANGE_SET_CALL(number, is_subset) RANGE_SET_CALL(number, equal) \
+        RANGE_SET_CALL(number, split) RANGE_SET_CALL(number, combine) RANGE_SET_CALL(number, union_all) \
+        RANGE_SET_CALL(number, negation) RANGE_SET_CALL(number, gaps) RANGE_SET_CALL(number, first_fit) \
+        RANGE_SET_CALL(number, first_fit_aligned) RANGE_SET_CALL(number, first_run) RANGE_SET_CALL(number, print) \
+        RANGE_SET_CALL(number, parse) RANGE_SET_CALL(number, parse_by) RANGE_SET_CALL(number, insert) \
+        RANGE_SET_CALL(number, remove) RANGE_SET_CALL(number, buffer_of) RANGE_SET_CALL(number, chunked_new) RANGE_SET_CALL(number, chunked_of) \
+        RANGE_SET_CALL(number, chunked_free) RANGE_SET_CALL(number, chunked_insert) \
+        RANGE_SET_CALL(number, chunked_insert_from) RANGE_SET_CALL(number, chunked_remove) \
+        RANGE_SET_CALL(number, chunked_remove_from) RANGE_SET_CALL(number, chunked_contains) \
+        RANGE_SET_CALL(number, chunked_contains_range) RANGE_SET_CALL(number, chunked_intersects_range) \
+        RANGE_SET_CALL(number, chunked_is_empty) RANGE_SET_CALL(number, chunked_is_all) \
+        RANGE_SET_CALL(number, chunked_range_at) RANGE_SET_CALL(number, chunked_range_from) \
+        RANGE_SET_CALL(number, chunked_first) RANGE_SET_CALL(number, chunked_last) \
+        RANGE_SET_CALL(number, chunked_prev_member) RANGE_SET_CALL(number, chunked_prev_gap) \
+        RANGE_SET_CALL(number, chunked_select) RANGE_SET_CALL(number, chunked_rank) \
+        RANGE_SET_CALL(number, chunked_covered) RANGE_SET_CALL(number, chunked_next_member) \
+        RANGE_SET_CALL(number, chunked_next_gap) RANGE_SET_CALL(number, chunked_first_fit) \
+        RANGE_SET_CALL(number, chunked_first_fit_aligned) RANGE_SET_CALL(number, chunked_first_run) \
+        RANGE_SET_CALL(number, chunked_next_ranges) RANGE_SET_CALL(number, chunked_overlapping) \
+        RANGE_SET_CALL(number, chunked_ranges_len) RANGE_SET_CALL(number, chunked_boundaries_len) \
+        RANGE_SET_CALL(number, chunked_copy) \
     };
 RANGE_SET_CALLS(i32, std::int32_t)
 RANGE_SET_CALLS(u32, std::uint32_t)
 RANGE_SET_CALLS(i64, std::int64_t)
 RANGE_SET_CALLS(u64, std::uint64_t)
 #undef RANGE_SET_CALLS
+#undef RANGE_SET_CALL
 
 // Whether it is an integer type of 32 or 64 bits. One of them may be another than the header's, as long long is where int64_t is long.
 template <class T>
 constexpr bool is_number = (std::is_same_v<T, int> || std::is_same_v<T, unsigned> || std::is_same_v<T, long> || std::is_same_v<T, unsigned long>
-                            || std::is_same_v<T, long long> || std::is_same_v<T, unsigned long long>) && (sizeof(T) == 4 || sizeof(T) == 8);
+                            || std::is_same_v<T, long long> || std::is_same_v<T, unsigned long long> || std::is_same_v<T, char32_t>
+                            || std::is_same_v<T, wchar_t>) && (sizeof(T) == 4 || sizeof(T) == 8);
 
 // The header's type of the same width and sign.
 template <class T>
 using number_of = std::conditional_t<sizeof(T) == 4, std::conditional_t<std::is_signed_v<T>, std::int32_t, std::uint32_t>,
                                      std::conditional_t<std::is_signed_v<T>, std::int64_t, std::uint64_t>>;
 
-// The calls for an integer type.
-template <class T> struct calls : calls_of<number_of<T>> {
-    static_assert(is_number<T>, "there are sets of integers of 32 and of 64 bits");
+// How an element is kept as a number: an integer as it is, and a point in time of std::chrono as its count.
+template <class T, class = void> struct element {
+    static_assert(is_number<T>, "there are sets of integers of 32 and of 64 bits, and of points in time");
+    using number = number_of<T>;
+    static constexpr number in(T it) noexcept { return static_cast<number>(it); }
+    static constexpr T out(number it) noexcept { return static_cast<T>(it); }
 };
+
+template <class T> struct element<T, std::void_t<typename T::clock, typename T::duration>> {
+    using count = typename T::rep;
+    static_assert(is_number<count>, "points in time are counted by integers of 32 or of 64 bits");
+    using number = number_of<count>;
+    static constexpr number in(T it) noexcept { return static_cast<number>(it.time_since_epoch().count()); }
+    static constexpr T out(number it) noexcept { return T(typename T::duration(static_cast<count>(it))); }
+};
+
+// The calls for a type of elements.
+template <class T> struct calls : calls_of<typename element<T>::number> {};
 
 // The number as one of the type. An integer of another type is refused where it doesn't fit.
 template <class T, class Number> constexpr T fitting(const Number &number)
@@ -182,7 +179,7 @@ template <class T, class Number> constexpr T fitting(const Number &number)
     if constexpr (std::is_integral_v<Number> && !std::is_same_v<Number, T>) {
         const T it = static_cast<T>(number);
         if (static_cast<Number>(it) == number && (it < T()) == (number < Number())) return it;
-        throw std::out_of_range("range_set: a number doesn't fit the type");
+        refuse(std::out_of_range("range_set: a number doesn't fit the type"));
     } else {
         return number;
     }
@@ -193,19 +190,48 @@ template <class T, class Number>
 constexpr bool always_fits = std::is_integral_v<Number> && std::numeric_limits<Number>::digits <= std::numeric_limits<T>::digits
                              && (std::is_signed_v<T> || !std::is_signed_v<Number>);
 
-// A number that a call takes. One of another type of integers is refused where it doesn't fit.
+// An element that a call takes. An integer of another type is refused where it doesn't fit.
 template <class T> struct integer {
     template <class Number, class = std::enable_if_t<std::is_convertible_v<const Number &, T> && !std::is_floating_point_v<Number>>>
     integer(const Number &number) noexcept(always_fits<T, Number>) : value(fitting<T>(number))
     {
     }
     operator T() const noexcept { return value; }
+    // Of a point in time its count.
+    template <class Number, class = std::enable_if_t<!std::is_integral_v<T> && std::is_same_v<Number, typename element<T>::number>>>
+    operator Number() const noexcept
+    {
+        return element<T>::in(value);
+    }
 
     T value;
 };
 
-// How many numbers a call takes.
-template <class T> using amount = integer<std::make_unsigned_t<T>>;
+// How many elements a call takes: of points in time, how long.
+template <class T, class = void> struct amount : integer<std::make_unsigned_t<T>> {
+    using integer<std::make_unsigned_t<T>>::integer;
+};
+template <class T> struct amount<T, std::void_t<typename T::clock, typename T::duration>> : integer<std::make_unsigned_t<typename T::rep>> {
+    template <class Length, class = std::enable_if_t<std::is_convertible_v<const Length &, typename T::duration>>>
+    amount(const Length &length) : integer<std::make_unsigned_t<typename T::rep>>(typename T::duration(length).count())
+    {
+    }
+};
+
+// What a call of the header writes of a set, if it finds that: an element or a range.
+template <class T, class Call, class Set, class... Numbers> std::optional<T> found(Call call, Set set, Numbers... numbers) noexcept
+{
+    typename calls<T>::value at = 0;
+    if (!call(set, numbers..., &at)) return std::nullopt;
+    return element<T>::out(at);
+}
+template <class T, class Call, class Set, class... Numbers>
+std::optional<range<T>> found_range(Call call, Set set, Numbers... numbers) noexcept
+{
+    typename calls<T>::part part = {};
+    if (!call(set, numbers..., &part)) return std::nullopt;
+    return range<T>{element<T>::out(part.start), element<T>::out(part.end), part.has_end};
+}
 
 // A start and an end in braces, or in a pair.
 template <class T> struct ends {
@@ -217,6 +243,16 @@ template <class T> struct ends {
 
     T first;
     T second;
+};
+
+// What `->` of an iterator answers that makes what it leads to.
+template <class Item> class arrow {
+public:
+    explicit arrow(const Item &it) noexcept : it_(it) {}
+    const Item *operator->() const noexcept { return &it_; }
+
+private:
+    Item it_;
 };
 
 // What an iterator leads to, and the iterator that a range begins with.
@@ -277,10 +313,6 @@ private:
     static range_set<T> combined(operand<T> a, operand<T> b, unsigned keep) { return range_set<T>::combine(a, b, keep); }
 };
 
-} // namespace detail
-
-namespace detail {
-
 // The members of a set, from the lowest on and from the highest down, until the set changes.
 template <class T> class members {
     using calls = detail::calls<T>;
@@ -299,7 +331,7 @@ public:
         iterator() noexcept = default;
         explicit iterator(place at) noexcept : at_(at) {}
 
-        reference operator*() const noexcept { return static_cast<T>(at_.value); }
+        reference operator*() const noexcept { return element<T>::out(at_.value); }
         iterator &operator++() noexcept
         {
             calls::members_next(&at_);
@@ -350,10 +382,110 @@ private:
     typename calls::set set_;
 };
 
+// What both kinds of sets answer.
+template <class T, class Set> class questions {
+    using calls = detail::calls<T>;
+    using number = typename calls::value;
+    using integer = detail::integer<T>;
+    using amount = detail::amount<T>;
+
+public:
+    bool contains(integer value) const noexcept { return calls::contains(list(), value); }
+    bool contains_range(integer start, integer end) const noexcept { return calls::contains_range(list(), start, end); }
+    bool intersects_range(integer start, integer end) const noexcept { return calls::intersects_range(list(), start, end); }
+    bool empty() const noexcept { return calls::is_empty(list()); }
+    bool is_all() const noexcept { return calls::is_all(list()); }
+    bool is_disjoint(operand<T> other) const noexcept { return calls::is_disjoint(list(), other.set); }
+    bool intersects(operand<T> other) const noexcept { return !is_disjoint(other); }
+    bool is_subset(operand<T> other) const noexcept { return calls::is_subset(list(), other.set); }
+    bool is_superset(operand<T> other) const noexcept { return calls::is_subset(other.set, list()); }
+
+    // Below 0 where this set comes first, above 0 where the other does, and 0 where they are equal. The first boundaries
+    // that differ decide, and where there are none, the fewer boundaries. Compares at most the boundaries of the shorter set.
+    int compare(operand<T> other) const noexcept
+    {
+        const auto set = list(), with = other.set;
+        const number *const end = set.boundaries + set.len, *const other_end = with.boundaries + with.len;
+        const auto [it, that] = std::mismatch(set.boundaries, end, with.boundaries, other_end);
+        if (it == end || that == other_end) return static_cast<int>(it != end) - static_cast<int>(that != other_end);
+        return *it < *that ? -1 : 1;
+    }
+
+    // How many numbers are members, or nothing where the set has no end. Points in time are counted by their ticks, also by `rank`.
+    std::optional<std::uint64_t> covered() const noexcept { return found<std::uint64_t>(calls::covered, list()); }
+    // The range that holds the number, or nothing where it is no member.
+    std::optional<range<T>> range_at(integer value) const noexcept { return found_range<T>(calls::range_at, list(), value); }
+    // The range that holds the number, or else the next one above it, or nothing.
+    std::optional<range<T>> range_from(integer value) const noexcept { return found_range<T>(calls::range_from, list(), value); }
+    std::optional<range<T>> first() const noexcept { return found_range<T>(calls::first, list()); }
+    std::optional<range<T>> last() const noexcept { return found_range<T>(calls::last, list()); }
+
+    // How many ranges there are.
+    std::size_t size() const noexcept { return calls::ranges_len(list()); }
+
+    // The numbers from `start` to below `end` that are no members, those that are, and all that are none. The first two pass over
+    // the rest of the set by a search, as `week - busy` and `week & busy` do of a week.
+    range_set<T> gaps(integer start, integer end) const
+    {
+        return range_set<T>::written(
+            list().len + 2, [&](number *out, std::size_t room, auto *gaps) { return calls::gaps(list(), start, end, out, room, gaps); });
+    }
+    range_set<T> ranges_within(integer start, integer end) const
+    {
+        const T window[] = {start, end};
+        return range_set<T>::combine(range_set_view<T>(list()), range_set_view<T>::of(window, 2).value_or(range_set_view<T>()), RANGE_SET_INTERSECTION);
+    }
+    range_set<T> negation() const
+    {
+        return range_set<T>::written(
+            list().len + 1, [&](number *out, std::size_t room, auto *others) { return calls::negation(list(), out, room, others); });
+    }
+
+    // The least number at or above `from` that is a member, that isn't one, or nothing.
+    std::optional<T> next_member(integer from) const noexcept { return found<T>(calls::next_member, list(), from); }
+    std::optional<T> next_gap(integer from) const noexcept { return found<T>(calls::next_gap, list(), from); }
+    // The greatest number at or below `from` that is a member, that isn't one, or nothing.
+    std::optional<T> prev_member(integer from) const noexcept { return found<T>(calls::prev_member, list(), from); }
+    std::optional<T> prev_gap(integer from) const noexcept { return found<T>(calls::prev_gap, list(), from); }
+    // How many members are below a number.
+    std::uint64_t rank(integer at) const noexcept { return calls::rank(list(), at); }
+    // The member with `k` others below it, or nothing.
+    std::optional<T> select(detail::integer<std::uint64_t> k) const noexcept { return found<T>(calls::select, list(), k); }
+
+    // The least number from which on `count` numbers lie in `start` to below `end` and none is a member, or nothing.
+    std::optional<T> first_fit(integer start, integer end, amount count) const noexcept
+    {
+        return found<T>(calls::first_fit, list(), start, end, count);
+    }
+    // The same, but only where the first is a multiple of `align`, above 0 or below.
+    std::optional<T> first_fit_aligned(integer start, integer end, amount count, amount align) const noexcept
+    {
+        return found<T>(calls::first_fit_aligned, list(), start, end, count, align);
+    }
+    // The least number from which on `count` members in a row lie in `start` to below `end`, or nothing.
+    std::optional<T> first_run(integer start, integer end, amount count) const noexcept
+    {
+        return found<T>(calls::first_run, list(), start, end, count);
+    }
+
+    // The ranges as a text, "0..10, 20..".
+    std::string text() const
+    {
+        std::size_t len = 0;
+        static_cast<void>(calls::print(list(), nullptr, 0, &len));
+        std::string text(len, ' ');
+        static_cast<void>(calls::print(list(), text.data(), len, &len));
+        return text;
+    }
+
+private:
+    typename calls::set list() const noexcept { return operand<T>(static_cast<const Set &>(*this)).set; }
+};
+
 } // namespace detail
 
 // A set that is borrowed.
-template <class T> class range_set_view : detail::operators<T> {
+template <class T> class range_set_view : detail::operators<T>, public detail::questions<T, range_set_view<T>> {
     using calls = detail::calls<T>;
     using number = typename calls::value;
     using integer = detail::integer<T>;
@@ -372,24 +504,14 @@ public:
         using value_type = range<T>;
         using difference_type = std::ptrdiff_t;
         using reference = range<T>;
-        // What `->` answers: it holds the range that it leads to.
-        class pointer {
-        public:
-            explicit pointer(const range<T> &it) noexcept : it_(it) {}
-            const range<T> *operator->() const noexcept { return &it_; }
-
-        private:
-            range<T> it_;
-        };
+        using pointer = detail::arrow<range<T>>;
 
         iterator() noexcept = default;
         iterator(typename calls::set set, std::size_t index) noexcept : set_(set), index_(index) {}
 
         reference operator*() const noexcept
         {
-            typename calls::part part = {};
-            calls::get(set_, index_, &part);
-            return {part.start, part.end, part.has_end};
+            return detail::found_range<T>(calls::get, set_, index_).value_or(range<T>());
         }
         pointer operator->() const noexcept { return pointer(**this); }
         reference operator[](difference_type by) const noexcept { return *(*this + by); }
@@ -442,66 +564,10 @@ public:
         return range_set_view(set);
     }
 
-    bool contains(integer value) const noexcept { return calls::contains(set_, value); }
-    bool contains_range(integer start, integer end) const noexcept { return calls::contains_range(set_, start, end); }
-    bool intersects_range(integer start, integer end) const noexcept { return calls::intersects_range(set_, start, end); }
-    bool empty() const noexcept { return calls::is_empty(set_); }
-    bool is_all() const noexcept { return calls::is_all(set_); }
-    bool is_disjoint(detail::operand<T> other) const noexcept { return calls::is_disjoint(set_, other.set); }
-    bool intersects(detail::operand<T> other) const noexcept { return !is_disjoint(other); }
-    bool is_subset(detail::operand<T> other) const noexcept { return calls::is_subset(set_, other.set); }
-    bool is_superset(detail::operand<T> other) const noexcept { return calls::is_subset(other.set, set_); }
-
-    // Below 0 where this set comes first, above 0 where the other does, and 0 where they are equal. The first boundaries
-    // that differ decide, and where there are none, the fewer boundaries. Compares at most the boundaries of the shorter set.
-    int compare(detail::operand<T> other) const noexcept
-    {
-        const number *const end = set_.boundaries + set_.len, *const other_end = other.set.boundaries + other.set.len;
-        const auto [it, that] = std::mismatch(set_.boundaries, end, other.set.boundaries, other_end);
-        if (it == end || that == other_end) return static_cast<int>(it != end) - static_cast<int>(that != other_end);
-        return *it < *that ? -1 : 1;
-    }
-
-    // How many numbers are members, or nothing where the set has no end.
-    std::optional<std::uint64_t> covered() const noexcept
-    {
-        std::uint64_t count = 0;
-        if (!calls::covered(set_, &count)) return std::nullopt;
-        return count;
-    }
-    // The range that holds the number, or nothing where it is no member.
-    std::optional<range<T>> range_at(integer value) const noexcept
-    {
-        typename calls::part part = {};
-        return told(calls::range_at(set_, value, &part), part);
-    }
-    // The range that holds the number, or else the next one above it, or nothing.
-    std::optional<range<T>> range_from(integer value) const noexcept
-    {
-        typename calls::part part = {};
-        return told(calls::range_from(set_, value, &part), part);
-    }
-    std::optional<range<T>> first() const noexcept
-    {
-        typename calls::part part = {};
-        return told(calls::get(set_, 0, &part), part);
-    }
-    std::optional<range<T>> last() const noexcept
-    {
-        typename calls::part part = {};
-        return told(calls::last(set_, &part), part);
-    }
-
-    // The ranges, and how many there are.
+    // The ranges, and the members one by one.
     iterator begin() const noexcept { return iterator(set_, 0); }
-    iterator end() const noexcept { return iterator(set_, size()); }
-    std::size_t size() const noexcept { return calls::ranges_len(set_); }
-
-    // The numbers from `start` to below `end` that are no members, those that are, and all that are none. The first two pass over
-    // the rest of the set by a search, as `week - busy` and `week & busy` do of a week.
-    range_set<T> gaps(integer start, integer end) const;
-    range_set<T> ranges_within(integer start, integer end) const;
-    range_set<T> negation() const;
+    iterator end() const noexcept { return iterator(set_, this->size()); }
+    detail::members<T> members() const noexcept { return detail::members<T>(set_); }
 
     // Two parts of the set's own list: one has its members below `at`, and one those from `at` on. A range that goes over `at` has no
     // end in the first, and its start in the second.
@@ -512,92 +578,19 @@ public:
         return {range_set_view(below), range_set_view(from)};
     }
 
-    // The least number at or above `from` that is a member, that isn't one, or nothing.
-    std::optional<T> next_member(integer from) const noexcept
-    {
-        number next = 0;
-        return told(calls::next_member(set_, from, &next), next);
-    }
-    std::optional<T> next_gap(integer from) const noexcept
-    {
-        number next = 0;
-        return told(calls::next_gap(set_, from, &next), next);
-    }
-    // The greatest number at or below `from` that is a member, that isn't one, or nothing.
-    std::optional<T> prev_member(integer from) const noexcept
-    {
-        number previous = 0;
-        return told(calls::prev_member(set_, from, &previous), previous);
-    }
-    std::optional<T> prev_gap(integer from) const noexcept
-    {
-        number previous = 0;
-        return told(calls::prev_gap(set_, from, &previous), previous);
-    }
-    // The members one by one, and how many are below a number.
-    detail::members<T> members() const noexcept { return detail::members<T>(set_); }
-    std::uint64_t rank(integer at) const noexcept { return calls::rank(set_, at); }
-    // The member with `k` others below it, or nothing.
-    std::optional<T> select(detail::integer<std::uint64_t> k) const noexcept
-    {
-        number at = 0;
-        return told(calls::select(set_, k, &at), at);
-    }
-
-    // The least number from which on `count` numbers lie in `start` to below `end` and none is a member, or nothing.
-    std::optional<T> first_fit(integer start, integer end, amount count) const noexcept
-    {
-        number first = start;
-        return told(calls::first_fit(set_, start, end, count, &first), first);
-    }
-    // The same, but only where as many numbers of the type are below the first as a multiple of `align`: the first itself is one
-    // where the type has no sign or `align` is a power of two. For quarters of an hour in seconds take an unsigned type.
-    std::optional<T> first_fit_aligned(integer start, integer end, amount count, amount align) const noexcept
-    {
-        number first = start;
-        return told(calls::first_fit_aligned(set_, start, end, count, align, &first), first);
-    }
-    // The least number from which on `count` members in a row lie in `start` to below `end`, or nothing.
-    std::optional<T> first_run(integer start, integer end, amount count) const noexcept
-    {
-        number first = start;
-        return told(calls::first_run(set_, start, end, count, &first), first);
-    }
-
-    // The ranges as a text, "0..10, 20..".
-    std::string text() const
-    {
-        std::size_t len = 0;
-        static_cast<void>(calls::print(set_, nullptr, 0, &len));
-        std::string text(len, ' ');
-        static_cast<void>(calls::print(set_, text.data(), len, &len));
-        return text;
-    }
-
     // The set of range_set.h, which is borrowed too.
     typename calls::set set() const noexcept { return set_; }
 
 private:
-    static std::optional<range<T>> told(bool found, const typename calls::part &part) noexcept
-    {
-        if (!found) return std::nullopt;
-        return range<T>{part.start, part.end, part.has_end};
-    }
-    static std::optional<T> told(bool found, const number &it) noexcept
-    {
-        if (!found) return std::nullopt;
-        return static_cast<T>(it);
-    }
-
     typename calls::set set_ = {nullptr, 0};
 };
 
 // A set that owns its boundaries.
-template <class T> class range_set : detail::operators<T> {
+template <class T> class range_set : detail::operators<T>, public detail::questions<T, range_set<T>> {
     using calls = detail::calls<T>;
     using number = typename calls::value;
+    using element = detail::element<T>;
     using integer = detail::integer<T>;
-    using amount = detail::amount<T>;
 
 public:
     using value_type = range<T>;
@@ -630,11 +623,11 @@ public:
             const auto &it = *first;
             if constexpr (std::is_same_v<detail::item_of<Iterator>, range<T>>) {
                 if (!it.has_end) open = open ? std::min(*open, it.start) : it.start;
-                *next++ = it.start;
-                *next++ = it.has_end ? it.end : it.start;
+                *next++ = element::in(it.start);
+                *next++ = element::in(it.has_end ? it.end : it.start);
             } else {
-                *next++ = detail::fitting<T>(it.first);
-                *next++ = detail::fitting<T>(it.second);
+                *next++ = element::in(detail::fitting<T>(it.first));
+                *next++ = element::in(detail::fitting<T>(it.second));
             }
         }
         const auto read = static_cast<std::size_t>(next - items.get()) / 2;
@@ -686,21 +679,25 @@ public:
     {
         const auto count = static_cast<std::size_t>(std::distance(values.begin(), values.end()));
         const auto items = room_for(count);
-        std::transform(values.begin(), values.end(), items.get(), [](const auto &it) { return detail::fitting<T>(it); });
+        std::transform(values.begin(), values.end(), items.get(), [](const auto &it) { return element::in(detail::fitting<T>(it)); });
         return written(2 * count, [&](number *out, std::size_t room, auto *set) { return calls::from_values(items.get(), count, out, room, set); });
     }
     static range_set from_values(std::initializer_list<T> values) { return from_values<std::initializer_list<T>>(values); }
     // The set of a text of ranges, "0..10, 20..", or nothing where it isn't one or a number doesn't fit the type. `fault`, where it
-    // isn't null, is then the byte at which the text stops being one of ranges; of a number that doesn't fit it is as it was.
+    // isn't null, is then the byte at which the text stops being one of ranges, or at which the range with that number begins.
     // `status`, where it isn't null, says which: RANGE_SET_MALFORMED, RANGE_SET_OUT_OF_RANGE, or of a set RANGE_SET_DONE.
     static std::optional<range_set> parse(std::string_view text, std::size_t *fault = nullptr, range_set_status *status = nullptr)
     {
-        typename calls::set set = {};
-        const auto told = calls::parse(text.data(), text.size(), nullptr, 0, &set, fault);
-        const bool is_bad = told == RANGE_SET_MALFORMED || told == RANGE_SET_OUT_OF_RANGE;
-        if (status != nullptr) *status = is_bad ? told : RANGE_SET_DONE;
-        if (is_bad) return std::nullopt;
-        return written(set.len, [&](number *out, std::size_t room, auto *result) { return calls::parse(text.data(), text.size(), out, room, result, fault); });
+        return read(status, [&](number *out, std::size_t room, auto *set) { return calls::parse(text.data(), text.size(), out, room, set, fault); });
+    }
+    // The same with another byte in place of the comma, and with numbers alone: "0..10\n15\n" by '\n'. Of a byte that no text has there
+    // the status is RANGE_SET_BAD_ARGUMENT.
+    static std::optional<range_set> parse(
+        std::string_view text, char separator, std::size_t *fault = nullptr, range_set_status *status = nullptr)
+    {
+        return read(status, [&](number *out, std::size_t room, auto *set) {
+            return calls::parse_by(text.data(), text.size(), separator, out, room, set, fault);
+        });
     }
     // The numbers that `keep` names of two sets, as RANGE_SET_LEFT | RANGE_SET_BOTH.
     static range_set combine(detail::operand<T> a, detail::operand<T> b, unsigned keep)
@@ -721,46 +718,14 @@ public:
     range_set_view<T> view() const & noexcept { return range_set_view<T>(in_.set); }
     range_set_view<T> view() const && = delete;
 
-    bool contains(integer value) const noexcept { return view().contains(value); }
-    bool contains_range(integer start, integer end) const noexcept { return view().contains_range(start, end); }
-    bool intersects_range(integer start, integer end) const noexcept { return view().intersects_range(start, end); }
-    bool empty() const noexcept { return view().empty(); }
-    bool is_all() const noexcept { return view().is_all(); }
-    bool is_disjoint(detail::operand<T> other) const noexcept { return view().is_disjoint(other); }
-    bool intersects(detail::operand<T> other) const noexcept { return view().intersects(other); }
-    bool is_subset(detail::operand<T> other) const noexcept { return view().is_subset(other); }
-    bool is_superset(detail::operand<T> other) const noexcept { return view().is_superset(other); }
-    int compare(detail::operand<T> other) const noexcept { return view().compare(other); }
-    std::optional<std::uint64_t> covered() const noexcept { return view().covered(); }
-    std::optional<range<T>> range_at(integer value) const noexcept { return view().range_at(value); }
-    std::optional<range<T>> range_from(integer value) const noexcept { return view().range_from(value); }
-    std::optional<T> next_member(integer from) const noexcept { return view().next_member(from); }
-    std::optional<T> next_gap(integer from) const noexcept { return view().next_gap(from); }
-    std::optional<T> prev_member(integer from) const noexcept { return view().prev_member(from); }
-    std::optional<T> prev_gap(integer from) const noexcept { return view().prev_gap(from); }
-    detail::members<T> members() const & noexcept { return view().members(); }
-    detail::members<T> members() const && = delete;
-    std::uint64_t rank(integer at) const noexcept { return view().rank(at); }
-    std::optional<T> select(detail::integer<std::uint64_t> k) const noexcept { return view().select(k); }
-    std::optional<range<T>> first() const noexcept { return view().first(); }
-    std::optional<range<T>> last() const noexcept { return view().last(); }
     iterator begin() const & noexcept { return view().begin(); }
     iterator begin() const && = delete;
     iterator end() const & noexcept { return view().end(); }
     iterator end() const && = delete;
-    std::size_t size() const noexcept { return view().size(); }
-    std::optional<T> first_fit(integer start, integer end, amount count) const noexcept { return view().first_fit(start, end, count); }
-    std::optional<T> first_fit_aligned(integer start, integer end, amount count, amount align) const noexcept
-    {
-        return view().first_fit_aligned(start, end, count, align);
-    }
-    std::optional<T> first_run(integer start, integer end, amount count) const noexcept { return view().first_run(start, end, count); }
-    std::string text() const { return view().text(); }
-    range_set gaps(integer start, integer end) const { return view().gaps(start, end); }
-    range_set ranges_within(integer start, integer end) const { return view().ranges_within(start, end); }
+    detail::members<T> members() const & noexcept { return view().members(); }
+    detail::members<T> members() const && = delete;
     std::pair<range_set_view<T>, range_set_view<T>> split(integer at) const & noexcept { return view().split(at); }
     std::pair<range_set_view<T>, range_set_view<T>> split(integer at) const && = delete;
-    range_set negation() const { return view().negation(); }
 
     // Puts the numbers from `start` to below `end` in, takes them out, where the set lies.
     range_set &insert(integer start, integer end) { return change(calls::insert, start, end); }
@@ -774,7 +739,7 @@ public:
     // Takes all numbers out, and keeps the room for them.
     void clear() noexcept { in_.set.len = 0; }
 
-    // For how many ranges there is room; sees that there is room for so many, until which `insert` and `remove` take no memory.
+    // How many ranges there is room for; makes room for `ranges`. Up to as many `insert` and `remove` take no memory.
     std::size_t capacity() const noexcept { return in_.room / 2; }
     void reserve(std::size_t ranges)
     {
@@ -782,25 +747,23 @@ public:
         const std::size_t room = ranges > most / 2 ? most : 2 * ranges;
         if (room > in_.room) move_to(room_for(room), room);
     }
-    // Gives back the room that the set doesn't need, if there is memory for the shorter buffer. Operators, and what makes a set, do
-    // so where it needs less than half.
+    // Gives back the room that the set doesn't need, if there is memory for the shorter buffer. Operators into a new set, and what
+    // makes a set, do so where it needs less than half.
     void shrink_to_fit() noexcept
     {
         if (in_.set.len == in_.room) return;
-        try {
-            move_to(room_for(in_.set.len), in_.set.len);
-        } catch (const std::bad_alloc &) {
-            // It is as it was.
-        }
+        array less(in_.set.len > 0 ? new (std::nothrow) number[in_.set.len] : nullptr);
+        if (less != nullptr || in_.set.len == 0) move_to(std::move(less), in_.set.len);
     }
 
-    range_set &operator|=(detail::operand<T> other) { return *this = combine(*this, other, RANGE_SET_UNION); }
-    range_set &operator&=(detail::operand<T> other) { return *this = combine(*this, other, RANGE_SET_INTERSECTION); }
-    range_set &operator-=(detail::operand<T> other) { return *this = combine(*this, other, RANGE_SET_DIFFERENCE); }
-    range_set &operator^=(detail::operand<T> other) { return *this = combine(*this, other, RANGE_SET_SYMMETRIC_DIFFERENCE); }
+    // They keep the set's room.
+    range_set &operator|=(detail::operand<T> other) { return become(combine(*this, other, RANGE_SET_UNION)); }
+    range_set &operator&=(detail::operand<T> other) { return become(combine(*this, other, RANGE_SET_INTERSECTION)); }
+    range_set &operator-=(detail::operand<T> other) { return become(combine(*this, other, RANGE_SET_DIFFERENCE)); }
+    range_set &operator^=(detail::operand<T> other) { return become(combine(*this, other, RANGE_SET_SYMMETRIC_DIFFERENCE)); }
 
 private:
-    friend class range_set_view<T>;
+    template <class, class> friend class detail::questions;
     friend class chunked_range_set<T>;
 
     using array = std::unique_ptr<number[]>;
@@ -824,7 +787,7 @@ private:
         if (room > least_room && room > 2 * len) shrink_to_fit();
     }
 
-    // What a call writes into a new buffer with room for so many boundaries, which is enough.
+    // What a call writes into a new buffer of `room` boundaries, which is enough.
     template <class Call> static range_set written(std::size_t room, Call call)
     {
         auto items = room_for(room);
@@ -834,6 +797,16 @@ private:
         return result;
     }
 
+    // What a call reads of a text, or nothing where it refuses that. Before it reads it says how much room it needs.
+    template <class Call> static std::optional<range_set> read(range_set_status *status, Call call)
+    {
+        typename calls::set set = {};
+        const auto answer = call(nullptr, 0, &set);
+        const bool is_read = answer == RANGE_SET_DONE || answer == RANGE_SET_NO_ROOM;
+        if (status != nullptr) *status = is_read ? RANGE_SET_DONE : answer;
+        return is_read ? std::optional(written(set.len, call)) : std::nullopt;
+    }
+
     // Moves to another buffer.
     void move_to(array more, std::size_t room) noexcept
     {
@@ -841,7 +814,16 @@ private:
         adopt(std::move(more), room, in_.set.len);
     }
 
-    template <class Call> range_set &change(Call call, T start, T end)
+    // Takes another set's boundaries, and where there is no room for them its buffer.
+    range_set &become(range_set &&made) noexcept
+    {
+        if (made.in_.set.len > in_.room) return *this = std::move(made);
+        std::copy_n(made.in_.set.boundaries, made.in_.set.len, items_.get());
+        in_.set.len = made.in_.set.len;
+        return *this;
+    }
+
+    template <class Call> range_set &change(Call call, number start, number end)
     {
         if (call(&in_, start, end) != RANGE_SET_NO_ROOM) return *this;
         const std::size_t room = std::max(least_room, 2 * in_.needed);
@@ -854,27 +836,12 @@ private:
     typename calls::buffer in_ = calls::buffer_of(nullptr, 0);
 };
 
-template <class T> range_set<T> range_set_view<T>::gaps(integer start, integer end) const
-{
-    return range_set<T>::written(set_.len + 2, [&](number *out, std::size_t room, auto *set) { return calls::gaps(set_, start, end, out, room, set); });
-}
-
-template <class T> range_set<T> range_set_view<T>::ranges_within(integer start, integer end) const
-{
-    const T window[] = {start, end};
-    return *this & range_set_view::of(window, 2).value_or(range_set_view());
-}
-
-template <class T> range_set<T> range_set_view<T>::negation() const
-{
-    return range_set<T>::written(set_.len + 1, [&](number *out, std::size_t room, auto *set) { return calls::negation(set_, out, room, set); });
-}
-
 // A set that is changed range by range, and may grow to millions of ranges: a change takes about as long in a large set as in a
-// small one. Only one call at a time may use a set.
+// small one. Threads may share a set that none changes, and make calls of it that are const.
 template <class T> class chunked_range_set {
     using calls = detail::calls<T>;
     using number = typename calls::value;
+    using element = detail::element<T>;
     using integer = detail::integer<T>;
     using amount = detail::amount<T>;
 
@@ -891,7 +858,7 @@ public:
         using reference = const range<T> &;
 
         iterator() noexcept = default;
-        iterator(typename calls::chunked set, T from) noexcept : set_(set)
+        iterator(typename calls::chunked set, number from) noexcept : set_(set)
         {
             read(from);
             show();
@@ -902,7 +869,7 @@ public:
         iterator &operator++() noexcept
         {
             at_ += 2;
-            if (at_ == room && it_.has_end) read(it_.end);
+            if (at_ == room && it_.has_end) read(element::in(it_.end));
             show();
             return *this;
         }
@@ -921,11 +888,11 @@ public:
         friend bool operator!=(const iterator &a, const iterator &b) noexcept { return !(a == b); }
 
     private:
-        // The numbers of sixteen ranges.
-        static constexpr std::size_t room = 32;
+        // The numbers of thirty-two ranges.
+        static constexpr std::size_t room = 64;
 
         bool is_there() const noexcept { return at_ < len_; }
-        void read(T from) noexcept
+        void read(number from) noexcept
         {
             typename calls::set some = {};
             static_cast<void>(calls::chunked_next_ranges(set_, from, some_.data(), room, &some));
@@ -936,9 +903,9 @@ public:
         void show() noexcept
         {
             if (!is_there()) return;
-            it_.start = static_cast<T>(some_[at_]);
+            it_.start = element::out(some_[at_]);
             it_.has_end = at_ + 1 < len_;
-            if (it_.has_end) it_.end = static_cast<T>(some_[at_ + 1]);
+            if (it_.has_end) it_.end = element::out(some_[at_ + 1]);
         }
 
         typename calls::chunked set_ = {};
@@ -948,10 +915,71 @@ public:
     };
     using const_iterator = iterator;
 
+    // Goes over the members, until the set changes.
+    class members_iterator {
+    public:
+        using iterator_category = std::input_iterator_tag;
+        using value_type = T;
+        using difference_type = std::ptrdiff_t;
+        using pointer = void;
+        using reference = T;
+
+        members_iterator() noexcept = default;
+        explicit members_iterator(const iterator &it) noexcept : it_(it), at_(element::in(it->start)) {}
+
+        T operator*() const noexcept { return element::out(at_); }
+        members_iterator &operator++() noexcept
+        {
+            const number last = it_->has_end ? element::in(it_->end) - 1 : std::numeric_limits<number>::max();
+            at_ = at_ != last ? at_ + 1 : element::in((++it_)->start);
+            return *this;
+        }
+        members_iterator operator++(int) noexcept
+        {
+            const members_iterator before = *this;
+            ++*this;
+            return before;
+        }
+
+        // Of two iterators of one set.
+        friend bool operator==(const members_iterator &a, const members_iterator &b) noexcept
+        {
+            return a.it_ == b.it_ && (a.it_ == iterator() || a.at_ == b.at_);
+        }
+        friend bool operator!=(const members_iterator &a, const members_iterator &b) noexcept { return !(a == b); }
+
+    private:
+        iterator it_;
+        number at_ = {};
+    };
+
+    // A set of any kind that an operator takes, as a list.
+    class listed {
+    public:
+        listed(const chunked_range_set &from) : owned_(from.set()), set(owned_.view().set()) {}
+        listed(const range_set<T> &from) noexcept : set(from.view().set()) {}
+        listed(range_set_view<T> from) noexcept : set(from.set()) {}
+        listed(const listed &) = delete;
+        listed &operator=(const listed &) = delete;
+
+    private:
+        range_set<T> owned_;
+
+    public:
+        const typename calls::set set;
+    };
+
     // The set without a member. It takes no memory.
     chunked_range_set() noexcept = default;
     // A copy of a set.
-    explicit chunked_range_set(detail::operand<T> from) { made(calls::chunked_of(from.set, &set_)); }
+    explicit chunked_range_set(detail::operand<T> from) { detail::see_memory(calls::chunked_of(from.set, &set_)); }
+    // The numbers in some of these ranges, as a range_set is made of them.
+    chunked_range_set(std::initializer_list<detail::ends<T>> ranges) : chunked_range_set(range_set<T>(ranges)) {}
+    template <class Ranges, class = std::enable_if_t<!detail::is_set<T, Ranges>>, class Iterator = detail::iterator_over<Ranges>,
+              class = std::enable_if_t<detail::is_range<T, detail::item_of<Iterator>> && detail::is_multipass<Iterator>>>
+    explicit chunked_range_set(Ranges &&ranges) : chunked_range_set(range_set<T>(std::forward<Ranges>(ranges)))
+    {
+    }
     chunked_range_set(const chunked_range_set &other) : chunked_range_set(other.set()) {}
     chunked_range_set(chunked_range_set &&other) noexcept { swap(other); }
     chunked_range_set &operator=(chunked_range_set other) noexcept
@@ -980,53 +1008,80 @@ public:
     bool empty() const noexcept { return calls::chunked_is_empty(set_); }
     bool is_all() const noexcept { return calls::chunked_is_all(set_); }
     // The range that holds a number, that or else the next one above it, the first and the last range, or nothing.
-    std::optional<range<T>> range_at(integer value) const noexcept { return one(calls::chunked_range_at, value); }
-    std::optional<range<T>> range_from(integer value) const noexcept { return one(calls::chunked_range_from, value); }
-    std::optional<range<T>> first() const noexcept { return one(calls::chunked_first); }
-    std::optional<range<T>> last() const noexcept { return one(calls::chunked_last); }
+    std::optional<range<T>> range_at(integer value) const noexcept { return detail::found_range<T>(calls::chunked_range_at, set_, value); }
+    std::optional<range<T>> range_from(integer value) const noexcept { return detail::found_range<T>(calls::chunked_range_from, set_, value); }
+    std::optional<range<T>> first() const noexcept { return detail::found_range<T>(calls::chunked_first, set_); }
+    std::optional<range<T>> last() const noexcept { return detail::found_range<T>(calls::chunked_last, set_); }
     // The least member at or above a number, the least number that is none, the greatest ones at or below it, or nothing.
-    std::optional<T> next_member(integer from) const noexcept { return found(calls::chunked_next_member, from); }
-    std::optional<T> next_gap(integer from) const noexcept { return found(calls::chunked_next_gap, from); }
-    std::optional<T> prev_member(integer from) const noexcept { return found(calls::chunked_prev_member, from); }
-    std::optional<T> prev_gap(integer from) const noexcept { return found(calls::chunked_prev_gap, from); }
-    // How many members are below a number, the member with so many below it, and how many there are, or nothing where the set has
+    std::optional<T> next_member(integer from) const noexcept { return detail::found<T>(calls::chunked_next_member, set_, from); }
+    std::optional<T> next_gap(integer from) const noexcept { return detail::found<T>(calls::chunked_next_gap, set_, from); }
+    std::optional<T> prev_member(integer from) const noexcept { return detail::found<T>(calls::chunked_prev_member, set_, from); }
+    std::optional<T> prev_gap(integer from) const noexcept { return detail::found<T>(calls::chunked_prev_gap, set_, from); }
+    // How many members are below a number; the member with `k` members below it; how many there are, or nothing if the set has
     // no end. They go over the boundaries one by one.
     std::uint64_t rank(integer at) const noexcept { return calls::chunked_rank(set_, at); }
-    std::optional<T> select(detail::integer<std::uint64_t> k) const noexcept { return found(calls::chunked_select, k); }
-    std::optional<std::uint64_t> covered() const noexcept
-    {
-        std::uint64_t count = 0;
-        if (!calls::chunked_covered(set_, &count)) return std::nullopt;
-        return count;
-    }
+    std::optional<T> select(detail::integer<std::uint64_t> k) const noexcept { return detail::found<T>(calls::chunked_select, set_, k); }
+    std::optional<std::uint64_t> covered() const noexcept { return detail::found<std::uint64_t>(calls::chunked_covered, set_); }
     // The least number from which on `count` numbers lie in `start` to below `end` and none is a member, or nothing; and the same
-    // where as many numbers of the type are below it as a multiple of `align`. The set remembers what it learns of its gaps.
+    // where it is a multiple of `align`. The set remembers what it learns of its gaps.
     std::optional<T> first_fit(integer start, integer end, amount count) noexcept
     {
-        number first = 0;
-        if (!calls::chunked_first_fit(&set_, start, end, count, &first)) return std::nullopt;
-        return static_cast<T>(first);
+        return detail::found<T>(calls::chunked_first_fit, &set_, start, end, count);
     }
     std::optional<T> first_fit_aligned(integer start, integer end, amount count, amount align) noexcept
     {
-        number first = 0;
-        if (!calls::chunked_first_fit_aligned(&set_, start, end, count, align, &first)) return std::nullopt;
-        return static_cast<T>(first);
+        return detail::found<T>(calls::chunked_first_fit_aligned, &set_, start, end, count, align);
     }
     // The same of members in a row. It remembers nothing.
     std::optional<T> first_run(integer start, integer end, amount count) const noexcept
     {
-        return found(calls::chunked_first_run, start, end, count);
+        return detail::found<T>(calls::chunked_first_run, set_, start, end, count);
     }
 
     // The ranges, those that have a number at or above another, and how many ranges there are.
-    iterator begin() const & noexcept { return begin_from(std::numeric_limits<T>::min()); }
+    iterator begin() const & noexcept { return iterator(set_, std::numeric_limits<number>::min()); }
     iterator begin() const && = delete;
     iterator begin_from(integer value) const & noexcept { return iterator(set_, value); }
     iterator begin_from(integer value) const && = delete;
     iterator end() const & noexcept { return iterator(); }
     iterator end() const && = delete;
     std::size_t size() const noexcept { return calls::chunked_ranges_len(set_); }
+
+    // The members one by one.
+    struct members_range {
+        members_iterator begin() const noexcept { return members_iterator(first); }
+        members_iterator end() const noexcept { return members_iterator(); }
+        iterator first;
+    };
+    members_range members() const & noexcept { return {begin()}; }
+    members_range members() const && = delete;
+
+    // The ranges that have a number from `start` to below `end`, whole; the numbers there that are members, and those that are none.
+    // They go over the ranges there alone.
+    range_set<T> overlapping(integer start, integer end) const
+    {
+        range_set_status status = RANGE_SET_MORE;
+        range_set<T> found;
+        for (std::size_t some = 64; status == RANGE_SET_MORE; some *= 8)
+            found = range_set<T>::written(some, [&](number *out, std::size_t room, auto *set) {
+                return status = calls::chunked_overlapping(set_, start, end, out, room, set);
+            });
+        return found;
+    }
+    range_set<T> ranges_within(integer start, integer end) const { return overlapping(start, end).ranges_within(start, end); }
+    range_set<T> gaps(integer start, integer end) const { return overlapping(start, end).gaps(start, end); }
+    std::string text() const { return set().text(); }
+
+    // Operations with a set of any kind. They go over all ranges of both.
+    friend chunked_range_set operator|(const listed &a, const listed &b) { return combined(a, b, RANGE_SET_UNION); }
+    friend chunked_range_set operator&(const listed &a, const listed &b) { return combined(a, b, RANGE_SET_INTERSECTION); }
+    friend chunked_range_set operator-(const listed &a, const listed &b) { return combined(a, b, RANGE_SET_DIFFERENCE); }
+    friend chunked_range_set operator^(const listed &a, const listed &b) { return combined(a, b, RANGE_SET_SYMMETRIC_DIFFERENCE); }
+    friend chunked_range_set operator~(const chunked_range_set &a) { return chunked_range_set(~a.set()); }
+    chunked_range_set &operator|=(const listed &other) { return *this = combined(*this, other, RANGE_SET_UNION); }
+    chunked_range_set &operator&=(const listed &other) { return *this = combined(*this, other, RANGE_SET_INTERSECTION); }
+    chunked_range_set &operator-=(const listed &other) { return *this = combined(*this, other, RANGE_SET_DIFFERENCE); }
+    chunked_range_set &operator^=(const listed &other) { return *this = combined(*this, other, RANGE_SET_SYMMETRIC_DIFFERENCE); }
 
     // The same set as one list.
     range_set<T> set() const
@@ -1042,30 +1097,16 @@ public:
     friend std::ostream &operator<<(std::ostream &out, const chunked_range_set &a) { return out << a.set(); }
 
 private:
-    static void made(range_set_status status)
-    {
-        if (status == RANGE_SET_NO_MEMORY) throw std::bad_alloc();
-    }
-
     template <class Call, class... Numbers> chunked_range_set &change(Call call, Numbers... numbers)
     {
-        if (set_.at == nullptr) made(calls::chunked_new(&set_));
-        made(call(&set_, numbers...));
+        if (set_.at == nullptr) detail::see_memory(calls::chunked_new(&set_));
+        detail::see_memory(call(&set_, numbers...));
         return *this;
     }
 
-    // What a call tells, if it finds anything.
-    template <class Call, class... Numbers> std::optional<T> found(Call call, Numbers... numbers) const noexcept
+    static chunked_range_set combined(const listed &a, const listed &b, unsigned keep)
     {
-        number at = 0;
-        if (!call(set_, numbers..., &at)) return std::nullopt;
-        return static_cast<T>(at);
-    }
-    template <class Call, class... Numbers> std::optional<range<T>> one(Call call, Numbers... numbers) const noexcept
-    {
-        typename calls::part part = {};
-        if (!call(set_, numbers..., &part)) return std::nullopt;
-        return range<T>{static_cast<T>(part.start), static_cast<T>(part.end), part.has_end};
+        return chunked_range_set(range_set<T>::combine(range_set_view<T>(a.set), range_set_view<T>(b.set), keep));
     }
 
     typename calls::chunked set_ = {};

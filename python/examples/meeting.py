@@ -2,7 +2,7 @@
 
     python3 meeting.py DAY MINUTES FILE..
 
-It prints the times between 9 and 17 of the day at which all are free, and the first of so many minutes.
+It prints the times between 9 and 17 of the day at which all are free, and the first such time of the given length.
 """
 
 import sys

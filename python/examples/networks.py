@@ -4,12 +4,10 @@
 """
 
 import sys
-from ipaddress import IPv4Address, IPv4Network, summarize_address_range
+from ipaddress import IPv4Network
 from pathlib import Path
 
 from range_sets import RangeSet
-
-LAST = IPv4Address("255.255.255.255")
 
 
 def main(path):
@@ -17,12 +15,10 @@ def main(path):
     for line in Path(path).read_text(encoding="ascii").split():
         networks = taken if line.startswith("-") else given
         networks.append(IPv4Network(line.removeprefix("-")))
-    count = 0
-    for start, end in RangeSet(given) - RangeSet(taken):
-        for network in summarize_address_range(start, LAST if end is None else end - 1):
-            print(network)
-            count += network.num_addresses
-    print(f"{count:,} addresses are free")
+    free = RangeSet(given) - RangeSet(taken)
+    for network in free.networks():
+        print(network)
+    print(f"{free.covered():,} addresses are free")
 
 
 if __name__ == "__main__":

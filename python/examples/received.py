@@ -40,7 +40,7 @@ def joined(counts: list[dict[int, int]]) -> dict[int, int]:
 
 
 def counted(files: int, ranges: int, workers: list[str]) -> Any:
-    """The bytes of each file: a delayed dict. A part has so many ranges, and each key range is reduced where its parts are made."""
+    """The bytes of each file: a delayed dict. A part has many ranges, and each key range is reduced where its parts are made."""
     cuts = [files * i // KEY_RANGES for i in range(KEY_RANGES + 1)]
     trees = []
     for i, ends in enumerate(pairwise(cuts)):
@@ -62,7 +62,7 @@ def main() -> None:
     parser.add_argument("--workers", type=int, default=2, help="how many processes")
     given = parser.parse_args()
     if given.files < KEY_RANGES:
-        parser.error(f"{KEY_RANGES} files or more are wanted")
+        parser.error(f"expected {KEY_RANGES} files or more")
     each = given.ranges // (CONNECTIONS * KEY_RANGES)
     with LocalCluster(n_workers=given.workers, threads_per_worker=1, dashboard_address=None) as cluster, Client(cluster) as client:
         counts = counted(given.files, each, list(client.scheduler_info()["workers"]))

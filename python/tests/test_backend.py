@@ -3,6 +3,7 @@
 import importlib.util
 import os
 import pathlib
+import subprocess
 import sys
 import sysconfig
 import tarfile
@@ -35,20 +36,32 @@ class Missing(unittest.TestCase):
         with mock.patch.dict(sys.modules, tomllib=None), mock.patch.object(sys, "version", "3.10.13 (main)"):
             self.refused(
                 lambda: SPEC.loader.exec_module(importlib.util.module_from_spec(SPEC)),
-                "range_sets: Python 3.11 or later is wanted, not 3.10.13",
+                "range_sets: expected Python 3.11 or later, not 3.10.13",
             )
+
+    def test_an_editable_install(self):
+        self.refused(
+            lambda: backend.build_editable(NOWHERE),
+            "range_sets: an editable install isn't possible, since a part is compiled: run pip install again after each change",
+        )
+
+    def test_an_editable_install_by_pip(self):
+        words = [sys.executable, "-m", "pip", "install", "--no-index", "--editable", str(TREE)]
+        said = subprocess.run(words, capture_output=True, text=True, check=False)
+        self.assertNotEqual(said.returncode, 0)
+        self.assertIn("range_sets: an editable install isn't possible, since a part is compiled", said.stdout + said.stderr)
 
     def test_a_compiler(self):
         with mock.patch.dict(os.environ, CC="no-such-compiler -m64"):
             self.refused(
-                lambda: backend.compiled(backend.DIST / "librange_set.a", ".so"),
+                lambda: backend.compiled([backend.DIST / "librange_set.a"], ".so"),
                 "range_sets: the C compiler no-such-compiler is missing: install gcc, or name another in CC",
             )
 
     def test_the_headers_of_python(self):
         with mock.patch.object(sysconfig, "get_path", lambda name: "/no/such/folder"):
             self.refused(
-                lambda: backend.compiled(backend.DIST / "librange_set.a", ".so"),
+                lambda: backend.compiled([backend.DIST / "librange_set.a"], ".so"),
                 "range_sets: Python's header /no/such/folder/Python.h is missing: on Debian the package python3-dev brings it",
             )
 
@@ -65,11 +78,12 @@ class Missing(unittest.TestCase):
     def test_cargo_where_it_is_chosen(self):
         with mock.patch.object(backend, "built", lambda work: work / "built"):
             with mock.patch.object(sysconfig, "get_platform", lambda: "linux-x86_64"):
-                self.assertEqual(backend.library({"library": "rust"}, NOWHERE), NOWHERE / "built")
-                self.assertEqual(backend.library(None, NOWHERE), backend.DIST / "librange_set.a")
+                proved, rust = [backend.DIST / "librange_set.a"], ["-DRANGE_SET_PLAIN", backend.C / "range_set.c", NOWHERE / "built"]
+                self.assertEqual(backend.library({"library": "rust"}, NOWHERE), rust)
+                self.assertEqual(backend.library(None, NOWHERE), proved)
                 with mock.patch.dict(os.environ, RANGE_SETS_LIBRARY="rust"):
-                    self.assertEqual(backend.library({}, NOWHERE), NOWHERE / "built")
-                    self.assertEqual(backend.library({"library": "proved"}, NOWHERE), backend.DIST / "librange_set.a")
+                    self.assertEqual(backend.library({}, NOWHERE), rust)
+                    self.assertEqual(backend.library({"library": "proved"}, NOWHERE), proved)
 
     def test_a_crate_that_cargo_refuses(self):
         with tempfile.TemporaryDirectory() as work, mock.patch.dict(os.environ, CARGO="false"):
@@ -103,7 +117,7 @@ class Written(unittest.TestCase):
         self.folder = pathlib.Path(folder.name)
 
     def test_a_wheel(self):
-        with mock.patch.object(backend, "compiled", lambda archive, suffix: b"compiled"):
+        with mock.patch.object(backend, "compiled", lambda linked, suffix: b"compiled"):
             name = backend.build_wheel(self.folder)
         self.assertEqual(name, f"range_sets-0.3.0-{backend.tag()}.whl")
         with zipfile.ZipFile(self.folder / name) as wheel:
@@ -121,11 +135,15 @@ class Written(unittest.TestCase):
             "src/range_sets/_core.c",
             "src/range_sets/py.typed",
             "dist/librange_set.a",
-            "dist/range_set.h",
+            "c/range_set.c",
+            "c/range_set_calls.h",
+            "c/range_set_exports.h",
+            "c/range_map_calls.h",
+            "c/range_map_exports.h",
+            "c/include/range_set.h",
             "rust/Cargo.toml",
             "rust/src/lib.rs",
-            "rust/src/c/calls.rs",
-            "rust/src/generated/range_c/mod.rs",
+            "rust/src/generated/range_c/generated/sets_i64.rs",
         )
         for it in ("pyproject.toml", "backend.py", "README.md", "PKG-INFO", "LICENSE-MIT", *sources):
             self.assertIn(f"range_sets-0.3.0/{it}", names)

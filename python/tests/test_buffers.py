@@ -1,11 +1,17 @@
 """The functions over buffers: rows, bad input, other buffers, and made-up cases."""
 
+import copy
 import ctypes
+import gc
+import pickle
 import random
+import time
 import unittest
 from array import array
 
 import range_sets as sets
+from range_sets import RangeSet, _core
+from range_sets._kinds import SIGNED
 
 
 def q(*items):
@@ -190,6 +196,63 @@ class MadeUp(unittest.TestCase):
             self.assertTrue(sets.is_sorted(joined))
             self.assertEqual(members(joined, points), held)
             self.assertEqual(sets.covered(a), None if len(a) % 2 else sum(on_a))
+
+
+class OwnLists(unittest.TestCase):
+    """What a set has is sorted by its making. So nothing else makes such a list, and nothing changes it."""
+
+    def test_no_program_makes_changes_or_inherits_one(self):
+        made = RangeSet([(0, 10), (20, 30)])._now[0]
+        cls = type(made)
+        for call in (
+            cls,
+            lambda: cls(q(3, 1)),
+            lambda: object.__new__(cls),
+            lambda: type("Forged", (cls,), {}),
+            lambda: setattr(Plain(), "__class__", cls),
+            lambda: setattr(cls, "overlapping", None),
+            lambda: setattr(made, "memory", b""),
+            lambda: made.__setitem__(0, 5),
+            lambda: memoryview(made).__setitem__(0, 5),
+            lambda: sets.union(q(7, 9), q(), out=made),
+            lambda: copy.copy(made),
+            lambda: _core.Chunks(q(0, 10), SIGNED),
+            lambda: pickle.dumps(made),
+        ):
+            with self.assertRaises((TypeError, AttributeError)):
+                call()
+        self.assertEqual((list(made), made[-1], made[1], len(made)), ([0, 10, 20, 30], 30, 10, 4))
+        for at in (4, -5):
+            with self.assertRaises(IndexError):
+                made[at]
+        self.assertEqual([list(it) for it in (made[1:3], made[:0], made[3:1], made.part(2, 9))], [[10, 20], [], [], [20, 30]])
+
+    def test_it_outlives_its_set(self):
+        view = memoryview(RangeSet.from_values(range(0, 1000, 2))[:400]._now[0])
+        gc.collect()
+        self.assertEqual((view.format, view.shape, view.itemsize, view.readonly), ("q", (800,), 8, True))
+        self.assertEqual(view.tolist(), [it for n in range(0, 800, 2) for it in (n, n + 1)])
+
+    def test_a_narrow_question_takes_no_longer_of_many_ranges(self):
+        many, few = RangeSet.from_values(range(0, 2_000_000, 2)), RangeSet([(5000, 5001), (7000, 7001)])
+        began = time.process_time()
+        for start in range(0, 300_000, 100):
+            self.assertEqual(len(many.gaps(start, start + 10)), 5)
+            self.assertFalse(many.isdisjoint((start, start + 1)))
+            self.assertTrue(few <= many and few & many == few)
+        # If each went over the ranges, they would take 20 s.
+        self.assertLess(time.process_time() - began, 2)
+
+    def test_other_lists_are_checked_beside_one(self):
+        own = RangeSet([(0, 10), (20, 30)])._now[0]
+        for call in (sets.union, sets.intersection, sets.difference, sets.is_subset, sets.is_disjoint, sets.equal):
+            for given in ((own, q(5, 3)), (q(5, 3), own)):
+                with self.assertRaises(sets.NotSorted):
+                    call(*given)
+
+
+class Plain:
+    pass
 
 
 if __name__ == "__main__":

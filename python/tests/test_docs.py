@@ -29,7 +29,8 @@ def examples():
 
 def load_tests(loader, tests, pattern):
     for test in examples():
-        if importlib.util.find_spec("numpy") or "numpy array of" not in test.docstring:
+        wants_numpy = "numpy array of" in test.docstring or any("import numpy" in it.source for it in test.examples)
+        if importlib.util.find_spec("numpy") or not wants_numpy:
             tests.addTest(doctest.DocTestCase(test, optionflags=doctest.IGNORE_EXCEPTION_DETAIL))
     return tests
 
@@ -40,6 +41,8 @@ class Help(unittest.TestCase):
             given = getattr(range_sets, name)
             with self.subTest(name=name):
                 self.assertIn(">>>" if name != "AnyRangeSet" else "64 bits", given.__doc__)
+                if inspect.isfunction(given):
+                    self.assertIn("\n\nCost: ", inspect.getdoc(given))
 
     def test_each_method_has_an_example(self):
         for kind in (range_sets.AnyRangeSet, range_sets.RangeSet, range_sets.MutableRangeSet, range_sets.RangeMap):
@@ -47,6 +50,8 @@ class Help(unittest.TestCase):
                 if not name.startswith("_"):
                     with self.subTest(name=f"{kind.__name__}.{name}"):
                         self.assertIn(">>>", inspect.getdoc(it))
+                        if not isinstance(it, property) or name == "boundaries":
+                            self.assertIn("\n\nCost: ", inspect.getdoc(it))
 
     def test_each_example_is_run(self):
         run = {test.name for test in examples()}
@@ -62,7 +67,7 @@ class Help(unittest.TestCase):
         text = pydoc.plain(pydoc.render_doc(range_sets.RangeSet))
         self.assertTrue(text.startswith("Python Library Documentation: class RangeSet in module range_sets"))
         self.assertIn("covers(self, start: 'Any', end: 'Any' = Ellipsis)", text)
-        for name in ("Source", "Element", "OneRange", "Told"):
+        for name in ("Source", "Element", "OneRange", "KindLike"):
             self.assertIn(f"`{name}`", text)
 
 

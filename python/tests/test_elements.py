@@ -3,6 +3,7 @@
 import datetime
 import importlib
 import ipaddress
+import random
 import unittest
 import xml.etree.ElementTree
 from array import array
@@ -53,7 +54,7 @@ class Times(unittest.TestCase):
         self.assertEqual(made.gaps(None, west), RangeSet((None, at(9, zone=UTC))))
         east = FIRST.replace(tzinfo=timezone(timedelta(hours=12)))
         for call in (lambda: RangeSet([(west, None)]), lambda: RangeSet([(east, None)]), lambda: made.insert(None, east)):
-            with self.assertRaisesRegex(OverflowError, "a datetime with a time zone is wanted"):
+            with self.assertRaisesRegex(OverflowError, "expected a datetime with a time zone"):
                 call()
         self.assertFalse(west in made or east in made or made.covers(east, None))
         self.assertEqual([*RangeSet.from_values([date.max]).members()], [date.max])
@@ -87,7 +88,7 @@ class Times(unittest.TestCase):
                 lambda: made.add(it),
                 lambda: made.add(TINY, it),
             ):
-                with self.assertRaisesRegex(OverflowError, "a timedelta of at most 64 bits of microseconds is wanted"):
+                with self.assertRaisesRegex(OverflowError, "expected a timedelta of at most 64 bits of microseconds"):
                     call()
             self.assertEqual((list(made), it in made), ([(TINY, 2 * TINY)], False))
 
@@ -179,8 +180,34 @@ class Addresses(unittest.TestCase):
         self.assertEqual(str(taken), "10.0.0.4..10.0.1.0, 255.255.255.255..")
         self.assertEqual(taken.first_fit(4, IPv4Address("10.0.0.0")), IPv4Address("10.0.0.0"))
         self.assertEqual(ipaddress.IPv4Address("10.0.0.9") in taken, True)
-        with self.assertRaises(TypeError):
-            IPv4Network("10.0.0.0/8") in taken
+
+    def test_networks_of_a_set(self):
+        rows = [
+            ([], []),
+            (["10.0.0.0/25", "10.0.0.128/25"], ["10.0.0.0/24"]),
+            (["10.0.0.1/32", "10.0.0.2/31", "10.0.0.4/32"], ["10.0.0.1/32", "10.0.0.2/31", "10.0.0.4/32"]),
+            (["128.0.0.0/1", "0.0.0.0/1"], ["0.0.0.0/0"]),
+            (["255.255.255.255/32"], ["255.255.255.255/32"]),
+        ]
+        for given, networks in rows:
+            for kind in (RangeSet, MutableRangeSet):
+                made = kind([*map(IPv4Network, given)])
+                self.assertEqual([*made.networks()], [*map(IPv4Network, networks)])
+                self.assertTrue(all(it in made for it in made.networks()))
+        made, some = RangeSet([(IPv4Address("10.0.0.3"), IPv4Address("10.1.2.3"))]), random.Random(3)
+        for _ in range(200):
+            made ^= RangeSet(
+                IPv4Network((0x0A000000 + (some.randrange(2**20) >> 32 - (bits := some.randrange(16, 33)) << 32 - bits), bits))
+            )
+            networks = [*made.networks()]
+            self.assertEqual((RangeSet(networks), [*ipaddress.collapse_addresses(networks)]), (made, networks))
+        for network, is_in in (("10.0.0.0/30", False), ("10.0.0.4/30", True), ("10.0.0.0/8", False), ("11.0.0.0/8", False)):
+            of = RangeSet([(IPv4Address("10.0.0.3"), IPv4Address("10.1.2.3"))])
+            self.assertEqual((IPv4Network(network) in of, IPv4Network(network) in RangeSet()), (is_in, False))
+        for wrong in (RangeSet([(0, 5)]), RangeSet(kind="date")):
+            self.assertRaisesRegex(TypeError, "expected a set of addresses, not of the kind", wrong.networks)
+            self.assertRaises(TypeError, wrong.__contains__, IPv4Network("10.0.0.0/8"))
+        self.assertRaises(TypeError, made.__contains__, IPv6Network("::/0"))
 
     def test_networks_of_version_6_are_refused_at_once(self):
         made = MutableRangeSet()

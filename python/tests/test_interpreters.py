@@ -27,7 +27,7 @@ for n in range(count):
     made.add(first + 3 * n, first + 3 * n + 2)
 assert list(made) == [(first + 3 * n, first + 3 * n + 2) for n in range(count)]
 for _ in range(20):
-    # So many boundaries that the lock is let go.
+    # Enough boundaries that the lock is let go.
     others = RangeSet.from_values(range(first + 2, first + 3 * count, 3))
     whole = RangeSet(made) | others
     assert list(whole) == [(first, first + 3 * count)] and whole - made == others

@@ -5,13 +5,15 @@ import datetime
 import importlib.util
 import itertools
 import pickle
+import random
+import struct
 import unittest
 from array import array
 from datetime import date, timedelta, timezone
 from ipaddress import IPv4Address, IPv6Address
-from math import inf, nextafter
+from math import fsum, inf, nextafter
 
-from range_sets import MutableRangeSet, RangeSet, _kinds
+from range_sets import MutableRangeSet, RangeSet, _core, _kinds
 from range_sets._ranges import _unpacked
 
 UTC, DAY, TINY = timezone.utc, timedelta(days=1), timedelta(microseconds=1)
@@ -77,7 +79,7 @@ NAMES |= {"numpy": numpy} if importlib.util.find_spec("numpy") else {}
 
 
 def kind_of(name):
-    return _kinds.told(name)
+    return _kinds.kind_of(name)
 
 
 class EachKind(unittest.TestCase):
@@ -151,6 +153,36 @@ class EachKind(unittest.TestCase):
                 above.split(elements[3]), (RangeSet([(elements[2], elements[3])], kind=name), RangeSet((elements[3], None), kind=name))
             )
             self.assertEqual((above.gaps(), above.gaps(None, elements[1])), (~above, RangeSet((None, elements[1]), kind=name)))
+
+    def test_lengths_of_floats(self):
+        """What is covered is the sum of all lengths, rounded once, as `fsum` has it."""
+
+        def of_bits(bits):
+            return struct.unpack("d", struct.pack("Q", bits))[0]
+
+        some, answers = random.Random(31), set()
+        for _ in range(1000):
+            first, last = some.choice([(0, 2**63 - 1), (1000 << 52, 1010 << 52), (0, 9), (0, 1 << 53), (2040 << 52, 2047 << 52)])
+            ends = [some.choice([1, -1]) * of_bits(some.randint(first, last)) for _ in range(some.randint(0, 40))]
+            ends = sorted({it for it in ends if it == it})
+            ends = ends[: len(ends) // 2 * 2]
+            lengths = [end - start for start, end in zip(ends[::2], ends[1::2])]
+            try:
+                expected = fsum(lengths)
+            except OverflowError:
+                expected = inf
+            made = RangeSet(zip(ends[::2], ends[1::2]), kind="float")
+            self.assertEqual((made.covered(), list(made)), (expected, [*zip(ends[::2], ends[1::2])]))
+            self.assertEqual(RangeSet.from_boundaries(array("d", ends), kind="float"), made)
+            answers.add(expected)
+        self.assertTrue(len(answers) > 500 and inf in answers and 0.0 in answers)
+        self.assertIsNone(RangeSet([(0.5, None)]).covered())
+        for nan in map(of_bits, (2**64 - 1, (2047 << 52) + 1)):
+            self.assertRaises(ValueError, RangeSet.from_boundaries, array("d", [0.5, nan]))
+            self.assertRaises(ValueError, RangeSet.from_boundaries, array("f", [0.5, nan]))
+        self.assertEqual(RangeSet.from_boundaries(array("f", [-0.0, 0.5])), RangeSet([(0.0, 0.5)]))
+        for given in ((), (array("q", [1]),), (array("q", [1]), array("q", [1, 2])), (array("q", [1]), bytes(8)), (5, array("q", [1]))):
+            self.assertRaises((TypeError, ValueError), _core.mirror, *given)
 
     def test_texts_pickles_and_copies(self):
         for name, elements in self.each():
@@ -362,10 +394,10 @@ class Untold(unittest.TestCase):
         self.assertEqual((RangeSet([(None, None)]).kind, RangeSet([(5, 5)]).kind, RangeSet.parse("").kind), ("int", "int", "int"))
 
 
-class Told(unittest.TestCase):
+class OfKinds(unittest.TestCase):
     def test_what_tells_a_kind(self):
-        for told, name in ((int, "int"), (float, "float"), (date, "date"), (timedelta, "timedelta"), (IPv4Address, "IPv4Address")):
-            self.assertEqual(RangeSet(kind=told).kind, name)
+        for given, name in ((int, "int"), (float, "float"), (date, "date"), (timedelta, "timedelta"), (IPv4Address, "IPv4Address")):
+            self.assertEqual(RangeSet(kind=given).kind, name)
         self.assertEqual((RangeSet(unsigned=False).kind, RangeSet(unsigned=True).kind), ("int", "unsigned"))
         self.assertTrue(RangeSet(kind="unsigned").unsigned and RangeSet(kind="unsigned", unsigned=True).unsigned)
         for call in (

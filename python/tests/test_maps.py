@@ -6,12 +6,15 @@ import pickle
 import random
 import signal
 import sys
+import threading
 import unittest
 import weakref
+from array import array
 from datetime import date, datetime, timezone
 from ipaddress import IPv4Address, IPv4Network
+from itertools import groupby
 
-from range_sets import RangeMap, RangeSet
+from range_sets import MutableRangeSet, RangeMap, RangeSet
 
 try:
     import _testcapi
@@ -19,6 +22,8 @@ except ImportError:
     _testcapi = None
 
 MOST, LEAST = 2**63 - 1, -(2**63)
+
+ITEMS = [((0, 2), "b"), ((2, 4), "a"), ((4, 5), "b"), ((5, 6), "a"), ((9, None), "b")]
 
 # What is changed, with what, and the items after it.
 ROWS = [
@@ -38,11 +43,40 @@ ROWS = [
     ("out from a key on", [((1, 3), "a"), ((4, 6), "b")], slice(2, None), None, [((1, 2), "a")]),
     ("out where nothing is", [((1, 3), "a")], slice(3, 9), None, [((1, 3), "a")]),
     ("out of all", [((1, 3), "a")], slice(None), None, []),
+    ("a set", [((1, 6), "a")], RangeSet([(0, 2), (4, 5), (9, None)]), "b", ITEMS),
+    ("a set of nothing", [((1, 3), "a")], RangeSet(), "b", [((1, 3), "a")]),
+    ("out of a set", [((1, 6), "a")], RangeSet([(0, 2), (4, 5)]), None, [((2, 4), "a"), ((5, 6), "a")]),
+    ("out of a set that changes", [((1, 6), "a")], MutableRangeSet([(2, 9)]), None, [((1, 2), "a")]),
+]
+
+# Which part of `ITEMS` is read, and what it has.
+PARTS = [
+    ("within a range", slice(3, 4), [((3, 4), "a")]),
+    ("over ends", slice(1, 5), [((1, 2), "b"), ((2, 4), "a"), ((4, 5), "b")]),
+    ("without an end", slice(5, None), [((5, 6), "a"), ((9, None), "b")]),
+    ("without a start", slice(None, 3), [((0, 2), "b"), ((2, 3), "a")]),
+    ("all", slice(None), ITEMS),
+    ("nothing", slice(6, 9), []),
+    ("an empty range", slice(3, 3), []),
+    ("a reversed range", slice(5, 3), []),
+    ("a range of Python's", range(8, 12), [((9, 12), "b")]),
+    ("a set", RangeSet([(1, 3), (5, 20)]), [((1, 2), "b"), ((2, 3), "a"), ((5, 6), "a"), ((9, 20), "b")]),
+    ("a set of nothing", RangeSet(), []),
 ]
 
 
+def kept(made):
+    """The values that a map keeps, each once."""
+    others = {id(made._kind), id(type(made._steps))}
+    return [it for it in gc.get_referents(made._steps) if id(it) not in others]
+
+
+def pickle_twice(made):
+    return pickle.loads(pickle.dumps(pickle.loads(pickle.dumps(made, 2))))
+
+
 class Watched:
-    """A value whose `==` may be told which error to raise, and which a weak reference can follow."""
+    """A value whose `==` raises the error that it is given, and which a weak reference can follow."""
 
     raises = None
 
@@ -72,8 +106,79 @@ class Rows(unittest.TestCase):
                 self.assertEqual(list(changed.items()), after)
                 self.assertEqual(len(changed), len(after))
                 self.assertEqual(list(changed), [keys for keys, _ in after])
+                self.assertEqual([*zip(changed.keys(), changed.values())], after)
+                self.assertEqual(changed.span(), (after[0][0][0], after[-1][0][1]) if after else None)
                 self.assertEqual(changed, RangeMap(after))
                 self.assertEqual(bool(changed), bool(after))
+
+    def test_put_and_remove(self):
+        for what, before, keys, value, after in ROWS:
+            if isinstance(keys, slice):
+                with self.subTest(what=what):
+                    changed = RangeMap(before)
+                    if value is None:
+                        changed.remove(keys.start, keys.stop)
+                    else:
+                        changed.put(keys.start, keys.stop, value)
+                    self.assertEqual(list(changed.items()), after)
+
+    def test_parts(self):
+        for what, keys, items in PARTS:
+            with self.subTest(what=what):
+                made = RangeMap(ITEMS)
+                part = made[keys]
+                self.assertEqual((type(part), [*part.items()], part.kind), (RangeMap, items, "int"))
+                part[:] = "c"
+                self.assertEqual([*made.items()], ITEMS)
+        self.assertEqual(RangeMap()[3:5], RangeMap())
+        self.assertEqual(RangeMap(unsigned=True)[RangeSet([(0, 5)], unsigned=True)].kind, "unsigned")
+
+    def test_pop(self):
+        for key, value, left in ((0, "b", ITEMS[1:]), (3, "a", [ITEMS[0], *ITEMS[2:]]), (MOST, "b", ITEMS[:4])):
+            made = RangeMap(ITEMS)
+            self.assertEqual((made.pop(key), [*made.items()]), (value, left))
+        made = RangeMap(ITEMS)
+        self.assertRaises(KeyError, made.pop, 6)
+        self.assertRaises(KeyError, RangeMap().pop, 6)
+        self.assertRaises(TypeError, made.pop, "x", None)
+        self.assertEqual((made.pop(6, None), made.pop(2**70, 5), [*made.items()]), (None, 5, ITEMS))
+
+    def test_sources(self):
+        low, high = RangeSet([(0, 2), (4, 6)]), range(5, 9)
+        expected = [((0, 2), "low"), ((4, 5), "low"), ((5, 9), "high")]
+        for source in (
+            {low: "low", high: "high"},
+            [(low, "low"), (high, "high")],
+            [[low, "low"], [[5, 9], "high"]],
+            RangeMap({low: "low", high: "high"}),
+        ):
+            self.assertEqual([*RangeMap(source).items()], expected)
+
+    def test_pairs_that_are_read_in_other_ways(self):
+        """Pairs of Python's own numbers are read at once, and others one by one: both make the same map."""
+
+        class Number(int):
+            pass
+
+        rows = [(0, 5), (3, 9), (7, 7), (9, 2), (20, None), (None, -5), (LEAST, LEAST), (MOST, None), (-3, LEAST), (4, MOST)]
+        for unsigned in (False, True):
+            pairs = [it for it in rows if not unsigned or all(end is None or end >= 0 for end in it)]
+            plain = RangeMap([(it, at % 3) for at, it in enumerate(pairs)], unsigned=unsigned)
+            one_by_one = RangeMap(unsigned=unsigned)
+            for at, it in enumerate(pairs):
+                one_by_one.put(*it, at % 3)
+            self.assertEqual((plain, plain.kind), (one_by_one, one_by_one.kind))
+            for form in (list, lambda it: slice(*it), lambda it: tuple(None if end is None else Number(end) for end in it)):
+                self.assertEqual(RangeMap([[form(it), at % 3] for at, it in enumerate(pairs)], unsigned=unsigned), plain)
+                self.assertEqual(RangeMap([(form(it), at % 3) for at, it in enumerate(pairs)], unsigned=unsigned), plain)
+        self.assertEqual(
+            (RangeMap([((0, 2), "a")]).kind, RangeMap([((7, 7), "a")]).kind, RangeMap([((5, 2), [])])), ("int", None, RangeMap())
+        )
+        for wrong in ((0, 2**63), (-(2**63) - 1, 0), (2**64, None)):
+            self.assertRaises(OverflowError, RangeMap, [((0, 1), "a"), (wrong, "b")])
+        self.assertRaises(OverflowError, RangeMap, [((0, 1), "a"), ((-1, 5), "b")], unsigned=True)
+        for wrong in ([((0, 1), "a"), 5], [((0, 1, 2), "a")], [((0, 1), "a", "b")], [((0, 1.5), "a")], 5, [(("0", "1"), "a")]):
+            self.assertRaises((TypeError, ValueError), RangeMap, wrong)
 
     def test_later_ranges_win(self):
         items = [((0, 9), "a"), ((3, 12), "b"), (range(5, 6), "a")]
@@ -96,6 +201,9 @@ class Rows(unittest.TestCase):
         self.assertEqual(names.overlapping(None, 1), [((0, 10), "low")])
         self.assertEqual(names.overlapping(29, None), [((20, 30), "high"), ((30, None), "top")])
         self.assertEqual(names.overlapping(25, 5), [])
+        for one in ((5, 25), [5, 25], range(5, 25)):
+            self.assertEqual(names.overlapping(one), names.overlapping(5, 25))
+        self.assertEqual((names.overlapping(29), names.overlapping(15)), ([((20, 30), "high")], []))
         self.assertEqual(names.gaps(5, 25), RangeSet([(10, 20)]))
         self.assertEqual(names.gaps(), RangeSet([(None, 0), (10, 20)]))
         self.assertEqual(names.domain(), RangeSet([(0, 10), (20, None)]))
@@ -103,20 +211,70 @@ class Rows(unittest.TestCase):
         self.assertEqual(names.find("none"), RangeSet())
         self.assertEqual(RangeMap().domain(), RangeSet())
 
+    def test_what_the_compiled_module_is_given(self):
+        made = RangeMap([((0, 10), "low")])
+        steps, kind = made._steps, made._kind
+        ends = array("q", [3, 5]).tobytes()
+        for given in (
+            (),
+            (ends, ("a",), kind),
+            (array("q", [3, 5]), ("a",), kind, kind),
+            (ends, ["a"], kind, kind),
+            (ends, ("a", "b"), kind, kind),
+            (RangeSet([(3, 5)], unsigned=True)._now[0], ("a",), kind, kind),
+        ):
+            self.assertRaises(TypeError, steps.change, *given)
+        self.assertIs(steps.change(ends, ("a",), object(), kind), False)
+        self.assertRaises(TypeError, steps.change, bytes(24), ("a",), kind, kind)
+        self.assertRaises(TypeError, steps.part, [3, 5])
+        self.assertRaises(TypeError, steps.part, RangeSet([(3, 5)], unsigned=True)._now[0])
+        self.assertRaises(TypeError, steps.equals, made)
+        for given in ((), (steps, max, None), (made, max, None, None), (RangeMap(unsigned=True)._steps, max, None, None)):
+            self.assertRaises(TypeError, steps.combine, *given)
+        self.assertRaises(TypeError, steps.copy, None)
+        for given in ((0,), (0, 1, 2), ("x", 5), (0, 5.5)):
+            self.assertRaises(TypeError, steps.items, *given)
+        self.assertRaises(OverflowError, steps.keys, 0, 2**64)
+        self.assertRaises(TypeError, type(steps.items(0, 1)))
+        # Without numpy there is no array of objects.
+        for given in (
+            (),
+            (array("q", [3]), bytes(2), None, array("q", [0])),
+            (array("Q", [3]), bytes(1), None, array("q", [0])),
+            (array("q", [3]), [0], None, array("q", [0])),
+            (array("q", [3]), bytes(1), None, array("q", [0])),
+            (array("q", [3]), bytes(1), None, bytes(8)),
+        ):
+            self.assertRaises((TypeError, BufferError), steps.get_each, *given)
+        self.assertRaises(TypeError, steps.get, "x", None)
+        self.assertRaises(OverflowError, steps.range_at, 2**63, None)
+        self.assertEqual(list(made.items()), [((0, 10), "low")])
+        self.assertIs(steps.change(ends, ("a",), kind, kind), True)
+        self.assertEqual(len(made), 3)
+
     def test_errors(self):
         names = RangeMap([((0, 10), "low")])
+        other_sets = RangeSet([(3, 5)], unsigned=True), RangeSet([(date(2026, 1, 1), None)])
         for key in (10, -1, 2**70):
             with self.assertRaises(KeyError):
                 names[key]
-        for wrong in ("x", 5.5, None, date(2026, 1, 1), slice(1, 2)):
+        for wrong in ("x", 5.5, None, date(2026, 1, 1), (0, 10)):
             with self.subTest(wrong=wrong):
                 self.assertRaises(TypeError, lambda: names[wrong])
                 self.assertRaises(TypeError, lambda: names.get(wrong))
                 self.assertRaises(TypeError, lambda: wrong in names)
-        for keys in (5, "x", (1, 2), slice(1, 9, 2), slice("a", "b"), slice(date(2026, 1, 1), None)):
+        for keys in (5, "x", (1, 2), slice(1, 9, 2), slice("a", "b"), slice(date(2026, 1, 1), None), *other_sets):
             with self.subTest(keys=keys):
                 self.assertRaises(TypeError, names.__setitem__, keys, "a")
                 self.assertRaises(TypeError, names.__delitem__, keys)
+                if not isinstance(keys, int):
+                    self.assertRaises(TypeError, names.__getitem__, keys)
+        for start, end in (("a", 5), (date(2026, 1, 1), None)):
+            self.assertRaises(TypeError, names.put, start, end, "a")
+            self.assertRaises(TypeError, names.remove, start, end)
+        self.assertRaisesRegex(TypeError, r"RangeMap\(unsigned=True\)", RangeMap().__setitem__, other_sets[0], "a")
+        self.assertRaises(TypeError, dict, names)
+        self.assertRaises(OverflowError, names.overlapping, 2**64)
         self.assertRaises(OverflowError, names.__setitem__, slice(0, 2**64), "a")
         self.assertRaises(OverflowError, RangeMap(unsigned=True).__setitem__, slice(-1, 5), "a")
         self.assertRaises(TypeError, hash, names)
@@ -141,7 +299,10 @@ class Kinds(unittest.TestCase):
         ]:
             with self.subTest(kind=kind):
                 made = RangeMap([((low, high), "a")], kind=kind)
-                made[mid:high] = "b"
+                made.put(mid, high, "b")
+                self.assertEqual(made[mid:], RangeMap([((mid, high), "b")], kind=kind))
+                self.assertEqual(made[RangeSet([(low, mid)], kind=kind)], RangeMap([((low, mid), "a")], kind=kind))
+                self.assertEqual((made.span(), made.overlapping((low, mid))), ((low, high), [((low, mid), "a")]))
                 self.assertEqual(made.kind, kind)
                 self.assertEqual(list(made.items()), [((low, mid), "a"), ((mid, high), "b")])
                 self.assertEqual((made[low], made[mid], high in made), ("a", "b", False))
@@ -187,13 +348,16 @@ class MadeUp(unittest.TestCase):
                 start, end, value = numbers.randrange(self.KEYS), numbers.randrange(self.KEYS), numbers.choice(["a", "b", [1], None])
                 end = None if numbers.random() < 0.1 else end
                 for key in range(start, self.KEYS if end is None else end):
+                    if case % 2 and key == self.KEYS // 2:
+                        continue
                     cells.pop(key, None)
                     if value is not None:
                         cells[key] = value
+                keys = RangeSet([(start, end)]).remove(self.KEYS // 2) if case % 2 else slice(start, end)
                 if value is None:
-                    del made[start:end]
+                    del made[keys]
                 else:
-                    made[start:end] = copy.copy(value)
+                    made[keys] = copy.copy(value)
                 self.check(made, cells, case)
 
     def check(self, made, cells, case):
@@ -208,10 +372,165 @@ class MadeUp(unittest.TestCase):
         self.assertEqual([*made.gaps(7, 21).members()], [x for x in within if x not in cells])
         meets = [it for it in expected if it[0][0] < 21 and (it[0][1] is None or it[0][1] > 7)]
         self.assertEqual(made.overlapping(7, 21), meets)
+        some = RangeSet([(7, 11), (12, 21)])
+        self.assertEqual([*made[some].items()], self.expected({x: cells[x] for x in some.members() if x in cells}))
         self.assertEqual([x for x in range(self.KEYS) if x in made.domain()], keys)
         for value in ("a", [1], "none"):
             self.assertEqual([x for x in range(self.KEYS) if x in made.find(value)], [x for x in keys if cells[x] == value])
-        self.assertEqual(len(made._values._by_number), len({str(value) for value in cells.values()}), "what no range has is released")
+        self.assertEqual(len(kept(made)), len({str(value) for value in cells.values()}), "what no range has is released")
+
+    def test_of_many_ranges(self):
+        """Maps of some hundred ranges beside a list of each key's value; of many values some are equal and of other types."""
+        pool = ["a", "b", 1, True, 1.0, None, (1,), [1], [2], {"a": 1}, *range(2**20, 2**20 + 20 * 2**12, 2**12)]
+        for seed in range(4):
+            self.of_many_ranges(random.Random(seed), pool, 4000)
+
+    def test_a_million_ranges(self):
+        """They are put in in any order, asked, saved and read back."""
+        count = 10**6
+        places = [*range(count)]
+        random.Random(59).shuffle(places)
+        made = RangeMap(((20 * at, 20 * at + 10), at % 7) for at in places)
+        self.assertEqual(len(made), count)
+        self.assertTrue(all(made.get(20 * at + 9) == at % 7 and made.get(20 * at + 10) is None for at in places[::10]))
+        self.assertEqual(sum(item == ((20 * at, 20 * at + 10), at % 7) for at, item in enumerate(made.items())), count)
+        read = pickle.loads(pickle.dumps(made))
+        self.assertEqual(read, made)
+        del read[:10]
+        self.assertEqual((len(read), len(made), read == made), (count - 1, count, False))
+
+    def of_many_ranges(self, some, pool, keys):
+        made, cells = RangeMap(), [None] * keys
+
+        def range_of(longest):
+            start = some.randrange(keys)
+            return start, min(keys, start + some.randrange(longest))
+
+        def given(count):
+            return [(range_of(30), some.randrange(len(pool))) for _ in range(count)]
+
+        def put(start, end, at):
+            cells[start:end] = [at] * max(0, end - start)
+
+        def items(start=0, end=keys):
+            found = [(key, list(run)) for key, run in groupby(range(start, end), cells.__getitem__)]
+            return [((run[0], run[-1] + 1), pool[at]) for at, run in found if at is not None]
+
+        def pairs(parts):
+            return [(pair, copy.deepcopy(pool[at])) for pair, at in parts]
+
+        for turn in range(150):
+            before, parts = [*cells], given(some.choice([1, 3, 40, 200]))
+            way = some.randrange(8)
+            if way == 0:
+                (start, end), at = parts[0]
+                made.put(start, end, copy.deepcopy(pool[at]))
+                put(start, end, at)
+            elif way == 1:
+                start, end = range_of(300)
+                made.remove(start, end)
+                put(start, end, None)
+            elif way == 2:
+                keys_of = RangeSet([pair for pair, _ in parts])
+                made[keys_of] = copy.deepcopy(pool[parts[0][1]])
+                for start, end in keys_of:
+                    put(start, end, parts[0][1])
+            elif way == 3:
+                keys_of = RangeSet([pair for pair, _ in parts[:5]])
+                del made[keys_of]
+                for start, end in keys_of:
+                    put(start, end, None)
+            elif way == 4:
+                key = some.randrange(keys)
+                found = next((it for it in items() if it[0][0] <= key < it[0][1]), None)
+                self.assertEqual(made.pop(key, "nothing"), "nothing" if found is None else found[1])
+                if found:
+                    put(*found[0], None)
+            elif way == 5:
+                self.assertRaises(OverflowError, made.update, [*pairs(parts), ((0, 2**64), "a")])
+            elif way == 6 and before.count(None) < keys:
+                same, made = made, some.choice([RangeMap.copy, copy.deepcopy, lambda it: it[:], RangeMap, pickle_twice])(made)
+                same.clear()
+            else:
+                made.update(pairs(parts))
+                for pair, at in parts:
+                    put(*pair, at)
+            expected = items()
+            self.assertEqual([*made.items()], expected)
+            self.assertEqual([*map(type, made.values())], [type(value) for _, value in expected])
+            self.assertEqual((len(made), len(kept(made))), (len(expected), len({*cells} - {None})))
+            start, end = range_of(500)
+            self.assertEqual([*made[start:end].items()], items(start, end))
+            self.assertEqual(made.gaps(start, end), RangeSet([(x, x + 1) for x in range(start, end) if cells[x] is None]))
+            self.assertEqual(made.domain(), RangeSet([pair for pair, _ in expected]))
+            at = some.randrange(len(pool))
+            self.assertEqual(made.find(copy.deepcopy(pool[at])), RangeSet([(x, x + 1) for x in range(keys) if cells[x] == at]))
+            self.assertEqual(
+                [made.get(x, pool) for x in range(start, end)], [pool if cells[x] is None else pool[cells[x]] for x in range(start, end)]
+            )
+            self.assertEqual(made.overlapping(start, end), [it for it in expected if it[0][0] < end and it[0][1] > start and start < end])
+
+    def test_iterators_beside_changes(self):
+        """Whatever changes between two steps, an iterator goes on from the end of what it gave, with what the map then has."""
+        some, longest = random.Random(9), 0
+        for case in range(400):
+            made, cells = RangeMap(), {}
+            low, high = some.choice([(None, None), (7, 21), (7, None), (None, 21), (7, 7)])
+            ways = {"items": made._steps.items, "keys": made._steps.keys, "values": made._steps.values}
+            ways |= {"all": lambda *_: made.items(), "list": lambda *_: iter(made)} if (low, high) == (None, None) else {}
+            way = some.choice([*ways])
+            at, is_first, count = low or 0, True, 0
+            left = None
+            while left is None or count < 99:
+                for _ in range(some.choice([0, 0, 1]) if left else 15):
+                    start, end, value = (
+                        some.randrange(self.KEYS),
+                        some.choice([None, *range(self.KEYS)]),
+                        some.choice(["a", "b", [1], None]),
+                    )
+                    for key in range(start, self.KEYS if end is None else end):
+                        cells.pop(key, None)
+                        if value is not None:
+                            cells[key] = value
+                    if value is None:
+                        made.remove(start, end)
+                    else:
+                        made.put(start, end, copy.copy(value))
+                left = left or ways[way](low, high)
+                later = (it for it in self.expected(cells) if at is not None and (it[0][1] is None or it[0][1] > at))
+                found = next((it for it in later if at < (self.KEYS if high is None else high) and (high is None or it[0][0] < high)), None)
+                if found is not None:
+                    (start, end), value = found
+                    found = (start if is_first else max(start, at), end), value
+                    at, is_first, count = end, False, count + 1
+                expected = found if way in ("items", "all") or found is None else found[way == "values"]
+                self.assertEqual(next(left, None), expected, (case, way))
+                if found is None:
+                    break
+            made.put(0, None, "z")
+            self.assertEqual([*left], [], "it has ended")
+            longest = max(longest, count)
+        self.assertGreater(longest, 5)
+
+    def test_equal_maps(self):
+        """Maps are equal if each key has one value in both, however they were made."""
+        some, answers = random.Random(13), []
+        for case in range(600):
+            maps, cells = [], []
+            for _ in range(2):
+                of = {}
+                for _ in range(some.randrange(3)):
+                    start, end, value = some.randrange(6), some.randrange(8), some.choice([1, True, 1.0, "a", [1]])
+                    of |= {key: value for key in range(start, end)}
+                keys = some.sample([*of], len(of))
+                maps.append(RangeMap([((key, key + 1), copy.copy(of[key])) for key in keys], kind="int"))
+                cells.append({key: (type(value), value) for key, value in of.items()})
+            answers.append(cells[0] == cells[1])
+            self.assertEqual((maps[0] == maps[1], maps[0] != maps[1]), (answers[-1], not answers[-1]), case)
+        self.assertTrue(20 < sum(answers) < 580)
+        for end in (5, None):
+            self.assertNotEqual(RangeMap([((0, 4), "a")]), RangeMap([((0, end), "a")]))
+        self.assertNotEqual(RangeMap([((LEAST, LEAST + 1), "a")]), RangeMap([((LEAST, None), "a")]))
 
     def test_combine(self):
         numbers = random.Random(7)
@@ -317,10 +636,204 @@ class Interned(unittest.TestCase):
             made[3:7] = kind("c")
             self.assertEqual([value.name for _, value in made.items()], ["a", "c", "b"])
 
+    def test_an_update_that_raises_leaves_the_map_as_it_was(self):
+        """Whichever of the ranges raises, and whatever it raises, none is put in."""
+
+        def broken():
+            yield (2, 4), "c"
+            raise RuntimeError("no more")
+
+        days = date(2026, 5, 1), date(2026, 5, 4)
+        rows = [
+            ("a key of another kind", [((2, 4), "c"), (days, "d")], TypeError),
+            ("a key out of range", [((2, 4), "c"), ((5, 2**64), "d")], OverflowError),
+            ("keys that are none", [((2, 4), "c"), (7, "d")], TypeError),
+            ("a step", [((2, 4), "c"), (slice(1, 9, 2), "d")], TypeError),
+            ("no pair", [((2, 4), "c"), ((5, 6),)], ValueError),
+            ("an iterator", broken(), RuntimeError),
+            ("an ==", [((2, 4), "c"), ((5, 8), Watched("x")), ((6, 7), Watched("y"))], RuntimeError),
+        ]
+        for what, items, error in rows:
+            Watched.raises = error if what == "an ==" else None
+            for made in (RangeMap([((0, 5), "a"), ((5, 9), "b")]), RangeMap()):
+                before, values = [*made.items()], {*map(id, kept(made))}
+                if not before and what == "an iterator":
+                    items = broken()
+                with self.subTest(what=what, before=before):
+                    self.assertRaises(error, made.update, items)
+                    self.assertEqual(([*made.items()], made.kind), (before, "int" if before else None))
+                    self.assertEqual({*map(id, kept(made))}, values)
+                    made.clear()
+                    self.assertEqual(kept(made), [])
+        Watched.raises = None
+
     def test_a_combination_that_raises_leaves_both_maps_as_they_were(self):
         a, b = RangeMap([((0, 5), 1), ((5, 9), 2)]), RangeMap([((3, 7), 0)])
         self.assertRaises(ZeroDivisionError, a.combine, b, lambda x, y: x // y)
         self.assertEqual((a, b), (RangeMap([((0, 5), 1), ((5, 9), 2)]), RangeMap([((3, 7), 0)])))
+
+    def test_a_combination_that_changes_both_maps(self):
+        """It is that of the maps as they were."""
+
+        def how(x, y):
+            a.clear()
+            b.update([((n, n + 1), n) for n in range(50)])
+            gc.collect()
+            return x + y
+
+        a, b = RangeMap([((0, 5), [1]), ((5, 9), [2]), ((12, None), [3])]), RangeMap([((3, 7), [4]), ((20, 30), [5])])
+        expected = [((0, 3), [1]), ((3, 5), [1, 4]), ((5, 7), [2, 4]), ((7, 9), [2])]
+        expected += [((12, 20), [3]), ((20, 30), [3, 5]), ((30, None), [3])]
+        self.assertEqual([*a.combine(b, how).items()], expected)
+        self.assertEqual((len(a), len(b)), (0, 50))
+        for other in (RangeMap(), RangeMap(kind="unsigned")):
+            one = RangeMap([((0, 2**64 - 1), "a")], unsigned=True)
+            self.assertEqual((one.combine(other, max), other.combine(one, max)), (one, one))
+        self.assertEqual(RangeMap().combine(RangeMap(), max), RangeMap())
+
+    def test_values_of_one_hash_and_of_some(self):
+        class Same:
+            def __init__(self, name):
+                self.name = name
+
+            def __eq__(self, other):
+                return self.name == other.name
+
+            def __hash__(self):
+                return hash_of(self.name)
+
+        for hash_of in (lambda name: -3, lambda name: name % 7, lambda name: name << 33, lambda name: name * 0x1234567890ABCDE % 2**60):
+            some, made, names = random.Random(11), RangeMap(), {}
+            for turn in range(2000):
+                key, name = some.randrange(60), some.randrange(90)
+                if some.random() < 0.3:
+                    made.remove(key, key + 1)
+                    names.pop(key, None)
+                else:
+                    made.put(key, key + 1, Same(name))
+                    names[key] = name
+                self.assertEqual(sorted(it.name for it in kept(made)), sorted({*names.values()}))
+            for it in (made, made.copy()):
+                self.assertEqual({key: it[key].name for key in range(60) if key in it}, names)
+                for name in range(90):
+                    self.assertEqual([*it.find(Same(name)).members()], sorted(key for key in names if names[key] == name))
+
+    def test_a_hash_that_changes(self):
+        """A value may be kept twice then, and each of its ranges has it."""
+
+        class Moody:
+            number = 1
+
+            def __hash__(self):
+                return self.number
+
+        value = Moody()
+        made = RangeMap([((0, 5), value)])
+        value.number = 2
+        made[5:9] = value
+        for it in (made, made.copy(), made[:], made[3:7]):
+            self.assertEqual((len(it), [*it.values()]), (2, [value] * 2))
+            it[6:8] = "a"
+            del it[:6]
+            self.assertEqual(len(it), len([*it]))
+            it.clear()
+            self.assertEqual(kept(it), [])
+
+    def test_cycles_are_collected(self):
+        for cycle in (lambda made: made, lambda made: [made], lambda made: {"m": made}):
+            made = RangeMap([((9, 12), "a")])
+            made[0:5] = cycle(made)
+            followed = weakref.ref(made)
+            del made
+            gc.collect()
+            self.assertIsNone(followed())
+
+    def test_values_are_released_with_the_map(self):
+        for part in (lambda it: it, RangeMap.copy, lambda it: it[3:7]):
+            value = Watched("a")
+            followed = weakref.ref(value)
+            made = part(RangeMap([((0, 10), value)]))
+            del value
+            self.assertIs(made[5], followed())
+            del made
+            gc.collect()
+            self.assertIsNone(followed())
+
+    def test_each_map_holds_a_value_once(self):
+        """In many chunks, also in a copy and where a combination fails midway. Lists have no hash."""
+        values = [*(Watched(str(n)) for n in range(5)), *([n] for n in range(5))]
+        pairs = [((10 * n, 10 * n + 5), values[n % 10]) for n in range(2000)]
+        before = [sys.getrefcount(it) for it in values]
+
+        def see(count, whole=()):
+            self.assertEqual([sys.getrefcount(it) for it in values], [it + count for it in before])
+            for it in whole:
+                self.assertEqual([*it.items()], pairs)
+
+        made = RangeMap(pairs)
+        copies = [made.copy(), copy.copy(made), copies_copy := made.copy().copy()]
+        see(4, [made, *copies])
+        copies[0].clear()
+        copies[1][:] = "x"
+        see(2, [made, copies_copy])
+        # Each of its values meets two.
+        other = RangeMap([((10 * n + 3, 10 * n + 13), values[n % 10]) for n in range(2000)])
+        see(3, [made, copies_copy])
+        calls = []
+
+        def left(a, b):
+            calls.append(0)
+            if len(calls) == most:
+                raise ValueError
+            return a
+
+        for most in (1, 15, 20):
+            calls.clear()
+            self.assertRaises(ValueError, made.combine, other, left)
+            see(3, [made, copies_copy])
+        most = None
+        calls.clear()
+        both = made.combine(other, left)
+        self.assertEqual((len(calls), kept(both)), (20, values))
+        see(4, [made, copies_copy])
+        expected = RangeMap([*other.items(), *made.items()])
+        self.assertEqual((both, len(both)), (expected, 2000))
+        self.assertEqual([*map(id, both.values())], [*map(id, expected.values())])
+        del both, expected, other, copies, copies_copy
+        see(1, [made])
+        del made
+        see(0)
+
+    def test_a_copy_while_a_value_is_put_in(self):
+        """The copy has the values before, and no other is kept."""
+        copies = []
+
+        class Copying(Hashed):
+            def __eq__(self, other):
+                copies.append(made.copy())
+                return super().__eq__(other)
+
+            __hash__ = Hashed.__hash__
+
+        made = RangeMap([((0, 5), Copying("a"))])
+        made.update([((7, 8), Copying("a")), ((9, 10), Copying("b")), ((11, 12), Copying("b"))])
+        self.assertEqual([len(it) for it in copies], [1] * len(copies))
+        self.assertTrue(copies)
+        for it in copies:
+            self.assertEqual([*map(id, kept(it))], [id(made[0])])
+            it[0:1] = "x"
+        self.assertEqual(len(made), 4)
+
+    def test_a_map_isnt_seen_before_it_is_whole(self):
+        def how(a, b):
+            seen.append([it for it in gc.get_objects() if isinstance(it, type(one._steps))])
+            return a
+
+        one, seen = RangeMap([((0, 5), "a")]), []
+        both = one.combine(RangeMap([((3, 7), "b")]), how)
+        self.assertIn(one._steps, seen[0])
+        self.assertNotIn(both._steps, seen[0])
+        self.assertTrue(gc.is_tracked(both._steps))
 
     def test_values_that_no_range_has_are_released(self):
         for kind in (Watched, Hashed):
@@ -380,11 +893,70 @@ class ChangingHash(Changing):
 class Meanwhile(unittest.TestCase):
     """Changes that break off, or that run during another."""
 
-    def see_whole(self, made, more=0):
-        """Sees that each range has its value, and that as many more values are kept at most."""
+    def see_whole(self, made):
+        """Sees that each range has its value, and that no other value is kept."""
         items = list(made.items())
         self.assertEqual([(keys, made[keys[0]]) for keys, _ in items], items)
-        self.assertLessEqual(len(made._values._by_number), len({id(value) for _, value in items}) + more)
+        self.assertEqual(len(made), len(items))
+        self.assertEqual({*map(id, kept(made))}, {id(value) for _, value in items})
+
+    def test_an_iterator_holds_what_it_reads(self):
+        """The map may lose a value, or end, before the iterator has given it."""
+
+        made = RangeMap([((date(2026, 1, day), date(2026, 1, day + 1)), Watched(str(day))) for day in range(1, 9)])
+        left, kind = made.items(), made._kind
+        value = kind.value
+
+        def forgets(code):
+            made.clear()
+            gc.collect()
+            return value(code)
+
+        kind.value = forgets
+        try:
+            keys, first = next(left)
+        finally:
+            del kind.value
+        self.assertEqual((keys, first.name, [*left]), ((date(2026, 1, 1), date(2026, 1, 2)), "1", []))
+
+    def test_an_iterator_keeps_its_map(self):
+        made = RangeMap([((0, 5), Watched("a")), ((7, 9), "b")])
+        left, values = made.items(), made.values()
+        del made
+        gc.collect()
+        self.assertEqual((next(left)[1].name, [*left], next(values).name), ("a", [((7, 9), "b")], "a"))
+        made = RangeMap([((0, 5), Watched("a"))])
+        followed = weakref.ref(made[0])
+        made.put(7, 9, made.items())
+        del made
+        gc.collect()
+        self.assertIsNone(followed())
+
+    def test_equal_maps_whose_values_change_them(self):
+        """An `==` of values may change both maps, end them, or raise an error."""
+
+        def both():
+            return (RangeMap([((n, n + 1), kind(None)) for n in range(0, 20, 2)]) for _ in range(2))
+
+        for kind in (Changing, ChangingHash):
+            for change in (
+                lambda: left.clear(),
+                lambda: right.clear(),
+                lambda: left.remove(2, None),
+                lambda: right.update([((n, n + 1), [n]) for n in range(40, 90, 2)]),
+                lambda: (left.clear(), right.clear(), gc.collect()),
+            ):
+                left, right = both()
+                left[0].change = change
+                self.assertEqual(left == right, not left and not right)
+                self.see_whole(left)
+                self.see_whole(right)
+            left, right = both()
+            left[0].change = lambda: 1 // 0
+            self.assertRaises(ZeroDivisionError, lambda: left == right)
+            left[0].change = lambda: 1 // 0
+            self.assertRaises(ZeroDivisionError, lambda: right == left)
+            self.assertEqual(left, right)
 
     def test_a_change_by_an_equality(self):
         for kind in (Changing, ChangingHash):
@@ -402,6 +974,73 @@ class Meanwhile(unittest.TestCase):
                     self.see_whole(made)
                     self.assertEqual(made.get(1), "a" if name == "set" else None)
 
+    def test_changes_while_a_value_is_sought(self):
+        """Whatever an `==` or a hash does to the table of values, a call ends with what then holds."""
+
+        def more():
+            made.update([((100 + 2 * n, 101 + 2 * n), [n]) for n in range(50)])
+
+        def fewer():
+            made.remove(20, None)
+
+        for kind in (Changing, ChangingHash):
+            for change in (more, fewer, lambda: made.clear(), lambda: (more(), fewer())):
+                for call in (
+                    lambda: made.find(kind(None)),
+                    lambda: made.put(30, 35, kind(None)),
+                    lambda: made.update([((1, 2), kind(None)), ((3, 4), [7]), ((30, 35), kind(None))]),
+                    lambda: made.__setitem__(RangeSet([(1, 2), (30, 35)]), kind(None)),
+                ):
+                    made = RangeMap([((0, 5), kind(None)), ((10, 15), [1]), ((20, 25), "a"), ((30, 31), "b")])
+                    made[0].change = change
+                    call()
+                    self.see_whole(made)
+
+    def test_changes_while_values_are_dropped(self):
+        """The end of a value puts in again what is about to be dropped too, while a hash has that dropped."""
+
+        class Ends:
+            def __del__(self):
+                made.update([((5, 6), [1]), ((7, 8), ChangingHash(lambda: made.put(20, 21, "z")))])
+
+        made = RangeMap([((0, 1), [1]), ((1, 2), Ends()), ((2, 3), [2])])
+        del made[:]
+        gc.collect()
+        self.assertEqual([*made][:3], [(5, 6), (7, 8), (20, 21)])
+        self.assertEqual((made[5], made[20]), ([1], "z"))
+        self.see_whole(made)
+
+    def test_threads(self):
+        """Changes by threads that take turns also in an `==`: each is whole, and the table of values is, whichever comes first."""
+
+        def change(seed):
+            some = random.Random(seed)
+            for _ in range(400):
+                start, end, kind = some.randrange(40), some.randrange(40), some.choice([Watched, Hashed])
+                way = some.randrange(4)
+                if way == 0:
+                    made.remove(start, end)
+                elif way == 1:
+                    made.update([((n, n + some.randrange(4)), kind(some.randrange(6))) for n in range(start, end)])
+                elif way == 2:
+                    copied = made.copy()
+                    self.see_whole(copied)
+                    copied.find(kind(3))
+                else:
+                    made.put(start, end, kind(some.randrange(6)))
+            done.append(seed)
+
+        made, done, before = RangeMap(), [], sys.getswitchinterval()
+        sys.setswitchinterval(1e-6)
+        self.addCleanup(sys.setswitchinterval, before)
+        threads = [threading.Thread(target=change, args=(seed,)) for seed in range(4)]
+        for it in threads:
+            it.start()
+        for it in threads:
+            it.join()
+        self.assertEqual(sorted(done), [0, 1, 2, 3])
+        self.see_whole(made)
+
     def test_a_kind_that_is_decided_meanwhile(self):
         for keys, value in ((slice(3, 7), ChangingHash), (slice(Changing, 7), str)):
             made = RangeMap()
@@ -412,6 +1051,17 @@ class Meanwhile(unittest.TestCase):
             start = keys.start(change) if keys.start is Changing else keys.start
             made[start : keys.stop] = value(change)
             self.assertEqual([keys for keys, _ in made.items()], [(1.5, 2.5), (3.0, 7.0)])
+            self.see_whole(made)
+
+    def test_a_hash_that_raises(self):
+        made = RangeMap([((0, 10), "a"), ((20, 30), 7)])
+        for call in (
+            lambda: made.put(5, 25, ChangingHash(lambda: 1 // 0)),
+            lambda: made.update([((5, 25), "b"), ((3, 4), ChangingHash(lambda: 1 // 0))]),
+            lambda: made.find(ChangingHash(lambda: 1 // 0)),
+        ):
+            self.assertRaises(ZeroDivisionError, call)
+            self.assertEqual(list(made.items()), [((0, 10), "a"), ((20, 30), 7)])
             self.see_whole(made)
 
     def test_a_hash_that_raises_afterwards(self):
@@ -461,7 +1111,7 @@ class Meanwhile(unittest.TestCase):
             for call in (made.items, made.copy, made.domain, lambda: [made.find("a")], lambda: made.combine(made, lambda a, _: a).items()):
                 list(call())
             gc.disable()
-            self.see_whole(made, 3)
+            self.see_whole(made)
             gc.enable()
         gc.collect()
         self.assertEqual((len(given_back), len(made)), (1000, 0))
@@ -489,7 +1139,7 @@ class Meanwhile(unittest.TestCase):
                         made[start:end] = value
             except Interrupt:
                 count += 1
-            self.see_whole(made, 4)
+            self.see_whole(made)
         self.assertEqual(count, 400)
 
     @unittest.skipUnless(_testcapi, "this Python comes without _testcapi, which refuses memory")
@@ -498,27 +1148,44 @@ class Meanwhile(unittest.TestCase):
         hook, sys.unraisablehook = sys.unraisablehook, lambda it: None
         self.addCleanup(setattr, sys, "unraisablehook", hook)
         items = [((0, 5), "a"), ((5, 9), "b"), ((9, 12), "c")]
-        for keys, value, after in (
-            (slice(3, 7), "c", [((0, 3), "a"), ((3, 7), "c"), ((7, 9), "b"), ((9, 12), "c")]),
-            (slice(6, 7), "d", [((0, 5), "a"), ((5, 6), "b"), ((6, 7), "d"), ((7, 9), "b"), ((9, 12), "c")]),
-            (slice(2, 10), None, [((0, 2), "a"), ((10, 12), "c")]),
+        some, same = RangeSet([(2, 4), (6, 7), (20, None)]), RangeMap(items)
+        packed, dated = pickle.dumps(same), RangeMap([((date(2026, 1, 1), date(2026, 1, 5)), "a"), ((date(2026, 2, 1), None), [1])])
+        for change, after in (
+            (lambda: made.put(3, 7, "c"), [((0, 3), "a"), ((3, 7), "c"), ((7, 9), "b"), ((9, 12), "c")]),
+            (lambda: made.put(6, 7, "d"), [((0, 5), "a"), ((5, 6), "b"), ((6, 7), "d"), ((7, 9), "b"), ((9, 12), "c")]),
+            (lambda: made.remove(2, 10), [((0, 2), "a"), ((10, 12), "c")]),
+            (lambda: made.update([((3, 7), "d"), ((20, None), "e"), ((4, 5), [1])]), None),
+            (lambda: made.update([((n, n + 1), str(n)) for n in range(3, 40)]), None),
+            (lambda: made.__setitem__(some, "c"), None),
+            (lambda: made.__delitem__(some), None),
+            (lambda: made.clear(), []),
+            (lambda: made.copy(), items),
+            (lambda: made[some], items),
+            (lambda: (made.domain(), made.find("b"), made.gaps(3, 20), made.overlapping(3, 20)), items),
+            (lambda: RangeMap(items), items),
+            (lambda: ([*made.items()], [*made.keys()], [*made.values()], made == same, made._steps.ends_and_values()), items),
+            (lambda: pickle.loads(packed), items),
+            (lambda: made.combine(same, max), items),
+            (lambda: [*dated.items()], items),
         ):
+            made = RangeMap(items)
+            change()
+            after = [*made.items()] if after is None else after
             made = RangeMap(items)
             for count in range(2000):
                 _testcapi.set_nomemory(count, count + 1)
                 try:
-                    if value is None:
-                        del made[keys]
-                    else:
-                        made[keys] = value
+                    change()
                     break
                 except MemoryError:
                     pass
                 finally:
                     _testcapi.remove_mem_hooks()
                 self.assertEqual(list(made.items()), items)
+                self.see_whole(made)
+            self.assertTrue(0 < count < 1999)
             self.assertEqual(list(made.items()), after)
-            self.see_whole(made, 2)
+            self.see_whole(made)
 
 
 class Named(RangeMap):

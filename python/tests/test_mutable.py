@@ -3,15 +3,15 @@
 import copy
 import gc
 import itertools
+import os
 import random
 import sys
 import time
 import unittest
-from array import array
 
 from range_sets import MutableRangeSet, RangeSet
 from range_sets._core import Chunks
-from range_sets._kinds import SIGNED, UNTOLD
+from range_sets._kinds import NO_KIND, SIGNED, UNSIGNED
 
 
 class Changes(unittest.TestCase):
@@ -162,7 +162,7 @@ class Changes(unittest.TestCase):
 
         made._change(union, other._now)
         self.assertEqual((list(made), len(calls)), ([(0, 5), (7, 9)], 3))
-        chunks, two = Chunks(memoryview(array("q", [0, 10])), SIGNED), memoryview(array("q", [3, 5, 7, 9]))
+        chunks, two = Chunks(RangeSet([(0, 10)])._now[0], SIGNED), RangeSet([(3, 5), (7, 9)])._now[0]
         for call, *given in (
             (chunks.insert, 15, 20),
             (chunks.remove, 3, 5),
@@ -172,10 +172,9 @@ class Changes(unittest.TestCase):
             (chunks.difference, two),
             (chunks.symmetric_difference, two),
         ):
-            self.assertIs(call(*given, UNTOLD, SIGNED), False)
-            self.assertEqual((chunks.now[0].tolist(), chunks.kind), ([0, 10], SIGNED))
-        self.assertEqual((chunks.contains(3, SIGNED), chunks.contains(3, UNTOLD)), (True, False))
-        self.assertEqual((chunks.contains_range(3, 5, SIGNED), chunks.contains_range(3, 5, UNTOLD)), (True, False))
+            self.assertIs(call(*given, NO_KIND, SIGNED), False)
+            self.assertEqual((list(chunks.now[0]), chunks.kind), ([0, 10], SIGNED))
+        self.assertEqual([list(chunks.near(two, kind)) for kind in (SIGNED, NO_KIND, UNSIGNED)], [[0, 10], [], []])
 
     def test_ranges_without_an_end(self):
         self.set |= RangeSet((25, None))
@@ -240,7 +239,7 @@ class ManyRanges(unittest.TestCase):
             for step in range(300):
                 name = some.choice(["add"] * 30 + ["discard"] * 10 + [*combining])
                 longest = count if name == "intersection_update" else some.choice([3] * 19 + [1000])
-                starts = [some.randrange(count) for _ in range(150 if longest == 3 else 1)]
+                starts = [some.randrange(count) for _ in range(some.choice([20, 150]) if longest == 3 else 1)]
                 pairs = [(it, some.randint(it, min(count, it + longest))) for it in starts]
                 if name in combining:
                     getattr(made, name)(model.given(pairs))
@@ -255,6 +254,7 @@ class ManyRanges(unittest.TestCase):
                 self.assertIs(made.covers(first + start, model.end(end)), all(model.has[start:end]))
                 if step % 5 == 0:
                     expected = model.boundaries()
+                    self.ask_both(made, RangeSet.from_boundaries(expected, unsigned=made.unsigned), model, some)
                     lengths.append(len(expected))
                     self.assertEqual((len(made), bool(made)), ((len(expected) + 1) // 2, bool(expected)))
                     self.assertEqual(made.boundaries.tolist(), expected)
@@ -263,6 +263,63 @@ class ManyRanges(unittest.TestCase):
                     made = made.copy() if step % 70 == 0 else made
             # Some chunks.
             self.assertGreater(max(lengths), 2000)
+
+    def ask_both(self, made, twin, model, some):
+        """Each question of a set that has changed beside the same of a list."""
+        count = len(model.has)
+        start = some.randrange(count)
+        end = some.randint(start, min(count, start + some.choice([3, 300])))
+        first, last, unsigned = model.first + start, model.end(end), made.unsigned
+        few = RangeSet(model.given((it, it + 2) for it in some.sample(range(count - 2), 5)), unsigned=unsigned)
+        many = RangeSet(model.given((it, it + 2) for it in some.sample(range(count - 2), 200)), unsigned=unsigned)
+        inside, endless = few & twin, RangeSet([(first, None)], unsigned=unsigned)
+        for place, call in enumerate(
+            (
+                lambda it: (it.range_at(first), first in it, it.covers(first, last), it.covers(first, None)),
+                lambda it: (it.rank(first), it.select(end), it.covered(), it.span()),
+                lambda it: (it.gaps(first, last), it.gaps(first), it.gaps(last, first)),
+                lambda it: (it.overlapping(first, last), it.overlapping(first, None)),
+                lambda it: (it.isdisjoint(few), it.isdisjoint(few - twin), it.isdisjoint(many), it.isdisjoint(endless)),
+                lambda it: (few <= it, it >= few, inside <= it, it >= inside, many <= it, it > inside, endless <= it),
+                lambda it: (it <= few, it <= ~(few - twin), it <= endless, it <= many, it.issubset(~inside), it < ~(few - twin)),
+                lambda it: (it & few, few & it, it & endless, it & many, few - it, many - it, it - few),
+                lambda it: (it.first_fit(3, first), it.first_fit(3, first, last), it.first_fit(40), it.first_fit(2**62)),
+            )
+        ):
+            self.assertEqual(call(made), call(twin), place)
+
+    def test_some_ranges_within_one(self):
+        start = [(0, 100), (150, 160), (170, None)]
+        few = RangeSet([(5, 10), (20, 30), (90, 120), (155, 156), (158, 172), (180, 190)])
+        for change in ("__ior__", "__iand__", "__isub__", "__ixor__"):
+            made, twin = MutableRangeSet(start), MutableRangeSet(start)
+            # One is in chunks, and the other a list.
+            made.add(300)
+            self.assertEqual(
+                (few <= made, few - RangeSet((100, 170)) <= made, made.isdisjoint(few), made & few), (False, True, False, few & twin)
+            )
+            self.assertEqual((made.gaps(5, 175), made.overlapping(90, 155)), (twin.gaps(5, 175), twin.overlapping(90, 155)))
+            getattr(made, change)(few)
+            getattr(twin, change)(few)
+            self.assertEqual((made, made.boundaries.tolist()), (twin, sorted(set(made.boundaries))))
+
+    def test_questions_between_changes(self):
+        made, few = MutableRangeSet.from_values(range(0, 800_000, 4)), RangeSet([(2, 3), (400_002, 400_003)])
+        began = time.process_time()
+        for n in range(1, 4000, 4):
+            made.add(n)
+            self.assertEqual(
+                (made.range_at(n), made.first_fit(1, n - 1), list(made.gaps(n, n + 5))),
+                ((n - 1, n + 1), n + 1, [(n + 1, n + 3), (n + 4, n + 5)]),
+            )
+            self.assertTrue(made.isdisjoint((n + 1, n + 2)) and made.overlapping(n, n + 1) <= made and few - made)
+            made |= few
+            made -= few
+            made ^= few
+            made ^= few
+            self.assertEqual((made.rank(n + 1), made.span()), ((n + 3) // 4 * 2, (0, 799_997)))
+        # A copy of the set for each would take 10 s.
+        self.assertLess(time.process_time() - began, 3)
 
     def test_growth(self):
         made = MutableRangeSet.from_values(range(0, 800_000, 4))
@@ -278,6 +335,7 @@ class ManyRanges(unittest.TestCase):
     def test_changes_by_the_collector(self):
         """Python's collector may run them within a call, and none is lost."""
         made, other, numbers, added = MutableRangeSet([(0, 10)]), RangeSet([(-9, -7), (-5, -3)]), itertools.count(100, 2), []
+        every, intersect = RangeSet((None, None))._now[0], made._chunks.intersection
 
         class Late:
             def __init__(self):
@@ -293,17 +351,86 @@ class ManyRanges(unittest.TestCase):
         self.addCleanup(gc.enable)
         for _ in range(100):
             # It runs at the next request for memory of some types.
-            for call in (lambda: made.boundaries, lambda: made.__ixor__(other)):
+            for call in (lambda: made.boundaries, lambda: made.__ixor__(other), lambda: intersect(every, SIGNED, SIGNED)):
                 gc.disable()
                 Late()
                 made.add(0, 10)
+                # Else a pair takes the place of one that is gone.
+                pairs = [(it, it) for it in range(2100)]
                 gc.enable()
                 call()
                 gc.disable()
+                self.assertEqual(len(pairs), 2100)
+                del pairs
                 self.assertEqual(made.boundaries[-1], max(added, default=9) + 1)
         gc.collect()
-        self.assertEqual(len(added), 200)
+        self.assertEqual(len(added), 300)
         self.assertEqual(made, RangeSet([(0, 10)]) | RangeSet.from_values(added))
+
+
+class Memory(unittest.TestCase):
+    """What a change puts in the place of a list or of chunks is released."""
+
+    def setUp(self):
+        self.many = RangeSet.from_values(range(0, 4000, 2))
+        # Few ranges change the chunks, and many make a list in their place.
+        self.few = RangeSet([(10, 11), (12, 13)])
+        self.half = RangeSet.from_values(range(0, 4000, 8))
+        self.all = RangeSet((-9, 9000))
+
+    def change(self, made):
+        """Ten changes that leave the set as it was. One by few ranges makes chunks of a list, and one by many a list of chunks."""
+        made.add(1, 2)
+        made ^= self.few
+        made ^= self.half
+        made ^= self.few
+        made -= self.few
+        made |= self.few
+        made ^= self.half
+        made &= self.all
+        made.discard(1, 2)
+        made.discard(4000)
+        return made.boundaries
+
+    @unittest.skipUnless(sys.platform == "linux", "only Linux says how much memory a process has")
+    def test_ten_thousand_changes(self):
+        made = MutableRangeSet(self.many)
+        for _ in range(100):
+            self.change(made)
+        before = resident()
+        for _ in range(1000):
+            self.change(made)
+        # A list, and all chunks, take 32,000 bytes, and what few ranges make 300: if one of them stayed each time, these
+        # would be 32 MB, or 1 MB.
+        self.assertLess(resident() - before, 500_000)
+        self.assertEqual(made, self.many)
+
+    @unittest.skipUnless(hasattr(sys, "getrefcount"), "only CPython counts who holds an object")
+    def test_a_list_is_counted_as_often_as_it_is_held(self):
+        made = MutableRangeSet(self.many)
+        made.add(1, 2)
+        now = made._chunks.now
+        held = sys.getrefcount(now)
+        for _ in range(1000):
+            made._chunks.now
+            made.boundaries
+            made ^= RangeSet()
+        self.assertEqual(sys.getrefcount(now), held - 1)
+        now = made._chunks.now
+        # The set and this test hold it, and the call.
+        self.assertEqual(sys.getrefcount(now), 3)
+        others = [SIGNED, self.few._now[0], self.half._now[0], self.all._now[0]]
+        counts = [sys.getrefcount(it) for it in others]
+        for _ in range(1000):
+            self.change(made)
+        for it, count in zip(others, counts):
+            self.assertLess(sys.getrefcount(it) - count, 10)
+
+
+def resident():
+    """How many bytes of memory the process has."""
+    with open("/proc/self/statm") as file:
+        return int(file.read().split()[1]) * os.sysconf("SC_PAGE_SIZE")
 
 
 if __name__ == "__main__":

@@ -10,8 +10,10 @@ import random
 import sys
 import unittest
 from array import array
+from datetime import datetime, timedelta
 
-from range_sets import MutableRangeSet, NotSorted, RangeSet, _core
+from range_sets import MutableRangeSet, NotSorted, RangeMap, RangeSet, _core
+from range_sets._maps import _remade
 from range_sets._ranges import _restored, _unpacked
 
 DAMAGED = int(os.environ.get("RANGE_SETS_PICKLES", "4000"))
@@ -63,7 +65,8 @@ def made_up(some):
     least = 0 if unsigned else -(2**63)
     near = [some.choice([least, 0, 2**62, least + 2**64 - 1]) + some.randint(-300, 300) for _ in range(some.randint(0, 6))]
     wide = [least + some.getrandbits(some.randint(1, 64)) for _ in range(some.randint(0, 6))]
-    return RangeSet.from_boundaries(sorted({it for it in near + wide if least <= it < least + 2**64}), unsigned=unsigned)
+    dense = [some.randint(-9, 9) + some.choice([1, 100]) * it for it in range(some.choice([0, 0, 9, 40]))]
+    return RangeSet.from_boundaries(sorted({it for it in near + wide + dense if least <= it < least + 2**64}), unsigned=unsigned)
 
 
 class Named(RangeSet):
@@ -94,6 +97,14 @@ PICKLES = [
     b"\x00\x00littleq\x07tq\x08Rq\t.",
     b"\x80\x05\x95g\x00\x00\x00\x00\x00\x00\x00\x8c\x12range_sets._ranges\x94\x8c\t_restored\x94\x93\x94(\x8c\nrange_sets\x94\x8c\x0fMutableRangeSet"
     b"\x94\x93\x94C\x10\x00\x00\x00\x00\x00\x00\x00\x00\xff\xff\xff\xff\xff\xff\xff\xff\x94\x88\x8c\x06little\x94t\x94R\x94.",
+]
+
+# What version 0.3 wrote of RangeMap([((-5, 10), "a"), ((20, None), [1])]).
+MAPS = [
+    b"\x80\x02crange_sets._maps\n_restored\nq\x00crange_sets\nRangeMap\nq\x01]q\x02(J\xfb\xff\xff\xffK\n\x86q\x03X\x01\x00\x00\x00aq"
+    b"\x04\x86q\x05K\x14N\x86q\x06]q\x07K\x01a\x86q\x08eX\x03\x00\x00\x00intq\t\x87q\nRq\x0b.",
+    b"\x80\x05\x95e\x00\x00\x00\x00\x00\x00\x00\x8c\x10range_sets._maps\x94\x8c\t_restored\x94\x93\x94\x8c\nrange_sets\x94\x8c\x08RangeMap"
+    b"\x94\x93\x94]\x94(J\xfb\xff\xff\xffK\n\x86\x94\x8c\x01a\x94\x86\x94K\x14N\x86\x94]\x94K\x01a\x86\x94e\x8c\x03int\x94\x87\x94R\x94.",
 ]
 
 
@@ -129,6 +140,54 @@ class Pickles(unittest.TestCase):
         # No number says how much memory is taken.
         with self.assertRaises(TypeError):
             _restored(RangeSet, 8, False, sys.byteorder)
+
+    def test_maps(self):
+        made = RangeMap([((-5, 10), "a"), ((20, None), [1])])
+        for data in (*MAPS, *(pickle.dumps(made, protocol) for protocol in range(pickle.HIGHEST_PROTOCOL + 1))):
+            again = pickle.loads(data)
+            self.assertEqual((again, [*again.items()], again.kind), (made, [*made.items()], "int"))
+        shared = [1]
+        again = pickle.loads(pickle.dumps(RangeMap([((0, 5), shared), ((7, 9), "b"), ((9, 12), shared)], unsigned=True)))
+        self.assertIs(again[0], again[9])
+        self.assertEqual(
+            (again.kind, RangeMap(kind="date"), RangeMap().kind), ("unsigned", pickle.loads(pickle.dumps(RangeMap(kind="date"))), None)
+        )
+        self.assertIsNone(pickle.loads(pickle.dumps(RangeMap())).kind)
+
+    def test_maps_in_the_other_order_of_bytes(self):
+        ends = array("q", [-5, 10, 20, -(2**63)])
+        ends.byteswap()
+        order = {"little": "big", "big": "little"}[sys.byteorder]
+        self.assertEqual(_remade(RangeMap, ends.tobytes(), ("a", [1]), "int", order), RangeMap([((-5, 10), "a"), ((20, None), [1])]))
+
+    def test_maps_that_are_none(self):
+        """Whatever the numbers are, a map is made that is one, of elements of its kind, or an error is raised."""
+        ends = array("q", [0, 5, 7, 9]).tobytes()
+        for given in (
+            (ends, ("a",), "int"),
+            (ends, ("a", "b", "c"), "int"),
+            (ends, ["a", "b"], "int"),
+            (ends[:-1], ("a", "b"), "int"),
+            (ends[:-8], ("a",), "int"),
+            (ends, ("a", "b"), None),
+            (ends, ("a", "b"), "no kind"),
+            (array("q", [0, 2**40]).tobytes(), ("a",), "date"),
+            (array("q", [-(2**40), 5]).tobytes(), ("a",), "date"),
+            (array("q", [2**62, 2**63 - 1]).tobytes(), ("a",), "float"),
+            (8, (), "int"),
+        ):
+            with self.subTest(given=given), self.assertRaises((TypeError, ValueError)):
+                _remade(RangeMap, *given, sys.byteorder)
+        some = random.Random(21)
+        for _ in range(300):
+            rows = [(some.randrange(12), some.choice([-(2**63), *range(12)]), some.randrange(3)) for _ in range(some.randrange(8))]
+            again = _remade(
+                RangeMap, array("q", [end for it in rows for end in it[:2]]).tobytes(), tuple(it[2] for it in rows), "int", sys.byteorder
+            )
+            one_by_one = RangeMap(kind="int")
+            for start, end, value in rows:
+                one_by_one.put(start, None if end < 0 else end, value)
+            self.assertEqual((again, len(again), [*again.items()]), (one_by_one, len(one_by_one), [*one_by_one.items()]))
 
     def test_attributes_of_subclasses(self):
         for kind in (Named, Tagged):
@@ -207,6 +266,34 @@ class Packed(unittest.TestCase):
                 found = None
             self.assertEqual(found, expected, data)
         self.assertTrue(DAMAGED // 5 < read < DAMAGED * 4 // 5, read)
+
+    def test_boundaries_far_apart(self):
+        for kind, elements in (
+            ("unsigned", range(2**61, 2**62, 2**43 + 3)),
+            ("int", range(-(2**63), 2**63, 2**52)),
+            ("datetime", [datetime(1, 1, 1) + timedelta(days=120 * it) for it in range(4001)]),
+            ("float", [2 ** (it / 100) for it in range(-2000, 2001)]),
+        ):
+            made = RangeSet.from_boundaries(elements, kind=kind)
+            for protocol in range(pickle.HIGHEST_PROTOCOL + 1):
+                with self.subTest(kind=kind, protocol=protocol):
+                    data, beside = pickle.dumps(made, protocol), []
+                    self.assertTrue(b"_restored" in data)
+                    self.assertTrue(pickle.loads(data) == made)
+                    apart = pickle.dumps(made, protocol, buffer_callback=beside.append if protocol > 4 else None)
+                    self.assertEqual(len(beside), protocol > 4)
+                    self.assertTrue(pickle.loads(apart, buffers=[bytearray(it) for it in beside]) == made)
+            numbers = bytearray(made.boundaries)
+            numbers[8000:8008] = numbers[8008:8016]
+            with self.assertRaises(NotSorted):
+                pickle.loads(data.replace(bytes(made.boundaries), numbers))
+        # A few far ones among many near ones aren't worth it.
+        made = RangeSet.from_boundaries([-(2**63), *range(4000), 2**62])
+        self.assertLess(len(pickle.dumps(made)), 4200)
+        with self.assertRaisesRegex(ValueError, "damaged"):
+            _restored(RangeSet, bytes(12), False, sys.byteorder)
+        with self.assertRaisesRegex(ValueError, "no set of the kind date"):
+            _restored(RangeSet, array("q", [2**60, 2**61]).tobytes(), False, sys.byteorder, "date")
 
     def test_a_long_one(self):
         made = RangeSet.from_boundaries(range(0, 400_000, 2), unsigned=True)

@@ -1,18 +1,31 @@
 """RangeSet: how it is made, what it answers, its operators and its other forms."""
 
 import copy
+import operator
+import pickle
 import unittest
+import weakref
 import xml.etree.ElementTree
 from array import array
-from itertools import islice
+from datetime import date
+from itertools import islice, product
 
-from range_sets import AnyRangeSet, MutableRangeSet, NotSorted, RangeSet
+from range_sets import AnyRangeSet, MutableRangeSet, NotSorted, RangeMap, RangeSet
 
 LEAST, MOST = -(2**63), 2**63 - 1
 
 
 def pairs(made):
     return list(made)
+
+
+# What each makes of 0..5, 8..9 and 3..7.
+OPERATORS = [
+    (operator.or_, [(0, 7), (8, 9)]),
+    (operator.and_, [(3, 5)]),
+    (operator.sub, [(0, 3), (8, 9)]),
+    (operator.xor, [(0, 3), (5, 7), (8, 9)]),
+]
 
 
 class Making(unittest.TestCase):
@@ -116,7 +129,7 @@ class Making(unittest.TestCase):
             with self.subTest(values=values):
                 self.assertEqual(pairs(RangeSet.from_values(values)), expected)
         self.assertEqual(pairs(RangeSet.from_values([2**64 - 1, 0], unsigned=True)), [(0, 1), (2**64 - 1, None)])
-        kinds = [RangeSet.from_values(array(code, [1]), unsigned=told).unsigned for code in "hH" for told in (None, False, True)]
+        kinds = [RangeSet.from_values(array(code, [1]), unsigned=given).unsigned for code in "hH" for given in (None, False, True)]
         self.assertEqual(kinds, [False, False, True, True, False, True])
 
 
@@ -185,7 +198,7 @@ class Reading(unittest.TestCase):
                 self.assertEqual(pairs(self.set.overlapping(*ends)), expected)
         found = [pairs(self.set.overlapping(it)) for it in (9, 10, (9, 10), range(10, 21), 2**70)]
         self.assertEqual(found, [every[:1], [], every[:1], every[1:2], []])
-        self.assertIs(self.set.overlapping(5, 25).boundaries.obj, self.set.boundaries.obj)
+        self.assertIs(self.set.overlapping(5, 25).boundaries.obj.memory, self.set.boundaries.obj.memory)
         self.assertEqual(pairs(RangeSet([(0, 5)], unsigned=True).overlapping(-3, 1)), [(0, 5)])
 
     def test_one_by_one(self):
@@ -308,11 +321,40 @@ class NewSets(unittest.TestCase):
                 self.assertEqual((left | right, left & right), (a, RangeSet()))
                 self.assertTrue(right.covers(at, at + 1) is a.covers(at, at + 1) and right.isdisjoint([(None, at)]))
 
-    def test_a_cut_between_ranges_copies_nothing(self):
+    def test_weak_references(self):
+        for make, source in ((RangeSet, (0, 10)), (MutableRangeSet, (0, 10)), (RangeMap, [((0, 10), 1)])):
+            made = make(source)
+            followed = weakref.ref(made)
+            self.assertIs(followed(), made)
+            self.assertEqual(pickle.loads(pickle.dumps(made)), made)
+            del made
+            self.assertIsNone(followed())
+
+    def test_a_number_that_changes_what_it_stands_in(self):
+        class Five:
+            def __index__(self):
+                del pairs[2:], pair[1:]
+                return 5
+
+        pair = [Five(), 9]
+        pairs = [(0, 1), pair, (20, 30), (40, 50)]
+        self.assertEqual(list(RangeSet(pairs)), [(0, 1), (5, 9), (20, 30), (40, 50)])
+        self.assertEqual(pairs, [(0, 1), pair])
+
+    def test_a_part_keeps_at_most_twice_its_size(self):
         a = RangeSet([(0, 10), (20, 30)])
-        memory = a.boundaries.obj
+        memory = a.boundaries.obj.memory
         for part in (*a.split(15), a[1:]):
-            self.assertIs(part.boundaries.obj, memory)
+            self.assertIs(part.boundaries.obj.memory, memory)
+        many = RangeSet.from_values(range(0, 20_000, 2))
+        parts = [many[:1], many[5000:5003], many[:4999], many[:6000], many.overlapping(40, 50), *many.split(16_000), *many.split(1001)]
+        for part, taken in zip(parts, (1, 3, 4999, 6000, 5, 8000, 2000, 501, 9499)):
+            self.assertEqual(len(part), taken)
+            self.assertTrue(part <= many)
+            self.assertLessEqual(len(part.boundaries.obj.memory), 2 * 16 * taken)
+            self.assertEqual(part.boundaries.obj.memory is many.boundaries.obj.memory, 2 * taken >= len(many))
+        # A part of a part too.
+        self.assertEqual(len(many[:6000][:3000][:10].boundaries.obj.memory), 160)
 
 
 class Comparisons(unittest.TestCase):
@@ -419,7 +461,17 @@ class OtherForms(unittest.TestCase):
         class Hours(RangeSet):
             __slots__ = ()
 
-        self.assertIs(type(Hours([(9, 12)]) | RangeSet([(13, 17)])), Hours)
+        day = date(2026, 5, 1), date(2026, 5, 2)
+        for a, b in product((RangeSet, MutableRangeSet, Hours), repeat=2):
+            for call, expected in OPERATORS:
+                made = call(a([(0, 5), (8, 9)]), b([(3, 7)]))
+                self.assertEqual((type(made), pairs(made)), (a, expected))
+                for other in ([(3, 7)], {3}, None, 5):
+                    self.assertRaises(TypeError, call, a([(0, 5)]), other)
+                    self.assertRaises(TypeError, call, other, a([(0, 5)]))
+                made = call(a(), b([day]))
+                self.assertEqual((type(made), made.kind, pairs(made)), (a, "date", [day] if call in (operator.or_, operator.xor) else []))
+                self.assertRaises(TypeError, call, a([(0, 5)]), b([(0, 5)], unsigned=True))
         self.assertIsInstance(Hours(), AnyRangeSet)
         self.assertIs(copy.copy(Hours()).__class__, Hours)
         for call in (RangeSet, MutableRangeSet, Hours):

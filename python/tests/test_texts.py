@@ -136,18 +136,18 @@ def made_text(some):
 
 
 class Rows(unittest.TestCase):
-    def tell(self, unsigned, rows):
+    def compare(self, unsigned, rows):
         for text, expected in rows:
             with self.subTest(text=text, unsigned=unsigned):
                 self.assertEqual(by_python(text, unsigned), expected)
 
     def test_separators_of_information_are_no_blanks(self):
-        self.tell(False, [(f"{it}0..5", ("a number", 0)) for it in "\x1c\x1d\x1e\x1f"])
-        self.tell(False, [(f"0..5{it}", ("a comma or the end", 4)) for it in "\x1c\x1d\x1e\x1f"])
-        self.tell(False, [(f"{it}0..5{it},{it}7..{it}", [0, 5, 7]) for it in BLANKS] + [(BLANKS, [])])
+        self.compare(False, [(f"{it}0..5", ("a number", 0)) for it in "\x1c\x1d\x1e\x1f"])
+        self.compare(False, [(f"0..5{it}", ("a comma or the end", 4)) for it in "\x1c\x1d\x1e\x1f"])
+        self.compare(False, [(f"{it}0..5{it},{it}7..{it}", [0, 5, 7]) for it in BLANKS] + [(BLANKS, [])])
 
     def test_numbers_without_a_sign_have_no_minus(self):
-        self.tell(
+        self.compare(
             True,
             (
                 ("-0..", (FITS[True], 0)),
@@ -160,12 +160,12 @@ class Rows(unittest.TestCase):
                 ("-5, 0..3", ("a dot", 2)),
             ),
         )
-        self.tell(False, (("-0..", [0]), ("-5", ("a dot", 2))))
+        self.compare(False, (("-0..", [0]), ("-5", ("a dot", 2))))
 
     def test_numbers_that_are_too_large(self):
         nines = 20 * "9"
         for unsigned in (False, True):
-            self.tell(
+            self.compare(
                 unsigned,
                 (
                     (nines, ("a dot", 20)),
@@ -179,11 +179,11 @@ class Rows(unittest.TestCase):
                     (f"{30 * '0'}1..2", [1, 2]),
                 ),
             )
-        self.tell(False, (("0..9223372036854775808", (FITS[False], 3)), ("-9223372036854775809..", (FITS[False], 0))))
-        self.tell(True, (("0..18446744073709551615", [0, 2**64 - 1]), ("0..18446744073709551616", (FITS[True], 3))))
+        self.compare(False, (("0..9223372036854775808", (FITS[False], 3)), ("-9223372036854775809..", (FITS[False], 0))))
+        self.compare(True, (("0..18446744073709551615", [0, 2**64 - 1]), ("0..18446744073709551616", (FITS[True], 3))))
 
     def test_positions_count_characters(self):
-        self.tell(
+        self.compare(
             False,
             (
                 ("\u2003\u3000x", ("a number", 2)),
@@ -228,14 +228,14 @@ class MadeUp(unittest.TestCase):
         with tempfile.TemporaryDirectory() as folder:
             calls = c_calls(folder)
             for text, unsigned in self.texts:
-                (status, told), got = by_c(*calls[unsigned], text), by_python(text, unsigned)
+                (status, count), got = by_c(*calls[unsigned], text), by_python(text, unsigned)
                 if status == DONE:
-                    expected = told
+                    expected = count
                 elif status == OUT_OF_RANGE:
                     expected = FITS[unsigned], got[1]
                 else:
                     self.assertEqual(status, MALFORMED, (text, unsigned))
-                    expected = got[0], len(text.encode()[:told].decode())
+                    expected = got[0], len(text.encode()[:count].decode())
                     self.assertIn(got[0], ("a number", "a dot", "a comma or the end"), (text, unsigned))
                 self.assertEqual(got, expected, (text, unsigned))
 

@@ -40,15 +40,31 @@ received.add(IPv4Network("10.0.0.0/8"))
 made.insert(datetime.now())
 assert_type(RangeSet.from_values([5, 7]), RangeSet)
 
-bookings: RangeMap[str] = RangeMap([((9, 12), "Ada"), (range(3), "Bob")])
+bookings: RangeMap[int, str] = RangeMap([((9, 12), "Ada"), (range(3), "Bob"), (made, "Eve")])
 bookings[11:14] = "Bob"
-bookings[IPv4Network("10.0.0.0/8")] = "Eve"
+bookings[range(3)] = "Eve"
+bookings[made] = "Eve"
 del bookings[13:]
 assert_type(bookings[10], str)
+assert_type(bookings[1:5], RangeMap[int, str])
+assert_type(bookings[made], RangeMap[int, str])
+assert_type(bookings.get(5), "str | None")
+assert_type(bookings.get(5, 0), "str | int")
+assert_type(bookings.pop(5), str)
+assert_type(bookings.pop(5, None), "str | None")
 assert_type(bookings.find("Bob"), RangeSet)
 assert_type(bookings.gaps(8, None) | bookings.domain(), RangeSet)
-assert_type(bookings.overlapping(1, 5), list[tuple[tuple[Any, Any], str]])
-assert_type(bookings.combine(bookings.copy(), max), RangeMap[str])
+assert_type(bookings.overlapping(1, 5), list[tuple[tuple[int, "int | None"], str]])
+assert_type(bookings.overlapping((1, 5)), list[tuple[tuple[int, "int | None"], str]])
+assert_type(bookings.span(), "tuple[int, int | None] | None")
+assert_type(list(bookings.values()), list[str])
+assert_type(bookings.combine(bookings.copy(), max), RangeMap[int, str])
+assert_type(RangeMap([((9, 12), "Ada")]), RangeMap[int, str])
+assert_type(RangeMap(bookings), RangeMap[int, str])
+leave: RangeMap[date, str] = RangeMap({(date(2026, 5, 1), None): "Ada"})
+leave.put(date(2026, 5, 1), date(2026, 5, 4), "Bob")
+leave.remove(None, date(2026, 5, 2))
+assert_type([(first, who) for (first, end), who in leave.items()], list[tuple[date, str]])
 assert_type(MutableRangeSet.intersection_all([made, received]), MutableRangeSet)
 assert_type(received & made, MutableRangeSet)
 
@@ -73,3 +89,6 @@ made.insert("a")  # type: ignore[call-overload]
 made.add(0, 5)  # type: ignore[attr-defined]
 made | [(0, 5)]  # type: ignore[operator]
 range_sets.union([0], [5])  # type: ignore[call-overload]
+bookings.put(0, 5, 7)  # type: ignore[arg-type]
+leave.put(0, 5, "Ada")  # type: ignore[arg-type]
+bookings["a"]  # type: ignore[call-overload]

@@ -71,9 +71,9 @@ class Unions(unittest.TestCase):
     def test_a_cut_copies_nothing(self):
         from range_sets.dask import _cut_set
 
-        memory = self.whole.boundaries.obj
+        memory = self.whole.boundaries.obj.memory
         for piece in _cut_set(self.whole, [100, 500, 501, 900]):
-            self.assertIs(piece.boundaries.obj, memory)
+            self.assertIs(piece.boundaries.obj.memory, memory)
 
     def test_each_task_has_few_parts(self):
         graph = dict(union_all([dask.delayed(it) for it in self.parts], split_every=4).dask)

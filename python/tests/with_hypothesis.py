@@ -3,6 +3,7 @@
 RANGE_SETS_EXAMPLES says how many cases each test makes up.
 """
 
+import copy
 import importlib
 import math
 import os
@@ -16,13 +17,13 @@ from hypothesis import given, settings
 from hypothesis import strategies as some
 
 import range_sets
-from range_sets import MutableRangeSet, RangeSet
-from range_sets._kinds import told
+from range_sets import MutableRangeSet, RangeMap, RangeSet
+from range_sets._kinds import kind_of
 
 settings.register_profile("tests", max_examples=int(os.environ.get("RANGE_SETS_EXAMPLES", "60")), deadline=None, database=None)
 settings.load_profile("tests")
 
-# A universe that Python's sets can hold, and one number far beyond it that tells whether a set has an end.
+# A universe that Python's sets can hold, and one number far beyond it that shows whether a set has an end.
 SMALL, FAR = range(-12, 13), 2**40
 POINTS = [*SMALL, FAR]
 LIMITS = {False: (-(2**63), 2**63 - 1), True: (0, 2**64 - 1)}
@@ -30,6 +31,10 @@ LIMITS = {False: (-(2**63), 2**63 - 1), True: (0, 2**64 - 1)}
 small_ends = some.one_of(some.none(), some.integers(SMALL[0], SMALL[-1]))
 small_pairs = some.tuples(some.integers(SMALL[0], SMALL[-1]), small_ends)
 small_lists = some.lists(small_pairs, max_size=8)
+
+
+# Values of which some are equal and of other types, and some have no hash.
+small_items = some.lists(some.tuples(small_pairs, some.sampled_from(["a", "b", 1, True, 1.0, None, [1], [2], {}])), max_size=8)
 
 
 def numbers(unsigned):
@@ -137,8 +142,38 @@ class AgainstSets(unittest.TestCase):
                 expected ^= y
             self.assertEqual(members(made), expected)
 
+    @given(small_items, small_items, some.integers(0, 8), small_pairs)
+    def test_maps(self, items, others, count, keys):
+        """Beside a dict of each point's value, and made at once, in two parts, one by one, and of its own ranges in another order."""
+        made, parts, one_by_one = RangeMap(copy.deepcopy(items)), RangeMap(items[:count]), RangeMap()
+        parts.update(items[count:])
+        for (start, end), value in copy.deepcopy(items):
+            one_by_one.put(start, end, value)
+        cells = {n: [value] for pair, value in items for n in points_of([pair])}
+        for it in (made, parts, one_by_one, RangeMap(reversed([*made.items()])), made.copy(), made[:], pickle.loads(pickle.dumps(made))):
+            self.assertEqual((repr([*it.items()]), it.kind), (repr([*made.items()]), made.kind))
+            self.assertEqual([[(type(value), value) for value in cells.get(n, ())] for n in POINTS], self.values_of(it))
+        self.assertEqual(members(made.domain()), {*cells})
+        for _, value in items:
+            self.assertEqual(members(made.find(copy.deepcopy(value))), {n for n in cells if repr(cells[n]) == repr([value])})
+        self.assertEqual(
+            (members(made.gaps(*keys)), members(made[slice(*keys)].domain())), (points_of([keys]) - {*cells}, points_of([keys]) & {*cells})
+        )
+        with self.assertRaises(OverflowError):
+            made.update([*others, ((0, 2**63), "a")])
+        self.assertEqual(repr([*made.items()]), repr([*one_by_one.items()]))
+        made.update(others)
+        cells |= {n: [value] for pair, value in others for n in points_of([pair])}
+        self.assertEqual([[(type(value), value) for value in cells.get(n, ())] for n in POINTS], self.values_of(made))
+        del made[slice(*keys)]
+        self.assertEqual(members(made.domain()), {*cells} - points_of([keys]))
 
-# Some elements of each kind from the least on, in order, which Python's sets can hold. The last is never an end, and tells whether a set has one.
+    @staticmethod
+    def values_of(made):
+        return [[(type(made[n]), made[n])] if n in made else [] for n in POINTS]
+
+
+# Some elements of each kind from the least on, in order, which Python's sets can hold. The last is never an end, and shows whether a set has one.
 NOON = datetime(2026, 5, 4, 12)
 ZONES = [timezone(timedelta(hours=hours)) for hours in (-12, 0, 5)]
 ELEMENTS = {
@@ -160,7 +195,7 @@ VALUES = {
 
 
 def of_a_kind(count):
-    """A kind, and so many lists of pairs of the places of its elements. None stands for no end, as a start for the least."""
+    """A kind, and lists of pairs of the places of its elements. None stands for no end, as a start for the least."""
 
     def of_kind(name):
         places = some.integers(0, len(ELEMENTS[name]) - 2)
@@ -251,7 +286,7 @@ class EachKind(unittest.TestCase):
     @given(some.one_of(some.tuples(some.just(name), values) for name, values in VALUES.items()))
     def test_numbers_read_back(self, drawn):
         name, value = drawn
-        kind = told(name)
+        kind = kind_of(name)
         code = kind.number(value)
         self.assertEqual(kind.value(code), value)
         for other in ELEMENTS[name]:

@@ -1,5 +1,6 @@
 """numpy arrays as boundaries, tables and buffers, and sets as arrays."""
 
+import itertools
 import operator
 import random
 import threading
@@ -11,14 +12,14 @@ from ipaddress import IPv4Address
 import numpy
 
 import range_sets as sets
-from range_sets import MutableRangeSet, NotSorted, RangeSet
+from range_sets import MutableRangeSet, NotSorted, RangeMap, RangeSet
 
 FORMAT = (
-    "64-bit whole numbers in this machine's order of bytes are wanted, as array('q') and numpy's int64 and uint64 have them, "
+    "expected 64-bit whole numbers in this machine's order of bytes, as array('q') and numpy's int64 and uint64 have them, "
     "not those of the format"
 )
-OF_SETS = "whole numbers of at most 64 bits or floats in this machine's order of bytes are wanted, not those of the format"
-SIDE = "numbers that lie side by side are wanted: copy the buffer first, as numpy's a.copy() does"
+OF_SETS = "expected whole numbers of at most 64 bits or floats in this machine's order of bytes, not those of the format"
+SIDE = "expected numbers that lie side by side: copy the buffer first, as numpy's a.copy() does"
 
 
 def i64(*items):
@@ -66,8 +67,8 @@ class Lists(unittest.TestCase):
             (numpy.array([True, False]), f"{FORMAT} '?'"),
             (numpy.array([0j, 1j]), f"{FORMAT} 'Zd'"),
             (numpy.array([1, "x"], dtype=object), f"{FORMAT} 'O'"),
-            (i64(0, 1, 2, 3).reshape(2, 2), "a list is wanted, with one dimension"),
-            (numpy.int64(3), "a list is wanted, with one dimension"),
+            (i64(0, 1, 2, 3).reshape(2, 2), "expected a list, with one dimension"),
+            (numpy.int64(3), "expected a list, with one dimension"),
         ):
             with self.subTest(text=text):
                 for call in (lambda: sets.union(given, i64(0)), lambda: sets.from_unsorted(given)):
@@ -139,14 +140,14 @@ class Sets(unittest.TestCase):
         self.assertEqual(RangeSet(table[:0]), RangeSet())
         for bad, text in (
             (table.reshape(2, 3), "or a table with two columns"),
-            (table.ravel(), "a table with two columns is wanted"),
+            (table.ravel(), "expected a table with two columns"),
             (table.astype(numpy.int32).reshape(2, 3), "or a table with two columns"),
             (table.astype(complex), f"{OF_SETS} 'Zd'"),
             (table > 3, f"{OF_SETS} '.'"),
             (table.astype(numpy.float16), f"{OF_SETS} 'e'"),
-            (numpy.ma.array(table, mask=table > 20), "an array without a mask is wanted"),
-            (numpy.ma.array(table.astype(object), mask=table > 20), "an array without a mask is wanted"),
-            (numpy.ma.array(table.astype("M8[s]"), mask=table > 20), "an array without a mask is wanted"),
+            (numpy.ma.array(table, mask=table > 20), "expected an array without a mask"),
+            (numpy.ma.array(table.astype(object), mask=table > 20), "expected an array without a mask"),
+            (numpy.ma.array(table.astype("M8[s]"), mask=table > 20), "expected an array without a mask"),
         ):
             with self.assertRaisesRegex(TypeError, text):
                 RangeSet(bad)
@@ -172,16 +173,16 @@ class Sets(unittest.TestCase):
         for dtype in (numpy.int8, numpy.int16, numpy.int32, numpy.uint8, numpy.uint16, numpy.uint32):
             table = numpy.array([[20, 30], [0, 5], [3, 8]], dtype=dtype)
             unsigned = numpy.dtype(dtype).kind == "u"
-            for told in (None, False, True):
-                made = RangeSet(table, unsigned=told)
-                self.assertEqual((list(made), made.unsigned), ([(0, 8), (20, 30)], unsigned if told is None else told))
-                self.assertEqual(RangeSet.from_values(table[:, 0], unsigned=told).unsigned, made.unsigned)
+            for given in (None, False, True):
+                made = RangeSet(table, unsigned=given)
+                self.assertEqual((list(made), made.unsigned), ([(0, 8), (20, 30)], unsigned if given is None else given))
+                self.assertEqual(RangeSet.from_values(table[:, 0], unsigned=given).unsigned, made.unsigned)
             self.assertEqual(list(RangeSet(table[::2])), [(3, 8), (20, 30)])
             least, most = int(numpy.iinfo(dtype).min), int(numpy.iinfo(dtype).max)
             self.assertEqual(list(RangeSet(numpy.array([[least, most]], dtype=dtype))), [(least, most)])
             for call in (RangeSet.from_values, RangeSet.from_boundaries):
                 for bad in (table, table.astype(numpy.int64), numpy.asfortranarray(table)):
-                    with self.assertRaisesRegex(TypeError, "a list is wanted, with one dimension"):
+                    with self.assertRaisesRegex(TypeError, "expected a list, with one dimension"):
                         call(bad)
         with self.assertRaisesRegex(OverflowError, "a number from 0 to 2"):
             RangeSet(numpy.array([[-1, 5]], dtype=numpy.int32), unsigned=True)
@@ -208,7 +209,7 @@ class Sets(unittest.TestCase):
         self.assertEqual(of_unsigned.contains(i64(-1, 0, 2, 3, -(2**63))).tolist(), [False, True, True, False, False])
         self.assertEqual(sets.contains(i64(0, 10), i64(9, 10, -1)).tolist(), [True, False, False])
         for bad in (numpy.array([1.0]), numpy.array([True])):
-            with self.assertRaisesRegex(TypeError, "whole numbers are wanted"):
+            with self.assertRaisesRegex(TypeError, "expected whole numbers"):
                 made.contains(bad)
         for bad in (["x"], [5, 1.0], [None]):
             with self.assertRaisesRegex(TypeError, "object cannot be interpreted as an integer"):
@@ -236,8 +237,8 @@ class Sets(unittest.TestCase):
         some = RangeSet([(0, 5)])
         for nothing in (RangeSet(numpy.empty((0, 2))), RangeSet.from_values(numpy.array([])), RangeSet.from_boundaries(numpy.array([]))):
             self.assertEqual((nothing.kind, nothing | some, some - nothing), (None, some, some))
-        for told in (int, float, "date", "unsigned"):
-            self.assertEqual(RangeSet(numpy.empty((0, 2)), kind=told), RangeSet(kind=told))
+        for given in (int, float, "date", "unsigned"):
+            self.assertEqual(RangeSet(numpy.empty((0, 2)), kind=given), RangeSet(kind=given))
         self.assertTrue(RangeSet.from_values(numpy.array([]), unsigned=True).unsigned)
 
     def test_smaller_floats(self):
@@ -263,6 +264,19 @@ class Sets(unittest.TestCase):
         with self.assertRaises(TypeError):
             made |= values
         self.assertEqual(list(made), [(0, 10)])
+
+    def test_functions_of_numpy_take_no_sets(self):
+        """They would take the boundaries for the members. The error names the calls that are meant."""
+        numbers = numpy.array([0, 5, 10, 25])
+        for made in (RangeSet([(0, 10), (20, 30)]), MutableRangeSet([(0, 10), (20, 30)])):
+            for call in (numpy.isin, numpy.in1d, numpy.union1d, numpy.searchsorted, numpy.append):
+                for given in ((numbers, made), (made, numbers)):
+                    with self.assertRaises(TypeError) as raised:
+                        call(*given)
+                    text = f"numpy.{call.__name__} takes no set: s.contains(array) says which elements are members, "
+                    self.assertEqual(str(raised.exception), text + "and numpy.asarray(s) has the boundaries")
+            self.assertEqual(made.contains(numbers).tolist(), [True, True, False, True])
+            self.assertEqual(numpy.isin(numbers, numpy.asarray(made)).tolist(), [True, False, True, False])
 
     def test_many_numbers_are_members(self):
         some = numpy.random.default_rng(3)
@@ -311,15 +325,24 @@ class Sets(unittest.TestCase):
         for unit in ("ns", "us", "25s", "D"):
             made = RangeSet([(numpy.datetime64(0, unit), numpy.datetime64(5, unit))])
             for length, error, text in (
-                (numpy.timedelta64(2**61, "W"), ValueError, f"a timedelta of whole {unit} in 64 bits is wanted"),
-                (numpy.timedelta64(-(2**61), "W"), ValueError, f"a timedelta of whole {unit} in 64 bits is wanted"),
-                (timedelta.max, OverflowError, "a timedelta of at most 64 bits of microseconds is wanted"),
-                (timedelta.min, OverflowError, "a timedelta of at most 64 bits of microseconds is wanted"),
-                (timedelta(microseconds=2**63), OverflowError, "a timedelta of at most 64 bits of microseconds is wanted"),
+                (numpy.timedelta64(2**61, "W"), ValueError, f"expected a timedelta of whole {unit} in 64 bits"),
+                (numpy.timedelta64(-(2**61), "W"), ValueError, f"expected a timedelta of whole {unit} in 64 bits"),
+                (timedelta.max, OverflowError, "expected a timedelta of at most 64 bits of microseconds"),
+                (timedelta.min, OverflowError, "expected a timedelta of at most 64 bits of microseconds"),
+                (timedelta(microseconds=2**63), OverflowError, "expected a timedelta of at most 64 bits of microseconds"),
             ):
                 with self.subTest(unit=unit, length=length), self.assertRaisesRegex(error, text):
                     made.first_fit(length)
             self.assertEqual(made.first_fit(numpy.timedelta64(2**62, unit), numpy.datetime64(0, unit)), numpy.datetime64(5, unit))
+
+    def test_what_is_covered_beyond_numpys_lengths(self):
+        end = numpy.datetime64(2**63 - 1, "s")
+        made = RangeSet([(None, end)], kind="datetime64[s]")
+        with self.assertRaises(OverflowError) as raised:
+            made.covered()
+        text = "numpy has no timedelta64[s] of more than 2**63 - 1, and the ranges have 18446744073709551614"
+        self.assertEqual(str(raised.exception), text)
+        self.assertEqual((made & RangeSet([(numpy.datetime64(0, "s"), end)])).covered(), numpy.timedelta64(2**63 - 1, "s"))
 
     def test_what_is_no_time(self):
         nat = numpy.datetime64("NaT", "D")
@@ -328,7 +351,7 @@ class Sets(unittest.TestCase):
             lambda: RangeSet(numpy.array([["2026-05-01", "NaT"]], dtype="M8[D]")),
             lambda: RangeSet([(nat, None)]),
             lambda: nat in made,
-            lambda: made.contains(numpy.array(["NaT"], dtype="M8[D]")),
+            lambda: made.rank(numpy.array(["NaT"], dtype="M8[D]")),
             lambda: RangeSet.from_values(numpy.array(["NaT"], dtype="M8[s]")),
         ):
             with self.assertRaisesRegex(ValueError, "NaT is in no order"):
@@ -370,7 +393,7 @@ class Sets(unittest.TestCase):
             self.assertEqual(RangeSet(numpy.array([elements])), made)
             self.assertEqual(made.contains(numpy.array(elements).reshape(2, 1)).shape, (2, 1))
         beyond = datetime.max.replace(tzinfo=timezone(timedelta(hours=-1)))
-        with self.assertRaisesRegex(OverflowError, "a datetime with a time zone is wanted"):
+        with self.assertRaisesRegex(OverflowError, "expected a datetime with a time zone"):
             RangeSet([(day.replace(tzinfo=zone), None)]).contains([beyond])
         kinds = {"M8[us]": ("datetime", "datetime[UTC]"), "M8[D]": ("date",), "m8[us]": ("timedelta",)}
         for dtype, names in kinds.items():
@@ -426,6 +449,142 @@ class Sets(unittest.TestCase):
             got = RangeSet(table)
             self.assertEqual({n for start, end in got for n in range(start, end)}, expected)
             self.assertEqual(got.covered(), len(expected))
+
+
+class ManyAtOnce(unittest.TestCase):
+    """Each answer of a call over arrays beside the same call of one element."""
+
+    def made_up(self):
+        some = random.Random(7)
+        for (first, last), size, dtype in itertools.product(
+            ((-50, 50), (0, 60_000)), (0, 1, 3, 400, 20_000), ("i8", "u8", "M8[s]", "m8[us]", "f8")
+        ):
+            if size * 4 > last - first:
+                continue
+            ends = sorted(some.sample(range(first, last), size))
+            if dtype == "u8":
+                ends = [2**63 - 100 + it for it in ends] if last == 50 else ends
+            numbers = numpy.array([some.randint(first - 3, last + 3) for _ in range(200)])
+            if dtype == "u8":
+                numbers = numbers.clip(0).astype("u8") + (2**63 - 100 if last == 50 else 0)
+            every = numpy.array(ends, dtype="u8" if dtype == "u8" else "i8").astype(dtype)
+            asked = numbers.astype(dtype)
+            kind = {"u8": "unsigned", "i8": "int", "f8": "float", "m8[us]": "timedelta"}.get(dtype, "datetime64[s]")
+            made = RangeSet.from_boundaries(every, kind=kind)
+            for questions in (asked, numpy.sort(asked), asked[:0]):
+                yield made, questions, kind
+
+    def test_beside_one_by_one(self):
+        for made, asked, kind in self.made_up():
+            elements = asked.tolist() if kind != "datetime64[s]" else list(asked)
+            with self.subTest(kind=kind, ranges=len(made)):
+                self.assertEqual(made.contains(asked).tolist(), [it in made for it in elements])
+                ends = numpy.roll(asked, 1)
+                later = ends.tolist() if kind != "datetime64[s]" else list(ends)
+                windows = [RangeSet([it], kind=kind) for it in zip(elements, later)]
+                self.assertEqual(made.overlaps(asked, ends).tolist(), [not made.isdisjoint(it) for it in windows])
+                starts, stops = made.range_at(asked)
+                expected = [made.range_at(it) or (None, None) for it in elements]
+                found = [(None if starts.mask[at] else starts[at], None if stops.mask[at] else stops[at]) for at in range(len(asked))]
+                self.assertEqual(
+                    [tuple(None if it is None else it.item() if kind != "datetime64[s]" else it for it in pair) for pair in found], expected
+                )
+                if kind == "float":
+                    with self.assertRaises(TypeError):
+                        made.rank(asked)
+                    continue
+                self.assertEqual(made.rank(asked).tolist(), [made.rank(it) for it in elements])
+                covered = [(made & it).covered() for it in windows]
+                self.assertEqual(
+                    list(made.covered_within(asked, ends)), [numpy.timedelta64(it) if kind in ("timedelta",) else it for it in covered]
+                )
+
+    def test_what_is_in_no_order(self):
+        floats = RangeSet([(None, None)], kind="float")
+        self.assertEqual(floats.contains(numpy.array([1.5, numpy.nan, numpy.inf])).tolist(), [True, False, True])
+        self.assertEqual(floats.overlaps(numpy.array([1.5, numpy.nan]), numpy.array([numpy.nan, 2.5])).tolist(), [False, False])
+        for dtype, kind in (("M8[s]", "datetime64[s]"), ("m8[us]", "timedelta"), ("M8[D]", "date")):
+            made, asked = RangeSet.from_boundaries(numpy.array([0], dtype=dtype), kind=kind), numpy.array(["NaT", 5], dtype=dtype)
+            self.assertEqual(made.contains(asked).tolist(), [False, True])
+            self.assertEqual([it.mask.tolist() for it in made.range_at(asked)], [[True, False], [True, True]])
+
+    def test_refused(self):
+        made = RangeSet([(0, 10)])
+        for call, error in (
+            (lambda: made.rank(numpy.array([0.5])), TypeError),
+            (lambda: made.rank(numpy.array([2**64 - 1], dtype="u8")), OverflowError),
+            (lambda: made.overlaps(i64(1, 2), i64(1)), ValueError),
+            (lambda: RangeSet([(0.5, 1.5)]).covered_within(numpy.array([0.5]), numpy.array([1.0])), TypeError),
+            (lambda: made.range_at(numpy.array(["x"])), TypeError),
+        ):
+            with self.assertRaises(error):
+                call()
+
+    def test_a_set_of_no_kind(self):
+        made, asked = RangeSet(), numpy.array([0.5, 1.5])
+        self.assertEqual((made.overlaps(asked, asked + 1).tolist(), made.rank(i64(3, 5)).tolist()), ([False, False], [0, 0]))
+        self.assertTrue(made.range_at(asked)[0].mask.all() and not made.contains(asked).any())
+
+    def test_smaller_tables(self):
+        for code in "bBhHiIfd":
+            table = numpy.array([[20, 30], [0, 5], [3, 8]], dtype=code)
+            made = RangeSet(table)
+            self.assertEqual(
+                (list(made), made.kind), ([(0, 8), (20, 30)], "float" if code in "fd" else "unsigned" if code.isupper() else "int")
+            )
+            self.assertEqual(RangeSet(table[::2]), RangeSet([(20, 30), (3, 8)], kind=made.kind))
+            self.assertEqual(RangeSet(table[:, ::-1]), RangeSet(kind=made.kind))
+        for code, least, most in (("b", -128, 127), ("h", -(2**15), 2**15 - 1), ("i", -(2**31), 2**31 - 1), ("I", 0, 2**32 - 1)):
+            self.assertEqual(list(RangeSet(numpy.array([[least, most]], dtype=code))), [(least, most)])
+
+    def test_floats_of_each_order(self):
+        some = numpy.array([-numpy.inf, -1e300, -1.5, -5e-324, -0.0, 0.0, 5e-324, 1.0, numpy.nextafter(1, 2), 1e300, numpy.inf])
+        made = RangeSet(numpy.array([[-1.5, 0.0], [1.0, numpy.inf]]))
+        self.assertEqual(made, RangeSet([(-1.5, 0.0), (1.0, numpy.inf)]))
+        self.assertEqual(made.contains(some).tolist(), [it in made for it in some.tolist()])
+        self.assertEqual(numpy.asarray(RangeSet.from_boundaries(numpy.unique(some))).tolist(), numpy.unique(some).tolist())
+        for row in ([numpy.nan, 1.0], [0.0, -numpy.nan]):
+            with self.assertRaisesRegex(ValueError, "NaN is in no order"):
+                RangeSet(numpy.array([row]))
+
+    def test_values_of_many_keys(self):
+        made = RangeMap([((0, 10), "low"), ((20, None), ["high"])])
+        self.assertEqual(made.get(i64(5, 15, 25, -1), "none").tolist(), ["low", "none", ["high"], "none"])
+        self.assertEqual(made.get(i64(5, 15)).tolist(), ["low", None])
+        self.assertEqual(RangeMap().get(i64(5, 15), 0).tolist(), [0, 0])
+
+    def test_made_up_values_of_many_keys(self):
+        """As `get` gives each, in arrays of any shape, whatever the values and the default are."""
+        some, made_up = random.Random(23), numpy.random.default_rng(23)
+        for case in range(100):
+            kind, dtype = some.choice([("int", "i8"), ("unsigned", "u8"), ("float", "f8"), ("datetime64[s]", "M8[s]")])
+            ends = made_up.integers(0, 90, 40).astype(dtype)
+            pairs = [(ends[at : at + 2], some.choice(["a", 1, (1, 2), [3, 4], None])) for at in range(0, 40, 2)]
+            made = RangeMap([(pair.tolist() if dtype != "M8[s]" else [*pair], value) for pair, value in pairs], kind=kind)
+            keys = made_up.integers(0, 99, some.choice([(), (0,), (7,), (3, 4), (20, 3)])).astype(dtype)
+            if keys.ndim == 2:
+                keys = some.choice([keys, keys.T, keys[:, ::2], keys[::-1]])
+            default = some.choice([None, "none", [7, 8], (9, 10)])
+            found = made.get(keys, default) if keys.ndim else None
+            if found is None:
+                continue
+            flat = [*keys.reshape(-1)] if dtype == "M8[s]" else keys.reshape(-1).tolist()
+            expected = [made.get(it, default) for it in flat]
+            self.assertEqual((found.shape, found.dtype), (keys.shape, object), case)
+            self.assertTrue(all(a is b for a, b in zip(found.reshape(-1), expected, strict=True)), case)
+        gone = RangeMap([((0.0, None), "some")]).get(numpy.array([numpy.nan, 1.0]), [7, 8])
+        self.assertEqual(gone.tolist(), [[7, 8], "some"])
+
+    def test_what_the_compiled_module_is_given(self):
+        steps, keys = RangeMap([((0, 10), "low")])._steps, i64(5, 15)
+        for given in (
+            (keys, bytes(2), None, numpy.empty(3, dtype=object)),
+            (keys, bytes(2), None, numpy.empty(2, dtype="i8")),
+            (keys, bytes(1), None, numpy.empty(2, dtype=object)),
+            (keys.astype("u8"), bytes(2), None, numpy.empty(2, dtype=object)),
+            (keys, bytes(2), None, numpy.empty(4, dtype=object)[::2]),
+        ):
+            self.assertRaises((TypeError, ValueError, BufferError), steps.get_each, *given)
 
 
 if __name__ == "__main__":

@@ -14,7 +14,7 @@ from zoneinfo import ZoneInfo
 import numpy
 import pandas
 
-from range_sets import MutableRangeSet, RangeSet
+from range_sets import MutableRangeSet, RangeMap, RangeSet
 from range_sets._kinds import Times
 
 
@@ -32,11 +32,19 @@ class Frames(unittest.TestCase):
                 self.assertEqual(list(RangeSet(given)), [(0, 8), (20, 30)])
         with self.assertRaisesRegex(TypeError, "or a table with two columns"):
             RangeSet(self.frame[["start", "end", "other"]])
-        with self.assertRaisesRegex(TypeError, "a table with two columns is wanted"):
+        with self.assertRaisesRegex(TypeError, "expected a table with two columns"):
             RangeSet(self.frame["start"])
         for names in (["start", "closed"], ["array", "end"], ["closed", "unit"]):
             named = self.frame[["start", "end"]].set_axis(names, axis=1)
             self.assertEqual(list(RangeSet(named)), [(0, 8), (20, 30)])
+
+    def test_two_columns_apart(self):
+        for rows in (2, 3):
+            starts, ends = self.frame["start"][:rows], self.frame["end"][:rows]
+            for given in ((starts, ends), (starts.to_numpy(), ends.to_numpy())):
+                with self.assertRaisesRegex(TypeError, "zip\\(starts, ends\\) has the pairs"):
+                    RangeSet(given)
+                self.assertEqual(RangeSet(zip(*given)), RangeSet(self.frame[["start", "end"]][:rows]))
 
     def test_one_column(self):
         made = RangeSet.from_values(self.frame["start"].to_numpy())
@@ -51,7 +59,7 @@ class Frames(unittest.TestCase):
             for closed in ("right", "both", "neither"):
                 with self.assertRaises(ValueError) as raised:
                     RangeSet(kind.from_arrays(starts, ends, closed=closed))
-                text = "intervals with their start and without their end are wanted, closed='left' and not"
+                text = "expected intervals with their start and without their end, closed='left' and not"
                 self.assertEqual(str(raised.exception), f"{text} {closed!r}")
         three, seven = pandas.Interval(3, 5, closed="left"), pandas.Interval(7, 9, closed="left")
         self.assertEqual(list(RangeSet(three)), [(3, 5)])
@@ -82,11 +90,12 @@ class Frames(unittest.TestCase):
         self.assertEqual(RangeSet([twice]).covered(), timedelta(hours=1), "a time that an autumn night has twice")
         self.assertEqual([*RangeSet.from_values(zoned["start"]).members()], list(zoned["start"]))
         self.assertEqual([*RangeSet.from_values(frame["start"]).members()], list(frame["start"]))
-        self.assertEqual(RangeSet([(frame["start"][0], frame["end"][1])]).kind, "datetime")
+        self.assertEqual(RangeSet([(frame["start"].iloc[0], frame["end"].iloc[-1])]) - made, RangeSet(kind="datetime64[ns]"))
         self.check_timestamps(made, frame)
-        for value in (pandas.Timestamp(1), pandas.Timedelta(1), pandas.Timestamp(1, tz="UTC")):
-            with self.assertRaisesRegex(ValueError, "microseconds are wanted"):
-                RangeSet([(value, None)])
+        self.assertEqual(RangeSet([(pandas.Timestamp(1), None)]).span(), (numpy.datetime64(1, "ns"), None))
+        for value, kind in ((pandas.Timestamp(1), "datetime"), (pandas.Timedelta(1), None), (pandas.Timestamp(1, tz="UTC"), None)):
+            with self.assertRaisesRegex(ValueError, "expected microseconds"):
+                RangeSet([(value, None)], kind=kind)
         for pair in ((pandas.NaT, None), (frame["start"][0], pandas.NaT), (date(2026, 5, 1), pandas.NaT), (timedelta(1), pandas.NaT)):
             with self.assertRaisesRegex(ValueError, "NaT is in no order"):
                 RangeSet([pair])
@@ -126,7 +135,7 @@ class Frames(unittest.TestCase):
             self.assertRaises(TypeError, call)
         finer = zoned.assign(end=zoned["end"] + pandas.Timedelta(nanoseconds=1))
         for call in (lambda: RangeSet(finer), lambda: made.contains(finer["end"]), lambda: RangeSet.from_values(finer["end"])):
-            with self.assertRaisesRegex(ValueError, "microseconds are wanted"):
+            with self.assertRaisesRegex(ValueError, "expected microseconds"):
                 call()
 
     def test_rows_without_an_end(self):
@@ -138,14 +147,16 @@ class Frames(unittest.TestCase):
                 RangeSet(frame)
             made = RangeSet(frame.dropna()).insert(frame["start"][1], None)
             self.assertEqual((len(made), made[0][1], made.range_at(frame["start"][1])), (1, None, made[0]))
-            for call in (lambda: made.contains(frame["end"]), lambda: RangeSet.from_values(frame["end"])):
-                with self.assertRaisesRegex(ValueError, "NaT is in no order.* it stands at 1, counted from 0"):
-                    call()
+            with self.assertRaisesRegex(ValueError, "NaT is in no order.* it stands at 1, counted from 0"):
+                RangeSet.from_values(frame["end"])
+            self.assertEqual(made.contains(frame["end"]).tolist(), [True, False])
 
     def test_kinds_that_meet(self):
         frame = pandas.DataFrame({"start": pandas.to_datetime(["2026-05-01"]), "end": pandas.to_datetime(["2026-05-04"])})
         pair = frame["start"][0], frame["end"][0]
-        made, of_frame = RangeSet([pair]), RangeSet(frame)
+        made, of_frame = RangeSet([pair], kind="datetime"), RangeSet(frame)
+        self.assertEqual(RangeSet([pair]), of_frame)
+        self.assertRaisesRegex(TypeError, "with kind='datetime64.s.'", lambda: of_frame | RangeSet([pair], kind="datetime64[s]"))
         hint = "; with kind='datetime64.ns.' pandas' Timestamps make such a set$"
         for call in (
             lambda: made | of_frame,
@@ -157,8 +168,10 @@ class Frames(unittest.TestCase):
                 call()
         self.assertEqual(RangeSet([pair], kind="datetime64[ns]") | of_frame, of_frame)
         intervals = pandas.arrays.IntervalArray.from_arrays(frame["start"], frame["end"], closed="left")
-        self.assertEqual((RangeSet(intervals).kind, RangeSet(pandas.Series(intervals)).kind), ("datetime64[ns]", "datetime"))
-        self.assertEqual(RangeSet(pandas.Series(intervals), kind="datetime64[ns]"), of_frame)
+        for given in (intervals, pandas.IntervalIndex(intervals), pandas.Series(intervals), pandas.Series(intervals).astype(object)):
+            self.assertEqual(RangeSet(given), of_frame)
+        naive = RangeMap({pair: "a"})
+        self.assertEqual((naive.kind, naive[of_frame], naive.get(frame["start"]).tolist()), ("datetime64[ns]", naive, ["a"]))
 
     def test_back_to_a_frame(self):
         day = pandas.Timestamp("2026-05-01")
@@ -188,7 +201,7 @@ class Frames(unittest.TestCase):
         self.assertEqual(RangeSet([(second, None)], kind="datetime64[s]"), RangeSet([(numpy.datetime64(5, "s"), None)]))
         for call, error, words in (
             (lambda: pandas.NaT in made, ValueError, "NaT is in no order"),
-            (lambda: pandas.Timestamp(1, tz="UTC") in made, TypeError, "a numpy.datetime64.ns. is wanted"),
+            (lambda: pandas.Timestamp(1, tz="UTC") in made, TypeError, "expected a numpy.datetime64.ns."),
             (lambda: RangeSet([(pandas.Timestamp(1), None)], kind="datetime64[s]"), ValueError, "a time of whole s in 64 bits"),
         ):
             with self.assertRaisesRegex(error, words):

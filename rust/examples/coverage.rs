@@ -27,7 +27,7 @@ fn reads() -> Vec<Range<u32>> {
         .collect()
 }
 
-/// How many bases are covered so many times at least.
+/// How many bases are covered at least `least` times.
 fn bases_at(depth: &RangeMap<u32, usize>, least: usize) -> u64 {
     depth
         .iter()

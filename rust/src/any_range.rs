@@ -1,9 +1,13 @@
 //! The ranges that calls take: those of all kinds that std has.
 
+mod by_value;
 mod within;
 
+pub(crate) use by_value::{ends_by, from_first};
+pub use by_value::{Ended, Overlaps, PartsOf};
 pub use within::{PartsFrom, PartsWithin, Within};
 
+use crate::entry::RangeSetEntry;
 use crate::range::RangeSetRange;
 use core::num::{NonZeroU128, NonZeroU16, NonZeroU32, NonZeroU64, NonZeroU8, NonZeroUsize};
 use core::ops::{Range, RangeFrom, RangeFull, RangeInclusive, RangeTo, RangeToInclusive};
@@ -21,6 +25,7 @@ use std::net::{Ipv4Addr, Ipv6Addr};
 /// | `a..=b` | [`NextValue`] | `a..c` with the value `c` after `b`, or `a..` if there is none |
 /// | `..=b` | both | |
 /// | [`RangeSetRange`] | nothing more | the range itself |
+/// | `&(a..b)` | [`Clone`] | a clone of the range |
 ///
 /// An empty or a reversed range, as `5..=3`, has no values. It is implemented for these, and for nothing else.
 ///
@@ -40,9 +45,62 @@ use std::net::{Ipv4Addr, Ipv6Addr};
 /// block(block(block(&mut busy, ..8), 12..=12), 18..);
 /// assert_eq!(busy.to_string(), "0..8, 12..13, 18..");
 /// ```
+#[cfg_attr(
+    range_sets_messages,
+    diagnostic::on_unimplemented(
+        message = "`{Self}` is no range of `{T}`",
+        label = "a range as `a..b` or `a..=b` is expected here",
+        note = "one value `x` is the range `x..=x`"
+    )
+)]
 pub trait AnyRange<T>: Sealed + Into<RangeSetRange<T>> {}
 
-impl<T, R: Sealed + Into<RangeSetRange<T>>> AnyRange<T> for R {}
+impl<T> AnyRange<T> for Range<T> {}
+impl<T> AnyRange<T> for RangeFrom<T> {}
+impl<T: RangeSetEntry> AnyRange<T> for RangeTo<T> {}
+impl<T: RangeSetEntry> AnyRange<T> for RangeFull {}
+impl<T: NextValue> AnyRange<T> for RangeInclusive<T> {}
+impl<T: RangeSetEntry + NextValue> AnyRange<T> for RangeToInclusive<T> {}
+impl<T> AnyRange<T> for RangeSetRange<T> {}
+impl<T: Clone> AnyRange<T> for &Range<T> {}
+
+/// What becomes a [`RangeSetRange`] by `into`, as what a set is collected of.
+///
+/// It is implemented for all that does, and for nothing else: for ranges of std, for `&(a..b)`, and for a range of your own
+/// with a `From` for it.
+///
+/// # Examples
+///
+/// ```
+/// use range_sets::{RangeSet2, RangeSetRange};
+///
+/// struct Meeting {
+///     start: u32,
+///     minutes: u32,
+/// }
+///
+/// impl From<Meeting> for RangeSetRange<u32> {
+///     fn from(it: Meeting) -> Self {
+///         (it.start..it.start + it.minutes).into()
+///     }
+/// }
+///
+/// let meetings = [Meeting { start: 600, minutes: 45 }, Meeting { start: 540, minutes: 60 }];
+/// let busy: RangeSet2<u32> = meetings.into_iter().collect();
+/// assert_eq!(busy.to_string(), "540..645");
+/// ```
+#[cfg_attr(
+    range_sets_messages,
+    diagnostic::on_unimplemented(
+        message = "`{Self}` is no range of `{T}`",
+        note = "a range is `a..b`, and `x..=x` of one value; `from_values` makes a set of values"
+    )
+)]
+pub trait IntoRange<T>: Into<RangeSetRange<T>> {}
+
+// Without it a message is of the `From` that is missing.
+#[cfg_attr(range_sets_hides_impls, diagnostic::do_not_recommend)]
+impl<T, R: Into<RangeSetRange<T>>> IntoRange<T> for R {}
 
 mod sealed {
     /// Nothing outside of this crate names it.
@@ -56,6 +114,7 @@ impl Sealed for RangeFull {}
 impl<T> Sealed for RangeInclusive<T> {}
 impl<T> Sealed for RangeToInclusive<T> {}
 impl<T> Sealed for RangeSetRange<T> {}
+impl<T> Sealed for &Range<T> {}
 
 /// An element type whose values have a next one, so that `a..=b` is a range of it.
 ///

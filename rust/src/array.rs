@@ -2,6 +2,7 @@
 
 use crate::entry::RangeSetEntry;
 use crate::generated::range_chunks::ChunkedRangeSet;
+use crate::generated::range_collections::range_set::many_ranges::{self, Aside};
 use crate::generated::range_collections::range_set::splicing::set_range;
 use crate::generated::range_collections::{self as proved, Comparisons, WholeNumber};
 use crate::generated::range_map::RangeMap;
@@ -10,6 +11,7 @@ use crate::generated::range_merge::{
     UnionOp,
 };
 use crate::memory::AllocError;
+use crate::operation::Connective;
 use crate::range::RangeSetRange;
 use crate::support::{self, Global};
 use core::mem;
@@ -36,6 +38,13 @@ use smallvec::SmallVec;
 /// let busy: RangeSet<[u32; 8]> = (540..600).into();
 /// assert_eq!(minutes(&busy), 60);
 /// ```
+#[cfg_attr(
+    range_sets_messages,
+    diagnostic::on_unimplemented(
+        message = "`{Self}` is no array type",
+        note = "a set of `{Self}` is a `RangeSet2<{Self}>`, or a `RangeSet<[{Self}; N]>` for more boundaries in itself"
+    )
+)]
 pub trait Array: Storage {}
 
 impl<T, const N: usize> Array for [T; N] {}
@@ -63,6 +72,15 @@ impl<T, const N: usize> Storage for [T; N] {
     }
 }
 
+/// How starts and ends are sorted that aren't numbers. These take no memory.
+#[derive(Clone, Copy)]
+pub enum Sorting {
+    /// By std, which ends the process if memory runs out.
+    ByStd,
+    /// So that it may be refused memory, which takes longer.
+    Fallible,
+}
+
 /// What a set asks of its list. Each call is one of the generated code's, which names the length of the array.
 ///
 /// A list that comes out of a call, or that a call has changed, is strictly sorted where those that went in were.
@@ -84,6 +102,23 @@ pub trait List: Sized {
     /// Appends an item.
     fn push(&mut self, item: Self::Item) -> Result<(), AllocError>;
 
+    /// The items in their order.
+    fn collected(items: impl Iterator<Item = Self::Item>) -> Result<Self, AllocError> {
+        let mut list = Self::EMPTY;
+        for item in items {
+            list.push(item)?;
+        }
+        Ok(list)
+    }
+
+    /// The boundaries of the union of ranges. Those that don't come in order are sorted in this way.
+    fn of_ranges(
+        ranges: impl Iterator<Item = RangeSetRange<Self::Item>>,
+        sorting: Sorting,
+    ) -> Result<Self, AllocError>
+    where
+        Self::Item: Ord;
+
     /// The boundaries of one range.
     fn of_range(range: RangeSetRange<Self::Item>) -> Result<Self, AllocError>
     where
@@ -99,13 +134,8 @@ pub trait List: Sized {
     where
         Self::Item: RangeSetEntry;
 
-    /// Sorts the items. Equal ones stay in the order in which they stood. If memory runs out, the process ends.
-    fn sort(&mut self)
-    where
-        Self::Item: Ord;
-
     /// The distinct items in order: of equal ones the first.
-    fn sorted(self) -> Result<Self, AllocError>
+    fn sorted(self, sorting: Sorting) -> Result<Self, AllocError>
     where
         Self::Item: Ord;
 
@@ -130,6 +160,25 @@ pub trait List: Sized {
         Self::Item: Ord,
         P: Copier<Self::Item>,
         O: MergeOperation;
+
+    /// Copies of the boundaries at which any of the sixteen operations switches.
+    fn combined<P>(
+        a: &[Self::Item],
+        b: &[Self::Item],
+        copier: &P,
+        op: Connective,
+    ) -> Result<Self, AllocError>
+    where
+        Self::Item: RangeSetEntry,
+        P: Copier<Self::Item>,
+    {
+        let list = Self::merged(a, b, copier, &op)?;
+        if op.neither {
+            list.negated()
+        } else {
+            Ok(list)
+        }
+    }
 
     /// Leaves the boundaries at which an operation with a borrowed list switches.
     fn merge_ref<P, O>(
@@ -238,6 +287,26 @@ impl<T, const N: usize> List for support::SmallVec<T, N> {
         Ok(())
     }
 
+    #[inline]
+    fn of_ranges(
+        ranges: impl Iterator<Item = RangeSetRange<T>>,
+        sorting: Sorting,
+    ) -> Result<Self, AllocError>
+    where
+        T: Ord,
+    {
+        let mut set = proved::RangeSet::<T, N>::new_unchecked(Self::EMPTY);
+        let mut aside = Aside::new(Global);
+        for range in ranges {
+            many_ranges::add(&mut set, &mut aside, range.into_proved())?;
+        }
+        if matches!(sorting, Sorting::ByStd) && !support::is_number::<T>() {
+            aside.starts.as_mut_slice().sort();
+            aside.ends.as_mut_slice().sort();
+        }
+        many_ranges::finished(Global, set, aside).map(proved::RangeSet::into_inner)
+    }
+
     fn of_range(range: RangeSetRange<T>) -> Result<Self, AllocError>
     where
         T: Ord,
@@ -260,17 +329,13 @@ impl<T, const N: usize> List for support::SmallVec<T, N> {
         proved::RangeSet::all(Global).map(proved::RangeSet::into_inner)
     }
 
-    fn sort(&mut self)
+    fn sorted(mut self, sorting: Sorting) -> Result<Self, AllocError>
     where
         T: Ord,
     {
-        self.as_mut_slice().sort();
-    }
-
-    fn sorted(self) -> Result<Self, AllocError>
-    where
-        T: Ord,
-    {
+        if matches!(sorting, Sorting::ByStd) {
+            self.as_mut_slice().sort();
+        }
         proved::RangeSet::from_unsorted(self).map(proved::RangeSet::into_inner)
     }
 

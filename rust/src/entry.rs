@@ -1,7 +1,6 @@
 //! Element types with a least value.
 
-#[cfg(feature = "std")]
-use crate::generated::range_collections::{Countable, FromPlace};
+use crate::generated::range_collections::{Countable, FromPlace, Unsigned};
 use crate::generated::range_entry;
 use crate::memory::AllocError;
 use crate::support::Global;
@@ -103,6 +102,14 @@ macro_rules! non_zero_numbers {
                 self.get() == 1
             }
         }
+
+        /// Its place is how many numbers from 1 on are below it.
+        impl Countable for $number {
+            #[inline]
+            fn place(&self) -> u128 {
+                (self.get() - 1).place()
+            }
+        }
     )*};
 }
 
@@ -133,93 +140,161 @@ impl RangeSetEntry for Duration {
     }
 }
 
-/// The addresses from 0.0.0.0 on, in the order of their numbers.
+/// Its place is how many nanoseconds it has.
+impl Countable for Duration {
+    #[inline]
+    fn place(&self) -> u128 {
+        self.as_nanos()
+    }
+}
+
+impl FromPlace for Duration {
+    #[inline]
+    fn zero() -> u128 {
+        0
+    }
+
+    #[inline]
+    fn from_place(place: u128) -> Option<Self> {
+        let nanos = u32::try_from(place % NANOS).ok()?;
+        Some(Duration::new(u64::try_from(place / NANOS).ok()?, nanos))
+    }
+
+    #[inline]
+    fn greatest() -> Self {
+        Duration::MAX
+    }
+}
+
+/// How many nanoseconds a second has.
+const NANOS: u128 = 1_000_000_000;
+
+/// An element type whose values are lengths too, as [`first_fit`](crate::RangeSetRef::first_fit) asks for one.
 ///
-/// A block up to the greatest address has no end: 224.0.0.0/3 is `insert(first..)` or `insert(first..=last)`. The set
-/// that has it has no end either, so its [`covered`](crate::RangeSetRef::covered) is `None`. Its size is the
-/// [`rank`](crate::RangeSetRef::rank) of the greatest address, plus 1.
+/// It is implemented for all [`Unsigned`] types, for whole numbers with a sign and for [`Duration`], and it is tested.
 ///
 /// # Examples
 ///
 /// ```
 /// use range_sets::RangeSet2;
-/// use std::net::Ipv4Addr;
+/// use std::time::Duration;
 ///
-/// let (first, last) = (Ipv4Addr::new(224, 0, 0, 0), Ipv4Addr::BROADCAST);
-/// let set = RangeSet2::from(first..=last);
-/// assert_eq!((set.covered(), set.rank(&last) + 1), (None, 1 << 29));
+/// let hours = |n: u64| Duration::from_secs(3600 * n);
+/// let busy = RangeSet2::from(hours(9)..hours(12));
+/// assert_eq!(busy.first_fit(hours(8)..hours(18), hours(2)), Some(hours(12)));
+///
+/// let used = RangeSet2::from(-8..8);
+/// assert_eq!(used.first_fit(-16..16, 8), Some(-16));
+/// assert_eq!(used.first_fit(-16..16, -1), None);
 /// ```
-#[cfg(feature = "std")]
-#[cfg_attr(docsrs, doc(cfg(feature = "std")))]
-impl RangeSetEntry for Ipv4Addr {
-    #[inline]
-    fn min_value() -> Self {
-        Ipv4Addr::UNSPECIFIED
-    }
+pub trait Length: Countable + Copy {
+    /// Returns how many values a range of this length has, or `None` if the length is below 0.
+    ///
+    /// # Examples
+    ///
+    /// ```
+    /// use range_sets::Length;
+    ///
+    /// assert_eq!((7i8.count(), (-7i8).count()), (Some(7), None));
+    /// ```
+    fn count(self) -> Option<u128>;
+}
 
+/// As many as numbers are below it.
+impl<T: Unsigned> Length for T {
     #[inline]
-    fn is_min_value(&self) -> bool {
-        self.is_unspecified()
+    fn count(self) -> Option<u128> {
+        Some(self.place())
     }
 }
 
-/// The addresses from :: on, in the order of their numbers.
-#[cfg(feature = "std")]
-#[cfg_attr(docsrs, doc(cfg(feature = "std")))]
-impl RangeSetEntry for Ipv6Addr {
+/// As many as it has nanoseconds.
+impl Length for Duration {
     #[inline]
-    fn min_value() -> Self {
-        Ipv6Addr::UNSPECIFIED
-    }
-
-    #[inline]
-    fn is_min_value(&self) -> bool {
-        self.is_unspecified()
+    fn count(self) -> Option<u128> {
+        Some(self.place())
     }
 }
 
-/// Its place is its number.
-#[cfg(feature = "std")]
-impl Countable for Ipv4Addr {
-    #[inline]
-    fn place(&self) -> u128 {
-        u32::from(*self).into()
-    }
+macro_rules! signed_lengths {
+    ($($number:ty)*) => {$(
+        impl Length for $number {
+            #[inline]
+            fn count(self) -> Option<u128> {
+                u128::try_from(self).ok()
+            }
+        }
+    )*};
 }
 
-/// Its place is its number.
-#[cfg(feature = "std")]
-impl Countable for Ipv6Addr {
-    #[inline]
-    fn place(&self) -> u128 {
-        u128::from(*self)
-    }
+signed_lengths!(i8 i16 i32 i64 i128 isize);
+
+macro_rules! addresses {
+    ($($(#[$doc:meta])* $address:ident of $number:ident;)*) => {$(
+        $(#[$doc])*
+        #[cfg(feature = "std")]
+        #[cfg_attr(docsrs, doc(cfg(feature = "std")))]
+        impl RangeSetEntry for $address {
+            #[inline]
+            fn min_value() -> Self {
+                $address::UNSPECIFIED
+            }
+
+            #[inline]
+            fn is_min_value(&self) -> bool {
+                self.is_unspecified()
+            }
+        }
+
+        /// Its place is its number.
+        #[cfg(feature = "std")]
+        impl Countable for $address {
+            #[inline]
+            fn place(&self) -> u128 {
+                $number::from(*self).into()
+            }
+        }
+
+        #[cfg(feature = "std")]
+        impl FromPlace for $address {
+            #[inline]
+            fn zero() -> u128 {
+                0
+            }
+
+            #[inline]
+            fn from_place(place: u128) -> Option<Self> {
+                $number::from_place(place).map(Self::from)
+            }
+
+            #[inline]
+            fn greatest() -> Self {
+                $number::MAX.into()
+            }
+        }
+    )*};
 }
 
-#[cfg(feature = "std")]
-impl FromPlace for Ipv4Addr {
-    #[inline]
-    fn from_place(place: u128) -> Option<Self> {
-        u32::from_place(place).map(Self::from)
-    }
-
-    #[inline]
-    fn greatest() -> Self {
-        Ipv4Addr::BROADCAST
-    }
-}
-
-#[cfg(feature = "std")]
-impl FromPlace for Ipv6Addr {
-    #[inline]
-    fn from_place(place: u128) -> Option<Self> {
-        Some(Self::from(place))
-    }
-
-    #[inline]
-    fn greatest() -> Self {
-        u128::MAX.into()
-    }
+addresses! {
+    /// The addresses from 0.0.0.0 on, in the order of their numbers.
+    ///
+    /// A block up to the greatest address has no end: 224.0.0.0/3 is `insert(first..)` or `insert(first..=last)`. The set
+    /// that has it has no end either, so its [`covered`](crate::RangeSetRef::covered) is `None`. Its size is the
+    /// [`rank`](crate::RangeSetRef::rank) of the greatest address, plus 1.
+    ///
+    /// # Examples
+    ///
+    /// ```
+    /// use range_sets::RangeSet2;
+    /// use std::net::Ipv4Addr;
+    ///
+    /// let (first, last) = (Ipv4Addr::new(224, 0, 0, 0), Ipv4Addr::BROADCAST);
+    /// let set = RangeSet2::from(first..=last);
+    /// assert_eq!((set.covered(), set.rank(&last) + 1), (None, 1 << 29));
+    /// ```
+    Ipv4Addr of u32;
+    /// The addresses from :: on, in the order of their numbers.
+    Ipv6Addr of u128;
 }
 
 macro_rules! lists {

@@ -32,27 +32,81 @@
 //!
 //! [`RangeSetRef`]: crate::RangeSetRef
 
+/// A second form of a type, over the first: it has the first's questions, and goes either way by `into`.
+macro_rules! second_form {
+    ([$($generics:tt)*] $form:ident of $first:ident, $puts:literal) => {
+        impl<$($generics)*> $form<T> {
+            #[doc = concat!($puts, " the values of the ranges one after the other, which stand in any order.")]
+            ///
+            /// # Errors
+            ///
+            /// If memory runs out. What came before the range that failed stays.
+            ///
+            /// # Examples
+            ///
+            /// ```
+            #[doc = concat!("use range_sets::fallible::{AllocError, ", stringify!($form), "};")]
+            ///
+            #[doc = concat!("let mut used = ", stringify!($form), "::new();")]
+            /// used.extend([80u64..128, 0..32, 32..64])?;
+            /// assert_eq!(used.to_string(), "0..64, 80..128");
+            /// # Ok::<(), AllocError>(())
+            /// ```
+            pub fn extend<R>(
+                &mut self,
+                ranges: impl IntoIterator<Item = R>,
+            ) -> Result<(), AllocError>
+            where
+                R: IntoRange<T>,
+            {
+                ranges
+                    .into_iter()
+                    .try_for_each(|range| self.insert(range.into()))
+            }
+
+            pub(crate) fn into_proved(self) -> proved::$form<T> {
+                self.0.into_proved()
+            }
+
+            pub(crate) fn of_proved(set: proved::$form<T>) -> Self {
+                $form($first::$form::of_proved(set))
+            }
+        }
+
+        impl<$($generics)*> Deref for $form<T> {
+            type Target = $first::$form<T>;
+
+            #[inline(always)]
+            fn deref(&self) -> &$first::$form<T> {
+                &self.0
+            }
+        }
+
+        /// The same values: its calls end the process if memory runs out.
+        impl<$($generics)*> From<$form<T>> for $first::$form<T> {
+            fn from(set: $form<T>) -> Self {
+                set.0
+            }
+        }
+
+        /// The same values: its calls return an error if memory runs out.
+        impl<$($generics)*> From<$first::$form<T>> for $form<T> {
+            fn from(set: $first::$form<T>) -> Self {
+                $form(set)
+            }
+        }
+    };
+}
+
 mod changes;
 mod chunked;
-mod conversions;
 mod map;
-mod operations;
 #[cfg(feature = "serde")]
 #[cfg_attr(docsrs, doc(cfg(feature = "serde")))]
 pub mod pairs;
-mod ranges;
-mod room;
 mod space;
-mod taking;
-mod traits;
 
-use crate::array::{Array, List};
-use crate::entry::RangeSetEntry;
-use crate::generated::range_collections::{EntryCopier, FromPlace};
-use crate::range::RangeSetRange;
-use crate::range_set::{self, intersection_of_sets, Joining};
-use crate::view::RangeSetRef;
-use smallvec::SmallVec;
+use crate::array::Array;
 
 pub use chunked::ChunkedRangeSet;
 pub use map::{ByMapValue, InsertError, MapValue, RangeMap};
@@ -103,7 +157,9 @@ pub use crate::support::AllocError;
 /// assert_eq!(free.to_string(), "9..11, 12..15");
 /// # Ok::<(), AllocError>(())
 /// ```
-pub struct RangeSet<A: Array>(range_set::RangeSet<A>);
+pub struct RangeSet<A: Array> {
+    pub(crate) list: A::List,
+}
 
 /// A set that keeps up to two boundaries, which are one range, in itself.
 ///
@@ -118,223 +174,3 @@ pub struct RangeSet<A: Array>(range_set::RangeSet<A>);
 /// assert!(set.contains(&'q'));
 /// ```
 pub type RangeSet2<T> = RangeSet<[T; 2]>;
-
-impl<T, A: Array<Item = T>> RangeSet<A> {
-    /// Returns the set with these boundaries, or `None` if they aren't strictly sorted. It takes no memory.
-    ///
-    /// # Examples
-    ///
-    /// ```
-    /// use range_sets::fallible::RangeSet;
-    /// use smallvec::smallvec;
-    ///
-    /// let set: RangeSet<[i32; 4]> = RangeSet::new(smallvec![0, 10, 20]).unwrap();
-    /// assert!(set.contains(&25));
-    /// ```
-    #[must_use]
-    pub fn new(boundaries: SmallVec<A>) -> Option<Self>
-    where
-        T: Ord,
-    {
-        range_set::RangeSet::new(boundaries).map(RangeSet)
-    }
-
-    /// Returns the empty set. It takes no memory, and can be a constant.
-    ///
-    /// # Examples
-    ///
-    /// ```
-    /// use range_sets::fallible::RangeSet2;
-    ///
-    /// static NOTHING: RangeSet2<i32> = RangeSet2::empty();
-    /// assert!(NOTHING.is_empty());
-    /// ```
-    #[must_use]
-    pub const fn empty() -> Self {
-        RangeSet(range_set::RangeSet::empty())
-    }
-
-    /// Returns the set of all values.
-    ///
-    /// # Errors
-    ///
-    /// If memory runs out, which happens only if the set keeps no boundary in itself.
-    ///
-    /// # Examples
-    ///
-    /// ```
-    /// use range_sets::fallible::{AllocError, RangeSet2};
-    ///
-    /// assert!(RangeSet2::<u8>::all()?.is_all());
-    /// # Ok::<(), AllocError>(())
-    /// ```
-    pub fn all() -> Result<Self, AllocError>
-    where
-        T: RangeSetEntry,
-    {
-        A::List::of_all().map(Self::of_list)
-    }
-
-    /// Returns the set whose boundaries are the distinct ones of these, in order. Of equal ones the first stays.
-    ///
-    /// # Errors
-    ///
-    /// If there is no room for the boundaries, or none to sort them: more than 20 take a list of their places.
-    ///
-    /// # Examples
-    ///
-    /// ```
-    /// use range_sets::fallible::{AllocError, RangeSet2};
-    ///
-    /// let set: RangeSet2<i32> = RangeSet2::from_unsorted([20, 0, 10, 0])?;
-    /// assert_eq!(set.boundaries(), [0, 10, 20]);
-    /// # Ok::<(), AllocError>(())
-    /// ```
-    pub fn from_unsorted(boundaries: impl IntoIterator<Item = T>) -> Result<Self, AllocError>
-    where
-        T: Ord,
-    {
-        let mut list = A::List::EMPTY;
-        for boundary in boundaries {
-            list.push(boundary)?;
-        }
-        list.sorted().map(Self::of_list)
-    }
-
-    /// Returns the set of the values that lie in one of the ranges at least.
-    ///
-    /// A borrowed `&Range` is cloned by its own `Clone`, which answers no error.
-    ///
-    /// # Errors
-    ///
-    /// If memory runs out.
-    ///
-    /// # Examples
-    ///
-    /// ```
-    /// use range_sets::fallible::{AllocError, RangeSet2};
-    ///
-    /// let busy: RangeSet2<u32> = RangeSet2::from_ranges([15..18, 11..12, 12..13])?;
-    /// assert_eq!(busy.to_string(), "11..13, 15..18");
-    /// # Ok::<(), AllocError>(())
-    /// ```
-    pub fn from_ranges<R>(ranges: impl IntoIterator<Item = R>) -> Result<Self, AllocError>
-    where
-        T: Ord,
-        R: Into<RangeSetRange<T>>,
-    {
-        Joining::of_ranges(ranges).map(RangeSet)
-    }
-
-    /// Returns the set of these values, which may come in any order and more than once.
-    ///
-    /// # Errors
-    ///
-    /// If memory is refused.
-    ///
-    /// # Examples
-    ///
-    /// ```
-    /// use range_sets::fallible::{AllocError, RangeSet2};
-    ///
-    /// let set: RangeSet2<u8> = RangeSet2::from_values([7, 3, 4, 3])?;
-    /// assert_eq!(set.to_string(), "3..5, 7..8");
-    /// # Ok::<(), AllocError>(())
-    /// ```
-    pub fn from_values(values: impl IntoIterator<Item = T>) -> Result<Self, AllocError>
-    where
-        T: FromPlace,
-    {
-        Joining::of_values(values).map(RangeSet)
-    }
-
-    /// Returns the set of the members of one of the sets at least.
-    ///
-    /// # Errors
-    ///
-    /// If memory runs out or a copy fails.
-    ///
-    /// # Examples
-    ///
-    /// ```
-    /// use range_sets::fallible::{AllocError, RangeSet2};
-    ///
-    /// let mine = RangeSet2::try_from(9..11)?;
-    /// let yours = RangeSet2::try_from(10..12)?;
-    /// assert_eq!(RangeSet2::union_all([&mine, &yours])?.boundaries(), [9, 12]);
-    /// # Ok::<(), AllocError>(())
-    /// ```
-    pub fn union_all<S>(sets: impl IntoIterator<Item = S>) -> Result<Self, AllocError>
-    where
-        T: EntryClone,
-        S: AsRef<RangeSetRef<T>>,
-    {
-        Joining::of_sets(sets, &EntryCopier).map(RangeSet)
-    }
-
-    /// Returns the set of the members of each of the sets, or of every value if there is no set.
-    ///
-    /// # Errors
-    ///
-    /// If memory runs out or a copy fails.
-    ///
-    /// # Examples
-    ///
-    /// ```
-    /// use range_sets::fallible::{AllocError, RangeSet2};
-    ///
-    /// let mine = RangeSet2::try_from(9..11)?;
-    /// let yours = RangeSet2::try_from(10..12)?;
-    /// assert_eq!(RangeSet2::intersection_all([&mine, &yours])?.boundaries(), [10, 11]);
-    /// # Ok::<(), AllocError>(())
-    /// ```
-    pub fn intersection_all<S>(sets: impl IntoIterator<Item = S>) -> Result<Self, AllocError>
-    where
-        T: RangeSetEntry + EntryClone,
-        S: AsRef<RangeSetRef<T>>,
-    {
-        intersection_of_sets(sets, &EntryCopier).map(RangeSet)
-    }
-
-    /// Returns a copy of any set or view.
-    ///
-    /// # Errors
-    ///
-    /// If memory runs out or a copy fails.
-    ///
-    /// # Examples
-    ///
-    /// ```
-    /// use range_sets::fallible::{AllocError, RangeSet2};
-    /// use range_sets::RangeSetRef;
-    ///
-    /// let view = RangeSetRef::new(&[0, 10, 20]).unwrap();
-    /// let set: RangeSet2<i32> = RangeSet2::copied(view)?;
-    /// assert_eq!(set, view);
-    /// # Ok::<(), AllocError>(())
-    /// ```
-    pub fn copied(set: &RangeSetRef<T>) -> Result<Self, AllocError>
-    where
-        T: EntryClone,
-    {
-        range_set::RangeSet::copied(set, &EntryCopier).map(RangeSet)
-    }
-
-    /// Returns the list of the boundaries, strictly sorted.
-    ///
-    /// # Examples
-    ///
-    /// ```
-    /// use range_sets::fallible::RangeSet2;
-    ///
-    /// let set = RangeSet2::try_from(0..10).unwrap();
-    /// assert_eq!(set.into_inner().as_slice(), [0, 10]);
-    /// ```
-    pub fn into_inner(self) -> SmallVec<A> {
-        self.0.into_inner()
-    }
-
-    fn of_list(list: A::List) -> Self {
-        RangeSet(range_set::RangeSet::of_list(list))
-    }
-}

@@ -4,7 +4,7 @@ use crate::array::Array;
 use crate::generated::range_collections::{self as proved, FromPlace};
 use crate::range::RangeSetRange;
 use core::fmt;
-use core::iter::FusedIterator;
+use core::ops::Range;
 use smallvec::SmallVec;
 
 /// [`RangeSetRef::gaps`] makes it.
@@ -54,18 +54,118 @@ pub use crate::generated::range_collections::Members;
 /// ```
 pub use crate::generated::range_collections::RangesWithin;
 
-/// The parts that are left.
-impl<T: fmt::Debug> fmt::Debug for RangesWithin<'_, T> {
-    fn fmt(&self, f: &mut fmt::Formatter<'_>) -> fmt::Result {
-        f.debug_list().entries(self.clone()).finish()
-    }
+/// Gives an iterator over ranges between references `cloned` and `copied`, as those over references have them.
+macro_rules! owned_ranges {
+    ($($iter:ident<'a, $T:ident $(, $others:ident)*> { $range:ident: $clone:expr })*) => {$(
+        impl<'a, $T: Clone $(, $others)*> $iter<'a, $T $(, $others)*> {
+            /// Returns an iterator over the ranges between clones of the ends.
+            pub fn cloned(self) -> core::iter::Map<Self, fn($range<&'a $T>) -> $range<$T>> {
+                self.map($clone)
+            }
+
+            /// Returns an iterator over the ranges between copies of the ends.
+            pub fn copied(self) -> core::iter::Map<Self, fn($range<&'a $T>) -> $range<$T>>
+            where
+                $T: Copy,
+            {
+                self.cloned()
+            }
+        }
+    )*};
 }
 
-/// The members that are left.
-impl<T: FromPlace + fmt::Debug> fmt::Debug for Members<'_, T> {
-    fn fmt(&self, f: &mut fmt::Formatter<'_>) -> fmt::Result {
-        f.debug_list().entries(self.clone()).finish()
-    }
+/// Has `Debug` show the items that an iterator still has.
+macro_rules! shown {
+    ($([$($generics:tt)*] $iter:ty;)*) => {$(
+        /// The items that are left.
+        impl<$($generics)*> core::fmt::Debug for $iter {
+            fn fmt(&self, f: &mut core::fmt::Formatter<'_>) -> core::fmt::Result {
+                f.debug_list().entries(self.clone()).finish()
+            }
+        }
+    )*};
+}
+
+/// Has an iterator give what becomes of the items of the one in it: from both ends, and again from a clone.
+macro_rules! wraps {
+    ($([$($generics:tt)*] $iter:ty: $item:ty $(= $of:expr)?;)*) => {$(
+        impl<$($generics)*> Iterator for $iter {
+            type Item = $item;
+
+            #[inline]
+            fn next(&mut self) -> Option<Self::Item> {
+                self.0.next()$(.map($of))?
+            }
+
+            #[inline]
+            fn size_hint(&self) -> (usize, Option<usize>) {
+                self.0.size_hint()
+            }
+        }
+
+        impl<$($generics)*> DoubleEndedIterator for $iter {
+            #[inline]
+            fn next_back(&mut self) -> Option<Self::Item> {
+                self.0.next_back()$(.map($of))?
+            }
+        }
+
+        impl<$($generics)*> core::iter::FusedIterator for $iter {}
+
+        impl<$($generics)*> Clone for $iter {
+            fn clone(&self) -> Self {
+                Self(self.0.clone())
+            }
+        }
+    )*};
+}
+
+/// Makes ranges, from both ends, of a list of boundaries that is taken by value.
+macro_rules! ranges_by_value {
+    ([$($generics:tt)*] $iter:ty) => {
+        impl<$($generics)*> Iterator for $iter {
+            type Item = RangeSetRange<T>;
+
+            fn next(&mut self) -> Option<Self::Item> {
+                Some(RangeSetRange::of_ends(self.0.next()?, self.0.next()))
+            }
+
+            fn size_hint(&self) -> (usize, Option<usize>) {
+                let len = self.0.len();
+                let left = len / 2 + len % 2;
+                (left, Some(left))
+            }
+        }
+
+        impl<$($generics)*> DoubleEndedIterator for $iter {
+            fn next_back(&mut self) -> Option<Self::Item> {
+                let is_endless = self.0.len() % 2 == 1;
+                let last = self.0.next_back()?;
+                Some(if is_endless {
+                    RangeSetRange::of_ends(last, None)
+                } else {
+                    RangeSetRange::of_ends(self.0.next_back()?, Some(last))
+                })
+            }
+        }
+
+        impl<$($generics)*> ExactSizeIterator for $iter {}
+
+        impl<$($generics)*> core::iter::FusedIterator for $iter {}
+    };
+}
+
+pub(crate) use {owned_ranges, ranges_by_value, shown, wraps};
+
+owned_ranges! {
+    Iter<'a, T> { RangeSetRange: |range| range.cloned() }
+    RangesWithin<'a, T> { Range: |range| range.start.clone()..range.end.clone() }
+}
+
+shown! {
+    [T: fmt::Debug] Iter<'_, T>;
+    [T: fmt::Debug] RangesWithin<'_, T>;
+    [T: FromPlace + fmt::Debug] Members<'_, T>;
 }
 
 /// An iterator over the ranges of a set, from the lowest on.
@@ -88,6 +188,16 @@ impl<T: FromPlace + fmt::Debug> fmt::Debug for Members<'_, T> {
 /// assert_eq!(format!("{:?}", ranges.next().unwrap()), "0..10");
 /// assert!(ranges.next().is_none());
 /// ```
+///
+/// [`copied`](Self::copied) and [`cloned`](Self::cloned) give ranges between values, not references:
+///
+/// ```
+/// use range_sets::RangeSet2;
+///
+/// let set: RangeSet2<u32> = "9..11, 15..".parse().unwrap();
+/// let starts: Vec<u32> = set.iter().copied().map(|range| *range.start()).collect();
+/// assert_eq!(starts, [9, 15]);
+/// ```
 #[must_use = "iterators are lazy and do nothing unless consumed"]
 pub struct Iter<'a, T>(proved::Iter<'a, T>);
 
@@ -102,43 +212,11 @@ impl<'a, T> Iter<'a, T> {
     }
 }
 
-impl<'a, T> Iterator for Iter<'a, T> {
-    type Item = RangeSetRange<&'a T>;
-
-    #[inline]
-    fn next(&mut self) -> Option<Self::Item> {
-        self.0.next().map(RangeSetRange::from_proved)
-    }
-
-    #[inline]
-    fn size_hint(&self) -> (usize, Option<usize>) {
-        self.0.size_hint()
-    }
-}
-
-impl<T> DoubleEndedIterator for Iter<'_, T> {
-    #[inline]
-    fn next_back(&mut self) -> Option<Self::Item> {
-        self.0.next_back().map(RangeSetRange::from_proved)
-    }
+wraps! {
+    ['a, T] Iter<'a, T>: RangeSetRange<&'a T> = RangeSetRange::from_proved;
 }
 
 impl<T> ExactSizeIterator for Iter<'_, T> {}
-
-impl<T> FusedIterator for Iter<'_, T> {}
-
-impl<T> Clone for Iter<'_, T> {
-    fn clone(&self) -> Self {
-        Iter(self.0.clone())
-    }
-}
-
-/// The ranges that are left.
-impl<T: fmt::Debug> fmt::Debug for Iter<'_, T> {
-    fn fmt(&self, f: &mut fmt::Formatter<'_>) -> fmt::Result {
-        f.debug_list().entries(self.clone()).finish()
-    }
-}
 
 /// An iterator over the ranges of a set that was taken by value. `into_iter` makes it.
 ///
@@ -161,37 +239,7 @@ impl<A: Array> IntoIter<A> {
     }
 }
 
-impl<T, A: Array<Item = T>> Iterator for IntoIter<A> {
-    type Item = RangeSetRange<T>;
-
-    fn next(&mut self) -> Option<Self::Item> {
-        Some(RangeSetRange::of_ends(self.0.next()?, self.0.next()))
-    }
-
-    fn size_hint(&self) -> (usize, Option<usize>) {
-        let len = self.0.len();
-        let left = len / 2 + len % 2;
-        (left, Some(left))
-    }
-}
-
-impl<T, A: Array<Item = T>> DoubleEndedIterator for IntoIter<A> {
-    fn next_back(&mut self) -> Option<Self::Item> {
-        if self.0.len() % 2 == 1 {
-            return self
-                .0
-                .next_back()
-                .map(|start| RangeSetRange::RangeFrom(start..));
-        }
-        let end = self.0.next_back()?;
-        let start = self.0.next_back()?;
-        Some(RangeSetRange::Range(start..end))
-    }
-}
-
-impl<A: Array> ExactSizeIterator for IntoIter<A> {}
-
-impl<A: Array> FusedIterator for IntoIter<A> {}
+ranges_by_value!([T, A: Array<Item = T>] IntoIter<A>);
 
 impl<A: Array> Clone for IntoIter<A>
 where

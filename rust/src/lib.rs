@@ -22,7 +22,7 @@
 //! - `std` (on by default): `std::error::Error` for the error types. Without it the crate asks for `alloc` alone.
 //! - `serde`: sets are written and read as sequences of boundaries, and by the module `pairs` as pairs of them.
 //! - `new_unchecked`: `new_unchecked` of sets and views.
-//! - `c`: the functions of the header `range_set.h`, for a library that C links.
+//! - `c`: internal. What the layer in C of `range_set.h` calls, which is no part of the crate's promises.
 #![cfg_attr(not(feature = "std"), no_std)]
 #![cfg_attr(docsrs, feature(doc_cfg))]
 #![deny(unsafe_code, unsafe_op_in_unsafe_fn)]
@@ -30,15 +30,17 @@
 
 extern crate alloc;
 
+#[macro_use]
+mod forms;
+
 mod any_range;
 mod array;
-#[cfg(feature = "c")]
-#[allow(unsafe_code)]
-mod c;
+mod asked;
 pub mod chunked;
+mod chunks;
 mod entry;
 pub mod fallible;
-// Its names are told by the modules beside it.
+// The modules beside it re-export its names.
 #[allow(missing_docs)]
 mod generated;
 mod iter;
@@ -46,6 +48,7 @@ mod iter;
 mod json;
 pub mod map;
 mod memory;
+mod multirange;
 mod operation;
 #[cfg(feature = "serde")]
 #[cfg_attr(docsrs, doc(cfg(feature = "serde")))]
@@ -59,10 +62,12 @@ mod text;
 pub mod tracker;
 mod view;
 
-pub use any_range::{AnyRange, NextValue, PartsFrom, PartsWithin, Within};
+pub use any_range::{
+    AnyRange, Ended, IntoRange, NextValue, Overlaps, PartsFrom, PartsOf, PartsWithin, Within,
+};
 pub use array::Array;
 pub use chunked::ChunkedRangeSet;
-pub use entry::RangeSetEntry;
+pub use entry::{Length, RangeSetEntry};
 /// # Examples
 ///
 /// ```
@@ -70,6 +75,34 @@ pub use entry::RangeSetEntry;
 ///
 /// assert_eq!('c'.place() - 'a'.place(), 2);
 /// assert_eq!((-128i8).place(), 0);
+/// ```
+///
+/// A type of your own has a least value too:
+///
+/// ```
+/// use range_sets::{Countable, RangeSet2, RangeSetEntry};
+///
+/// #[derive(Clone, Copy, PartialEq, Eq, PartialOrd, Ord)]
+/// struct Page(u32);
+///
+/// impl RangeSetEntry for Page {
+///     fn min_value() -> Self {
+///         Page(0)
+///     }
+///
+///     fn is_min_value(&self) -> bool {
+///         self.0 == 0
+///     }
+/// }
+///
+/// impl Countable for Page {
+///     fn place(&self) -> u128 {
+///         self.0.into()
+///     }
+/// }
+///
+/// let used = RangeSet2::from(Page(0)..Page(16));
+/// assert_eq!(used.first_fit_count(Page(0)..Page(64), 8).map(|page| page.0), Some(16));
 /// ```
 pub use generated::range_collections::Countable;
 /// # Examples
@@ -104,9 +137,10 @@ pub use generated::range_collections::Unsigned;
 pub use generated::range_collections::WholeNumber;
 pub use iter::{Gaps, IntoIter, Iter, Members, RangesWithin};
 pub use map::RangeMap;
+pub use multirange::MultirangeError;
 pub use operation::{Connective, NoRoom};
 pub use range::RangeSetRange;
 pub use range_set::{RangeSet, RangeSet2};
 pub use space::ChunkedSpace;
-pub use text::{Expected, ParseError};
+pub use text::{Expected, ParseError, TextEntry};
 pub use view::RangeSetRef;

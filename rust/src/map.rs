@@ -3,24 +3,30 @@
 //! [`Map`] is one type with two names: [`RangeMap`], whose calls end the process if memory runs out, and
 //! [`fallible::RangeMap`](crate::fallible::RangeMap), whose calls return an error.
 
+mod by_ref;
+mod changes;
 mod combining;
 mod iter;
 #[cfg(feature = "serde")]
 mod json;
 mod kept;
+mod more;
+mod steps;
 mod traits;
 
 pub use iter::{Gaps, IntoIter, Iter};
 pub use kept::ByClone;
 pub(crate) use kept::{Copies, Kept};
+pub use more::{Keys, Values};
 
-use crate::any_range::AnyRange;
+use crate::any_range::{ends_by, from_first, AnyRange, Overlaps, Within};
 use crate::generated::range_entry::EntryClone;
 use crate::generated::range_map as proved;
 use crate::generated::range_map::{InsertError, MapFilter};
-use crate::memory::{expect_memory, out_of_memory, AllocError};
+use crate::memory::AllocError;
 use crate::range::RangeSetRange;
 use crate::support::Global;
+use core::cell::RefCell;
 use core::mem;
 use core::ops::Range;
 
@@ -47,14 +53,13 @@ use core::ops::Range;
 ///
 /// # Time
 ///
-/// Among *n* ranges a search makes *O*(log *n*) comparisons. [`get`](Map::get) is one search, a change is two. The ranges
-/// lie in one list, so a change moves all that come after it: 10,000 ranges in random order are put in in a tenth of a
-/// second, and each of a million would take about a millisecond. Ranges that come from the lowest on move nothing. There is
-/// no map in chunks, as [`ChunkedRangeSet`](crate::ChunkedRangeSet) is for sets.
+/// Among *n* ranges a search makes *O*(log *n*) comparisons. [`get`](Map::get) is one search, a change is two, and
+/// [`insert_free`](Map::insert_free) three, since the first finds whether the range is free. The ranges lie in chunks, as
+/// those of a [`ChunkedRangeSet`](crate::ChunkedRangeSet) do, so a change moves those of one chunk.
 ///
 /// # Memory
 ///
-/// A value is cloned only if a range becomes two. A call that is refused memory ends the process, as std's collections do.
+/// A value is cloned only if a range becomes two, or into a new map. A call that is refused memory ends the process, as std's collections do.
 /// [`fallible::RangeMap`](crate::fallible::RangeMap) returns an error instead.
 ///
 /// # Panics in keys and values
@@ -104,6 +109,7 @@ impl<K: Ord, V: Eq, C> Map<K, V, C> {
     /// assert_eq!(bookings.get(&12), None);
     /// ```
     #[inline]
+    #[must_use]
     pub fn get(&self, key: &K) -> Option<&V> {
         self.0.get(key).map(|kept| &kept.value)
     }
@@ -119,6 +125,7 @@ impl<K: Ord, V: Eq, C> Map<K, V, C> {
     /// assert_eq!(bookings.get_key_value(&11), Some(((&9..&12).into(), &"Ada")));
     /// assert_eq!(bookings.get_key_value(&14), None);
     /// ```
+    #[must_use]
     pub fn get_key_value(&self, key: &K) -> Option<(RangeSetRange<&K>, &V)> {
         let stretch = self.0.range_at(key);
         let range = RangeSetRange::of_ends(stretch.start?, stretch.end);
@@ -135,6 +142,7 @@ impl<K: Ord, V: Eq, C> Map<K, V, C> {
     /// let bookings = RangeMap::from_iter([(9..12, "Ada")]);
     /// assert!(bookings.contains_key(&9) && !bookings.contains_key(&8));
     /// ```
+    #[must_use]
     pub fn contains_key(&self, key: &K) -> bool {
         self.0.contains_key(key)
     }
@@ -150,6 +158,7 @@ impl<K: Ord, V: Eq, C> Map<K, V, C> {
     /// assert!(bookings.is_free(12..14) && !bookings.is_free(8..10));
     /// assert!(bookings.is_free(12..));
     /// ```
+    #[must_use]
     pub fn is_free(&self, range: impl AnyRange<K>) -> bool {
         match range.into() {
             RangeSetRange::Range(range) => self.0.is_free(range),
@@ -167,6 +176,7 @@ impl<K: Ord, V: Eq, C> Map<K, V, C> {
     /// let bookings = RangeMap::from_iter([(9..12, "Ada"), (12..13, "Ada"), (13..14, "Bob")]);
     /// assert_eq!(bookings.len(), 2);
     /// ```
+    #[must_use]
     pub fn len(&self) -> usize {
         self.0.len()
     }
@@ -180,6 +190,7 @@ impl<K: Ord, V: Eq, C> Map<K, V, C> {
     ///
     /// assert!(RangeMap::from_iter([(9..9, "nobody")]).is_empty());
     /// ```
+    #[must_use]
     pub fn is_empty(&self) -> bool {
         self.0.is_empty()
     }
@@ -200,10 +211,11 @@ impl<K: Ord, V: Eq, C> Map<K, V, C> {
         Iter::new(self.0.iter())
     }
 
-    /// Returns an iterator over the ranges that share a key with a range, from the lowest on, each with its value. They
-    /// aren't cut.
+    /// Returns an iterator over the ranges that share a key with a range [of any kind](Overlaps), from the lowest on, each
+    /// with its value. They aren't cut.
     ///
-    /// It makes *O*(log *n*) comparisons, and none for a step.
+    /// It makes *O*(log *n*) comparisons, and none for a step. If neither the range nor the map has an end, it takes a step
+    /// for each range before.
     ///
     /// # Examples
     ///
@@ -211,17 +223,26 @@ impl<K: Ord, V: Eq, C> Map<K, V, C> {
     /// use range_sets::RangeMap;
     ///
     /// let bookings = RangeMap::from_iter([(9..11, "Ada"), (11..14, "Bob"), (15..16, "Eve")]);
-    /// let guests: Vec<_> = bookings.overlapping(&10..&12).map(|(_, guest)| *guest).collect();
+    /// let guests: Vec<_> = bookings.overlapping(10..12).map(|(_, guest)| *guest).collect();
     /// assert_eq!(guests, ["Ada", "Bob"]);
     /// ```
-    pub fn overlapping(&self, range: Range<&K>) -> Iter<'_, K, V, C> {
-        Iter::new(self.0.overlapping(range))
+    pub fn overlapping(&self, range: impl Overlaps<K>) -> Iter<'_, K, V, C> {
+        range.found(|range| match (range, self.span()) {
+            (RangeSetRange::Range(range), _) => Iter::new(self.0.overlapping(range)),
+            (RangeSetRange::RangeFrom(range), Some(RangeSetRange::Range(all))) => {
+                Iter::new(self.0.overlapping(range.start..all.end))
+            }
+            (RangeSetRange::RangeFrom(range), _) => {
+                from_first(self.iter(), |(it, _)| ends_by(it, range.start))
+            }
+        })
     }
 
-    /// Returns an iterator over the parts of a range whose keys have no value, from the lowest on. None of them is empty,
-    /// and no two touch. It also runs from the highest part down.
+    /// Returns an iterator over the parts of a range [of any kind](Within) whose keys have no value, from the lowest on.
+    /// None of them is empty, and no two touch.
     ///
-    /// It makes *O*(log *n*) comparisons, and none for a step.
+    /// If the ends are references it makes *O*(log *n*) comparisons, and none for a step, and it also runs from the
+    /// highest part down.
     ///
     /// # Examples
     ///
@@ -229,16 +250,25 @@ impl<K: Ord, V: Eq, C> Map<K, V, C> {
     /// use range_sets::RangeMap;
     ///
     /// let bookings = RangeMap::from_iter([(9..11, "Ada"), (11..12, "Bob"), (15..16, "Eve")]);
+    /// assert!(bookings.gaps(8..18).eq([8..9, 12..15, 16..18]));
+    /// assert!(bookings.gaps(12..).eq([(12..15).into(), (16..).into()]));
+    ///
     /// let free: Vec<_> = bookings.gaps(&8..&18).collect();
     /// assert_eq!(free, [&8..&9, &12..&15, &16..&18]);
     /// ```
-    pub fn gaps<'a>(&'a self, within: Range<&'a K>) -> Gaps<'a, K, V, C> {
+    pub fn gaps<'a, R: Within<'a, K, Self>>(&'a self, within: R) -> R::Parts {
+        within.parts_of(self, false)
+    }
+
+    #[inline(always)]
+    pub(crate) fn gaps_between<'a>(&'a self, within: Range<&'a K>) -> Gaps<'a, K, V, C> {
         Gaps::new(self.0.gaps(within))
     }
 
     /// Takes away each value that `keep` returns `false` for. It takes no memory and copies nothing.
     ///
-    /// `keep` is called once for each range, from the lowest on.
+    /// `keep` is called once for each range, from the lowest on. [`retain_ranges`](Map::retain_ranges) shows it the range
+    /// too.
     ///
     /// # Examples
     ///
@@ -249,11 +279,12 @@ impl<K: Ord, V: Eq, C> Map<K, V, C> {
     /// bookings.retain(|guest| *guest == "Ada");
     /// assert_eq!(format!("{bookings:?}"), r#"{9..11: "Ada", 15..16: "Ada"}"#);
     /// ```
-    pub fn retain(&mut self, keep: impl Fn(&V) -> bool) {
-        self.changed(|map| map.retain(&KeptIf(keep)));
+    pub fn retain(&mut self, keep: impl FnMut(&V) -> bool) {
+        let keep = RefCell::new(keep);
+        self.changed(|map| map.retain(&KeptIf(|value: &V| (keep.borrow_mut())(value))));
     }
 
-    /// Takes the value of each key away, and keeps the room.
+    /// Takes the value of each key away. It keeps the room for the list of chunks.
     ///
     /// # Examples
     ///
@@ -273,18 +304,14 @@ impl<K: Ord, V: Eq, C> Map<K, V, C> {
         Map::of_others(self.0, |kept| Kept::new(kept.value))
     }
 
-    /// A map whose values are made of those of another one. Where they have the same size, they lie where those were.
+    /// A map whose values are made of those of another one.
     fn of_others<W: Eq>(map: proved::RangeMap<K, W>, of: impl Fn(W) -> Kept<V, C>) -> Self {
-        let options = map.options.into_iter();
-        let options = options.map(|option| option.map(&of));
-        Map(proved::RangeMap {
-            keys: map.keys,
-            options: options.collect::<alloc::vec::Vec<_>>().into(),
-        })
+        let steps = steps::of_others(map.steps, |key| key, of);
+        Map(proved::RangeMap { steps })
     }
 
-    /// Changes the map, which is taken out meanwhile: the keys change before the values do. If something panics between,
-    /// both are dropped, and the map is empty.
+    /// Changes the map, which is taken out meanwhile, since a change is made step by step. If something panics between,
+    /// the map is empty.
     #[inline(always)]
     fn changed<R>(&mut self, change: impl FnOnce(&mut proved::RangeMap<K, Kept<V, C>>) -> R) -> R {
         let mut taken = mem::replace(&mut self.0, proved::RangeMap::new(Global));
@@ -341,68 +368,5 @@ impl<K: Ord, V: Eq, C: Copies<V>> Map<K, V, C> {
             RangeSetRange::Range(range) => map.remove(range),
             RangeSetRange::RangeFrom(range) => map.remove_from(range),
         })
-    }
-}
-
-/// The calls of [`RangeMap`], which end the process if memory runs out.
-impl<K: Ord, V: Eq + Clone> RangeMap<K, V> {
-    /// Gives each key of a range [of any kind](AnyRange) the value, in place of the one that it had. An empty or a
-    /// reversed range changes nothing.
-    ///
-    /// A value is cloned only if the range lies within another one, which becomes two.
-    ///
-    /// # Examples
-    ///
-    /// ```
-    /// use range_sets::RangeMap;
-    ///
-    /// let mut bookings = RangeMap::new();
-    /// bookings.insert(9..17, "Ada");
-    /// bookings.insert(12..=13, "Bob");
-    /// bookings.insert(20.., "Eve");
-    /// assert_eq!(format!("{bookings:?}"), r#"{9..12: "Ada", 12..14: "Bob", 14..17: "Ada", 20..: "Eve"}"#);
-    /// ```
-    pub fn insert(&mut self, range: impl AnyRange<K>, value: V) {
-        expect_memory::<K, _, _>(self.try_insert(range.into(), value));
-    }
-
-    /// Gives each key of a range [of any kind](AnyRange) the value if none of them has one, and else gives the value back.
-    /// It clones nothing.
-    ///
-    /// # Examples
-    ///
-    /// ```
-    /// use range_sets::RangeMap;
-    ///
-    /// let mut bookings = RangeMap::new();
-    /// assert_eq!(bookings.insert_free(9..12, "Ada"), Ok(()));
-    /// assert_eq!(bookings.insert_free(11..14, "Bob"), Err("Bob"));
-    /// assert_eq!(bookings.get(&12), None);
-    /// assert_eq!(bookings.insert_free(20.., "Eve"), Ok(()));
-    /// ```
-    pub fn insert_free(&mut self, range: impl AnyRange<K>, value: V) -> Result<(), V> {
-        match self.try_insert_free(range.into(), value) {
-            Ok(()) => Ok(()),
-            Err(InsertError::NotFree(value)) => Err(value),
-            Err(InsertError::OutOfMemory(_)) => out_of_memory::<K>(),
-        }
-    }
-
-    /// Takes the value of each key of a range [of any kind](AnyRange) away. An empty or a reversed range changes nothing.
-    ///
-    /// It takes memory, and clones a value, only if the range lies within another one, which becomes two.
-    ///
-    /// # Examples
-    ///
-    /// ```
-    /// use range_sets::RangeMap;
-    ///
-    /// let mut bookings = RangeMap::from_iter([(9..17, "Ada")]);
-    /// bookings.remove(12..13);
-    /// bookings.remove(16..);
-    /// assert_eq!(format!("{bookings:?}"), r#"{9..12: "Ada", 13..16: "Ada"}"#);
-    /// ```
-    pub fn remove(&mut self, range: impl AnyRange<K>) {
-        expect_memory::<K, _, _>(self.try_remove(range.into()));
     }
 }

@@ -21,6 +21,16 @@ pub(crate) fn out_of_memory<T>() -> ! {
     handle_alloc_error(Layout::new::<T>())
 }
 
+/// The value of a call that asked for room for `items` items. As std's lists do, it panics if no list can have as many, and
+/// ends the process if there is no memory for them.
+pub(crate) fn expect_room<T, R>(result: Result<R, AllocError>, items: Option<usize>) -> R {
+    match (result, items.map(Layout::array::<T>)) {
+        (Ok(value), _) => value,
+        (Err(AllocError), Some(Ok(layout))) => handle_alloc_error(layout),
+        (Err(AllocError), _) => panic!("capacity overflow"),
+    }
+}
+
 /// Elements and values are copied by their own `Clone`, which answers no error.
 pub struct ByClone;
 

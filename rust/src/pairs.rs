@@ -11,8 +11,8 @@
 //! }
 //! ```
 //!
-//! A range without an end is `[20,null]`. What is read may come in any order, overlap, touch or be empty. A pair whose end
-//! is below its start is an error. [`fallible::pairs`](crate::fallible::pairs) reads sets of `fallible`.
+//! A range without an end is `[20,null]`. What is read may come in any order, overlap, touch or be empty. As everywhere, a
+//! reversed range is empty. [`fallible::pairs`](crate::fallible::pairs) reads sets of `fallible`.
 //!
 //! # Examples
 //!
@@ -29,13 +29,15 @@
 //! # Ok::<(), serde_json::Error>(())
 //! ```
 
-use crate::array::Array;
+use crate::array::{Array, List, Sorting};
+use crate::forms::ends;
 use crate::json::passed_over;
-use crate::memory::{expect_memory, AllocError};
+use crate::memory::AllocError;
 use crate::range::RangeSetRange;
-use crate::range_set::{Joining, RangeSet};
+use crate::range_set::RangeSet;
 use crate::view::RangeSetRef;
 use core::fmt;
+use core::iter;
 use core::marker::PhantomData;
 use serde::de::{Deserialize, Deserializer, Error, SeqAccess, Visitor};
 use serde::ser::{Serialize, Serializer};
@@ -70,7 +72,7 @@ where
 ///
 /// # Errors
 ///
-/// Those of the format, and one if an end is below its start.
+/// Those of the format.
 ///
 /// # Examples
 ///
@@ -80,9 +82,8 @@ where
 /// let read = |json| -> Result<RangeSet2<u8>, _> {
 ///     pairs::deserialize(&mut serde_json::Deserializer::from_str(json))
 /// };
-/// assert_eq!(read("[[20,null],[0,4],[2,9]]")?.to_string(), "0..9, 20..");
-/// let error = read("[[9,2]]").unwrap_err();
-/// assert!(error.to_string().starts_with("a range whose end is below its start"));
+/// assert_eq!(read("[[20,null],[0,4],[2,9],[19,10]]")?.to_string(), "0..9, 20..");
+/// assert!(read("[[0,256]]").is_err());
 /// # Ok::<(), serde_json::Error>(())
 /// ```
 pub fn deserialize<'de, T, A, D>(deserializer: D) -> Result<RangeSet<A>, D::Error>
@@ -91,45 +92,50 @@ where
     A: Array<Item = T>,
     D: Deserializer<'de>,
 {
-    read(deserializer).map(|set| expect_memory::<T, _, _>(set))
+    let list = read::<A, D>(deserializer, ends::SORTING)?;
+    ends::or_error::<T, _, _>(list, D::Error::custom).map(RangeSet::of_list)
 }
 
 /// Reads a sequence of pairs. Running out of memory is apart from the format's errors.
-pub(crate) fn read<'de, T, A, D>(
+pub(crate) fn read<'de, A: Array, D: Deserializer<'de>>(
     deserializer: D,
-) -> Result<Result<RangeSet<A>, AllocError>, D::Error>
+    sorting: Sorting,
+) -> Result<Result<A::List, AllocError>, D::Error>
 where
-    T: Deserialize<'de> + Ord,
-    A: Array<Item = T>,
-    D: Deserializer<'de>,
+    A::Item: Deserialize<'de> + Ord,
 {
-    deserializer.deserialize_seq(Pairs::<A>(PhantomData))
+    deserializer.deserialize_seq(Pairs {
+        array: PhantomData::<A>,
+        sorting,
+    })
 }
 
-/// The range between both ends. One whose end is below its start is an error.
-pub(crate) fn range_of<T: Ord, E: Error>(start: T, end: Option<T>) -> Result<RangeSetRange<T>, E> {
-    if end.as_ref().map_or(false, |end| *end < start) {
-        return Err(E::custom("a range whose end is below its start"));
-    }
-    Ok(RangeSetRange::of_ends(start, end))
+struct Pairs<A> {
+    array: PhantomData<A>,
+    sorting: Sorting,
 }
-
-struct Pairs<A>(PhantomData<A>);
 
 impl<'de, T: Deserialize<'de> + Ord, A: Array<Item = T>> Visitor<'de> for Pairs<A> {
-    type Value = Result<RangeSet<A>, AllocError>;
+    type Value = Result<A::List, AllocError>;
 
     fn expecting(&self, f: &mut fmt::Formatter<'_>) -> fmt::Result {
         f.write_str("a sequence of pairs")
     }
 
     fn visit_seq<S: SeqAccess<'de>>(self, mut pairs: S) -> Result<Self::Value, S::Error> {
-        let mut joining = Joining::new();
-        while let Some((start, end)) = pairs.next_element::<(T, Option<T>)>()? {
-            if let Err(refused) = joining.add_range(range_of(start, end)?) {
-                return passed_over(pairs, refused);
+        let mut failed = None;
+        let ranges = iter::from_fn(|| match pairs.next_element::<(T, Option<T>)>() {
+            Ok(pair) => pair.map(|(start, end)| RangeSetRange::of_ends(start, end)),
+            Err(error) => {
+                failed = Some(error);
+                None
             }
+        });
+        let list = A::List::of_ranges(ranges, self.sorting);
+        match (failed, list) {
+            (Some(error), _) => Err(error),
+            (None, Err(refused)) => passed_over(pairs, refused),
+            (None, list) => Ok(list),
         }
-        Ok(joining.finish())
     }
 }

@@ -2,7 +2,9 @@
 
 use crate::any_range::NextValue;
 use crate::entry::RangeSetEntry;
-use crate::generated::range_collections as proved;
+use crate::generated::range_collections::range_set::values::range_of;
+use crate::generated::range_collections::{self as proved, Countable, FromPlace};
+use crate::text::padded;
 use core::cmp::Ordering;
 use core::fmt;
 use core::ops::{
@@ -45,11 +47,32 @@ impl<T: Clone> RangeSetRange<&T> {
     /// let range: RangeSetRange<String> = set.iter().next().unwrap().cloned();
     /// assert_eq!(format!("{range:?}"), r#""a".."c""#);
     /// ```
+    #[must_use]
     pub fn cloned(&self) -> RangeSetRange<T> {
         match self {
             Self::Range(range) => RangeSetRange::Range(range.start.clone()..range.end.clone()),
             Self::RangeFrom(range) => RangeSetRange::RangeFrom(range.start.clone()..),
         }
+    }
+
+    /// Returns the range of copies of both ends.
+    ///
+    /// # Examples
+    ///
+    /// ```
+    /// use range_sets::RangeSet2;
+    /// use std::ops::Range;
+    ///
+    /// let set: RangeSet2<u32> = (9..17).into();
+    /// let range: Range<u32> = set.first().unwrap().copied().try_into().unwrap();
+    /// assert_eq!(range, 9..17);
+    /// ```
+    #[must_use]
+    pub fn copied(&self) -> RangeSetRange<T>
+    where
+        T: Copy,
+    {
+        self.cloned()
     }
 }
 
@@ -64,6 +87,7 @@ impl<T> RangeSetRange<T> {
     /// let range = RangeSetRange::from("a".to_string()..);
     /// assert_eq!(range.as_ref().cloned(), range);
     /// ```
+    #[must_use]
     pub fn as_ref(&self) -> RangeSetRange<&T> {
         match self {
             Self::Range(range) => RangeSetRange::Range(&range.start..&range.end),
@@ -79,9 +103,10 @@ impl<T> RangeSetRange<T> {
     /// use range_sets::RangeSetRef;
     ///
     /// let set = RangeSetRef::new(&[0, 10, 20]).unwrap();
-    /// let starts: Vec<i32> = set.iter().map(|range| **range.start()).collect();
+    /// let starts: Vec<i32> = set.iter().copied().map(|range| *range.start()).collect();
     /// assert_eq!(starts, [0, 20]);
     /// ```
+    #[must_use]
     pub const fn start(&self) -> &T {
         match self {
             Self::Range(range) => &range.start,
@@ -99,11 +124,73 @@ impl<T> RangeSetRange<T> {
     /// assert_eq!(RangeSetRange::from(0..10).end(), Some(&10));
     /// assert_eq!(RangeSetRange::from(20..).end(), None);
     /// ```
+    #[must_use]
     pub const fn end(&self) -> Option<&T> {
         match self {
             Self::Range(range) => Some(&range.end),
             Self::RangeFrom(_) => None,
         }
+    }
+
+    /// Returns how many values the range has, or `None` if it has no end. The ends are values or references to values.
+    ///
+    /// It is the [place](Countable::place) of the end less that of the start.
+    ///
+    /// # Examples
+    ///
+    /// ```
+    /// use range_sets::{RangeSet2, RangeSetRange};
+    ///
+    /// let set: RangeSet2<u32> = "9..11, 15..18".parse().unwrap();
+    /// assert_eq!(set.last().unwrap().len(), Some(3));
+    /// assert_eq!(RangeSetRange::from('a'..='z').len(), Some(26));
+    /// assert_eq!(RangeSetRange::from(20..).len(), None);
+    /// ```
+    #[must_use]
+    pub fn len<U>(&self) -> Option<u128>
+    where
+        T: CountableEnd<U>,
+    {
+        Some(self.end()?.place().saturating_sub(self.start().place()))
+    }
+
+    /// Returns `true` if the range has no values: if its end isn't above its start.
+    ///
+    /// # Examples
+    ///
+    /// ```
+    /// use range_sets::RangeSetRange;
+    ///
+    /// assert!(RangeSetRange::from(5..3).is_empty());
+    /// assert!(!RangeSetRange::from(20..).is_empty());
+    /// ```
+    #[must_use]
+    pub fn is_empty(&self) -> bool
+    where
+        T: PartialOrd,
+    {
+        match self {
+            Self::Range(range) => range.is_empty(),
+            Self::RangeFrom(_) => false,
+        }
+    }
+
+    /// Returns `true` if a value lies in the range.
+    ///
+    /// # Examples
+    ///
+    /// ```
+    /// use range_sets::RangeSet2;
+    ///
+    /// let set: RangeSet2<u32> = (9..17).into();
+    /// assert!(set.iter().all(|range| range.contains(&12) && !range.contains(&17)));
+    /// ```
+    #[must_use]
+    pub fn contains<U: ?Sized, By>(&self, value: &U) -> bool
+    where
+        T: ComparableEnd<U, By>,
+    {
+        !self.start().is_above(value) && self.end().map_or(true, |end| end.is_above(value))
     }
 
     #[inline(always)]
@@ -115,13 +202,21 @@ impl<T> RangeSetRange<T> {
     }
 
     /// The start, and the end if there is one.
-    #[cfg(feature = "serde")]
     #[inline(always)]
     pub(crate) fn into_ends(self) -> (T, Option<T>) {
         match self {
             Self::Range(range) => (range.start, Some(range.end)),
             Self::RangeFrom(range) => (range.start, None),
         }
+    }
+
+    /// The range of one value.
+    #[inline]
+    pub(crate) fn of_value(value: T) -> Self
+    where
+        T: FromPlace,
+    {
+        Self::from_proved(range_of(&value))
     }
 
     #[inline(always)]
@@ -138,6 +233,48 @@ impl<T> RangeSetRange<T> {
             Self::Range(range) => proved::RangeSetRange::Range(range),
             Self::RangeFrom(range) => proved::RangeSetRange::RangeFrom(range),
         }
+    }
+}
+
+/// An end whose values are counted: a value, or a reference to one. The compiler finds the type `U` of the value.
+pub trait CountableEnd<U> {
+    #[doc(hidden)]
+    fn place(&self) -> u128;
+}
+
+impl<U: Countable> CountableEnd<U> for U {
+    fn place(&self) -> u128 {
+        Countable::place(self)
+    }
+}
+
+impl<U: Countable> CountableEnd<U> for &U {
+    fn place(&self) -> u128 {
+        Countable::place(*self)
+    }
+}
+
+/// An end that is compared with a value: a value, or a reference to one. The compiler finds out which.
+pub trait ComparableEnd<U: ?Sized, By> {
+    #[doc(hidden)]
+    fn is_above(&self, value: &U) -> bool;
+}
+
+/// What [`ComparableEnd`] has for a value.
+pub struct ByValue;
+
+/// What [`ComparableEnd`] has for a reference.
+pub struct ByReference;
+
+impl<T: PartialOrd<U>, U: ?Sized> ComparableEnd<U, ByValue> for T {
+    fn is_above(&self, value: &U) -> bool {
+        self > value
+    }
+}
+
+impl<T: PartialOrd<U>, U: ?Sized> ComparableEnd<U, ByReference> for &T {
+    fn is_above(&self, value: &U) -> bool {
+        *self > value
     }
 }
 
@@ -268,6 +405,27 @@ impl<T: fmt::Debug> fmt::Debug for RangeSetRange<T> {
         match self {
             Self::Range(range) => range.fmt(f),
             Self::RangeFrom(range) => range.fmt(f),
+        }
+    }
+}
+
+/// As `0..10` or `20..`, by the `Display` of its ends. A width is that of the whole text.
+///
+/// # Examples
+///
+/// ```
+/// use range_sets::RangeSet2;
+///
+/// let set: RangeSet2<u32> = (9..17).into();
+/// for range in &set {
+///     assert_eq!(format!("{range:>6}"), " 9..17");
+/// }
+/// ```
+impl<T: fmt::Display> fmt::Display for RangeSetRange<T> {
+    fn fmt(&self, f: &mut fmt::Formatter<'_>) -> fmt::Result {
+        match self {
+            Self::Range(range) => padded(f, &format_args!("{}..{}", range.start, range.end)),
+            Self::RangeFrom(range) => padded(f, &format_args!("{}..", range.start)),
         }
     }
 }

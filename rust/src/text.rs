@@ -1,12 +1,12 @@
 //! Sets and text, both ways.
 
+mod values;
+
 use crate::array::{Array, List};
 use crate::generated::range_collections::{EntryClone, WholeNumber};
-use crate::memory::expect_memory;
-use crate::range_set::RangeSet;
+use crate::range::RangeSetRange;
 use crate::view::RangeSetRef;
 use core::fmt::{self, Write};
-use core::str::FromStr;
 
 /// # Examples
 ///
@@ -26,26 +26,80 @@ pub use crate::generated::range_collections::Expected;
 /// ```
 pub use crate::generated::range_collections::ParseError;
 
-/// As `RangeSet{0..10, 20..}`, by the elements' own `Debug`. Flags as those of `{:#?}` and `{:x?}` hold as for std's sets.
-impl<T: fmt::Debug, A: Array<Item = T>> fmt::Debug for RangeSet<A> {
-    fn fmt(&self, f: &mut fmt::Formatter<'_>) -> fmt::Result {
-        f.write_str("RangeSet")?;
-        f.debug_set().entries(self.iter()).finish()
+/// An element type whose sets are written as text, and read from it.
+///
+/// | Element | Text |
+/// |---|---|
+/// | a [`WholeNumber`] | `0..10, 20..` |
+/// | `char` | `'a'..'z'`, as in Rust: `'\''..'\u{e000}'` |
+/// | `Ipv4Addr`, `Ipv6Addr`, with the feature `std` | `10.0.0.0..10.1.0.0`, `2001:db8::..` |
+///
+/// It is implemented for these, and for nothing else. The text of whole numbers is proved, the others are tested.
+///
+/// # Examples
+///
+/// ```
+/// use range_sets::RangeSet2;
+/// use std::net::Ipv4Addr;
+///
+/// let digits: RangeSet2<char> = "'0'..':', 'a'..'g'".parse()?;
+/// assert!(digits.contains(&'f'));
+/// assert_eq!(digits.to_string(), "'0'..':', 'a'..'g'");
+///
+/// let free: RangeSet2<Ipv4Addr> = "10.0.0.0..10.1.0.0".parse()?;
+/// assert_eq!(free.to_string(), "10.0.0.0..10.1.0.0");
+/// # Ok::<(), range_sets::ParseError>(())
+/// ```
+pub trait TextEntry: Ord + fmt::Debug + Sized {
+    /// Writes the ranges of a set.
+    #[doc(hidden)]
+    fn write_set(set: &RangeSetRef<Self>, f: &mut fmt::Formatter<'_>) -> fmt::Result {
+        padded(f, &Ranges(set))
+    }
+
+    /// Reads the boundaries of the union of ranges.
+    #[doc(hidden)]
+    fn read_list<A: Array<Item = Self>>(text: &str) -> Result<A::List, ParseError>
+    where
+        Self: EntryClone;
+}
+
+impl<T: Ord + WholeNumber> TextEntry for T {
+    fn write_set(set: &RangeSetRef<Self>, f: &mut fmt::Formatter<'_>) -> fmt::Result {
+        padded(f, &set.proved())
+    }
+
+    fn read_list<A: Array<Item = Self>>(text: &str) -> Result<A::List, ParseError>
+    where
+        Self: EntryClone,
+    {
+        A::List::parsed(text)
     }
 }
 
-/// As `0..10, 20..`, which is what `parse` reads.
-impl<T: Ord + WholeNumber, A: Array<Item = T>> fmt::Display for RangeSet<A> {
+/// The ranges of a set, with a comma and a space between them.
+pub(crate) struct Ranges<S>(pub(crate) S);
+
+impl<'a, T: fmt::Debug + 'a, S> fmt::Display for Ranges<S>
+where
+    S: IntoIterator<Item = RangeSetRange<&'a T>> + Copy,
+{
     fn fmt(&self, f: &mut fmt::Formatter<'_>) -> fmt::Result {
-        self.view().fmt(f)
+        for (i, range) in self.0.into_iter().enumerate() {
+            if i > 0 {
+                f.write_str(", ")?;
+            }
+            write!(f, "{range:?}")?;
+        }
+        Ok(())
     }
 }
 
 /// As `0..10, 20..`. A width is that of the whole text, with the fill and the alignment that a text has; other flags change
 /// nothing.
-impl<T: Ord + WholeNumber> fmt::Display for RangeSetRef<T> {
+impl<T: TextEntry> fmt::Display for RangeSetRef<T> {
     fn fmt(&self, f: &mut fmt::Formatter<'_>) -> fmt::Result {
-        padded(f, &self.proved())
+        T::write_set(self, f)
     }
 }
 
@@ -84,35 +138,4 @@ fn len_of(text: &impl fmt::Display) -> Result<usize, fmt::Error> {
     let mut bytes = Bytes(0);
     write!(bytes, "{text}")?;
     Ok(bytes.0)
-}
-
-/// Reads the union of the ranges of a text: in any order, with commas between them, and with white space around each.
-///
-/// # Errors
-///
-/// The error has the byte where the text stops being one of ranges, and what was expected there; or it says that a
-/// number is past those of its type.
-///
-/// # Examples
-///
-/// ```
-/// use range_sets::{Expected, ParseError, RangeSet2};
-///
-/// let set: RangeSet2<u8> = " 20.., 0..10 ".parse()?;
-/// assert_eq!(set.to_string(), "0..10, 20..");
-///
-/// let error = "0..10; 20..".parse::<RangeSet2<u8>>().unwrap_err();
-/// assert_eq!(error, ParseError::Malformed { at: 5, expected: Expected::Comma });
-/// assert_eq!(error.to_string(), "a comma or the end was expected at byte 5");
-/// # Ok::<(), ParseError>(())
-/// ```
-impl<T: EntryClone + WholeNumber, A: Array<Item = T>> FromStr for RangeSet<A> {
-    type Err = ParseError;
-
-    fn from_str(text: &str) -> Result<Self, ParseError> {
-        match A::List::parsed(text) {
-            Err(ParseError::OutOfMemory) => expect_memory::<T, _, _>(Err(ParseError::OutOfMemory)),
-            parsed => parsed.map(Self::of_list),
-        }
-    }
 }

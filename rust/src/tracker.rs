@@ -4,19 +4,17 @@
 //! missing, and never keeps more boundaries than its limit, so that a peer who sends pieces far apart can't make it
 //! grow. A refusal is an error, and leaves the tracker as it was.
 
-mod chunked;
+mod calls;
 
-pub use chunked::ChunkedTracker;
-
-use crate::any_range::{AnyRange, Within};
+use crate::any_range::AnyRange;
+use crate::chunked::ChunkedRangeSet;
+use crate::generated::range_chunked_tracker;
+use crate::generated::range_chunks::Gaps;
 use crate::generated::range_tracker;
-use crate::iter::Iter;
-use crate::memory::{expect_memory, AllocError};
+use crate::memory::AllocError;
 use crate::range::RangeSetRange;
-use crate::range_set::RangeSet2;
+use crate::range_set::{RangeSet2, RangeSetRef};
 use crate::support::Global;
-use crate::view::RangeSetRef;
-use core::fmt;
 use core::ops::Range;
 
 /// # Examples
@@ -74,194 +72,121 @@ impl Tracker {
     /// ```
     #[must_use]
     pub fn new(limit: usize) -> Self {
-        assert!(
-            limit <= usize::MAX - 2,
-            "the limit is more than a list can have"
-        );
-        Tracker(range_tracker::Tracker::new(Global, limit))
+        Tracker(range_tracker::Tracker::new(Global, checked(limit)))
     }
 
-    /// Returns a copy of the tracker, with the same limit. `clone` does the same, and ends the process if memory is
-    /// refused.
-    ///
-    /// # Errors
-    ///
-    /// If memory runs out.
-    ///
-    /// # Examples
-    ///
-    /// ```
-    /// use range_sets::tracker::Tracker;
-    ///
-    /// let mut file = Tracker::new(4);
-    /// file.record(0..10).unwrap();
-    /// let before = file.try_clone().unwrap();
-    /// file.record(20..30).unwrap();
-    /// assert_eq!((before.covered(), file.covered()), (10, 20));
-    /// ```
-    pub fn try_clone(&self) -> Result<Self, AllocError> {
+    fn copied(&self) -> Result<Self, AllocError> {
         let mut copy = Self::new(self.0.limit);
         copy.0.set = self.0.set.try_clone()?;
         Ok(copy)
     }
 
-    /// Records that the offsets of a range [of any kind](AnyRange) are there. An empty or a reversed range changes nothing.
-    ///
-    /// # Errors
-    ///
-    /// If the tracker would keep more boundaries than the limit, or if memory runs out. It is then as it was.
-    ///
-    /// # Examples
-    ///
-    /// ```
-    /// use range_sets::tracker::{TrackError, Tracker};
-    ///
-    /// let mut file = Tracker::new(2);
-    /// file.record(5..10)?;
-    /// file.record(10..=19)?;
-    /// assert_eq!(file.record(21..30), Err(TrackError::TooMany { boundaries: 4 }));
-    /// # Ok::<(), TrackError>(())
-    /// ```
-    pub fn record(&mut self, range: impl AnyRange<u64>) -> Result<(), TrackError> {
-        self.0.record(ended(range))
+    fn missing_below(&self, len: u64) -> Result<RangeSet2<u64>, AllocError> {
+        let missing = self.0.missing(len)?;
+        Ok(RangeSet2::of_list(missing.into_inner()))
     }
 
-    /// Records that the offsets of a range [of any kind](AnyRange) aren't there. An empty or a reversed range changes nothing.
-    ///
-    /// # Errors
-    ///
-    /// If the tracker would keep more boundaries than the limit, or if memory runs out. It is then as it was.
-    ///
-    /// # Examples
-    ///
-    /// ```
-    /// use range_sets::tracker::{TrackError, Tracker};
-    ///
-    /// let mut file = Tracker::new(4);
-    /// file.record(0..10)?;
-    /// file.forget(4..6)?;
-    /// assert!(!file.has(0..10));
-    /// # Ok::<(), TrackError>(())
-    /// ```
-    pub fn forget(&mut self, range: impl AnyRange<u64>) -> Result<(), TrackError> {
-        self.0.forget(ended(range))
+    /// What is there, for its gaps.
+    fn there(&self) -> &RangeSetRef<u64> {
+        RangeSetRef::over(self.0.set.as_ref().boundaries())
     }
+}
 
-    /// Takes each command in turn, goes on after a refusal, and puts each answer at its command's place.
-    ///
-    /// # Panics
-    ///
-    /// Panics if the slices have different lengths.
-    ///
-    /// # Examples
-    ///
-    /// ```
-    /// use range_sets::tracker::{Command, TrackError, Tracker};
-    ///
-    /// let mut file = Tracker::new(2);
-    /// let mut replies = [Ok(()); 2];
-    /// file.run(&[Command::Add(0..10), Command::Forget(4..6)], &mut replies);
-    /// assert_eq!(replies, [Ok(()), Err(TrackError::TooMany { boundaries: 4 })]);
-    /// ```
-    pub fn run(&mut self, commands: &[Command], replies: &mut [Result<(), TrackError>]) {
-        assert_eq!(
-            commands.len(),
-            replies.len(),
-            "each command has a place for its reply"
-        );
-        self.0.run(commands, replies);
+impl From<Tracker> for RangeSet2<u64> {
+    fn from(tracker: Tracker) -> Self {
+        RangeSet2::of_list(tracker.0.set.into_inner())
     }
+}
 
-    /// Returns `true` if every offset of the range is there. It is so for an empty or a reversed range.
-    ///
-    /// # Examples
-    ///
-    /// ```
-    /// use range_sets::tracker::Tracker;
-    ///
-    /// assert!(!Tracker::new(4).has(0..1));
-    /// assert!(Tracker::new(4).has(7..7));
-    /// ```
-    pub fn has(&self, range: impl AnyRange<u64>) -> bool {
-        self.0.has(ended(range))
-    }
+/// Which offsets are there, of a file with many gaps: a [`Tracker`] whose boundaries lie in chunks, so
+/// that a piece takes about as long among a million ranges as among a few.
+///
+/// Offsets are the numbers below `u64::MAX`: a range without an end, as `20..`, ends there.
+///
+/// # Examples
+///
+/// ```
+/// use range_sets::tracker::{ChunkedTracker, TrackError};
+///
+/// let mut file = ChunkedTracker::new(4)?;
+/// file.record(0..10)?;
+/// file.record(20..30)?;
+/// assert_eq!(file.record(40..50), Err(TrackError::TooMany { boundaries: 6 }));
+/// file.record(10..20)?;
+/// assert!(file.has(0..30));
+/// assert_eq!(file.missing(40)?.to_string(), "30..40");
+/// # Ok::<(), Box<dyn std::error::Error>>(())
+/// ```
+pub struct ChunkedTracker(range_chunked_tracker::ChunkedTracker);
 
-    /// Returns the set of the offsets below `len` that aren't there.
+impl ChunkedTracker {
+    /// Returns a tracker without offsets that keeps at most `limit` boundaries, two for each range. It
+    /// asks for the memory of one range.
     ///
     /// # Errors
     ///
     /// If memory runs out.
     ///
+    /// # Panics
+    ///
+    /// Panics if the limit is more than `usize::MAX - 2`.
+    ///
     /// # Examples
     ///
     /// ```
-    /// use range_sets::tracker::Tracker;
+    /// use range_sets::tracker::ChunkedTracker;
     ///
-    /// let mut file = Tracker::new(4);
-    /// file.record(5..10).unwrap();
-    /// assert_eq!(file.missing(20).unwrap().to_string(), "0..5, 10..20");
+    /// assert_eq!(ChunkedTracker::new(64).unwrap().covered(), 0);
     /// ```
-    pub fn missing(&self, len: u64) -> Result<RangeSet2<u64>, AllocError> {
-        self.0
-            .missing(len)
-            .map(|set| RangeSet2::of_list(set.into_inner()))
+    pub fn new(limit: usize) -> Result<Self, AllocError> {
+        range_chunked_tracker::ChunkedTracker::new(Global, checked(limit)).map(ChunkedTracker)
     }
 
-    /// Returns an iterator over the parts of a range [of any kind](Within) that aren't there, from the lowest on. It takes
-    /// no memory.
-    ///
-    /// # Examples
-    ///
-    /// ```
-    /// use range_sets::tracker::Tracker;
-    ///
-    /// let mut file = Tracker::new(4);
-    /// file.record(5..10).unwrap();
-    /// assert_eq!(file.gaps(&0..&20).next(), Some(&0..&5));
-    /// assert_eq!(file.gaps(&7..).next(), Some((&10..).into()));
-    /// ```
-    pub fn gaps<'a, R: Within<'a, u64>>(&'a self, within: R) -> R::Parts {
-        let set = self.0.set.as_ref();
-        within.parts_of(RangeSetRef::over(set.boundaries()), false)
+    fn copied(&self) -> Result<Self, AllocError> {
+        let mut copy = Self::new(self.0.limit)?;
+        copy.0.list = self.0.list.cloned()?;
+        copy.0.len = self.0.len;
+        Ok(copy)
     }
 
-    /// Returns an iterator over the ranges of the offsets that are there, from the lowest on. Each has an end.
-    ///
-    /// # Examples
-    ///
-    /// ```
-    /// use range_sets::tracker::Tracker;
-    ///
-    /// let mut file = Tracker::new(4);
-    /// file.record(5..10).unwrap();
-    /// assert_eq!(file.ranges().next().unwrap().cloned(), (5..10).into());
-    /// ```
-    pub fn ranges(&self) -> Iter<'_, u64> {
-        Iter::of_proved(self.0.ranges())
+    fn missing_below(&self, len: u64) -> Result<ChunkedRangeSet<u64>, AllocError> {
+        self.0.missing(len).map(ChunkedRangeSet::of_proved)
     }
 
-    /// Returns how many offsets are there.
-    ///
-    /// # Examples
-    ///
-    /// ```
-    /// use range_sets::tracker::Tracker;
-    ///
-    /// let mut file = Tracker::new(4);
-    /// file.record(5..10).unwrap();
-    /// assert_eq!(file.covered(), 5);
-    /// ```
-    pub fn covered(&self) -> u128 {
-        self.0
-            .covered()
-            .expect("no command makes a range without an end")
+    /// What is there, for its gaps.
+    fn there(&self) -> &Self {
+        self
+    }
+
+    #[inline(always)]
+    pub(crate) fn gaps_between<'a>(&'a self, within: Range<&'a u64>) -> Gaps<'a, u64> {
+        self.0.gaps(within)
     }
 }
 
-impl Clone for Tracker {
-    fn clone(&self) -> Self {
-        expect_memory::<u64, _, _>(self.try_clone())
+/// It is made as a `RangeSet` first.
+impl From<ChunkedTracker> for ChunkedRangeSet<u64> {
+    fn from(tracker: ChunkedTracker) -> Self {
+        tracker.ranges().copied().collect()
     }
+}
+
+impl Clone for Command {
+    fn clone(&self) -> Self {
+        match self {
+            Command::Add(range) => Command::Add(range.clone()),
+            Command::Forget(range) => Command::Forget(range.clone()),
+        }
+    }
+}
+
+/// The limit, which leaves a list room for one more range.
+fn checked(limit: usize) -> usize {
+    assert!(
+        limit <= usize::MAX - 2,
+        "the limit is more than a list can have"
+    );
+    limit
 }
 
 /// The range with an end, where it has none: no offset is above it.
@@ -269,11 +194,5 @@ fn ended(range: impl AnyRange<u64>) -> Range<u64> {
     match range.into() {
         RangeSetRange::Range(range) => range,
         RangeSetRange::RangeFrom(range) => range.start..u64::MAX,
-    }
-}
-
-impl fmt::Debug for Tracker {
-    fn fmt(&self, f: &mut fmt::Formatter<'_>) -> fmt::Result {
-        f.debug_set().entries(self.ranges()).finish()
     }
 }

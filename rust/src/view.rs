@@ -110,6 +110,7 @@ impl<T> RangeSetRef<T> {
     /// let set: RangeSet2<i32> = (0..10).into();
     /// assert_eq!(set.boundaries(), [0, 10]);
     /// ```
+    #[must_use]
     pub const fn boundaries(&self) -> &[T] {
         &self.0
     }

@@ -3,7 +3,10 @@
 mod common;
 
 use common::{boundaries, pairs, Bitmap, Operation, OPERATIONS};
-use range_sets::{fallible, Array, RangeSet, RangeSet2, RangeSetEntry, RangeSetRef};
+use range_sets::{
+    fallible, Array, ChunkedRangeSet, ChunkedSpace, Countable, FromPlace, RangeSet, RangeSet2,
+    RangeSetEntry, RangeSetRef,
+};
 use std::cmp::Ordering;
 use std::num::NonZeroU8;
 use std::time::Duration;
@@ -343,4 +346,95 @@ fn sets_go_where_their_elements_may() {
     is_send_and_sync::<RangeSet<[String; 4]>>();
     is_send_and_sync::<fallible::RangeSet2<u8>>();
     is_send_and_sync::<&RangeSetRef<String>>();
+}
+
+/// A length of the element's own type finds the same free values as their number.
+#[test]
+fn lengths_with_a_sign_and_of_time() {
+    let busy: RangeSet2<i8> = "-128..-100, -3..4, 10..".parse().unwrap();
+    let mut space = ChunkedSpace::from(ChunkedRangeSet::from(&*busy));
+    for (start, end) in [(-128, 127), (-5, 10), (0, 3), (4, -4)] {
+        for len in i8::MIN..=i8::MAX {
+            let expected = u128::try_from(len)
+                .ok()
+                .and_then(|count| busy.first_fit_count(start..end, count));
+            assert_eq!(
+                busy.first_fit(start..end, len),
+                expected,
+                "{len} within {start}..{end}"
+            );
+            assert_eq!(space.first_fit(start..end, len), expected);
+            assert_eq!(space.first_fit_unchanged(start..end, len), expected);
+        }
+    }
+    assert_eq!(
+        RangeSet2::from(0i128..5).first_fit(i128::MIN..9, i128::MAX),
+        Some(i128::MIN)
+    );
+
+    let seconds = Duration::from_secs;
+    let busy: RangeSet2<Duration> = [seconds(1)..seconds(3), seconds(4)..seconds(9)].into();
+    assert_eq!(busy.first_fit(.., seconds(1)), Some(Duration::ZERO));
+    assert_eq!(busy.first_fit(seconds(1).., seconds(1)), Some(seconds(3)));
+    let longer = seconds(1) + Duration::from_nanos(1);
+    assert_eq!(busy.first_fit(.., longer), Some(seconds(9)));
+    assert_eq!(busy.first_fit(..seconds(10), longer), None);
+    assert_eq!(
+        busy.first_fit_aligned(seconds(9).., 1, 7_000_000_000),
+        Some(seconds(14))
+    );
+}
+
+/// The numbers whose width is the processor's, of which the tables know 64 bits alone.
+#[test]
+fn numbers_as_wide_as_an_address_are_counted() {
+    let most = usize::MAX;
+    assert_eq!(usize::from_place(most.place()), Some(most));
+    assert_eq!(usize::from_place(most.place() + 1), None);
+    assert_eq!(isize::from_place(most.place()), Some(isize::MAX));
+    assert_eq!(isize::from_place(most.place() + 1), None);
+    // Multiples are counted from 0, which no power of two shows.
+    let busy: RangeSet2<isize> = (-3..1).into();
+    assert_eq!(busy.first_fit_aligned(-20..20, 4, 7), Some(-14));
+    assert_eq!(busy.first_fit_aligned(-6..20, 4, 7), Some(7));
+}
+
+#[test]
+fn durations_and_non_zero_numbers_are_counted() {
+    let busy: RangeSet2<Duration> = (Duration::from_millis(1)..Duration::new(2, 5)).into();
+    assert_eq!(
+        (busy.covered(), (!&busy).covered()),
+        (Some(1_999_000_005), None)
+    );
+    assert_eq!(busy.rank(&Duration::from_secs(1)), 999_000_000);
+    assert_eq!(busy.select(999_000_000), Some(Duration::from_secs(1)));
+    assert_eq!(busy.members().next_back(), Some(Duration::new(2, 4)));
+    assert_eq!(
+        busy.prev_gap(&Duration::from_secs(1)),
+        Some(Duration::new(0, 999_999))
+    );
+    assert_eq!(
+        (
+            Duration::MAX.place(),
+            Duration::from_place(Duration::MAX.place() + 1)
+        ),
+        ((1 << 64) * 1_000_000_000 - 1, None)
+    );
+
+    let number = |n| NonZeroU8::new(n).unwrap();
+    assert_eq!((number(1).place(), number(255).place()), (0, 254));
+    let set = RangeSet2::from(number(1)..number(4)) | RangeSet2::from(number(9)..number(255));
+    assert_eq!(
+        (
+            set.covered(),
+            set.rank(&number(10)),
+            set.first().unwrap().len()
+        ),
+        (Some(249), 4, Some(3))
+    );
+    assert_eq!(
+        set.first_fit_count(number(1)..number(20), 5),
+        Some(number(4))
+    );
+    assert_eq!(set.first_fit_count(number(1)..number(20), 6), None);
 }

@@ -3,11 +3,15 @@
 
 mod common;
 
-use common::{boundaries, pairs, set};
-use range_sets::{fallible, ChunkedRangeSet, ChunkedSpace, RangeSet, RangeSet2, RangeSetRef};
-use serde::de::{value, DeserializeSeed, Deserializer, SeqAccess, Visitor};
-use serde::Deserialize;
+use common::{boundaries, one_in, pairs, set};
+use range_sets::{
+    fallible, ChunkedRangeSet, ChunkedSpace, RangeMap, RangeSet, RangeSet2, RangeSetEntry,
+    RangeSetRef,
+};
+use serde::de::{value, DeserializeOwned, DeserializeSeed, Deserializer, SeqAccess, Visitor};
+use serde::{Deserialize, Serialize};
 use serde_json::{from_str, to_string};
+use std::fmt::Debug;
 
 #[test]
 fn what_is_written_is_read_back() {
@@ -58,6 +62,28 @@ fn sets_in_chunks_and_spaces() {
     assert_eq!(set.unwrap_err(), space.unwrap_err());
 }
 
+/// It is put in in another order, asked, saved and read back.
+#[test]
+fn a_map_of_a_million_ranges() {
+    let count = 1_000_000 / one_in() as u32;
+    let mut map = RangeMap::new();
+    for i in 0..count {
+        let at = (u64::from(i) * 7_919 % u64::from(count)) as u32;
+        map.insert(20 * at..20 * at + 10, at % 7);
+    }
+    assert_eq!(map.len(), count as usize);
+    for at in 0..count {
+        assert_eq!(map.get(&(20 * at + 9)), Some(&(at % 7)));
+        assert_eq!(map.get(&(20 * at + 10)), None);
+    }
+    let text = to_string(&map).unwrap();
+    assert!(text.starts_with("[[0,10,0],[20,30,1],"));
+    let mut read: RangeMap<u32, u32> = from_str(&text).unwrap();
+    assert_eq!(read, map);
+    read.remove(0..10);
+    assert_ne!(read, map);
+}
+
 /// A set as pairs, both ways, with and without an allocation failure.
 fn pairs_of(text: &str) -> serde_json::Result<RangeSet2<u8>> {
     let set: RangeSet2<u8> = range_sets::pairs::deserialize(&mut json(text))?;
@@ -93,9 +119,11 @@ fn pairs_that_are_written_are_read_back() {
 
 #[test]
 fn pairs_of_all_kinds() {
-    let rows: [(&str, &[u8]); 5] = [
+    let rows: [(&str, &[u8]); 7] = [
         ("[]", &[]),
         ("[[5,5]]", &[]),
+        ("[[9,5]]", &[]),
+        ("[[1,2],[9,0],[3,4]]", &[1, 2, 3, 4]),
         ("[[20,null],[0,4],[4,9]]", &[0, 9, 20]),
         ("[[0,9],[3,null]]", &[0]),
         ("[[7,null],[9,null]]", &[7]),
@@ -103,10 +131,7 @@ fn pairs_of_all_kinds() {
     for (text, boundaries) in rows {
         assert_eq!(pairs_of(text).unwrap().boundaries(), boundaries, "{text}");
     }
-    let reversed = "a range whose end is below its start";
     let refused = [
-        ("[[9,5]]", reversed),
-        ("[[1,2],[9,0],[3,4]]", reversed),
         ("[[1]]", "invalid length 1"),
         ("[[1,2,3]]", "trailing characters"),
         ("[1,2]", "invalid type: integer `1`"),
@@ -124,18 +149,27 @@ fn pairs_of_all_kinds() {
 }
 
 /// More boundaries than are sorted without memory, in order, in the opposite order, and each twice.
-#[test]
-fn long_lists_in_any_order() {
-    let sorted: Vec<i64> = (0..50).map(|n| 3 * n - 70).collect();
-    let reversed: Vec<i64> = sorted.iter().rev().copied().collect();
-    let twice = [&reversed[..], &sorted[..]].concat();
-    for list in [&sorted, &reversed, &twice] {
+fn reads_in_any_order<T>(sorted: &[T])
+where
+    T: RangeSetEntry + Clone + Debug + Serialize + DeserializeOwned,
+{
+    let reversed: Vec<T> = sorted.iter().rev().cloned().collect();
+    let twice = [&reversed[..], sorted].concat();
+    for list in [sorted, &reversed, &twice] {
         let text = to_string(list).unwrap();
-        let set: RangeSet2<i64> = from_str(&text).unwrap();
+        let set: RangeSet2<T> = from_str(&text).unwrap();
         assert_eq!(set.boundaries(), sorted);
-        let set: fallible::RangeSet2<i64> = from_str(&text).unwrap();
+        let set: fallible::RangeSet2<T> = from_str(&text).unwrap();
         assert_eq!(set.boundaries(), sorted);
     }
+}
+
+#[test]
+fn long_lists_in_any_order() {
+    let numbers: Vec<i64> = (0..50).map(|n| 3 * n - 70).collect();
+    reads_in_any_order(&numbers);
+    let texts: Vec<String> = (10..60).map(|n| n.to_string()).collect();
+    reads_in_any_order(&texts);
 }
 
 #[test]
@@ -181,7 +215,7 @@ fn faults_have_their_place() {
         .contains("expected a sequence"));
 }
 
-/// A format that says that there are so many items, and has three.
+/// A format that announces this many items, and has three.
 struct Boasting(usize);
 
 impl<'de> Deserializer<'de> for Boasting {

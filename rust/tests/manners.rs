@@ -176,6 +176,28 @@ fn room() {
     assert!(set.reserve(usize::MAX).is_err());
 }
 
+/// More room than a list can have is a panic, as std's lists have it.
+#[cfg(panic = "unwind")]
+#[test]
+fn room_past_any_list() {
+    let rows: [(&str, fn()); 3] = [
+        ("with_capacity", || {
+            drop(RangeSet2::<u32>::with_capacity(usize::MAX))
+        }),
+        ("reserve", || {
+            RangeSet2::<u32>::from(0..10).reserve(usize::MAX / 4)
+        }),
+        ("reserve past usize", || {
+            RangeSet2::<u8>::from(0..10).reserve(usize::MAX)
+        }),
+    ];
+    for (name, call) in rows {
+        let said = std::panic::catch_unwind(call).unwrap_err();
+        let said = said.downcast_ref::<&str>().copied();
+        assert_eq!(said, Some("capacity overflow"), "{name}");
+    }
+}
+
 /// The members of the first range of a bitmap, and those of the last.
 fn first_and_last(bits: Bitmap) -> (Bitmap, Bitmap) {
     let above = |start: u8| !0 << start;

@@ -219,10 +219,9 @@ fn values_in_a_row() {
         let set = RangeSetRef::new(&signed).unwrap();
         let (start, end) = (random.below(63) as u8, random.below(63) as u8);
         let (count, align) = (random.below(9) as u8, random.below(9) as u8);
-        // The place of a value is how many are below it: -30 has 98.
         let at = |wanted: bool, align: u8| {
             (start..=end)
-                .filter(|at| (at + 98).checked_rem(align) == Some(0))
+                .filter(|&at| (at as i8 - 30).unsigned_abs().checked_rem(align) == Some(0))
                 .find(|&at| {
                     let row = at..at + count;
                     row.end <= end && { row }.all(|i| (a >> i & 1 == 1) == wanted)
@@ -230,20 +229,25 @@ fn values_in_a_row() {
                 .map(|at| at as i8 - 30)
         };
         let within = start as i8 - 30..end as i8 - 30;
-        let told = format!("{set:?} {within:?} {count} {align}");
+        let row = format!("{set:?} {within:?} {count} {align}");
         let (count, step) = (count.into(), align.into());
         assert_eq!(
             set.first_fit_count(within.clone(), count),
             at(false, 1),
-            "{told}"
+            "{row}"
         );
         assert_eq!(
             set.first_fit_aligned(within.clone(), count, step),
             at(false, align),
-            "{told}"
+            "{row}"
         );
-        assert_eq!(set.first_run(within, count), at(true, 1), "{told}");
+        assert_eq!(set.first_run(within, count), at(true, 1), "{row}");
     }
+    let none = RangeSetRef::<i64>::empty();
+    assert_eq!(none.first_fit_aligned(0..1_000_000, 5, 10), Some(0));
+    assert_eq!(none.first_fit_aligned(-61..1_000_000, 5, 60), Some(-60));
+    let none = RangeSetRef::<i32>::empty();
+    assert_eq!(none.first_fit_aligned(1..1_000_000, 5, 60), Some(60));
     let (first, last) = (Ipv4Addr::UNSPECIFIED, Ipv4Addr::BROADCAST);
     let used = RangeSet2::from(Ipv4Addr::new(0, 0, 0, 1)..Ipv4Addr::new(10, 0, 0, 5));
     let block = used.first_fit_aligned(first..last, 256, 256);

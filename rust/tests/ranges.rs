@@ -3,7 +3,8 @@
 mod common;
 
 use common::{one_in, Random};
-use range_sets::{fallible, RangeSet, RangeSet2, RangeSetRange};
+use range_sets::{fallible, ChunkedRangeSet, RangeSet, RangeSet2, RangeSetRange};
+use std::ffi::{OsStr, OsString};
 use std::ops::Range;
 
 const NUMBERS: u16 = 1000;
@@ -146,4 +147,57 @@ fn long_unsorted_lists() {
             .iter()
             .eq(&distinct));
     }
+}
+
+/// The questions of one range, between values and between references, beside those of std's ranges.
+#[test]
+fn one_range() {
+    const ENDS: [i8; 6] = [-128, -3, 0, 1, 5, 127];
+    for (a, b) in ENDS.iter().flat_map(|a| ENDS.map(|b| (*a, b))) {
+        let (std, range) = (a..b, RangeSetRange::from(a..b));
+        let (from, refs) = (RangeSetRange::from(a..), range.as_ref());
+        assert_eq!(
+            (range.len(), refs.len()),
+            (Some(std.clone().count() as u128), range.len())
+        );
+        assert_eq!(
+            (range.is_empty(), refs.is_empty()),
+            (std.is_empty(), std.is_empty())
+        );
+        assert_eq!(
+            (from.len(), from.as_ref().len(), from.is_empty()),
+            (None, None, false)
+        );
+        for value in ENDS {
+            assert_eq!(range.contains(&value), std.contains(&value));
+            assert_eq!(refs.contains(&value), std.contains(&value));
+            assert_eq!(refs.contains(&&value), std.contains(&value));
+            assert_eq!(from.contains(&value), (a..).contains(&value));
+        }
+        assert_eq!((refs.copied(), refs.cloned()), (range.clone(), range));
+    }
+    // As with std's ranges, a value may be of a type that the ends are compared with.
+    let names = RangeSetRange::from(OsString::from("b")..OsString::from("d"));
+    assert!(names.contains(OsStr::new("c")) && !names.contains(OsStr::new("d")));
+    assert!(names.as_ref().contains(OsStr::new("b")));
+}
+
+#[test]
+fn iterators_between_values() {
+    let set: RangeSet2<u16> = [3..5, 9..12].into();
+    let values = [RangeSetRange::from(3..5), (9..12).into()];
+    assert!(
+        set.iter().copied().eq(values.clone())
+            && set.iter().cloned().rev().eq(values.iter().rev().cloned())
+    );
+    assert_eq!(set.iter().copied().len(), 2);
+    assert!(ChunkedRangeSet::from(&*set)
+        .iter()
+        .copied()
+        .eq(values.clone()));
+    assert!(ChunkedRangeSet::from(&*set)
+        .iter()
+        .cloned()
+        .rev()
+        .eq(values.into_iter().rev()));
 }

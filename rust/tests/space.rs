@@ -3,7 +3,8 @@
 mod common;
 
 use common::{one_in, Random};
-use range_sets::{fallible, ChunkedRangeSet, ChunkedSpace};
+use range_sets::{fallible, ChunkedRangeSet, ChunkedSpace, Countable, FromPlace, RangeSetEntry};
+use std::cell::Cell;
 use std::ops::Range;
 
 /// Below which number the ends of a sequence's ranges lie, how long these are at most, how many changes there are, and
@@ -193,4 +194,123 @@ fn a_space_is_what_it_holds() {
     assert_eq!(format!("{fallible:?}"), "{3..4, 7..}");
     fallible.clear();
     assert!(ChunkedSpace::from(fallible).is_empty());
+}
+
+thread_local!(static ASKED: Cell<usize> = const { Cell::new(0) });
+
+/// A number that counts how often the place of one is asked for.
+#[derive(Clone, Copy, PartialEq, Eq, PartialOrd, Ord)]
+struct Counted(u64);
+
+impl RangeSetEntry for Counted {
+    fn min_value() -> Self {
+        Counted(0)
+    }
+
+    fn is_min_value(&self) -> bool {
+        self.0 == 0
+    }
+}
+
+impl Countable for Counted {
+    fn place(&self) -> u128 {
+        ASKED.with(|asked| asked.set(asked.get() + 1));
+        self.0.into()
+    }
+}
+
+impl FromPlace for Counted {
+    fn zero() -> u128 {
+        0
+    }
+
+    fn greatest() -> Self {
+        Counted(u64::MAX)
+    }
+
+    fn from_place(place: u128) -> Option<Self> {
+        u64::try_from(place).ok().map(Counted)
+    }
+}
+
+/// The first of two numbers in a row that are free, and how many places were asked for.
+fn first_two(space: &mut ChunkedSpace<Counted>) -> (Option<u64>, usize) {
+    let before = ASKED.with(Cell::get);
+    let first = space.first_fit_count(Counted(0)..Counted(1_000_000), 2);
+    (first.map(|at| at.0), ASKED.with(Cell::get) - before)
+}
+
+/// Of 100,000 gaps of one number each some 200 bounds are remembered, of which a change forgets one or two.
+#[test]
+fn what_is_remembered_is_not_read_again() {
+    let mut space: ChunkedSpace<Counted> = ChunkedSpace::new();
+    for i in 0..100_000 {
+        space.insert(Counted(2 * i)..Counted(2 * i + 1));
+    }
+    let (first, all) = first_two(&mut space);
+    assert!(first == Some(199_999) && all >= 100_000);
+    let (first, again) = first_two(&mut space);
+    assert!(first == Some(199_999) && again < 3_000, "{again}");
+    let mut random = Random(42);
+    for _ in (0..2_000).step_by(one_in()) {
+        let at = 2 * random.below(100_000);
+        space.remove(Counted(at)..Counted(at + 1));
+        let (first, asked) = first_two(&mut space);
+        assert!(
+            first == Some(at.saturating_sub(1)) && asked < 10_000,
+            "{at}: {asked}"
+        );
+        space.insert(Counted(at)..Counted(at + 1));
+        let (first, asked) = first_two(&mut space);
+        assert!(first == Some(199_999) && asked < 10_000, "{at}: {asked}");
+    }
+    space.insert(Counted(0)..Counted(199_999));
+    let (first, once) = first_two(&mut space);
+    assert!(first == Some(199_999) && once < 50, "{once}");
+}
+
+/// The first even number that is free, and how many places were asked for.
+fn first_even(space: &mut ChunkedSpace<Counted>) -> (Option<u64>, usize) {
+    let before = ASKED.with(Cell::get);
+    let first = space.first_fit_aligned(Counted(0)..Counted(1_000_000), 1, 2);
+    (first.map(|at| at.0), ASKED.with(Cell::get) - before)
+}
+
+/// What is learned of a part for another multiple doesn't take the place of what is known of the whole.
+#[test]
+fn what_is_remembered_of_the_whole_stays() {
+    let mut space: ChunkedSpace<Counted> = ChunkedSpace::new();
+    for i in 0..100_000 {
+        space.insert(Counted(2 * i)..Counted(2 * i + 1));
+    }
+    let (first, all) = first_even(&mut space);
+    assert!(first == Some(200_000) && all >= 100_000);
+    // Each search begins within the numbers of 512 gaps, and ends within those of the next.
+    for start in (512..190_000).step_by(1_024) {
+        let within = Counted(start)..Counted(start + 900);
+        assert!(space.first_fit_aligned(within, 1, 4).is_none());
+    }
+    let (first, again) = first_even(&mut space);
+    assert!(first == Some(200_000) && again < 3_000, "{again}");
+}
+
+/// What is known of the multiples of 2 holds of those of 4 and 8 too, so a search for these leaves it.
+#[test]
+fn what_is_remembered_of_multiples_is_not_read_again() {
+    let mut space: ChunkedSpace<Counted> = ChunkedSpace::new();
+    for i in 0..100_000 {
+        space.insert(Counted(4 * i)..Counted(4 * i + 1));
+    }
+    let mut aligned = |align| {
+        let before = ASKED.with(Cell::get);
+        let first = space.first_fit_aligned(Counted(0)..Counted(1_000_000), 3, align);
+        let expected = if align == 2 { 399_998 } else { 400_000 };
+        assert_eq!(first.map(|at| at.0), Some(expected), "{align}");
+        ASKED.with(Cell::get) - before
+    };
+    assert!(aligned(2) >= 100_000);
+    for align in [4, 2, 8, 2, 4] {
+        let asked = aligned(align);
+        assert!(asked < 3_000, "{asked} for {align}");
+    }
 }

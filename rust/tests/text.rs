@@ -1,10 +1,13 @@
 //! Sets written as text and read from it.
 
 use range_sets::{
-    fallible, Expected, NoRoom, ParseError, RangeSet, RangeSet2, RangeSetRange, RangeSetRef,
+    fallible, ChunkedRangeSet, Expected, NoRoom, ParseError, RangeSet, RangeSet2, RangeSetRange,
+    RangeSetRef,
 };
 use std::collections::HashSet;
 use std::iter::once;
+#[cfg(feature = "std")]
+use std::net::{Ipv4Addr, Ipv6Addr};
 
 #[test]
 fn debug_text_is_made_of_the_elements_own() {
@@ -122,6 +125,131 @@ fn faults_have_their_place() {
         "a number is past those of its type"
     );
     assert_eq!(ParseError::OutOfMemory.to_string(), "memory ran out");
+}
+
+#[test]
+fn texts_of_characters() {
+    for (text, written) in [
+        ("", ""),
+        (" \n", ""),
+        ("'a'..'c'", "'a'..'c'"),
+        (" 'x'.. , 'a'..'c' ", "'a'..'c', 'x'.."),
+        ("'b'..'a'", ""),
+        (r"'\''..'\\'", r"'\''..'\\'"),
+        (r#"'"'..'\"'"#, ""),
+        (
+            r"'\n'..'\r', '\t'..'\n', '\0'..'\u{1}'",
+            r"'\0'..'\u{1}', '\t'..'\r'",
+        ),
+        (r"'\u{E000}'..'\u{10ffff}'", r"'\u{e000}'..'\u{10ffff}'"),
+        ("' '..'é', '.'..", "' '.."),
+        ("','..'.'", "','..'.'"),
+    ] {
+        let set: RangeSet2<char> = text.parse().unwrap();
+        assert_eq!(set.to_string(), written, "{text}");
+        assert_eq!(written.parse(), Ok(set.clone()));
+        assert_eq!(
+            text.parse::<ChunkedRangeSet<char>>().unwrap().to_string(),
+            written
+        );
+        assert_eq!(
+            format!("{:?}", text.parse::<fallible::RangeSet2<char>>().unwrap()),
+            format!("{set:?}")
+        );
+    }
+    let every_99th =
+        ('\0'..=char::MAX)
+            .step_by(99)
+            .chain(['\'', '\\', '\u{d7ff}', '\u{e000}', char::MAX]);
+    let set = RangeSet2::from_values(every_99th);
+    assert_eq!(set.to_string().parse(), Ok(set));
+}
+
+#[test]
+fn faults_in_texts_of_characters() {
+    for (text, at, expected) in [
+        ("a..b", 0, Expected::Number),
+        ("'", 0, Expected::Number),
+        ("''..'a'", 0, Expected::Number),
+        ("'ab'..'c'", 0, Expected::Number),
+        ("'a..'c'", 0, Expected::Number),
+        (r"'\q'..", 0, Expected::Number),
+        (r"'\u{d800}'..", 0, Expected::Number),
+        (r"'\u{+41}'..", 0, Expected::Number),
+        (r"'\u{}'..", 0, Expected::Number),
+        (r"'\u41'..", 0, Expected::Number),
+        ("'a'", 3, Expected::Dot),
+        ("'a'.'b'", 4, Expected::Dot),
+        ("'a' ..'b'", 3, Expected::Dot),
+        ("'a'..b", 5, Expected::Number),
+        ("'é'..'z'; 'a'..", 9, Expected::Comma),
+        ("'a'.. 'b'", 6, Expected::Comma),
+        ("'a'..'b', ", 10, Expected::Number),
+        ("'a'..'b',, 'c'..", 9, Expected::Number),
+        (",'a'..'b'", 0, Expected::Number),
+    ] {
+        let error = text.parse::<RangeSet2<char>>().unwrap_err();
+        assert_eq!(error, ParseError::Malformed { at, expected }, "{text}");
+        assert_eq!(
+            text.parse::<fallible::RangeSet2<char>>().unwrap_err(),
+            error
+        );
+    }
+}
+
+#[cfg(feature = "std")]
+#[test]
+fn texts_of_addresses() {
+    for (text, written) in [
+        ("", ""),
+        ("10.0.0.0..10.1.0.0", "10.0.0.0..10.1.0.0"),
+        (
+            " 224.0.0.0.. ,\t10.0.0.0..10.1.0.0",
+            "10.0.0.0..10.1.0.0, 224.0.0.0..",
+        ),
+        (
+            "10.0.0.0..10.1.0.0,10.0.128.0..10.2.0.0",
+            "10.0.0.0..10.2.0.0",
+        ),
+    ] {
+        let set: RangeSet2<Ipv4Addr> = text.parse().unwrap();
+        assert_eq!(set.to_string(), written);
+        assert_eq!(ChunkedRangeSet::from(set).to_string(), written);
+    }
+    let text = "::..2001:db8::, 2001:db9::..::ffff:0:0:0:1.2.3.4, fe80::..";
+    let set: RangeSet2<Ipv6Addr> = text.parse().unwrap();
+    assert_eq!(set.to_string(), "::..2001:db8::, fe80::..");
+    assert_eq!(format!("{set:>30}|"), "      ::..2001:db8::, fe80::..|");
+
+    for (text, at, expected) in [
+        ("10.0.0..10.1.0.0", 0, Expected::Number),
+        ("10.0.0.256..", 0, Expected::Number),
+        ("::1..", 0, Expected::Number),
+        ("10.0.0.0", 8, Expected::Dot),
+        ("10.0.0.0..10.1.0", 10, Expected::Number),
+        ("10.0.0.0..10.1.0.0 10.2.0.0..", 19, Expected::Comma),
+        ("10.0.0.0..10.1.0.0,", 19, Expected::Number),
+    ] {
+        let error = text.parse::<RangeSet2<Ipv4Addr>>().unwrap_err();
+        assert_eq!(error, ParseError::Malformed { at, expected }, "{text}");
+    }
+}
+
+/// By the `Display` of the ends, which of characters isn't in quotes.
+#[test]
+fn texts_of_ranges() {
+    assert_eq!(RangeSetRange::from(-3..4).to_string(), "-3..4");
+    assert_eq!(RangeSetRange::from(&7..).to_string(), "7..");
+    assert_eq!(RangeSetRange::from('a'..'c').to_string(), "a..c");
+    assert_eq!(
+        format!(
+            "{:>8}|{:<8}|{:^8}|",
+            RangeSetRange::from(10..20),
+            RangeSetRange::from(5..),
+            RangeSetRange::from(1..2)
+        ),
+        "  10..20|5..     |  1..2  |"
+    );
 }
 
 #[cfg(feature = "std")]

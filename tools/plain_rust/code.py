@@ -19,7 +19,7 @@ def drop_hints(found):
 
 
 def drop_fields(found, names):
-    """Fields that clauses alone read, after another one: where a struct is told, and where one is made."""
+    """Fields that clauses alone read, after another one: where a struct is declared, and where one is made."""
     at, left, within = 0, set(names), []
     while at < len(found):
         text = found[at].text
@@ -114,7 +114,7 @@ def change_formatters(found):
 
 
 def change_calls(found, defined):
-    """Gives the methods of `tables.RENAMED` their names. Any other has to be one of the sources, or the same in Rust. Gives the traits that are used."""
+    """Gives `clone` and the methods of `tables.RENAMED` their names. Any other has to be one of the sources, or the same in Rust. Gives the traits that are used."""
     traits = set()
     for at, token in enumerate(found):
         if token.kind != "word":
@@ -125,7 +125,9 @@ def change_calls(found, defined):
             raise Refused(token.line, f"the macro {token.text}! isn't known")
         if not stands(found, at - 1, ".") or not is_called(found, at):
             continue
-        if token.text in tables.RENAMED:
+        if token.text == "clone":
+            token.text = tables.CLONE
+        elif token.text in tables.RENAMED:
             token.text, trait = tables.RENAMED[token.text]
             traits.add(trait)
         elif token.text not in defined | tables.SAME:

@@ -1,34 +1,74 @@
-"""What an export for C has and a function of a crate hasn't: `#[unsafe(no_mangle)]`, `extern "C"`, and its type in its name."""
+"""The exports for C. Rattle passes a slice to C as a pointer and a length, and an allocator, which has no size, not at all. Rust
+passes both otherwise, by the platform, so they are written out. While a file is changed an export is a function like another."""
 
 from plain_rust import tables
-from plain_rust.tokens import Refused, stands
+from plain_rust.tokens import Refused, closing, made, skipped, stands, text_of
 
 
-def change_exports(found):
-    """Makes functions of exports. Each stands in the module of its type, so its name needs no word for that."""
-    at = 0
+def take_exports(found, clauses):
+    """Makes functions of the exports, and gives their names. Their contracts are no documentation: C reads the header."""
+    names, at = [], 0
     while at < len(found):
         if stands(found, at, "#", "[", "unsafe", "("):
-            drop_no_mangle(found, at)
-            change_export(found, at)
+            names.append(take_export(found, at, clauses))
+        at += 1
+    return names
+
+
+def take_export(found, at, clauses):
+    """Makes a function of the export whose attribute begins at `at`, and gives its name."""
+    if not stands(found, at + 4, "no_mangle", ")", "]"):
+        raise Refused(found[at].line, "an unsafe attribute other than no_mangle")
+    if not stands(found, at + 7, "pub", "extern", '"C"', "fn"):
+        raise Refused(found[at + 7].line, 'no_mangle before something else than pub extern "C" fn')
+    name = found[at + 11]
+    if tables.EXPORT.fullmatch(name.text) is None:
+        raise Refused(name.line, f"the export {name.text} has a name of another form than proved_range_set_i64_call")
+    found[at + 7].lead = found[at].lead
+    del found[at + 8 : at + 10], found[at : at + 7]
+    clauses.pop(found[at + 1], None)
+    return name.text
+
+
+def write_exports(found, names):
+    """Makes exports of the functions with these names, as Rust 1.63 has them."""
+    at = 0
+    while at < len(found):
+        if stands(found, at, "fn") and found[at + 1].text in names:
+            write_export(found, at)
         at += 1
 
 
-def drop_no_mangle(found, at):
-    """Removes the attribute at `at`."""
-    if not stands(found, at + 4, "no_mangle", ")", "]"):
-        raise Refused(found[at].line, "an unsafe attribute other than no_mangle")
-    found[at + 7].lead = found[at].lead
-    del found[at : at + 7]
+def write_export(found, at):
+    """Makes an export of the function whose `fn` stands at `at`. It isn't proved, so its name doesn't say so."""
+    name, line, end = found[at + 1], found[at].line, closing(found, at + 2)
+    arguments = [in_c(name, kind, line) for name, kind in parameters(found, at + 3, end)]
+    body = skipped(found, end + 1, {"{"})
+    found[body + 1 : body + 1] = made("".join(f"\n    {statement}" for _, statement in arguments if statement), "\n    ", line)
+    found[at + 3 : end] = made(", ".join(words for words, _ in arguments if words), "", line)
+    name.text = tables.PLAIN + name.text.removeprefix(tables.PROVED)
+    head = at - 1 if stands(found, at - 1, "pub") else at
+    lead, found[head].lead = found[head].lead, "\n"
+    found[at:at] = made('unsafe extern "C"', " ", line)
+    found[head:head] = made("#[no_mangle]", lead, line)
 
 
-def change_export(found, at):
-    """Makes a function of the export that begins at `at`."""
-    if not stands(found, at, "pub", "extern", '"C"', "fn"):
-        raise Refused(found[at].line, 'no_mangle before something else than pub extern "C" fn')
-    name = found[at + 4]
-    call = tables.EXPORT.fullmatch(name.text)
-    if call is None:
-        raise Refused(name.line, f"the export {name.text} has a name of another form than proved_range_set_i64_call")
-    name.text = f"proved_{call[1]}"
-    del found[at + 1 : at + 3]
+def parameters(found, at, end):
+    """The name and the type of each parameter between two indices."""
+    while at < end:
+        comma = next((i for i in range(at, end) if found[i].text == ","), end)
+        yield found[at].text, text_of(found[at + 2 : comma]).strip()
+        at = comma + 1
+
+
+def in_c(name, kind, line):
+    """What C passes for a parameter of a type, and the statement that makes the parameter of it."""
+    if kind == "Global":
+        return "", f"let {name} = Global;"
+    if tables.PASSED.fullmatch(kind):
+        return f"{name}: {kind}", ""
+    slice_of = tables.SLICE.fullmatch(kind)
+    if slice_of is None:
+        raise Refused(line, f"an export with a parameter of the type {kind}")
+    pointer, function = ("mut", "room_at") if slice_of[1] else ("const", "items_at")
+    return f"{name}: *{pointer} {slice_of[2]}, {name}_len: usize", f"let {name} = unsafe {{ {function}({name}, {name}_len) }};"

@@ -17,6 +17,7 @@ class Shaping:
         self.wanted = set(tables.ITEMS_LEFT_OUT.get(file, ())) | set(tables.UNCALLED.get(file, ())) | (self.kept or set())
         self.hidden = set(tables.SHOWN.get(file, ()))
         self.cloned = set(tables.CLONED.get(file, ()))
+        self.messages = dict(tables.MESSAGES.get(file, {}))
         self.shown = set()
 
     def file_of(self, module):
@@ -50,7 +51,11 @@ class Shaping:
         if item.kind == "trait" and needs_size(item):
             has_bounds = found[item.body - 1].text not in (item.name, ">")
             title += made("+ Sized" if has_bounds else ": Sized", " " if has_bounds else "", found[item.body].line)
+        if item.kind == "trait" and item.name in self.messages:
+            title = with_message(title, *self.messages.pop(item.name))
         members = self.shaped(found, item.body + 1, item.end - 1, item)
+        if item.kind == "impl" and not members and not item.trait_and_type()[0]:
+            return []
         return [*title, found[item.body], *members, found[item.end - 1]]
 
     def is_not_kept(self, item):
@@ -87,7 +92,7 @@ class Shaping:
         if item.is_public() and any(clause.kind == "requires" for clause in clauses):
             found[item.head].text = "pub(crate)"
         if item.name == "clone":
-            found[item.word + 1].text = "try_clone"
+            found[item.word + 1].text = tables.CLONE
 
     def show(self, item):
         """Lets the crate see a module, and what the tables name."""
@@ -104,7 +109,7 @@ class Shaping:
 
     def refuse_what_is_left(self):
         """Refuses names of the tables that the file hasn't."""
-        left = sorted(self.wanted | self.hidden - self.shown | self.cloned)
+        left = sorted(self.wanted | self.hidden - self.shown | self.cloned | set(self.messages))
         if left:
             raise Refused(1, f"the tables name what isn't there: {', '.join(left)}")
 
@@ -117,6 +122,15 @@ def needs_size(item):
         return False
     own = (at for at in range(item.body, item.end) if found[at].text == "Self")
     return any(not stands(found, at + 1, ":", ":") for at in own)
+
+
+def with_message(title, message, note):
+    """The title of a trait, with what a compiler says where a type lacks it."""
+    first = title[0]
+    put = f'#[cfg_attr({tables.KNOWS_MESSAGES}, diagnostic::on_unimplemented(message = "{message}", note = "{note}"))]'
+    attribute = made(put, first.lead, first.line)
+    first.lead = "\n"
+    return [*attribute, *title]
 
 
 def with_clone(item):

@@ -17,7 +17,7 @@ class Source:
         self.words = words_outside(found)
         self.clauses = take_clauses(found)
         ghosts.drop_ghosts(found)
-        exports.change_exports(found)
+        self.exports = exports.take_exports(found, self.clauses)
         ghosts.change_attributes(found)
         ghosts.drop_bounds(found)
         self.found = found
@@ -79,8 +79,9 @@ def erased(source, known, left_out):
     code.change_formatters(found)
     traits = code.change_calls(found, known.functions)
     gone = Gone(known.laws | tables.LEFT_OUT_NAMES | uncalled(), source.words - words_outside(found), known.asking)
+    exports.write_exports(found, source.exports)
     change_uses(found, source.file.split("/")[0], gone, traits)
-    if all(item.kind == "use" and not item.is_exported() for item in items(found, 0, len(found) - 1)):
+    if not source.exports and all(item.kind == "use" and not item.is_exported() for item in items(found, 0, len(found) - 1)):
         return ""
     head = "".join(f"{line}\n" for line in source.head)
     body = text_of(found).strip("\n")
@@ -92,7 +93,7 @@ def rust_of(texts):
     known = Known(sources_of(texts, tables.LEFT_OUT))
     left_out = set(tables.LEFT_OUT)
     while True:
-        written = {it.file: told(it.file, erased, it, known, left_out) for it in sources_of(texts, left_out)}
+        written = {it.file: named(it.file, erased, it, known, left_out) for it in sources_of(texts, left_out)}
         empty = {file for file, text in written.items() if not text}
         if not empty:
             return written
@@ -100,11 +101,11 @@ def rust_of(texts):
 
 
 def sources_of(texts, left_out):
-    return [told(file, Source, file, text) for file, text in sorted(texts.items()) if file not in left_out]
+    return [named(file, Source, file, text) for file, text in sorted(texts.items()) if file not in left_out]
 
 
-def told(file, function, *words):
-    """What a function gives. What it refuses is told with the file."""
+def named(file, function, *words):
+    """What a function gives. What it refuses is named with the file."""
     try:
         return function(*words)
     except Refused as refused:

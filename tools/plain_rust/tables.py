@@ -3,17 +3,19 @@
 import re
 
 # The crates that are written, each as a module, and where.
-CRATES = ("range_merge", "range_entry", "range_collections", "range_chunks", "range_map", "range_tracker", "range_c")
+CRATES = ("range_merge", "range_entry", "range_collections", "range_list", "range_chunks", "range_map", "range_tracker", "range_chunked_tracker", "range_c")
 ROOT = ("crate", "generated")
 SUPPORT = ("crate", "support")
 # Crates that are compiled with a feature alone.
 FEATURES = {"range_c": "c"}
+# Crates with unsafe code: exports make slices of pointers.
+UNSAFE = {"range_c"}
 
 # The rustfmt by which the files are laid out. With another one only the tokens are compared.
 RUSTFMT = "rustfmt 1.9.0"
 
 # Modules of Rattle's std that are modules of Rust's core, with the same names in them.
-CORE = {"cmp", "fmt", "iter", "marker", "mem", "num", "ops", "slice", "str"}
+CORE = {"cmp", "fmt", "iter", "marker", "mem", "num", "ops", "ptr", "slice", "str"}
 # Names that come from elsewhere: from the support module.
 MOVED = {("std", "alloc", "AllocError"), ("std", "alloc", "Global"), ("std", "error", "Error"), ("smallvec", "SmallVec")} | {
     ("itoa", "Buffer"),
@@ -22,8 +24,8 @@ MOVED = {("std", "alloc", "AllocError"), ("std", "alloc", "Global"), ("std", "er
 }
 # Names of std that only proofs have a use for.
 GHOSTLY = {("std", "marker", "Model"), ("std", "default", "MadeWith")}
-# Names that need no `use` in Rattle, or another one than in Rust.
-PRELUDE = ("Vec",)
+# Names that need no `use` in Rattle, or another one than in Rust; and what makes the slices of exports.
+PRELUDE = ("Box", "Vec", "items_at", "room_at")
 
 # Methods that pass the allocator, or that Rust has only since a later version: each is one of a trait of support.
 #   [T]::sort(&mut self, alloc: Global) -> Result<(), AllocError>
@@ -39,14 +41,17 @@ RENAMED = {
     "checked_next_multiple_of": ("next_multiple_up", "NextMultipleUp"),
 }
 
+# The sources' own `clone` may be refused, for which Rust's has no room: it and its calls have this name.
+CLONE = "try_clone"
+
 # Methods of std and of smallvec that are the same in Rust, or that support's lists have.
 SAME = set(
     """
     abs_diff all allocator as_array as_bytes as_mut_slice as_ref as_slice bitand bitor bitxor capacity char_indices
     checked_add checked_sub chunks chunks_exact clear cmp contains copied copy_from_slice copy_within dedup drain
-    enumerate eq expect extend_from_slice filter filter_map first fmt format from get insert into_iter into_vec
+    enumerate eq expect extend_from_slice filter filter_map first fmt format from get insert into_box into_iter into_vec
     is_ascii_digit is_empty is_eq is_err is_ge is_gt is_le is_lt is_ne is_none is_ok is_some is_whitespace iter
-    iter_mut last leading_zeros len map max min next next_back not ok or parse pop position push_reserved remove
+    iter_mut last leading_zeros len map max min next next_back not ok ok_or or parse pop position push_reserved remove
     reserve retain rev reverse rotate_left rotate_right saturating_add saturating_mul saturating_sub shrink_to_fit
     size_hint sort_unstable sort_unstable_by_key split split_at split_at_mut split_first split_last split_off
     split_once strip_prefix sub swap swap_with_slice take then_some trailing_zeros trim truncate unwrap unwrap_or
@@ -57,15 +62,19 @@ SAME = set(
 MACROS = {"assert", "debug_assert", "unreachable", "write", "writeln"}
 ATTRIBUTES = {"inline", "must_use", "cold", "repr"}
 # Functions that are inlined in any case: rustc else keeps the count of their comparisons in memory.
-INLINED = {"contains_counted", "count_up_to"}
+INLINED = {"contains_counted", "count_up_to", "get_counted", "place_up_to", "up_to"}
 DERIVES = {"Clone", "Copy", "Debug", "Default", "Eq", "Hash", "Ord", "PartialEq", "PartialOrd"}
 # Those of proofs.
 PROOF_ATTRIBUTES = {"cycle", "tactic"}
 # Words of Rust that no source uses, and whose forms this script doesn't know.
 UNKNOWN_WORDS = {"async", "await", "dyn", "extern", "macro_rules", "move", "static", "unsafe", "yield"}
 
-# The names of exports: `proved_range_set_`, the type, and the call.
-EXPORT = re.compile(r"proved_range_set_[iu]\d+_(\w+)")
+# The names of exports: `proved_range_set_`, the type, and the call. Of plain Rust they begin with another word.
+EXPORT = re.compile(r"proved_range_(set|map)_[iu]\d+_\w+")
+PROVED, PLAIN = "proved_", "plain_"
+# The parameters of exports that are slices, and those that C passes as they are.
+SLICE = re.compile(r"&(mut )?\[(\w+)\]")
+PASSED = re.compile(r"(&mut )?(bool|usize|[iu]\d+|(Chunked|Mapped)[IU]\d+)")
 
 # Functions that do nothing when they run: a caller learns something by them.
 #   fn known(&self), fn known_in_range(&self), fn keeps_own()
@@ -75,8 +84,8 @@ HINT = "which the proof cites."
 
 # Files that are left out: laws are found by their form; JSON is read and written by serde; std prints sets of
 # characters, sets in chunks and maps, and collects maps; a set of Rattle's own needs numbers other than 0 that have a default; Rust takes
-# ranges out of sets of elements without an order too; std turns a list by two places without a buffer; Rust's own
-# boxes go to C.
+# ranges out of sets of elements without an order too; std turns a list by two places without a buffer; a
+# box as its address is one of support.
 LEFT_OUT = {
     "range_merge/turning",
     "range_entry/non_zero",
@@ -88,25 +97,25 @@ LEFT_OUT = {
     "range_map/map/building",
     "range_map/map/text",
     "range_c/boxed",
-    "range_c/generated/chunked_i32",
-    "range_c/generated/chunked_i64",
-    "range_c/generated/chunked_u32",
-    "range_c/generated/chunked_u64",
-    "range_c/generated/mapped_i64",
-    "range_c/generated/mapped_u64",
 }
 # Names whose files are left out, wherever they are imported.
 LEFT_OUT_NAMES = {"JsonError", "NonZeroU8", "NonZeroU16", "NonZeroU32", "NonZeroU64", "NonZeroU128", "NonZeroUsize"}
 
 # Files of which these items alone are written: lists of support have gaps without items, where Rattle's have blank
 # items, so what moves items is theirs. See the module `opened`.
-ITEMS_KEPT = {"range_merge/place": {"trait GrowsByGap", "trait Exchanges"}}
+ITEMS_KEPT = {"range_merge/in_place_list": {"trait GrowsByGap", "trait Exchanges"}}
 
 # Items that are left out, by their file: a kind with a name, or an impl with its title up to the generics of the type.
 ITEMS_LEFT_OUT = {
     "range_merge/in_place_builder": {"impl InPlaceBuilder<K, N>"},
+    # There a list on the heap is appended to all at once.
+    "range_merge/merge_state/grows_at_end": {"fn append_within"},
+    # There the room is looked at once for both.
+    "range_collections/lists": {"fn append_both"},
     "range_merge/merge_state/in_place": {"type InPlaceMergeState", "impl InPlaceMergeState"},
     "range_merge/merge_state/in_place_ref": {"type InPlaceMergeStateRef", "impl InPlaceMergeStateRef"},
+    # An earlier Rust selects by a branch.
+    "range_merge/searching/selecting": {"const SELECTS"},
     # Elements are std's own lists and texts, and no lists of support.
     "range_entry/lists": {"impl EntryClone for Vec"},
     "range_entry/texts": {"impl EntryClone for String"},
@@ -115,8 +124,10 @@ ITEMS_LEFT_OUT = {
     "range_collections/range_set_range": {"impl fmt::Debug for RangeSetRange"},
     # Rust drops a set's list by itself.
     "range_collections/range_set": {"impl Drop for RangeSet"},
+    "range_list/list": {"impl Drop for Chunks"},
     "range_chunks/set": {"impl Drop for ChunkedRangeSet"},
     "range_chunks/space": {"impl Drop for ChunkedSpace"},
+    "range_map/map": {"impl Drop for RangeMap"},
     # Values that aren't plain numbers have one by their `EntryClone`, in support.
     "range_map/value": {"impl MapValue for T"},
 }
@@ -125,7 +136,7 @@ UNCALLED = {
     "range_merge/compare": {"Compare::made"},
     "range_merge/in_place_builder": {"InPlaceBuilder::puts_left", "InPlaceBuilder::put", "InPlaceBuilder::finish", "fn put_item"},
     "range_merge/merge_state/small_vec": {"SmallVecMergeState::new"},
-    "range_merge/place": {"GrowsByGap::set"},
+    "range_merge/in_place_list": {"GrowsByGap::set"},
     "range_entry/lists": {"fn is_empty_list"},
     "range_collections/comparisons": {"Compare for Comparisons::made"},
     "range_collections/range_set/by_view": {
@@ -137,28 +148,47 @@ UNCALLED = {
     "range_collections/view": {"RangeSetRef::single"},
     "range_collections/view/operations": {"RangeSetRef::merge_new"},
     "range_tracker/tracker": {"Tracker::gaps"},
+    "range_list/list/reading": {"Chunks::last"},
+    "range_chunks/space/fitting": {"ChunkedSpace::first_fit"},
 }
 # Fields that clauses alone read, by their file.
 FIELDS_LEFT_OUT = {"range_merge/merge_state/small_vec": {"at_first"}}
 # Names that support has in place of what is left out.
-BY_SUPPORT = {"InPlaceMergeState", "InPlaceMergeStateRef", "move_last_two"}
+BY_SUPPORT = {"InPlaceMergeState", "InPlaceMergeStateRef", "Parts", "SELECTS", "append_both", "append_within", "move_last_two"}
 # Traits whose impls are left out: the crate has a trait of its own for its users, and one impl for all of them.
 IMPLS_LEFT_OUT = {"MadeWith", "Model", "RangeSetEntry"}
 # Private fields and functions that support and the layer use, by their file.
 SHOWN = {
     "range_merge/merge_state/in_place_ref": {"over"},
     "range_collections/range_set/values": {"range_of"},
-    "range_chunks/set": {"chunks"},
-    "range_chunks/tracker": {"chunks", "len", "limit"},
-    "range_map/map": {"keys", "options"},
+    "range_list/list": {"chunks", "len"},
+    "range_chunks/set": {"list"},
+    "range_chunked_tracker/tracker": {"list", "len", "limit"},
+    "range_map/map": {"steps"},
     "range_tracker/tracker": {"set", "limit"},
 }
 # Structs that are cloned in Rust whatever their elements are, by their file: their fields are references.
 CLONED = {
     "range_collections/iter": {"Iter", "RangesWithin", "Unread"},
     "range_collections/members": {"Members"},
-    "range_chunks/iter": {"Iter", "Unread"},
+    "range_list/items": {"Items"},
+    "range_chunks/iter": {"Iter"},
     "range_chunks/within": {"RangesWithin", "Within"},
     "range_map/gaps": {"Gaps"},
     "range_map/iter": {"Iter"},
 }
+# What a compiler says where a type lacks a trait, and what to do, by the file and the trait: their users know others, or
+# have a way that asks for less.
+MESSAGES = {
+    "range_entry/range_set_entry": {
+        "RangeSetEntry": ("`{Self}` has no least value", "implement `range_sets::RangeSetEntry` for it"),
+    },
+    "range_entry/entry_clone": {
+        "EntryClone": (
+            "`{Self}` has no copy that may be refused",
+            "implement `range_sets::fallible::EntryClone` for it; calls of sets outside of `fallible` ask for `Clone`",
+        ),
+    },
+}
+# What says that the compiler knows such messages.
+KNOWS_MESSAGES = "range_sets_messages"

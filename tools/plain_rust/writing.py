@@ -16,7 +16,6 @@ ROOT = """\
 //! The proved crates as plain Rust: their code, with their contracts as documentation.
 //!
 //! The contracts are proved of the sources in Rattle, for lawful orders and 64-bit sizes. Here they are text.
-#![forbid(unsafe_code)]
 // The library for C calls some of it alone. Some names are read by clauses alone.
 #![cfg_attr(not(feature = "c"), allow(dead_code))]
 #![allow(unused_imports, unused_variables)]
@@ -54,9 +53,10 @@ def files_of(folder):
 
 
 def module_of(crate):
-    """The line that has a crate as a module."""
+    """The lines that have a crate as a module."""
     feature = tables.FEATURES.get(crate)
-    return (f'#[cfg(feature = "{feature}")]\n' if feature else "") + f"pub mod {crate};\n"
+    when = f'#[cfg(feature = "{feature}")]\n' if feature else ""
+    return f"{when}#[{'allow' if crate in tables.UNSAFE else 'forbid'}(unsafe_code)]\npub mod {crate};\n"
 
 
 def rustfmt():

@@ -19,7 +19,7 @@
             this.listen();
         }
 
-        /** Shows boundaries, the first of which is a start, out of so many in all. */
+        /** Shows boundaries, the first of which is a start, of `total` in all. */
         show(boundaries, total) {
             const shown = [...boundaries.slice(0, MOST)];
             const left = total - shown.length;

@@ -22,7 +22,7 @@
 
     const classOf = (id) => Daleribbon.unicode.classes.find((it) => it.id === id);
 
-    /** The first members of a set, up to so many. */
+    /** The first members of a set, at most `most`. */
     function firstMembers(set, most) {
         const members = [];
         for (const [start, end] of pairs(set.boundaries())) {

@@ -4,7 +4,7 @@
 // key takes.
 {
     const { fragmentOf, readFragment } = Daleribbon;
-    /** The address follows after so many milliseconds: browsers refuse many in a row. */
+    /** After how many milliseconds the address follows: browsers refuse many changes in a row. */
     const PAUSE = 200;
     const NEXT_THEME = { "": "light", light: "dark", dark: "" };
     const byId = (id) => document.getElementById(id);
@@ -146,7 +146,8 @@
             sets: new Daleribbon.SetsView(library), pieces: new Daleribbon.PiecesView(library), characters: new Daleribbon.CharactersView(library),
         };
         for (const [name, view] of Object.entries(views)) {
-            byId(`view-${name}`).append(view.node);
+            const section = byId(`view-${name}`);
+            section.insertBefore(view.node, section.querySelector("details"));
         }
         views.sets.update();
         new Address(views);

@@ -41,7 +41,7 @@
      */
     class OperationChooser {
         constructor({ id, onChange, answers = NAMED[0].answers }) {
-            Object.assign(this, { id, onChange, answers });
+            Object.assign(this, { id, onChange, answers, usual: answers });
             this.radios = NAMED.map((it) => this.radio(it));
             this.boxes = CELLS.flat().map((it) => this.box(it));
             this.meaning = element("p", { class: "meaning", id: `${id}-meaning`, "aria-live": "polite" });
@@ -89,13 +89,21 @@
             this.meaning.textContent = `The result takes ${MEANINGS[this.answers]}.`;
         }
 
-        /** The answers as words, as they stand in an address. Other words give no answer. */
+        /**
+         * The answers as words, as they stand in an address. Other words are left out; where no
+         * word is known, the operation is the usual one.
+         */
         get state() {
             return Object.keys(WORDS).filter((word) => this.takes(WORDS[word])).join(", ");
         }
 
         set state(words) {
-            this.answers = words.split(/,\s*/).reduce((answers, word) => answers | WORDS[word], 0);
+            const given = words.split(/,\s*/).filter((word) => word !== "");
+            const known = given.filter((word) => Object.hasOwn(WORDS, word));
+            this.answers = known.reduce((answers, word) => answers | WORDS[word], 0);
+            if (known.length === 0 && given.length > 0) {
+                this.answers = this.usual;
+            }
             this.show();
         }
 

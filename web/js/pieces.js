@@ -9,8 +9,9 @@
     const PIECE = 1024n;
     const PIECES = 64;
     const LENGTH = PIECE * BigInt(PIECES);
-    const LIMIT = 8;
-    const MOST_LIMIT = 32;
+    /** Of random pieces, one in twenty is refused by it. */
+    const LIMIT = 32;
+    const MOST_LIMIT = 64;
     const LOGGED = 7;
     const PAUSE = 320;
 
@@ -205,7 +206,7 @@
             if (last === undefined) {
                 this.answer.textContent = "No piece has arrived.";
             } else if (last.needed) {
-                this.answer.textContent = `TooMany: ${counted(last.needed, "boundary")} would be kept, and the limit is ${this.limit.value}. The tracker is as it was.`;
+                this.answer.textContent = `Refused: it would take ${counted(last.needed, "boundary")}, and the limit is ${this.limit.value}. Nothing has changed.`;
             } else {
                 this.answer.textContent = `${last.records ? "Arrived" : "Lost"}: ${grouped(last.start)}..${grouped(last.end)}.`;
             }
@@ -213,8 +214,8 @@
 
         showLog() {
             const lines = this.commands.slice(-LOGGED).reverse().map(({ records, start, end, needed }) => element("li", { class: needed ? "refused" : "" },
-                element("code", {}, `${records ? "record" : "forget"}(${start}..${end})`),
-                element("code", {}, needed ? `Err(TooMany { boundaries: ${needed} })` : "Ok(())")));
+                element("span", {}, records ? "Arrived: " : "Lost: ", element("code", {}, `${grouped(start)}..${grouped(end)}`)),
+                element("span", {}, needed ? `refused: ${counted(needed, "boundary")}` : "")));
             this.log.replaceChildren(...lines);
         }
     }

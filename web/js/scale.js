@@ -77,7 +77,7 @@
             return ticks;
         }
 
-        /** The least round number that gives no more than so many ticks. */
+        /** The least round number that gives at most `most` ticks. */
         tickStep(most) {
             const factors = this.binary ? [1n, 2n, 4n] : [1n, 2n, 5n];
             const base = this.binary ? 8n : 10n;

@@ -8,8 +8,11 @@
     const USUAL = 24n;
     const LONGEST_TEXT = 1200;
     const MOST_GAPS = 40;
-    /** Up to so many ranges the text follows each move of the pointer. */
+    /** Up to how many ranges the text follows each move of the pointer. */
     const FEW = 200;
+    /** The busy hours of two people, and what is asked of them: an operation and its words. */
+    const HOURS = ["9..11, 13..15", "10..11, 14..17"];
+    const ASKED = [["left,right,both", "one busy"], ["both", "both busy"], ["neither", "both free"]];
     /** Texts for A, and what each shows. */
     const EXAMPLES = [
         ["0..5, 5..10", "touching: one range"],
@@ -42,19 +45,20 @@
             this.board = new Board({ scale: this.scale, fit: () => this.fit() });
             this.before = library.newSet();
             this.operation = new OperationChooser({ id: "sets", onChange: () => this.operated() });
-            this.a = this.typedRow(library, "A", "2..5, 10..14");
-            this.b = this.typedRow(library, "B", "5..8, 12..");
+            this.a = this.typedRow(library, "A", HOURS[0]);
+            this.b = this.typedRow(library, "B", HOURS[1]);
             this.result = new SetRow({ id: "sets-result", name: "A ∪ B", label: "The result", set: library.newSet(), scale: this.scale, board: this.board });
             this.board.rows = [this.a, this.b, this.result];
             this.board.onLook = () => this.showFacts();
             this.past = new Past(this);
             this.factsCard = this.facts();
             this.node = element("div", {},
-                element("div", { class: "card" }, this.operation.node),
-                element("div", { class: "card board" }, this.steps(), this.toolbar(), this.a.node, this.b.node, this.result.node),
-                this.factsCard);
-            this.board.value = 7n;
-            this.board.rows.forEach((row) => { row.line.probe = 7n; });
+                element("div", { class: "card" }, this.story(), this.operation.node),
+                element("div", { class: "card board" }, this.a.node, this.b.node, this.result.node, this.toolbar()),
+                this.factsCard,
+                element("div", { class: "card board" }, this.steps(), this.examples()));
+            this.board.value = 10n;
+            this.board.rows.forEach((row) => { row.line.probe = 10n; });
         }
 
         typedRow(library, name, text) {
@@ -95,17 +99,26 @@
             this.past.note();
         }
 
+        /** The first content, and what can be asked of it. */
+        story() {
+            const [a, b] = HOURS.map((text) => text.replaceAll(" ", ""));
+            const [one, both, free] = ASKED.map(([words, text]) => element("a", { href: `#sets&a=${a}&b=${b}&op=${words}` }, text));
+            return element("p", { class: "story" }, "Busy hours of two people, A and B: when is ", one, ", when are ", both, " or ", free, "?");
+        }
+
         steps() {
             const steps = STEPS.map(([href, words, seen]) => element("li", {}, element("a", { href }, words), ` ${seen}`));
             return element("div", { class: "steps" }, element("h2", {}, "Try it"), element("ol", {}, ...steps));
         }
 
-        toolbar() {
+        examples() {
             const examples = EXAMPLES.map(([text, shows]) => this.example(text, shows, text));
             const many = this.example("10,000 ranges", "drawn as shades", manyRanges());
-            return element("div", { class: "toolbar" },
-                element("div", { class: "examples", role: "group", "aria-labelledby": "sets-examples" }, element("span", { id: "sets-examples" }, "Set A to"), ...examples, many),
-                this.hints(), this.past.buttons(), this.board.buttons());
+            return element("div", { class: "examples", role: "group", "aria-labelledby": "sets-examples" }, element("span", { id: "sets-examples" }, "Set A to"), ...examples, many);
+        }
+
+        toolbar() {
+            return element("div", { class: "toolbar" }, this.hints(), this.past.buttons(), this.board.buttons());
         }
 
         example(label, shows, text) {

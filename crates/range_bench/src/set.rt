@@ -19,7 +19,7 @@ pub(crate) fn owned(alloc: Global, boundaries: &[i64]) -> Result<Set, AllocError
     Ok(Set::new_unchecked(SmallVec::from_slice(alloc, boundaries)?))
 }
 
-/// Writes the front of the set's boundaries and tells how many there are.
+/// Writes the front of the set's boundaries and returns how many there are.
 #[inline(always)]
 pub(crate) fn handed_over(made: Result<Set, AllocError>, out: &mut [i64]) -> usize {
     match made {

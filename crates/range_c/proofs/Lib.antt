@@ -14,3 +14,4 @@ pub mod BoxedU64
 pub mod BoxedMapI64
 pub mod BoxedMapU64
 pub mod Told
+pub mod Entries

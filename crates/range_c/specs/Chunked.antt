@@ -5,7 +5,7 @@
 --     CopiesFront ranges old new n      the first ranges have n ends, which stand in the buffer: of as many as have room for two
 --     TellsNext order inside items ..   the least number at or above another that is a member, or is none
 use Rattle.std.specs.Option.{unwrap_or}
-use Rattle.std.specs.Prelude.{◌≡◌, ℕ, ◌-◌, ◌/◌, ◌^◌, ◌≤◌, ◌<◌, Bool, true, false, not, cond, List, [], ◌++◌, length, take, drop, min, Option, IsTrue, Result, Ok, Err}
+use Rattle.std.specs.Prelude.{◌≡◌, ℕ, ◌/◌, ◌≤◌, ◌<◌, Bool, true, false, not, cond, List, [], ◌++◌, length, take, drop, Option, IsTrue, Result, Ok, Err}
 use Rattle.std.specs.List.{flat_map}
 use Rattle.std.specs.Ordering.{is_le}
 use Rattle.std.specs.declared.alloc.AllocError.{AllocError}
@@ -31,12 +31,11 @@ pub record TellsNext {K : Type 0} (order : K → K → Ordering) (inside : Bool)
   pub none : answer ≡ false → (x : K) → is_le (order from x) ≡ true → member order items x ≡ not inside
   pub unchanged : answer ≡ false → new ≡ old
 
--- n is the length of the list, or as much as a number of 64 bits tells of it. Where it is less than
--- that and the buffer is long enough, that begins with the list, and after it is as it was; where the
--- buffer isn't, all of it is as it was
+-- n is the length of the list. Where the buffer is long enough, it begins with the list, and after
+-- that is as it was; where it isn't, all of it is as it was
 pub record CopiesTo {K : Type 0} (items old new : List K) (n : ℕ) : Type 0 where
-  pub counted : n ≡ min (length items) (2 ^ 64 - 1)
-  pub written : n < 2 ^ 64 - 1 → n ≤ length old → new ≡ items ++ drop n old
+  pub counted : n ≡ length items
+  pub written : n ≤ length old → new ≡ items ++ drop n old
   pub unchanged : length old < n → new ≡ old
 
 -- the first ranges, of which there are half as many as the buffer is long or else all, have n ends.

@@ -1,6 +1,5 @@
 //! What the exports make of two sets, for numbers of any type.
 ghost use Rattle.std.specs.Prelude.{◌≡◌, ◌+◌, ◌<◌, ◌≤◌, ◌^◌, ◌/◌, length, take, drop, false, [], ◌∷◌};
-ghost use Rattle.std.specs.Ordering.{is_lt};
 ghost use Rattle.range_collections.specs.Boundaries.{IsAscending, is_odd};
 ghost use Rattle.range_collections.specs.Split.{split_left, split_right};
 ghost use Rattle.range_collections.specs.Ranges.{range_items};
@@ -9,6 +8,7 @@ ghost use Rattle.range_c.specs.Answers.{AreAscending, AnswersList, connective_of
 
 use range_collections::{
     Comparisons, Connective, DiffOp, IntersectionOp, MergeOperation, RangeSetRef, UnionOp, XorOp,
+    has_elements,
 };
 
 /// In the left set alone; what a connective is on for is summed up.
@@ -92,15 +92,6 @@ pub(crate) fn decoded(connective: u32) -> Connective
     }
 }
 
-// Whether the range has a number: its start is below its end. Every call that takes a range asks
-// this.
-#[inline(always)]
-pub(crate) fn has_numbers<T: Ord>(start: &T, end: &T) -> bool
-    ensures { result ≡ is_lt (T.cmp start.now end.now) }
-{
-    start.cmp(end).is_lt()
-}
-
 // The boundaries of the range from the first number to below the second.
 pub(crate) fn range_of<'a, T: Ord>(ends: &'a [T; 2]) -> &'a [T]
     ensures boundaries { (start end : T) →
@@ -109,7 +100,11 @@ pub(crate) fn range_of<'a, T: Ord>(ends: &'a [T; 2]) -> &'a [T]
     ensures sorted { IsAscending T.cmp result.now }
 {
     let [start, end] = ends;
-    if has_numbers(start, end) { ends } else { &[] }
+    if has_elements(start, end, &mut Comparisons::new()) {
+        ends
+    } else {
+        &[]
+    }
 }
 
 // Writes how many boundaries the part below `at` has, and where the part from it on begins.

@@ -124,7 +124,7 @@ pub(crate) fn copy<T: Ord + Copy>(set: &ChunkedRangeSet<T>, out: &mut [T]) -> us
     ensures { CopiesTo set.now out.old out.new result }
 {
     let len = set.boundaries_len();
-    if len <= out.len() && len < usize::MAX {
+    if len <= out.len() {
         put_all(set.iter(), out, 0);
     }
     len
@@ -157,7 +157,7 @@ pub(crate) fn put_ends<T: Copy>(out: &mut [T], len: usize, range: &RangeSetRange
 }
 
 // Puts a number after the first `len`, where the buffer has room for it.
-fn put_one<T: Copy>(out: &mut [T], len: usize, item: &T) -> usize
+pub(crate) fn put_one<T: Copy>(out: &mut [T], len: usize, item: &T) -> usize
     requires fits { len + 1 < 2 ^ 64 }
     ensures { PutsText len (item.now ∷ []) out.old out.new result }
 {

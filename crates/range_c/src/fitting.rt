@@ -1,14 +1,14 @@
 //! Where a stretch of numbers fits from a multiple on, and where members are in a row.
-ghost use Rattle.std.specs.Prelude.{◌≡◌, ◌<◌, ◌≤◌, ◌%◌, ℕ, true, false, IsTrue};
+ghost use Rattle.std.specs.Prelude.{◌≡◌, ◌<◌, ◌≤◌, ℕ, true, false, IsTrue};
 ghost use Rattle.range_collections.specs.Boundaries.{IsAscending};
-ghost use Rattle.range_collections.specs.Fits.{IsRow};
+ghost use Rattle.range_collections.specs.Fits.{IsMultiple, IsRow};
 
 use crate::parts::put;
 use range_collections::{Countable, FromPlace, RangeSetRef};
 use std::ops::Range;
 
-// Tells the least number whose place is a multiple of `align` and from which on `count` numbers lie
-// in the range and none is a member, where there is one.
+// Writes the least multiple of `align` from which `count` numbers lie in the range and none is a
+// member, if there is one.
 pub(crate) fn first_fit_aligned<T: FromPlace>(
     a: &[T],
     within: Range<T>,
@@ -19,10 +19,10 @@ pub(crate) fn first_fit_aligned<T: FromPlace>(
     requires { IsAscending T.cmp a.now }
     ensures fits { IsTrue result → IsRow T.cmp T.value false a.now
         (T.place within.start) (T.place within.end) count (T.place at.new) }
-    ensures aligned { IsTrue result → T.place at.new % align ≡ 0 }
-    ensures least { IsTrue result → (n : ℕ) → n % align ≡ 0 → IsRow T.cmp T.value false a.now
+    ensures aligned { IsTrue result → IsMultiple T.zero align (T.place at.new) }
+    ensures least { IsTrue result → (n : ℕ) → IsMultiple T.zero align n → IsRow T.cmp T.value false a.now
         (T.place within.start) (T.place within.end) count n → T.place at.new ≤ n }
-    ensures none { result ≡ false → 0 < align → (n : ℕ) → n % align ≡ 0 →
+    ensures none { result ≡ false → 0 < align → (n : ℕ) → IsMultiple T.zero align n →
         ¬ (IsRow T.cmp T.value false a.now
         (T.place within.start) (T.place within.end) count n) }
     ensures unchanged { result ≡ false → at.new ≡ at.old }

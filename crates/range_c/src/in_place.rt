@@ -4,14 +4,13 @@
 //! which the set changes, and what comes after moves once.
 ghost use Rattle.std.specs.Prelude.{◌≡◌, ◌+◌, ◌<◌, ◌≤◌, ◌++◌, ◌^◌, length, take, drop};
 ghost use Rattle.std.specs.Option.{option_to_list};
-ghost use Rattle.range_collections.specs.Boundaries.{IsAscending, is_odd as odd};
+ghost use Rattle.range_collections.specs.Boundaries.{IsAscending};
 ghost use Rattle.range_collections.specs.Connective.{union_table, difference_table};
-ghost use Rattle.range_collections.specs.Splicing.{IsCut, range_table, spliced};
+ghost use Rattle.range_collections.specs.Splicing.{range_table, spliced};
 ghost use Rattle.range_collections.specs.Ranges.{range_items};
 ghost use Rattle.range_c.specs.InPlace.{ChangesList};
 
-use crate::calls::has_numbers;
-use range_collections::{Comparisons, search};
+use range_collections::{Comparisons, cut_at, has_elements};
 
 // Puts the numbers from `start` to below `end` into the set of the first `len` boundaries, and
 // answers how many it has then. Where the buffer has no room for them it is as it was.
@@ -46,35 +45,13 @@ fn set_range<T: Ord + Copy>(buffer: &mut [T], len: usize, start: T, end: T, insi
     ensures { ChangesList T.cmp (range_table inside) (take len buffer.old)
         (range_items T.cmp start end) buffer.old buffer.new result }
 {
-    if !has_numbers(&start, &end) {
+    if !has_elements(&start, &end, &mut Comparisons::new()) {
         return len;
     }
     let (set, _room) = buffer.split_at(len);
-    let (from, first) = cut_at(set, start, inside);
-    let (to, last) = cut_at(set, end, inside);
+    let (from, first) = cut_at(set, start, inside, &mut Comparisons::new());
+    let (to, last) = cut_at(set, end, inside, &mut Comparisons::new());
     splice(buffer, len, from, to, first, last)
-}
-
-// Where the items are cut around an element, so that an odd number stands before exactly if
-// `inside`, and the element where it has to be put there for that.
-#[inline(always)]
-fn cut_at<T: Ord + Copy>(items: &[T], at: T, inside: bool) -> (usize, Option<T>)
-    requires { IsAscending T.cmp items.now }
-    ensures { IsCut T.cmp inside items.now at result.0 result.1 }
-{
-    match search(items, &at, &mut Comparisons::new()) {
-        Ok(i) if is_odd(i) == inside => (i, None),
-        Ok(i) => (i + 1, None),
-        Err(i) if is_odd(i) == inside => (i, None),
-        Err(i) => (i, Some(at)),
-    }
-}
-
-#[inline(always)]
-fn is_odd(n: usize) -> bool
-    ensures { result ≡ odd n }
-{
-    n % 2 == 1
 }
 
 // Replaces those of the first `len` items that stand between `from` and `to` by the start and the

@@ -1,12 +1,13 @@
 //! What the exports do with a map, for keys and values of any type.
-ghost use Rattle.std.specs.Prelude.{◌≡◌, false, Some, None};
+ghost use Rattle.std.specs.Prelude.{◌≡◌, false, Some, None, filter};
+ghost use Rattle.range_map.specs.Entries.{entries, overlaps};
 ghost use Rattle.range_map.specs.Steps.{value_at};
 ghost use Rattle.range_map.specs.Stretches.{IsStretch};
-ghost use Rattle.range_c.specs.Mapped.{told, IsSetIfDone, Tells};
+ghost use Rattle.range_c.specs.Mapped.{told, CopiesEntries, IsSetIfDone, Tells};
 
-use crate::chunked::is_done;
+use crate::chunked::{is_done, put_ends, put_one};
 use crate::parts::put;
-use range_map::{MapValue, RangeMap};
+use range_map::{Iter, MapValue, RangeMap};
 
 // Gives the keys from `start` to below `end` the value, and answers whether there was memory for it.
 pub(crate) fn insert<K: Ord + Drop, V: MapValue>(
@@ -74,4 +75,36 @@ pub(crate) fn range_at<K: Ord + Copy, V: Eq + Copy>(
     *has_start = put(found.start.copied(), start);
     *has_end = put(found.end.copied(), end);
     put(found.value.copied(), value)
+}
+
+// Writes the first ranges that share a key with the one from `start` to below `end`, whole, and
+// their values: as many as have room for two keys and for a value. Answers how many ends these are.
+pub(crate) fn overlapping<K: Ord + Copy, V: Eq + Copy>(
+    map: &RangeMap<K, V>,
+    start: K,
+    end: K,
+    ends: &mut [K],
+    values: &mut [V],
+) -> usize
+    ensures { CopiesEntries (filter (overlaps K.cmp start end) (entries map.now))
+        ends.old ends.new values.old values.new result }
+{
+    put_entries(map.overlapping(&start..&end), ends, values)
+}
+
+// Puts the ends of the first ranges and their values to the front, of as many as there is room for.
+fn put_entries<K: Copy, V: Copy>(entries: Iter<'_, K, V>, ends: &mut [K], values: &mut [V]) -> usize
+    ensures { CopiesEntries entries.entry ends.old ends.new values.old values.new result }
+{
+    let room = (ends.len() / 2).min(values.len());
+    let mut len = 0;
+    let mut count = 0;
+    for (range, value) in entries {
+        if count == room {
+            return len;
+        }
+        len = put_ends(ends, len, &range);
+        count = put_one(values, count, value);
+    }
+    len
 }

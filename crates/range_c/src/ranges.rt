@@ -8,8 +8,8 @@ ghost use Rattle.range_collections.specs.Boundaries.{IsAscending};
 ghost use Rattle.range_c.specs.Ranges.{ends_of, is_from, IsUnionOf, IsUnionFrom};
 ghost use Rattle.range_c.specs.Joining.{IsPut};
 
-use crate::calls::has_numbers;
 use crate::ends::Ends;
+use range_collections::{Comparisons, has_elements};
 
 // Moves the ranges of the set of all numbers in the ranges to the front, as many as it answers.
 // Empty and reversed ones have no number.
@@ -47,7 +47,7 @@ fn put<E: Ends>(ranges: &mut [E], kept: usize, range: E) -> usize
         range (take result ranges.new) }
     ensures after { drop (kept + 1) ranges.new ≡ drop (kept + 1) ranges.old }
 {
-    if !has_numbers(&range.start(), &range.end()) {
+    if !has_elements(&range.start(), &range.end(), &mut Comparisons::new()) {
         return kept;
     }
     if kept == 0 {

@@ -59,7 +59,7 @@ fn failure(
     }
 }
 
-/// Whether each output that takes so many bytes at once has the line, or as much of it as it has
+/// Whether each output that takes `at_once` bytes at once has the line, or as much of it as it has
 /// room for.
 fn is_answered_by(alloc: Global, call: Call<'_>, line: &str, at_once: usize) -> bool {
     for room in 0..=line.len() {
@@ -144,7 +144,7 @@ fn texts_of_json_have_their_lines(rt: HostRuntime) {
     assert!(rt; is_right(rt.alloc(), Given::Text, "", "bad json"));
 }
 
-/// Whether a text of so many opening brackets, and as many closing ones, is bad JSON.
+/// Whether a text of `depth` opening brackets, and as many closing ones, is bad JSON.
 fn is_too_deep(alloc: Global, depth: usize) -> bool {
     match ("[".repeat(alloc, depth), "]".repeat(alloc, depth)) {
         (Ok(mut text), Ok(end)) => {

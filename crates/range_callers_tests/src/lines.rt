@@ -1,5 +1,5 @@
 //! What answers the lines that ask something of a tracker, and which limit the arguments ask for.
-use range_chunks::ChunkedTracker;
+use range_chunked_tracker::ChunkedTracker;
 use range_track_answers::{Status, limit_asked, serve};
 use std::alloc::{AllocError, Global};
 
@@ -109,7 +109,7 @@ fn bytes_that_are_no_text_are_a_bad_line(rt: HostRuntime) {
     assert!(rt; is_answered(rt.alloc(), input, "bad line\nbad line\nok\n"));
 }
 
-/// A line with so many blanks between two commands, and two lines more.
+/// A line with `blanks` blanks between two commands, and two lines more.
 fn long_line(alloc: Global, blanks: usize) -> Result<String, AllocError> {
     let mut input = String::from_str(alloc, "+ 1 2")?;
     for _ in 0..blanks {
@@ -119,7 +119,7 @@ fn long_line(alloc: Global, blanks: usize) -> Result<String, AllocError> {
     Ok(input)
 }
 
-/// Whether a line with so many blanks is a bad one, up to its end.
+/// Whether a line with `blanks` blanks is a bad one, up to its end.
 fn is_too_long(alloc: Global, blanks: usize) -> bool {
     match long_line(alloc, blanks) {
         Ok(input) => is_answered(alloc, input.as_bytes(), "bad line\n-\nok\n"),
@@ -159,7 +159,7 @@ const LIMITS: [Limit; 14] = [
     Limit { word: "1x", limit: None },
 ];
 
-/// The limit that so many times the word ask for, if there is memory for the words.
+/// The limit that the word asks for if it is there `times` times, if there is memory for the words.
 fn limit_of(alloc: Global, word: &str, times: usize) -> Result<Option<usize>, AllocError> {
     let mut words = Vec::new(alloc);
     for _ in 0..times {

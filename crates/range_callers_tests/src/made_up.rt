@@ -46,7 +46,7 @@ fn has_all(alloc: Global, tracker: &Tracker, there: &Bitmap) -> bool {
     }
 }
 
-/// Whether the tracker tells which offsets below the length aren't in the bitmap.
+/// Whether the tracker returns which offsets below the length aren't in the bitmap.
 fn misses_others(alloc: Global, tracker: &Tracker, there: &Bitmap, len: u64) -> bool {
     let others = changed(&there.map(|bit| !bit), &(len..256), false);
     match changes_of(alloc, &others) {

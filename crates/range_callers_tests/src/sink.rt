@@ -2,8 +2,8 @@
 use std::alloc::Global;
 use std::io::{self, ErrorKind, Write};
 
-/// An output that takes so many bytes at once and so many in all, can be flushed so often, and then
-/// fails.
+/// An output that takes `at_once` bytes at once and `room` in all, can be flushed `flushes` times,
+/// and then fails.
 #[derive(Drop)]
 pub(crate) struct Sink {
     pub(crate) taken: Vec<u8>,

@@ -1,11 +1,11 @@
 //! Inputs that give little at once, and fail; outputs that take little at once, and fail.
 use crate::sink::Sink;
-use range_chunks::ChunkedTracker;
+use range_chunked_tracker::ChunkedTracker;
 use range_track_answers::{Status, serve};
 use std::alloc::Global;
 use std::io::{self, ErrorKind, Read, Write};
 
-/// An input that gives so many bytes at once, and at its end an error if it fails.
+/// An input that gives `at_once` bytes at once, and at its end an error if it fails.
 #[derive(Drop)]
 struct Source<'a> {
     unread: &'a [u8],
@@ -48,13 +48,13 @@ fn newlines(bytes: &[u8]) -> usize {
     bytes.iter().filter(|byte| **byte == b'\n').count()
 }
 
-/// Whether so many lines are written, and they are the first ones.
+/// Whether `lines` lines are written, and they are the first ones.
 fn is_front(out: &Sink, lines: usize) -> bool {
     let taken = out.taken.as_slice();
     newlines(taken) == lines && TEXT.starts_with(taken)
 }
 
-/// Whether so many bytes at once, given and taken, are enough, and each line is flushed.
+/// Whether `at_once` bytes at once, given and taken, are enough, and each line is flushed.
 fn is_enough(alloc: Global, at_once: usize) -> bool {
     let source = Source {
         unread: INPUT,
@@ -153,7 +153,7 @@ impl Write for Broken {
     }
 }
 
-/// Whether the status is told to an output that takes everything.
+/// Whether the status is written to an output that takes everything.
 fn is_told(alloc: Global, status: Status) -> bool {
     let mut out = Vec::new(alloc);
     status.write_line(&mut out, b"line\n") == status && out.as_slice() == b"line\n".as_slice()

@@ -1,6 +1,11 @@
 -- The range whose start stands before a place.
-use Rattle.std.proofs.Common.{◌≡◌, sym, ap, ◌∙◌, ℕ, zero, suc, ◌+◌, ◌-◌, ◌≤◌, ◌<◌, List, [], ◌∷◌, length, drop, get_or, arith, refl}
-use Rattle.range_collections.specs.Ranges.{ranges_of}
+use Rattle.std.proofs.Common.{◌≡◌, sym, ap, ◌∙◌, ℕ, zero, suc, ◌+◌, ◌-◌, ◌≤◌, ◌<◌, List, [], ◌∷◌, length, drop, map, get_or, option_copied, Option, None, Some, MatchOption, IsSome, arith, refl}
+use Rattle.std.specs.Borrow.{Bor}
+use Rattle.std.proofs.lemmas.List.{get_or-map}
+use Rattle.std.proofs.lemmas.Option.{none-some, same_Some}
+use Rattle.std.specs.Iterator.{YieldsFirstBy}
+use Rattle.range_collections.specs.Ranges.{ranges_of, range_now}
+use Rattle.range_collections.specs.declared.range_set_range.RangeSetRange.{RangeSetRange}
 use Rattle.range_collections.specs.declared.range_set_range.RangeSetRange.TheVariants.{Range, RangeFrom}
 
 module _ {K : Type 0} where
@@ -31,3 +36,26 @@ module _ {K : Type 0} where
     ranges_of-one none =
         ap ranges_of (from-start ∙ ap (λ ys. start ∷ ys) (drop-past n xs none))
         ∙ ap (λ ys. RangeFrom (record { start = start }) ∷ ranges_of ys) (sym (drop-past (n + 1) xs (omega (arith, none))))
+
+  -- the item before a place: at the front there is none
+  pub item-before : (xs : List K) (n : ℕ) (r : Option (Bor K)) → n ≤ length xs → option_copied r ≡ get_or (None ∷ map Some xs) n None →
+      MatchOption r (n ≡ 0) (λ x. (0 < n) × ((d : K) → x.now ≡ get_or xs (n - 1) d))
+  item-before xs zero None within e = refl
+  item-before xs zero (Some y) within e = absurd (none-some y.now (sym e))
+  item-before [] (suc n) r within e = absurd (omega (arith, within))
+  item-before (x ∷ xs) (suc n) None within e = absurd (none-some (get_or (x ∷ xs) n x) (e ∙ get_or-map Some (x ∷ xs) n x None (omega (arith, within))))
+  item-before (x ∷ xs) (suc n) (Some y) within e =
+      let one : n ≡ suc n - 1 = omega arith in (
+        omega arith,
+        λ d. same_Some y.now (get_or (x ∷ xs) n d) (e ∙ get_or-map Some (x ∷ xs) n d None (omega (arith, within))) ∙ ap (λ k. get_or (x ∷ xs) k d) one,
+      )
+
+  -- before a place that isn't the front there is an item, so the range around it is there
+  module _ (n : ℕ) (ys zs : List K) where
+    pub first-around : (r : Option (RangeSetRange (Bor K))) → 0 < n → MatchOption r (n ≡ 0) (λ range. ranges_of ys ≡ range_now range ∷ ranges_of zs) → YieldsFirstBy range_now ranges_of ys r zs
+    first-around None some h = absurd (omega (arith, some, h))
+    first-around (Some range) some h = h
+
+    pub is_some-around : (r : Option (RangeSetRange (Bor K))) → 0 < n → MatchOption r (n ≡ 0) (λ range. ranges_of ys ≡ range_now range ∷ ranges_of zs) → IsSome r
+    is_some-around None some h = absurd (omega (arith, some, h))
+    is_some-around (Some range) some h = refl

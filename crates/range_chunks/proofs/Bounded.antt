@@ -1,6 +1,6 @@
 -- What is remembered of gaps stays true of a set that takes more values, and of one that frees some
 -- outside.
-use Rattle.std.proofs.Common.{◌≡◌, refl, sym, ap, ap₂, ◌∙◌, subst, ℕ, inl, inr, ◌<◌, ◌≤◌, ◌+◌, ◌%◌, Bool, true, false, not, ◌&&◌, ◌||◌, List, [], ◌∷◌, filter, take, drop, cond, nat_le, nat_lt, nat_eq, All, arith}
+use Rattle.std.proofs.Common.{◌≡◌, refl, sym, ap, ap₂, ◌∙◌, subst, ℕ, inl, inr, ◌<◌, ◌≤◌, ◌+◌, ◌*◌, ◌/◌, ◌%◌, Bool, true, false, not, ◌&&◌, ◌||◌, List, [], ◌∷◌, filter, take, drop, cond, nat_le, nat_lt, nat_eq, All, arith}
 use Rattle.std.specs.Cmp.{IsTotalOrder, ranks}
 use Rattle.std.specs.List.{insert}
 use Rattle.std.specs.Prelude.{Result, Ok, Err, OnOk, OnErr}
@@ -8,6 +8,8 @@ use Rattle.std.specs.declared.alloc.AllocError.{AllocError}
 use Rattle.std.specs.Ordering.{is_le, is_lt, nat_cmp}
 use Rattle.std.specs.declared.cmp.Ordering.{Ordering}
 use Rattle.std.specs.declared.cmp.Ordering.TheVariants.{Equal}
+use Rattle.std.proofs.Math.Nat.{mul_assoc, mod-add-div', add-mul-mod_self_right}
+use Rattle.std.proofs.lemmas.Nat.{div-add-mod'}
 use Rattle.std.proofs.lemmas.Bool.{cases_lt, true≢false}
 use Rattle.std.proofs.lemmas.Bool.Decides.{nat_tests}
 use Rattle.std.proofs.lemmas.Cmp.{by_ranked, alike_right, nat_cmp_total}
@@ -16,9 +18,11 @@ use Rattle.range_merge.specs.Boundaries.{member}
 use Rattle.range_merge.specs.Connective.{differ}
 use Rattle.range_merge.proofs.Orders.{Equal-self}
 use Rattle.range_merge.proofs.Members.{member-cons, member-nil}
-use Rattle.range_collections.specs.Fits.{IsRow}
+use Rattle.range_collections.specs.Fits.{IsOneOf, IsRow}
+use Rattle.range_collections.specs.declared.countable.multiples.Multiples.{Multiples}
 use Rattle.range_collections.proofs.Counted.{Greater-value}
-use Rattle.range_chunks.specs.Bounds.{IsBound, IsPast, excludes, is_apart}
+use Rattle.range_collections.proofs.NextMultiple.{IsOneOf-among}
+use Rattle.range_chunks.specs.Bounds.{IsBound, IsPast, are_among, excludes, is_apart}
 use Rattle.range_chunks.specs.declared.gap_bound.GapBound.{GapBound}
 
 and-true : (p q : Bool) → (p && q) ≡ true → (p ≡ true) × (q ≡ true)
@@ -33,6 +37,35 @@ or-false false q e = refl
 or-true : (p q : Bool) → p ≡ true → (p || q) ≡ true
 or-true true q e = refl
 or-true false q e = cc
+
+-- what is left of a number, and of what it leaves by a multiple of the divisor, is the same
+mod-among : (x m a : ℕ) → m % a ≡ 0 → x % m % a ≡ x % a
+mod-among x m a none =
+    let whole : m / a * a ≡ m = omega (arith, div-add-mod' m a, none) in
+    let product : x / m * (m / a) * a ≡ x / m * m = mul_assoc (x / m) (m / a) a ∙ ap (λ k. x / m * k) whole in
+    sym (add-mul-mod_self_right (x % m) (x / m * (m / a)) a)
+    ∙ ap (λ k. (x % m + k) % a) product
+    ∙ ap (λ k. k % a) (mod-add-div' x m)
+
+IsOneOf-among_others : (m others : Multiples) → are_among m others ≡ true → (n : ℕ) → IsOneOf m n → IsOneOf others n
+IsOneOf-among_others m others h n one =
+    let divides = nat_lt 0 others.of && nat_eq (m.of % others.of) 0 in
+    let both = and-true (nat_eq others.of m.of || divides) (nat_eq others.zero m.zero) h in
+    let zero_is : nat_eq others.zero m.zero ≡ true = both.1 in
+    let same_zero : others.zero ≡ m.zero = grind (arith, nat_tests) in
+    by_test (nat_eq others.of m.of) refl same_zero both.0
+  where
+    by_test : (t : Bool) → nat_eq others.of m.of ≡ t → others.zero ≡ m.zero → (nat_eq others.of m.of || (nat_lt 0 others.of && nat_eq (m.of % others.of) 0)) ≡ true → IsOneOf others n
+    by_test true e same_zero either =
+        let same : others.of ≡ m.of = grind (arith, nat_tests) in
+        IsOneOf-among others m.zero m.of same same_zero n one
+    by_test false e same_zero either =
+        let divides = nat_lt 0 others.of && nat_eq (m.of % others.of) 0 in
+        let tests = and-true (nat_lt 0 others.of) (nat_eq (m.of % others.of) 0) (ap (λ t. t || divides) (sym e) ∙ either) in
+        let rest : nat_eq (m.of % others.of) 0 ≡ true = tests.1 in
+        let none : m.of % others.of ≡ 0 = grind (arith, nat_tests) in
+        rw same_zero
+        (sym (mod-among n m.of others.of none) ∙ ap (λ k. k % others.of) one ∙ mod-among m.zero m.of others.of none)
 
 passed-one : {X : Type 0} (Q : X → Type 0) (test : X → Bool) (x : X) (xs : List X) (b : Bool) → test x ≡ b → (test x ≡ true → Q x) → All Q (filter test xs) → All Q (filter test (x ∷ xs))
 passed-one Q test x xs true e h rest = subst (λ t. All Q (cond t (x ∷ filter test xs) (filter test xs))) (sym e) (All-cons Q x (filter test xs) (h e) rest)
@@ -74,7 +107,7 @@ module _ {K : Type 0} {order : K → K → Ordering} (o : IsTotalOrder order) (i
   -- a bound whose end is taken
   pub IsBound-noted : (items : List K) (b : GapBound K) → is_value b.end → place b.start ≤ place b.end →
       ((n at : ℕ) → IsRow order value false items (place b.start) (place b.end) n at → n ≤ b.most) →
-      ((at : ℕ) → at % b.align ≡ 0 → IsRow order value false items (place b.start) (place b.end) b.count at → ⊥) →
+      ((at : ℕ) → IsOneOf b.multiples at → IsRow order value false items (place b.start) (place b.end) b.count at → ⊥) →
       member order items b.end ≡ true →
       IsBound order value place count items b
   IsBound-noted items b v up most aligned taken = record {
@@ -167,12 +200,12 @@ module _ {K : Type 0} {order : K → K → Ordering} (o : IsTotalOrder order) (i
           alike = λ k a z. sym (same k (omega (arith, row.from, a)) (omega (arith, row.up_to, z))) ∙ row.alike k a z;
         }
 
-  -- so many values in a row don't begin before the end of a bound that excludes them
-  pub IsPast-known : (items : List K) (b : GapBound K) → IsBound order value place count items b → (from end : K) (n align : ℕ) → excludes n align b ≡ true →
-      place b.start ≤ place from → place from < place b.end → IsPast order value place items from end n align b.end
-  IsPast-known items b it from end n align low a z = record { past = z; above = above_it }
+  -- `n` values in a row don't begin before the end of a bound that excludes them
+  pub IsPast-known : (items : List K) (b : GapBound K) → IsBound order value place count items b → (from end : K) (n : ℕ) (m : Multiples) → excludes n m b ≡ true →
+      place b.start ≤ place from → place from < place b.end → IsPast order value place items from end n m b.end
+  IsPast-known items b it from end n m low a z = record { past = z; above = above_it }
     where
-      none_inside : (at : ℕ) → at % align ≡ 0 → IsRow order value false items (place b.start) (place b.end) n at → ⊥
+      none_inside : (at : ℕ) → IsOneOf m at → IsRow order value false items (place b.start) (place b.end) n at → ⊥
       none_inside at even row = by_most (nat_lt b.most n) refl
         where
           by_most : (t : Bool) → nat_lt b.most n ≡ t → ⊥
@@ -180,15 +213,14 @@ module _ {K : Type 0} {order : K → K → Ordering} (o : IsTotalOrder order) (i
               let more : b.most < n = grind (arith, nat_tests) in
               omega (arith, more, it.most n at row)
           by_most false e =
-              let both = and-true (nat_le b.count n) (nat_eq b.align align) (ap (λ t. t || (nat_le b.count n && nat_eq b.align align)) (sym e) ∙ low) in
+              let among = are_among m b.multiples in
+              let both = and-true (nat_le b.count n) among (ap (λ t. t || (nat_le b.count n && among)) (sym e) ∙ low) in
               let enough : nat_le b.count n ≡ true = both.0 in
-              let test : nat_eq b.align align ≡ true = both.1 in
               let fewer : b.count ≤ n = grind (arith, nat_tests) in
-              let same : b.align ≡ align = grind (arith, nat_tests) in
-              it.aligned at (subst (λ m. at % m ≡ 0) (sym same) even)
+              it.aligned at (IsOneOf-among_others m b.multiples both.1 at even)
               (record { from = row.from; up_to = omega (arith, row.up_to, fewer); alike = λ k f t. row.alike k f (omega (arith, t, fewer)) })
 
-      above_it : (at : ℕ) → at % align ≡ 0 → IsRow order value false items (place from) (place end) n at → place b.end ≤ at
+      above_it : (at : ℕ) → IsOneOf m at → IsRow order value false items (place from) (place end) n at → place b.end ≤ at
       above_it at even row =
           elim (cases_lt at (place b.end)) as (λ _. place b.end ≤ at) [
             | inl before ↦

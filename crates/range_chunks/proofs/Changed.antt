@@ -1,13 +1,13 @@
--- A range set by a splice between two cuts, as a change by a range.
-use Rattle.std.proofs.Common.{◌≡◌, ◌≢◌, refl, sym, ap, ◌∙◌, subst, ⊎_elim, ℕ, ◌+◌, ◌<◌, ◌≤◌, Option, Some, None, Bool, true, false, List, [], ◌∷◌, length, get_or, arith, All, HoldsAt, true≢false, Result, Ok, Err, OnOk, OnErr, IsOk, IfOk, IfErr, MatchResult}
+-- A range set by a splice between two cuts, as a change by a range; and what the splice asks.
+use Rattle.std.proofs.Common.{◌≡◌, ◌≢◌, refl, sym, ap, ◌∙◌, subst, ⊎_elim, ℕ, ◌+◌, ◌%◌, ◌==◌, ◌<◌, ◌≤◌, Option, Some, None, Bool, true, false, List, [], length, get_or, arith, All, HoldsAt, true≢false, Result, Ok, Err, OnOk, OnErr, IsOk, IfOk, IfErr, MatchResult}
 use Rattle.std.specs.List.{AllWithin}
 use Rattle.std.specs.Cmp.{IsTotalOrder}
 use Rattle.std.specs.Ordering.{is_lt}
-use Rattle.std.proofs.lemmas.Result.{on_ok_weaker, on_err_weaker}
+use Rattle.std.proofs.lemmas.Result.{on_ok_weaker}
 use Rattle.std.specs.declared.alloc.AllocError.{AllocError}
 use Rattle.std.specs.declared.cmp.Ordering.{Ordering}
 use Rattle.std.specs.declared.cmp.Ordering.TheVariants.{Less, Equal}
-use Rattle.range_merge.specs.Boundaries.{IsAscending}
+use Rattle.range_merge.specs.Boundaries.{IsAscending, is_odd}
 use Rattle.range_collections.specs.Insertion.{IsChangedByRange}
 use Rattle.range_collections.specs.Ranges.{range_items}
 use Rattle.range_collections.specs.Splicing.{range_table, spliced, IsCut}
@@ -15,11 +15,10 @@ use Rattle.std.proofs.lemmas.List.{get_or_default}
 use Rattle.std.proofs.lemmas.List.Elements.{All-nil, All-cons}
 use Rattle.range_merge.proofs.Fronts.{below_through}
 use Rattle.range_merge.proofs.Orders.{Less-from_equal, Less-trans}
-use Rattle.range_chunks.specs.declared.chunk.Chunk.{Chunk}
-use Rattle.range_chunks.specs.declared.place.Place.{Place}
-use Rattle.range_chunks.specs.Chunks.{flat}
-use Rattle.range_chunks.specs.Places.{place_in}
-use Rattle.range_collections.proofs.Ascending.{IsAscending-nil}
+use Rattle.std.specs.Option.{option_to_list}
+use Rattle.range_list.specs.declared.place.Place.{Place}
+use Rattle.range_list.specs.Lists.{joined, place_at}
+use Rattle.range_collections.proofs.Points.{even-from_test, odd-from_test}
 use Rattle.range_collections.proofs.Insertion.{IsAscending-spliced, Means-spliced, length-meant, AreOwnElseOf-spliced, Means-no_range, AreOwnElseOf-unchanged, IsAscending-answer, not_less-from_no_items}
 
 -- a cut at a number that is the same
@@ -57,7 +56,7 @@ module _ {K : Type 0} {order : K → K → Ordering} (o : IsTotalOrder order) (i
     empty = λ none. (refl, refl);
   }
 
--- ---- a list without boundaries
+-- ---- a cut of a list without boundaries
 module _ {K : Type 0} (order : K → K → Ordering) (inside : Bool) where
   pub cut-put : inside ≡ true → (at : K) → IsCut order inside [] at 0 (Some at)
   cut-put e at = record {
@@ -77,43 +76,45 @@ module _ {K : Type 0} (order : K → K → Ordering) (inside : Bool) where
     parity = sym e;
   }
 
-module _ {K : Type 0} {order : K → K → Ordering} (o : IsTotalOrder order) (inside : Bool) (start end : K) (less : order start end ≡ Less) where
-  -- the start and the end are put, or refused
-  module _ (a : List K) (none : a ≡ []) (e : inside ≡ true) (new : List K) (r : Result (Unit {0}) AllocError)
-      (taken : OnOk r (new ≡ start ∷ end ∷ [])) (same : OnErr r (new ≡ a)) where
-    pub changed-first : IsChangedByRange order (range_table inside) 0 a (range_items order start end) new r
-    changed-first =
-        subst (λ b. IsChangedByRange order (range_table inside) 0 b (range_items order start end) new r) (sym none)
-        (changed-spliced o inside [] start end 0 0 (Some start) (Some end) (IsAscending-nil order) less (cut-put order inside e start) (cut-put order inside e end) new r taken
-        (on_err_weaker r (λ kept. kept ∙ none) same) (λ few. absurd (omega (arith, few))))
+-- ---- what a splice asks
 
-    pub ascending-first : IsAscending order new
-    ascending-first =
-        ascending-spliced o inside [] start end 0 0 (Some start) (Some end) (IsAscending-nil order) less (cut-put order inside e start) (cut-put order inside e end) new r taken
-        (on_err_weaker r (λ kept. kept ∙ none) same)
+pub same_rest : (m n : ℕ) → is_odd m ≡ is_odd n → m % 2 ≡ n % 2
+same_rest m n e = of_bit (is_odd m) refl e
+  where
+    of_bit : (b : Bool) → b ≡ is_odd m → b ≡ is_odd n → m % 2 ≡ n % 2
+    of_bit true p q = omega (arith, odd-from_test true m p refl, odd-from_test true n q refl)
+    of_bit false p q = omega (arith, even-from_test false m p refl, even-from_test false n q refl)
 
-  -- nothing is put
-  pub changed-none : (a : List K) → a ≡ [] → inside ≡ false → IsChangedByRange order (range_table inside) 0 a (range_items order start end) a (Ok tt)
-  changed-none a none e =
-      subst (λ b. IsChangedByRange order (range_table inside) 0 b (range_items order start end) b (Ok tt)) (sym none)
-      (changed-spliced o inside [] start end 0 0 None None (IsAscending-nil order) less (cut-none order inside e start) (cut-none order inside e end) [] (Ok tt) refl tt (λ _. refl))
+one_at_most : {K : Type 0} (x : Option K) → length (option_to_list x) ≤ 1
+one_at_most None = omega arith
+one_at_most (Some v) = omega arith
 
-  pub ascending-none : (a : List K) → a ≡ [] → IsAscending order a
-  ascending-none a none = subst (λ b. IsAscending order b) (sym none) (IsAscending-nil order)
+module _ {K : Type 0} (from to : ℕ) (s e : Option K) (same : is_odd (from + length (option_to_list s)) ≡ is_odd (to + length (option_to_list e))) where
+  -- what is put leaves the parity behind it
+  pub alike-spliced : is_odd (from + length (option_to_list s) + length (option_to_list e)) ≡ is_odd to
+  alike-spliced =
+      let rest : (from + length (option_to_list s) + length (option_to_list e)) % 2 ≡ to % 2 =
+      omega (arith, same_rest (from + length (option_to_list s)) (to + length (option_to_list e)) same) in
+      ap (λ n. n == 1) rest
+
+  -- two are never put in the place of one
+  pub alike_next-spliced : to ≡ from + 1 → length (option_to_list s) + length (option_to_list e) ≡ 2 → is_odd from ≡ is_odd (from + 1)
+  alike_next-spliced next two =
+      absurd (omega (arith, next, two, one_at_most s, one_at_most e, same_rest (from + length (option_to_list s)) (to + length (option_to_list e)) same))
 
 -- ---- two ends in order
 
-module _ {K : Type 0} {order : K → K → Ordering} (o : IsTotalOrder order) (xs : List (Chunk K)) (start end : K) (up : IsAscending order (flat xs)) (less : order start end ≡ Less) where
+module _ {K : Type 0} {order : K → K → Ordering} (o : IsTotalOrder order) (lists : List (List K)) (start end : K) (up : IsAscending order (joined lists)) (less : order start end ≡ Less) where
   -- what stands before the place above the start is below the end
   pub below-above : (found : Result Place Place) (above : Place) →
-      MatchResult found (λ p. place_in xs above ≡ place_in xs p + 1) (λ p. above ≡ p) →
-      IfOk found (λ p. place_in xs p < length (flat xs)) →
-      IfOk found (λ p. HoldsAt (λ y. order y start ≡ Equal) (flat xs) (place_in xs p)) →
-      IfErr found (λ p. AllWithin (λ y. order y start ≡ Less) (flat xs) 0 (place_in xs p)) →
-      AllWithin (λ y. order y end ≡ Less) (flat xs) 0 (place_in xs above)
+      MatchResult found (λ p. place_at lists above ≡ place_at lists p + 1) (λ p. above ≡ p) →
+      IfOk found (λ p. place_at lists p < length (joined lists)) →
+      IfOk found (λ p. HoldsAt (λ y. order y start ≡ Equal) (joined lists) (place_at lists p)) →
+      IfErr found (λ p. AllWithin (λ y. order y start ≡ Less) (joined lists) 0 (place_at lists p)) →
+      AllWithin (λ y. order y end ≡ Less) (joined lists) 0 (place_at lists above)
   below-above (Ok p) above next within equal before k d low high =
-      let at : K = get_or (flat xs) (place_in xs p) start in
-      below_through order o (flat xs) end up (place_in xs p) at within (get_or_default (flat xs) (place_in xs p) start at within)
+      let at : K = get_or (joined lists) (place_at lists p) start in
+      below_through order o (joined lists) end up (place_at lists p) at within (get_or_default (joined lists) (place_at lists p) start at within)
       (Less-from_equal o at start end (equal start) less) k d low (omega (arith, high, next))
   below-above (Err p) above same within equal before k d low high =
-      Less-trans o (get_or (flat xs) k d) start end (before k d low (omega (arith, high, ap (λ (q : Place). place_in xs q) same))) less
+      Less-trans o (get_or (joined lists) k d) start end (before k d low (omega (arith, high, ap (λ (q : Place). place_at lists q) same))) less

@@ -7,7 +7,7 @@ use Rattle.range_collections.specs.Covered.{members_below, covered_of}
 use Rattle.range_collections.proofs.Covered.{covered_of-even}
 use Rattle.range_collections.proofs.Points.{even-from_test, is_odd-at_one}
 use Rattle.range_chunks.specs.Ended.{CountsEnded}
-use Rattle.range_chunks.proofs.Flat.{drop-add}
+use Rattle.range_list.proofs.Flat.{drop-add}
 
 module _ {K : Type 0} (items : List K) (i : ℕ) where
   module _ (start end : K) (others rest : List K) (first : drop i items ≡ start ∷ others) (second : others ≡ end ∷ rest) where

@@ -1,5 +1,5 @@
--- The member with so many below it, and the members below a value, where boundaries are read from
--- the front.
+-- The member with a given number below it, and the members below a value, where boundaries are read
+-- from the front.
 use Rattle.std.proofs.Common.{◌≡◌, refl, sym, ap, subst, ◌∙◌, ℕ, ◌+◌, ◌-◌, ◌%◌, ◌<◌, ◌≤◌, true, List, [], ◌∷◌, ◌++◌, length, take, drop, get_or, Some, None, arith, append_assoc, length-append}
 use Rattle.std.proofs.Math.Seq.{take-append_seam, get_or-append_seam}
 use Rattle.std.specs.List.{AllWithin}

@@ -1,6 +1,6 @@
 -- A range without an end set in a list: what is left of it behind the cut around the start is the
 -- start, if that is put.
-use Rattle.std.proofs.Common.{◌≡◌, ◌≢◌, refl, sym, ap, ◌∙◌, subst, ℕ, inl, inr, ◌+◌, ◌≤◌, Option, Some, None, Bool, true, false, not, cond, ◌&&◌, ◌||◌, List, [], ◌∷◌, ◌++◌, length, take, drop, get_or, arith, All, Contains, true≢false, Result, Ok, OnOk, OnErr, IsOk, ⊎_elim, length-append, append-nil}
+use Rattle.std.proofs.Common.{◌≡◌, ◌≢◌, refl, sym, ap, ◌∙◌, subst, ℕ, inl, inr, ◌+◌, ◌≤◌, Option, Some, None, Bool, true, false, not, cond, ◌&&◌, ◌||◌, List, [], ◌∷◌, ◌++◌, length, take, drop, get_or, arith, All, Contains, true≢false, Result, OnOk, OnErr, IsOk, ⊎_elim, length-append, append-nil}
 use Rattle.std.specs.Option.{option_to_list}
 use Rattle.std.proofs.lemmas.List.{length-take-le}
 use Rattle.std.proofs.lemmas.List.Elements.{All-nil, All-cons, All-head, All-tail, All-append, All-take, All-weaker, All-contains_itself, length_all_zip}
@@ -19,12 +19,11 @@ use Rattle.range_merge.proofs.SameSet.{same_items}
 use Rattle.range_collections.specs.InPlace.{IsOwnElse, AreOwnElseOf}
 use Rattle.range_collections.specs.Insertion.{IsChangedByRange}
 use Rattle.range_collections.specs.Splicing.{range_table, IsCut}
-use Rattle.range_collections.proofs.Ascending.{IsAscending-head, IsAscending-tail, IsAscending-cons, IsAscending-nil}
+use Rattle.range_collections.proofs.Ascending.{IsAscending-head, IsAscending-tail, IsAscending-cons}
 use Rattle.range_collections.proofs.Cut.{IsAscending-take, count_up_to-front, All-take_within, All-drop_within}
 use Rattle.range_collections.proofs.Insertion.{IsAscending-answer, union-alike, difference-alike}
 use Rattle.range_collections.proofs.Shortest.{is_le-cases, count_up_to-append, count_up_to-all, count_up_to-none, Less-then_le, le-trans}
 use Rattle.range_collections.proofs.Values.{IsAscending-one}
-use Rattle.range_chunks.proofs.Changed.{cut-put, cut-none}
 
 module _ {K : Type 0} {order : K → K → Ordering} (o : IsTotalOrder order) where
   member-from : (start x : K) → member order (start ∷ []) x ≡ is_le (order start x)
@@ -125,25 +124,6 @@ module _ {K : Type 0} {order : K → K → Ordering} (o : IsTotalOrder order) wh
             sure (⊎_elim (λ fits. omega (arith, fits, e, length-front)) (λ none. omega (arith, none, e, length-front)) few);
         empty = λ none. absurd (omega (arith, ap length none));
       }
-
-  -- ---- a list without boundaries
-  module _ (inside : Bool) (a : List K) (start : K) (none : a ≡ []) where
-    pub changed-from_put : inside ≡ true → (new : List K) (r : Result (Unit {0}) AllocError) → OnOk r (new ≡ start ∷ []) → OnErr r (new ≡ a) →
-        IsChangedByRange order (range_table inside) 0 a (start ∷ []) new r × IsAscending order new
-    changed-from_put e new r taken same =
-        let cut : IsCut order inside a start 0 (Some start) = subst (λ (b : List K). IsCut order inside b start 0 (Some start)) (sym none) (cut-put order inside e start) in
-        let up : IsAscending order a = subst (λ (b : List K). IsAscending order b) (sym none) (IsAscending-nil order) in (
-          changed-from inside a start 0 (Some start) up cut new r taken same (λ few. absurd (omega (arith, few, ap length none))),
-          ascending-changed_from inside a start 0 (Some start) up cut new r taken same,
-        )
-
-    pub changed-from_none : inside ≡ false → IsChangedByRange order (range_table inside) 0 a (start ∷ []) a (Ok tt) × IsAscending order a
-    changed-from_none e =
-        let cut : IsCut order inside a start 0 None = subst (λ (b : List K). IsCut order inside b start 0 None) (sym none) (cut-none order inside e start) in
-        let up : IsAscending order a = subst (λ (b : List K). IsAscending order b) (sym none) (IsAscending-nil order) in (
-          changed-from inside a start 0 None up cut a (Ok tt) none tt (λ _. refl),
-          ascending-changed_from inside a start 0 None up cut a (Ok tt) none tt,
-        )
 
   -- ---- the members after a change
   module _ (start : K) (items a : List K) where

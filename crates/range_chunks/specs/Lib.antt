@@ -1,5 +1,3 @@
 pub mod Bounds
-pub mod Chunks
 pub mod Ended
-pub mod Places
-pub mod Tracking
+pub mod Window

@@ -1,34 +1,27 @@
-//! Members one by one: how many lie below a value, the one with so many below it, and the greatest
-//! at or below a value.
+//! Members one by one: how many lie below a value, the one with a given number below it, and the
+//! greatest at or below a value.
 ghost use Rattle.std.specs.Prelude.{◌≡◌, ◌+◌, ◌-◌, ◌<◌, ◌≤◌, length, get_or, true, false, not, IfSome, IfNone};
 ghost use Rattle.std.specs.Ordering.{is_le};
 ghost use Rattle.std.specs.declared.cmp.Ordering.TheVariants.{Less};
 ghost use Rattle.range_merge.specs.Boundaries.{IsAscending, count_up_to, member};
 ghost use Rattle.range_collections.specs.Covered.{members_below};
 ghost use Rattle.range_collections.specs.Members.{IsPrevious};
-ghost use Rattle.range_chunks.specs.Chunks.{flat, AreChunks};
+ghost use Rattle.range_list.specs.Lists.{joined};
 
-use crate::chunk::Chunk;
-use crate::cutting::is_inside;
-use crate::iter::Unread;
-use crate::place::FRONT;
 use crate::questions::place_up_to;
 use crate::values::{between, count_ended};
 use range_collections::{Comparisons, Countable, FromPlace, RangeSetEntry};
+use range_list::{Chunks, FRONT, Items};
 
 /// How many members are below `at`.
-pub fn rank<T: Countable>(chunks: &[Chunk<T>], at: &T) -> u128
-    requires sorted { IsAscending T.cmp (flat chunks.now) }
-    requires chunks { AreChunks chunks.now }
+pub fn rank<T: Countable>(list: &Chunks<T, bool>, at: &T) -> u128
+    requires sorted { IsAscending T.cmp (joined list.now) }
     ensures fits { result < T.count }
-    ensures value { result ≡ members_below T.cmp T.value (flat chunks.now) (T.place at.now) }
+    ensures value { result ≡ members_below T.cmp T.value (joined list.now) (T.place at.now) }
 {
     at.known();
-    if chunks.is_empty() {
-        return 0;
-    }
-    let before = place_up_to(chunks, at, &mut Comparisons::new());
-    let (count, endless) = count_ended(Unread::between(chunks, FRONT, before));
+    let before = place_up_to(list, at, &mut Comparisons::new());
+    let (count, endless) = count_ended(list.between(FRONT, before));
     match endless {
         Some(start) => {
             start.known();
@@ -39,15 +32,15 @@ pub fn rank<T: Countable>(chunks: &[Chunk<T>], at: &T) -> u128
 }
 
 /// The member with `k` members below it, if there is one.
-pub fn select<T: FromPlace>(chunks: &[Chunk<T>], k: u128) -> Option<T>
-    requires { IsAscending T.cmp (flat chunks.now) }
+pub fn select<T: FromPlace>(list: &Chunks<T, bool>, k: u128) -> Option<T>
+    requires { IsAscending T.cmp (joined list.now) }
     ensures value { IfSome result T.is_value }
-    ensures member { IfSome result (λ at. member T.cmp (flat chunks.now) at ≡ true) }
+    ensures member { IfSome result (λ at. member T.cmp (joined list.now) at ≡ true) }
     ensures rank { IfSome result (λ at.
-        members_below T.cmp T.value (flat chunks.now) (T.place at) ≡ k) }
-    ensures none { IfNone result (members_below T.cmp T.value (flat chunks.now) T.count ≤ k) }
+        members_below T.cmp T.value (joined list.now) (T.place at) ≡ k) }
+    ensures none { IfNone result (members_below T.cmp T.value (joined list.now) T.count ≤ k) }
 {
-    let mut unread = Unread::new(chunks);
+    let mut unread = list.items();
     let mut left = k;
     while let Some(start) = unread.take_first() {
         let Some(end) = unread.take_first() else {
@@ -65,27 +58,23 @@ pub fn select<T: FromPlace>(chunks: &[Chunk<T>], k: u128) -> Option<T>
 
 /// The greatest value at or below `from` that is a member, where `inside` is true, or else that is
 /// none.
-pub fn prev_at<T: FromPlace>(chunks: &[Chunk<T>], from: &T, inside: bool) -> Option<T>
-    requires sorted { IsAscending T.cmp (flat chunks.now) }
-    requires chunks { AreChunks chunks.now }
+pub fn prev_at<T: FromPlace>(list: &Chunks<T, bool>, from: &T, inside: bool) -> Option<T>
+    requires sorted { IsAscending T.cmp (joined list.now) }
     ensures previous { IfSome result (λ previous.
-        IsPrevious T.cmp T.is_value inside (flat chunks.now) from.now previous) }
+        IsPrevious T.cmp T.is_value inside (joined list.now) from.now previous) }
     ensures none { IfNone result ((x : T) → T.is_value x → is_le (T.cmp x from.now) ≡ true →
-        member T.cmp (flat chunks.now) x ≡ not inside) }
+        member T.cmp (joined list.now) x ≡ not inside) }
 {
     from.known();
-    if chunks.is_empty() {
-        return if inside { None } else { Some(*from) };
-    }
-    let before = place_up_to(chunks, from, &mut Comparisons::new());
-    if is_inside(chunks, before) == inside {
+    let before = place_up_to(list, from, &mut Comparisons::new());
+    if list.mark_at(before) == inside {
         return Some(*from);
     }
-    value_below(Unread::between(chunks, FRONT, before))
+    value_below(list.between(FRONT, before))
 }
 
 // The greatest value below the last of strictly sorted boundaries, if there is one.
-fn value_below<T: FromPlace>(boundaries: Unread<'_, T>) -> Option<T>
+fn value_below<T: FromPlace>(boundaries: Items<'_, T, bool>) -> Option<T>
     requires { IsAscending T.cmp boundaries }
     ensures value { IfSome result T.is_value }
     ensures below { IfSome result (λ at.
@@ -103,7 +92,7 @@ fn value_below<T: FromPlace>(boundaries: Unread<'_, T>) -> Option<T>
 }
 
 // A caller learns that the last boundary, if there is one, is a value.
-fn know_last<T: RangeSetEntry>(boundaries: Unread<'_, T>)
+fn know_last<T: RangeSetEntry>(boundaries: Items<'_, T, bool>)
     ensures { (d : T) → 0 < length boundaries.entry →
         T.is_value (get_or boundaries.entry (length boundaries.entry - 1) d) }
 {

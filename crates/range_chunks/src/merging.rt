@@ -1,39 +1,73 @@
-//! An operation on boundaries that lie in chunks and those of a view, into new chunks of clones.
-ghost use Rattle.std.specs.Prelude.{◌≡◌, ◌^◌, ◌<◌, ◌++◌, false, List, map, OnOk, IfOk};
+//! An operation on boundaries that lie in chunks and those of a view. Where those of the view can touch
+//! the others, the result is made aside as a list of clones.
+ghost use Rattle.std.specs.Prelude.{◌≡◌, ◌≤◌, ◌-◌, ◌^◌, ◌<◌, false, List, map, take, drop, OnOk, OnErr, IfOk};
 ghost use Rattle.range_merge.specs.Boundaries.{IsAscending};
 ghost use Rattle.range_merge.specs.Changes.{changes};
 ghost use Rattle.range_merge.specs.Copies.{AreCopies, IsAppended, items_if};
-ghost use Rattle.range_collections.specs.Headline.{EveryElement, IsTheResult};
-ghost use Rattle.range_chunks.specs.Chunks.{items_of, flat, AreChunks};
+ghost use Rattle.range_collections.specs.Headline.{EveryElement, IsItselfOr, IsTheResult};
+ghost use Rattle.range_list.specs.Lists.{joined, place_at, IsPlaceAt};
 
-use crate::chunk::Chunk;
-use crate::moving::cut_up;
+use crate::window::window;
 use range_collections::{Comparisons, EntryClone};
+use range_list::{Chunks, Items, Place};
 use range_merge::laws::{changes_are_marked_truly, changes_mean_the_connective};
 use range_merge::{Compare, MergeOperation, MergeState, MergeStateMut, SliceIterator, merge};
 use std::alloc::{AllocError, Global};
 use std::marker::Model;
 
-/// New chunks with the boundaries of the operation's result: clones, of two equal boundaries of the
-/// one that lies in the chunks.
-pub fn result_of<T: EntryClone + Drop, O: MergeOperation>(
-    alloc: Global,
-    chunks: &[Chunk<T>],
+/// Changes the boundaries to the operation's result. Those outside the window that the other ones can
+/// touch stay, or all go; in the window it puts clones, of two equal boundaries of the one that lies in
+/// the list. If memory runs out or a clone fails, the list is as it was.
+pub fn merge_into<T: EntryClone + Drop, O: MergeOperation>(
+    list: &mut Chunks<T, bool>,
     that: &[T],
     op: &O,
-) -> Result<Vec<Chunk<T>>, AllocError>
+) -> Result<(), AllocError>
     requires off { O.connective op.now false false ≡ false }
-    requires own_ascending { IsAscending T.cmp (flat chunks.now) }
+    requires own_ascending { IsAscending T.cmp (joined list.old) }
     requires that_ascending { IsAscending T.cmp that.now }
-    ensures result { IfOk result (λ made. IsTheResult T.cmp EveryElement (O.connective op.now)
-        (flat chunks.now) that.now T.is_copy T.is_copy (flat made.items)) }
-    ensures chunks { IfOk result (λ made. AreChunks made.items) }
+    ensures result { OnOk result (IsTheResult T.cmp EveryElement (O.connective op.now)
+        (joined list.old) that.now (IsItselfOr T.is_copy) T.is_copy (joined list.new)) }
+    ensures unchanged { OnErr result (joined list.new ≡ joined list.old) }
+{
+    let (from, to) = window(list, that);
+    let made = merged_between(list, from, to, that, op)?;
+    if op.takes_a(false) {
+        return list.replace_between(from, to, made);
+    }
+    let taken = Chunks::from_list(made)?;
+    *list = taken;
+    Ok(())
+}
+
+// Clones of the operation's result on the boundaries between two places and the other ones.
+fn merged_between<T: EntryClone + Drop, O: MergeOperation>(
+    list: &Chunks<T, bool>,
+    from: Place,
+    to: Place,
+    that: &[T],
+    op: &O,
+) -> Result<Vec<T>, AllocError>
+    requires from { IsPlaceAt list.now from }
+    requires to { IsPlaceAt list.now to }
+    requires ordered { place_at list.now from ≤ place_at list.now to }
+    requires off { O.connective op.now false false ≡ false }
+    requires own_ascending { IsAscending T.cmp (joined list.now) }
+    requires that_ascending { IsAscending T.cmp that.now }
+    ensures { IfOk result (λ made. IsTheResult T.cmp EveryElement (O.connective op.now)
+        (take (place_at list.now to - place_at list.now from) (drop (place_at list.now from) (joined list.now)))
+        that.now T.is_copy T.is_copy made.items) }
 {
     changes_mean_the_connective::<T, Comparisons>();
     changes_are_marked_truly::<T, Comparisons>();
-    let own = boundaries_of(alloc, chunks)?;
-    let made = merged(alloc, own.as_slice(), that, op, &mut Comparisons::new())?;
-    cut_up(made)
+    let own = references(list.allocator(), list.between(from, to))?;
+    merged(
+        list.allocator(),
+        own.as_slice(),
+        that,
+        op,
+        &mut Comparisons::new(),
+    )
 }
 
 // A merge of some boundaries by reference and a slice of others. It appends a clone of each that is
@@ -195,25 +229,14 @@ fn merged<T: EntryClone + Drop, O: MergeOperation, C: Compare<T>>(
     Ok(clones)
 }
 
-// References to the boundaries of the chunks, in order.
-fn boundaries_of<'a, T>(alloc: Global, chunks: &'a [Chunk<T>]) -> Result<Vec<&'a T>, AllocError>
-    ensures { IfOk result (λ list. map (λ x. x.now) list.items ≡ flat chunks.now) }
+// References to the items, in order.
+fn references<'a, T>(alloc: Global, items: Items<'a, T, bool>) -> Result<Vec<&'a T>, AllocError>
+    ensures { IfOk result (λ references. map (λ x. x.now) references.items ≡ items.entry) }
 {
-    let mut list = Vec::new(alloc);
-    for chunk in chunks {
-        append_boundaries(&mut list, chunk)?;
+    let mut references = Vec::new(alloc);
+    let mut unread = items;
+    while let Some(boundary) = unread.take_first() {
+        references.push(boundary)?;
     }
-    Ok(list)
-}
-
-// Appends references to the boundaries of a chunk.
-fn append_boundaries<'a, T>(list: &mut Vec<&'a T>, chunk: &'a Chunk<T>) -> Result<(), AllocError>
-    ensures { OnOk result (map (λ x. x.now) list.new.items ≡
-        map (λ x. x.now) list.old.items ++ items_of chunk.now) }
-{
-    list.push(&chunk.first)?;
-    for item in chunk.rest.as_slice() {
-        list.push(item)?;
-    }
-    Ok(())
+    Ok(references)
 }

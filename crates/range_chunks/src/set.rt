@@ -1,4 +1,4 @@
-//! The set: a list of chunks whose boundaries are strictly sorted, all together.
+//! The set: strictly sorted boundaries in a list in chunks.
 ghost use Rattle.std.specs.Prelude.{◌≡◌, ◌↔◌, ◌&&◌, ◌||◌, ◌∷◌, [], not, true, false, IsTrue, IfSome, IfNone, OnOk};
 ghost use Rattle.std.specs.Ordering.{is_le, is_lt};
 ghost use Rattle.range_merge.specs.Boundaries.{member};
@@ -8,7 +8,6 @@ ghost use Rattle.range_collections.specs.Insertion.{IsChangedByRange};
 ghost use Rattle.range_collections.specs.Intersects.{HasMemberWithin};
 ghost use Rattle.range_collections.specs.Ranges.{range_items};
 
-mod asking;
 mod changing;
 mod combining;
 mod counted;
@@ -16,12 +15,13 @@ mod fitting;
 mod making;
 mod many_ranges;
 mod members;
+mod ranges;
 mod taking;
 
-use crate::chunk::Chunk;
 use crate::iter::Iter;
 use crate::questions::{has_some, next_at};
 use range_collections::Comparisons;
+use range_list::Chunks;
 use std::alloc::{AllocError, Global};
 use std::marker::Model;
 use std::ops::{Range, RangeFrom};
@@ -43,18 +43,19 @@ use std::ops::{Range, RangeFrom};
 ///
 /// A range has its start and not its end; an empty or reversed range has no members. Of two equal
 /// boundaries the set's own stays. If memory runs out, the set has the boundaries that it had.
-/// Nothing is copied but by `from_view`, `clone` and operations with a view.
+/// Nothing is copied but by `from_view`, `from_ranges`, `clone` and operations with a view.
 ///
 /// A chunk that is left with fewer than 128 is joined with a neighbour whose list has room for both,
 /// so a set that shrinks gives its chunks back. It takes no memory.
 ///
 /// Among `c` chunks a search makes at most `d(c) + 10` comparisons, where `d` counts binary digits.
 /// `contains`, `range_at`, `next_member`, `next_gap` and calls with a range without an end search
-/// once, those with a range at most twice, after one comparison of its ends. A change searches once
-/// if no boundary lies between its ends. Calls with a counter, as `insert_counted`, promise it of
+/// once. So do `contains_range` and `intersects_range`, with two comparisons more. Other calls with a
+/// range search at most twice, after one comparison of its ends. A change searches once if no
+/// boundary lies between its ends. Calls with a counter, as `insert_counted`, promise it of
 /// the number of boundaries in the place of `c`.
 pub struct ChunkedRangeSet<T: Ord> {
-    chunks: Vec<Chunk<T>>,
+    list: Chunks<T, bool>,
 }
 
 // By hand: a call is proved once, and a derived drop anew at each exit of each function that owns a
@@ -62,7 +63,7 @@ pub struct ChunkedRangeSet<T: Ord> {
 impl<T: Ord + Drop> Drop for ChunkedRangeSet<T> {
     #[inline]
     fn drop(self) {
-        let Self { chunks: _chunks } = self;
+        let Self { list: _list } = self;
     }
 }
 
@@ -70,15 +71,15 @@ impl<T: Ord> Model for ChunkedRangeSet<T> {
     ghost use Rattle.std.specs.Prelude.{List};
     ghost use Rattle.std.specs.Coded.{coded_list};
     ghost use Rattle.range_merge.specs.Boundaries.{IsAscending};
-    ghost use Rattle.range_chunks.specs.Chunks.{flat, AreChunks};
+    ghost use Rattle.range_list.specs.Lists.{joined};
 
     ghost Value = { List T };
 
     ghost coded = { coded_list T.code };
 
-    ghost view = { λ set. flat set.chunks.items };
+    ghost view = { λ set. joined set.list };
 
-    ghost invariant = { λ set. IsAscending T.cmp (flat set.chunks.items) × AreChunks set.chunks.items };
+    ghost invariant = { λ set. IsAscending T.cmp (joined set.list) };
 }
 
 impl<T: Ord> ChunkedRangeSet<T> {
@@ -89,7 +90,7 @@ impl<T: Ord> ChunkedRangeSet<T> {
         ensures members { (x : T) → member T.cmp result x ≡ false }
     {
         ChunkedRangeSet {
-            chunks: Vec::new(alloc),
+            list: Chunks::new(alloc),
         }
     }
 
@@ -109,7 +110,7 @@ impl<T: Ord> ChunkedRangeSet<T> {
         ensures none { IfNone result ((x : T) →
             is_le (T.cmp from.now x) ≡ true → member T.cmp self.now x ≡ false) }
     {
-        next_at(self.chunks.as_slice(), from, true)
+        next_at(&self.list, from, true)
     }
 
     /// The least element at or above `from` that isn't a member: `from` itself, or else the end of
@@ -120,7 +121,7 @@ impl<T: Ord> ChunkedRangeSet<T> {
         ensures none { IfNone result ((x : T) →
             is_le (T.cmp from.now x) ≡ true → member T.cmp self.now x ≡ true) }
     {
-        next_at(self.chunks.as_slice(), from, false)
+        next_at(&self.list, from, false)
     }
 
     /// The ranges, from the lowest on. The last one may have no end.
@@ -128,7 +129,7 @@ impl<T: Ord> ChunkedRangeSet<T> {
     pub fn iter(&self) -> Iter<'_, T>
         ensures { result ≡ self.now }
     {
-        Iter::new(self.chunks.as_slice())
+        Iter::new(&self.list)
     }
 
     /// Whether the set is empty.
@@ -136,7 +137,7 @@ impl<T: Ord> ChunkedRangeSet<T> {
     pub fn is_empty(&self) -> bool
         ensures { IsTrue result ↔ ((x : T) → member T.cmp self.now x ≡ false) }
     {
-        self.chunks.is_empty()
+        self.list.is_empty()
     }
 }
 
@@ -154,7 +155,7 @@ impl<T: Ord + Drop> ChunkedRangeSet<T> {
     pub fn intersects_range(&self, range: Range<T>) -> bool
         ensures { IsTrue result ↔ HasMemberWithin T.cmp self.now range.start range.end }
     {
-        has_some(self.chunks.as_slice(), &range.start, &range.end)
+        has_some(&self.list, &range.start, &range.end)
     }
 
     /// Adds the elements of the range. An empty or reversed range changes nothing. Of two equal
@@ -217,6 +218,6 @@ impl<T: Ord + Drop> ChunkedRangeSet<T> {
         ensures boundaries { self.new ≡ [] }
         ensures members { (x : T) → member T.cmp self.new x ≡ false }
     {
-        self.chunks.clear();
+        self.list.clear();
     }
 }

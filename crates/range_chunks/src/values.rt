@@ -4,19 +4,18 @@ ghost use Rattle.std.specs.declared.cmp.Ordering.TheVariants.{Less};
 ghost use Rattle.range_merge.specs.Boundaries.{IsAscending};
 ghost use Rattle.range_collections.specs.Covered.{covered_of};
 ghost use Rattle.range_collections.specs.Values.{IsEverything};
-ghost use Rattle.range_chunks.specs.Chunks.{flat};
+ghost use Rattle.range_list.specs.Lists.{joined};
 ghost use Rattle.range_chunks.specs.Ended.{CountsEnded};
 
-use crate::chunk::Chunk;
-use crate::iter::Unread;
 use range_collections::{Countable, RangeSetEntry};
+use range_list::{Chunks, Items};
 
 /// Whether every value is a member.
-pub fn is_everything<T: RangeSetEntry>(chunks: &[Chunk<T>]) -> bool
-    requires { IsAscending T.cmp (flat chunks.now) }
-    ensures { IsTrue result ↔ IsEverything T.cmp T.is_value (flat chunks.now) }
+pub fn is_everything<T: RangeSetEntry>(list: &Chunks<T, bool>) -> bool
+    requires { IsAscending T.cmp (joined list.now) }
+    ensures { IsTrue result ↔ IsEverything T.cmp T.is_value (joined list.now) }
 {
-    let mut unread = Unread::new(chunks);
+    let mut unread = list.items();
     let Some(first) = unread.take_first() else {
         return false;
     };
@@ -33,19 +32,19 @@ pub fn is_everything<T: RangeSetEntry>(chunks: &[Chunk<T>]) -> bool
 }
 
 /// How many values are members, or `None` if the last range has no end.
-pub fn count_members<T: Countable>(chunks: &[Chunk<T>]) -> Option<u128>
-    requires { IsAscending T.cmp (flat chunks.now) }
+pub fn count_members<T: Countable>(list: &Chunks<T, bool>) -> Option<u128>
+    requires { IsAscending T.cmp (joined list.now) }
     ensures fits { IfSome result (λ n. n < T.count) }
-    ensures value { result ≡ covered_of T.cmp T.value T.count (flat chunks.now) }
+    ensures value { result ≡ covered_of T.cmp T.value T.count (joined list.now) }
 {
-    match count_ended(Unread::new(chunks)) {
+    match count_ended(list.items()) {
         (count, None) => Some(count),
         (_, Some(_)) => None,
     }
 }
 
 /// How many values lie in the ranges with an end, and where the last range starts if it has none.
-pub(crate) fn count_ended<T: Countable>(boundaries: Unread<'_, T>) -> (u128, Option<&T>)
+pub(crate) fn count_ended<T: Countable>(boundaries: Items<'_, T, bool>) -> (u128, Option<&T>)
     requires { IsAscending T.cmp boundaries }
     ensures fits { result.0 < T.count }
     ensures counted { CountsEnded T.cmp T.value T.count boundaries.entry

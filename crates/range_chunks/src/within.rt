@@ -1,19 +1,16 @@
 //! The parts of a range that are in a set in chunks, and those that the set leaves out.
-ghost use Rattle.std.specs.Prelude.{◌≡◌, ◌<◌, ◌+◌, ◌*◌, ◌^◌, ◌∷◌, [], cond, false, length, IfOk};
+ghost use Rattle.std.specs.Prelude.{◌≡◌, ◌<◌, ◌+◌, ◌*◌, ◌^◌, [], false, length, IfOk};
 ghost use Rattle.std.specs.Iterator.{YieldsFirstBy, item_count};
 ghost use Rattle.range_merge.specs.Boundaries.{IsAscending, is_odd};
 ghost use Rattle.range_merge.specs.Counting.{AddsAtMost};
 ghost use Rattle.range_merge.specs.Runs.{digits};
 ghost use Rattle.range_collections.specs.Ranges.{ranges_of};
 ghost use Rattle.range_collections.specs.Within.{GivesParts, borrowed_items, with_end, within_table};
-ghost use Rattle.range_chunks.specs.Chunks.{flat, AreChunks};
+ghost use Rattle.range_list.specs.Lists.{joined};
 
-use crate::chunk::Chunk;
-use crate::cutting::is_inside;
-use crate::iter::Unread;
 use crate::questions::{place_below, place_up_to};
-use crate::to_the_end::push;
 use range_collections::Comparisons;
+use range_list::{Chunks, Items};
 use range_merge::Compare;
 use std::alloc::{AllocError, Global};
 use std::iter::FusedIterator;
@@ -48,13 +45,13 @@ impl<'a, T> RangesWithin<'a, T> {
     fn nothing() -> Self
         ensures { result ≡ [] }
     {
-        Self::new(None, Unread::new(&[]), None)
+        Self::new(None, Items::none(), None)
     }
 
     // The ranges of these boundaries, of which there has to be an even number: a first one and a
     // last one where they are given, and those between.
     #[inline(always)]
-    fn new(first: Option<&'a T>, between: Unread<'a, T>, last: Option<&'a T>) -> Self
+    fn new(first: Option<&'a T>, between: Items<'a, T, bool>, last: Option<&'a T>) -> Self
         requires { is_odd (length (borrowed_items first between last)) ≡ false }
         ensures { result ≡ borrowed_items first.entry between.entry last.entry }
     {
@@ -87,53 +84,40 @@ impl<'a, T> FusedIterator for RangesWithin<'a, T> {}
 
 /// The parts of `within` whose elements are members where `inside` is true, or else no members.
 pub fn parts_within<'a, T: Ord>(
-    chunks: &'a [Chunk<T>],
+    list: &'a Chunks<T, bool>,
     within: Range<&'a T>,
     inside: bool,
     count: &mut Comparisons,
 ) -> RangesWithin<'a, T>
-    requires sorted { IsAscending T.cmp (flat chunks.now) }
-    requires chunks { AreChunks chunks.now }
+    requires sorted { IsAscending T.cmp (joined list.now) }
     requires made { count.old < 2 ^ 64 }
-    ensures gives { GivesParts T.cmp (within_table inside) within.entry (flat chunks.now) result }
+    ensures gives { GivesParts T.cmp (within_table inside) within.entry (joined list.now) result }
     ensures comparisons { AddsAtMost count.old count.new
-        (2 * (digits (length chunks.now) + digits 512) + 1) }
+        (2 * (digits (length list.now) + digits 512) + 1) }
 {
     if !count.compare(within.start, within.end).is_lt() {
         return RangesWithin::nothing();
     }
-    if chunks.is_empty() {
-        return all_or_none(within, !inside);
-    }
-    let from = place_up_to(chunks, within.start, count);
-    let to = place_below(chunks, within.end, count);
-    let first = (is_inside(chunks, from) == inside).then_some(within.start);
-    let last = (is_inside(chunks, to) == inside).then_some(within.end);
-    RangesWithin::new(first, Unread::between(chunks, from, to), last)
+    let from = place_up_to(list, within.start, count);
+    let to = place_below(list, within.end, count);
+    let first = (list.mark_at(from) == inside).then_some(within.start);
+    let last = (list.mark_at(to) == inside).then_some(within.end);
+    RangesWithin::new(first, list.between(from, to), last)
 }
 
 /// The boundaries of the parts, in full chunks and a last one.
-pub fn copies_of(alloc: Global, parts: RangesWithin<'_, u64>) -> Result<Vec<Chunk<u64>>, AllocError>
-    ensures items { IfOk result (λ chunks. flat chunks.items ≡ parts.entry) }
-    ensures chunks { IfOk result (λ chunks. AreChunks chunks.items) }
+pub fn copies_of(
+    alloc: Global,
+    parts: RangesWithin<'_, u64>,
+) -> Result<Chunks<u64, bool>, AllocError>
+    ensures { IfOk result (λ list. joined list ≡ parts.entry) }
 {
-    let mut chunks = Vec::new(alloc);
+    let mut list = Chunks::new(alloc);
     let mut unread = parts.unread;
     while let Some(boundary) = unread.take_first() {
-        push(&mut chunks, *boundary)?;
+        list.push(*boundary)?;
     }
-    Ok(chunks)
-}
-
-// The whole range, or none of it.
-fn all_or_none<'a, T>(within: Range<&'a T>, all: bool) -> RangesWithin<'a, T>
-    ensures { result ≡ cond all (within.entry.start.now ∷ within.entry.end.now ∷ []) [] }
-{
-    RangesWithin::new(
-        all.then_some(within.start),
-        Unread::new(&[]),
-        all.then_some(within.end),
-    )
+    Ok(list)
 }
 
 // Boundaries by reference: a first one, those between, and a last one. A clause reads it as the
@@ -141,7 +125,7 @@ fn all_or_none<'a, T>(within: Range<&'a T>, all: bool) -> RangesWithin<'a, T>
 #[derive(Drop)]
 struct Within<'a, T> {
     first: Option<&'a T>,
-    between: Unread<'a, T>,
+    between: Items<'a, T, bool>,
     last: Option<&'a T>,
 }
 

@@ -42,7 +42,7 @@ pub(crate) const ENDS: [u64; 14] = [
     0, 5, 10, 15, 20, 5_109, 5_110, 5_119, 5_120, 5_125, 5_130, 10_240, 59_990, 70_000,
 ];
 
-// Whether both give the same parts, of which there are at most so many.
+// Whether both give the same parts, of which there are at most `most`.
 fn are_the_same<'a>(
     mut these: range_chunks::RangesWithin<'a, u64>,
     mut those: range_collections::RangesWithin<'a, u64>,
@@ -59,7 +59,7 @@ fn are_the_same<'a>(
 }
 
 // Whether both give the same ranges, taken in turn from the front and from the back, of which there
-// are at most so many.
+// are at most `most`.
 fn overlap_alike<'a>(
     mut these: range_chunks::Iter<'a, u64>,
     mut those: range_collections::Iter<'a, u64>,

@@ -95,7 +95,8 @@ fn counts(alloc: Global, call: Asked, at: i64) -> Result<bool, AllocError> {
     let plain = tally.replace(0);
     let most = match call {
         Asked::Contains | Asked::InsertFrom | Asked::RemoveFrom => SEARCH,
-        Asked::ContainsRange | Asked::Insert | Asked::Remove => 2 * SEARCH + 1,
+        Asked::ContainsRange => SEARCH + 2,
+        Asked::Insert | Asked::Remove => 2 * SEARCH + 1,
     };
     Ok(counted == count.made() && plain == counted && 0 < counted && counted <= most)
 }

@@ -27,8 +27,8 @@ fn members_below_are_found_as_in_one_list(rt: HostRuntime) -> Result<(), AllocEr
     Ok(())
 }
 
-// Whether the same ranges come out of the set as the list has, each of so many from the front and
-// the others from the back, and no other.
+// Whether the same ranges come out of the set as the list has, one in `each` from the front and the
+// others from the back, and no other.
 fn pop_alike(set: &mut ChunkedRangeSet<u64>, flat: &RangeSet2<u64>, each: u64) -> bool {
     let mut ranges = flat.iter();
     for pop in 0..10_000u64 {

@@ -30,3 +30,5 @@ mod text;
 mod tracker_refused;
 #[cfg(test)]
 mod tracking;
+#[cfg(test)]
+mod windows;

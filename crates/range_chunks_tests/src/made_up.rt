@@ -53,7 +53,7 @@ pub(crate) fn are_alike(set: &ChunkedRangeSet<u64>, flat: &RangeSet2<u64>) -> bo
     are_alike_by(set, flat, 1) && are_alike_by(set, flat, 3)
 }
 
-// The same, where each of so many ranges is taken from the front and the others from the back.
+// The same, where one in `every` ranges is taken from the front and the others from the back.
 fn are_alike_by(set: &ChunkedRangeSet<u64>, flat: &RangeSet2<u64>, every: usize) -> bool {
     let (mut these, mut those) = (set.iter(), flat.iter());
     for step in 0..=flat.boundaries().len() {
@@ -71,8 +71,8 @@ fn are_alike_by(set: &ChunkedRangeSet<u64>, flat: &RangeSet2<u64>, every: usize)
     false
 }
 
-// Whether both sets have the same ranges after each of so many changes, and the same members among
-// the numbers that are drawn.
+// Whether both sets have the same ranges after each change, and the same members among the numbers
+// that are drawn.
 fn follow(alloc: Global, generator: &mut Generator, shape: Shape) -> Result<bool, AllocError> {
     let mut set = ChunkedRangeSet::new(alloc);
     let mut flat = RangeSet2::empty(alloc);

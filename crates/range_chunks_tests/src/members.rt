@@ -5,7 +5,7 @@ use range_chunks::ChunkedRangeSet;
 use range_collections::{RangeSet2, RangeSetRef};
 use std::alloc::{AllocError, Global};
 
-// Whether both have as many members below each of the ends, and the same member with so many below.
+// Whether both have as many members below each of the ends, and the same member with as many below.
 fn count_alike(set: &ChunkedRangeSet<u64>, flat: &RangeSet2<u64>) -> bool {
     for number in ENDS {
         let k = u128::from(number);
@@ -31,7 +31,7 @@ fn members_are_counted_as_in_one_list(rt: HostRuntime) -> Result<(), AllocError>
 // How many values, and a number whose multiples the start of a fit is one of.
 const FITS: [(u128, u128); 7] = [(0, 1), (0, 64), (1, 7), (10, 1), (10, 64), (11, 3), (10, 0)];
 
-// Whether both find so many values in a row from the start on.
+// Whether both find the same rows of values from the start on.
 fn fit_alike(set: &ChunkedRangeSet<u64>, flat: &RangeSet2<u64>, start: u64, end: u64) -> bool {
     for (count, align) in FITS {
         let aligned = set.first_fit_aligned(start..end, count, align);
@@ -56,8 +56,8 @@ fn values_in_a_row_are_found_as_in_one_list(rt: HostRuntime) -> Result<(), Alloc
     Ok(())
 }
 
-// Boundaries, a range, how many values, and a number whose multiples the start's place is one of;
-// where so many fit at such a start, and where so many members are in a row. The place of -128 is 0.
+// Boundaries, a range, how many values, and a number of which the start is a multiple;
+// where a gap has room for that many at such a start, and where that many members are in a row.
 #[derive(Clone, Copy, Debug)]
 struct Row<'a> {
     items: &'a [i8],
@@ -70,7 +70,7 @@ struct Row<'a> {
 }
 
 #[rattlefmt::skip]
-const PLACES: [Row; 8] = [
+const PLACES: [Row; 11] = [
     Row { items: &[], start: -6, end: 3, count: 0, align: 4, aligned: Some(-4), run: Some(-6) },
     Row { items: &[], start: 5, end: -5, count: 0, align: 1, aligned: None, run: None },
     Row { items: &[-10, 10], start: -20, end: 30, count: 10, align: 8, aligned: Some(16), run: Some(-10) },
@@ -78,6 +78,9 @@ const PLACES: [Row; 8] = [
     Row { items: &[3], start: -128, end: 127, count: 124, align: 2, aligned: Some(-128), run: Some(3) },
     Row { items: &[3], start: -128, end: 127, count: 125, align: 0, aligned: None, run: None },
     Row { items: &[-3, -1, 1, 2], start: -2, end: 9, count: 1, align: 2, aligned: Some(0), run: Some(-2) },
+    Row { items: &[], start: 0, end: 100, count: 5, align: 10, aligned: Some(0), run: None },
+    Row { items: &[-40, -31], start: -128, end: 127, count: 30, align: 60, aligned: Some(-120), run: None },
+    Row { items: &[-40, -31], start: -37, end: 127, count: 30, align: 15, aligned: Some(-30), run: None },
     Row { items: &[126], start: 100, end: 127, count: 1, align: 128, aligned: None, run: Some(126) },
 ];
 

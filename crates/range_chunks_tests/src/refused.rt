@@ -46,7 +46,7 @@ struct Attempt {
     row: Row,
 }
 
-// The set of so many ranges.
+// The set of `ranges` ranges.
 fn spread(alloc: Global, ranges: u16) -> Option<ChunkedRangeSet<u16>> {
     let mut set = ChunkedRangeSet::new(alloc);
     for k in 0..ranges {
@@ -133,10 +133,12 @@ fn changes_are_refused_where_the_set_grows(rt: HostRuntime) -> Result<(), AllocE
 // Operations with a view. They make several lists, so with more room a first list may leave less for
 // the next.
 #[rattlefmt::skip]
-const COMBINED: [Row; 3] = [
+const COMBINED: [Row; 5] = [
     Row { ranges: 0, change: Change::UnionWith, start: 5, end: 10, takes: true },
     Row { ranges: 20, change: Change::UnionWith, start: 12, end: 15, takes: true },
     Row { ranges: 20, change: Change::DifferenceWith, start: 0, end: 195, takes: true },
+    Row { ranges: 256, change: Change::UnionWith, start: 2_012, end: 2_015, takes: true },
+    Row { ranges: 256, change: Change::DifferenceWith, start: 2_002, end: 2_005, takes: true },
 ];
 
 /// Whether the call is refused without room, gives the answer that it has with ample memory where

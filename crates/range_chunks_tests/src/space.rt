@@ -87,7 +87,7 @@ fn change(
     }
 }
 
-// Whether the space finds what the set finds, after each of so many changes.
+// Whether the space finds what the set finds, after each change.
 fn follow(alloc: Global, generator: &mut Generator, shape: Shape) -> Result<bool, AllocError> {
     let mut space = ChunkedSpace::new(alloc);
     let mut flat = RangeSet2::empty(alloc);

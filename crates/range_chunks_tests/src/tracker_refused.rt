@@ -1,7 +1,7 @@
 //! Out of memory where a tracker in chunks does a command or lists what is missing: each request is
 //! refused in turn, and the tracker has the offsets that it had.
 use crate::refused::is_refused_or_right;
-use range_chunks::ChunkedTracker;
+use range_chunked_tracker::ChunkedTracker;
 use range_tests_kit::starving::{Answer, Call, Starved};
 use range_tests_kit::ways::refused_if;
 use range_tracker::{Command, TrackError};
@@ -50,7 +50,7 @@ struct Attempt {
     row: Row,
 }
 
-// The tracker of so many ranges.
+// The tracker of as many ranges as the row says.
 fn spread(alloc: Global, row: Row) -> Option<ChunkedTracker> {
     let mut tracker = ChunkedTracker::new(alloc, row.limit.min(10_000)).ok()?;
     for k in 0..row.ranges {

@@ -1,7 +1,7 @@
 //! Commands of a tracker in chunks: it answers each as `Tracker` does, and has the same offsets then.
 ghost use Rattle.std.specs.Prelude.{◌<◌, ◌≤◌, ◌-◌, ◌^◌};
 
-use range_chunks::ChunkedTracker;
+use range_chunked_tracker::ChunkedTracker;
 use range_tests_kit::generator::Generator;
 use range_tracker::{Command, TrackError, Tracker};
 use std::alloc::{AllocError, Global};
@@ -89,7 +89,7 @@ fn reply(tracker: &mut Tracker, command: &Command) -> Result<(), TrackError> {
     }
 }
 
-// Whether both answer so many commands alike, of which some are refused.
+// Whether both answer each command alike, of which some are refused.
 fn follow(alloc: Global, generator: &mut Generator, shape: Shape) -> Result<bool, AllocError> {
     let limit = shape.limit.min(10_000);
     let (mut chunked, mut flat) = (

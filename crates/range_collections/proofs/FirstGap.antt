@@ -1,4 +1,4 @@
--- The first gap that has so many values lies between the ends, and its start is no member.
+-- The first gap that has `count` values lies between the ends, and its start is no member.
 use Rattle.std.proofs.Common.{◌≡◌, refl, sym, ap, subst, ℕ, Bool, true, false, Option, Some, None, List, [], ◌∷◌, All, Contains, filter, drop, slice_get, arith}
 use Rattle.std.specs.Cmp.{IsTotalOrder}
 use Rattle.std.specs.Option.{option_map}

@@ -22,7 +22,7 @@ module _ {K : Type 0} {order : K → K → Ordering} (o : IsTotalOrder order) wh
   tied Equal = refl
   tied Greater = refl
 
-  ties-is_eq : (x y : K) → ties (λ u v. is_lt (order u v)) x y ≡ is_eq (order x y)
+  pub ties-is_eq : (x y : K) → ties (λ u v. is_lt (order u v)) x y ≡ is_eq (order x y)
   ties-is_eq x y = ap (λ v. not (is_lt (order x y)) && not (is_lt v)) (o.antisymm y x) ∙ tied (order x y)
 
   -- a stable sort keeps the first of the items that are equal to one

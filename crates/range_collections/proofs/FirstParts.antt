@@ -35,7 +35,7 @@ or_true : (p q : Bool) → q ≡ true → (p || q) ≡ true
 or_true true q h = refl
 or_true false q h = h
 
-not_own_opposite : (b : Bool) → b ≡ not b → ⊥
+pub not_own_opposite : (b : Bool) → b ≡ not b → ⊥
 not_own_opposite true h = cc
 not_own_opposite false h = cc
 
@@ -54,7 +54,7 @@ module _ {X : Type 0} (P : X → Type 0) where
 
 module _ {K : Type 0} {order : K → K → Ordering} (o : IsTotalOrder order) where
   -- whether what lies just below x is a member
-  abbrev just_below : List K → K → Bool
+  abbrev pub just_below : List K → K → Bool
   just_below xs x = is_odd (count_below order xs x)
 
   not_below : (x z : K) → is_lt (order z x) ≡ false → is_le (order x z) ≡ true
@@ -124,14 +124,14 @@ module _ {K : Type 0} {order : K → K → Ordering} (o : IsTotalOrder order) wh
           (λ k. ap is_lt k ∙ sym (above m x y l (ap is_lt k)))
           (λ k. ap is_lt k ∙ sym (above m x y l (ap is_lt k)))
 
-  below_none : (x : K) (xs : List K) → All (λ z. is_lt (order z x) ≡ false) xs → count_below order xs x ≡ 0
+  pub below_none : (x : K) (xs : List K) → All (λ z. is_lt (order z x) ≡ false) xs → count_below order xs x ≡ 0
   below_none x [] h = count_below-nil order x
   below_none x (y ∷ ys) h =
       count_below-cons order y ys x
       ∙ ap₂ (λ b n. cond b (suc n) n) (All-head (λ z. is_lt (order z x) ≡ false) y ys h) (below_none x ys (All-tail (λ z. is_lt (order z x) ≡ false) y ys h))
 
   -- a subset is one just below each element, too
-  below_kept : (xs ys : List K) → IsSubset order xs ys → (x : K) → just_below xs x ≡ true → just_below ys x ≡ true
+  pub below_kept : (xs ys : List K) → IsSubset order xs ys → (x : K) → just_below xs x ≡ true → just_below ys x ≡ true
   below_kept xs ys sub x h =
       elim (highest x (xs ++ ys)) as (λ _. just_below ys x ≡ true) [
         | inl none ↦ absurd (true≢false (sym h ∙ ap is_odd (below_none x xs (All-front (λ z. is_lt (order z x) ≡ false) xs ys none))))
@@ -144,7 +144,7 @@ module _ {K : Type 0} {order : K → K → Ordering} (o : IsTotalOrder order) wh
       ]
 
   -- a list changes at an element exactly where it has an item that equals it
-  changes_at : (xs : List K) (i : ℕ) (x : K) → IsAscending order xs → i < length xs → ((d : K) → order (get_or xs i d) x ≡ Equal) →
+  pub changes_at : (xs : List K) (i : ℕ) (x : K) → IsAscending order xs → i < length xs → ((d : K) → order (get_or xs i d) x ≡ Equal) →
       member order xs x ≡ not (just_below xs x)
   changes_at xs i x up within here =
       let one_more : i + 1 ≡ suc i = omega arith in

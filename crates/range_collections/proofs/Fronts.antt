@@ -1,4 +1,4 @@
--- Where a text stops being one of ranges, as the characters before it tell.
+-- Where a text stops being one of ranges, by the characters before it.
 use Rattle.std.proofs.Common.{◌≡◌, refl, sym, ap, ap₂, subst, ◌∙◌, ℕ, ◌+◌, ◌<◌, ◌≤◌, Bool, true, false, ◌&&◌, List, [], ◌∷◌, ◌++◌, length, take, drop, append_assoc, length-append, arith, Some, None}
 use Rattle.std.specs.Char.{encode_utf8}
 use Rattle.std.specs.Option.{option_and_then}

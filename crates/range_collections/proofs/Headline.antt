@@ -3,7 +3,7 @@ use Rattle.std.proofs.Common.{◌≡◌, ◌≢◌, refl, sym, ◌∙◌, ap, in
 use Rattle.std.specs.Cmp.{IsTotalOrder}
 use Rattle.std.specs.Ordering.{is_le}
 use Rattle.std.proofs.lemmas.Cmp.{alike_right}
-use Rattle.std.proofs.lemmas.List.Elements.{All-nil, All-cons, All-head, All-tail, All-weaker}
+use Rattle.std.proofs.lemmas.List.Elements.{All-nil, All-cons, All-head, All-tail, All-weaker, All-contains}
 use Rattle.std.specs.declared.alloc.AllocError.{AllocError}
 use Rattle.std.specs.declared.cmp.Ordering.{Ordering}
 use Rattle.std.specs.declared.cmp.Ordering.TheVariants.{Less, Equal}
@@ -16,7 +16,7 @@ use Rattle.range_collections.specs.Headline.{EveryElement, IsItself, IsTaken, Is
 use Rattle.range_collections.specs.InPlace.{IsOwnElse, AreOwnElseOf, IsChangedByView, IsChangedByOwned}
 use Rattle.range_collections.specs.Operators.{GivesOperation}
 use Rattle.range_collections.specs.Sets.{AreEqual}
-use Rattle.range_collections.specs.Values.{MeansAmong, Negates, GivesNegation, GivesOwnNegation, HasLeastInFront, IsFlipped, AreFlipped}
+use Rattle.range_collections.specs.Values.{MeansAmong, Negates, HasLeastInFront, IsFlipped, AreFlipped, EqualsAreValues}
 use Rattle.range_collections.proofs.Combined.{by_Bool, MeansAmong-from_means, AreEqual-combined}
 use Rattle.range_collections.proofs.Values.{by_BeginsAt, same_values}
 
@@ -91,6 +91,20 @@ module _ {K : Type 0} {order : K → K → Ordering} (o : IsTotalOrder order) wh
           All-cons (IsTaken order is_value f a b is_copy is_copy) y ys (IsTaken-copied t y (All-head (IsMarkedTruly order a b) t ts h) same.0)
           (AreTaken-copied ts ys (All-tail (IsMarkedTruly order a b) t ts h) same.1)
 
+    -- of lists of values, the copies are values
+    module _ (is_value : K → Type 0) (equals : EqualsAreValues order is_value) (a b : List K) (v : All is_value a) (w : All is_value b) where
+      is_value-copied : (t : Taken K) (y : K) → IsMarkedTruly order a b t → is_copy (taken_item t) y → is_value y
+      is_value-copied (from_left x) y h same = equals x y (equal x y same) (All-contains is_value a x v h)
+      is_value-copied (from_right z) y h same = equals z y (equal z y same) (All-contains is_value b z w h.0)
+
+      pub AreValues-copied : (ts : List (Taken K)) (ys : List K) → All (IsMarkedTruly order a b) ts → AreCopies is_copy ts ys → All is_value ys
+      AreValues-copied [] [] h same = All-nil is_value
+      AreValues-copied [] (y ∷ ys) h same = absurd same
+      AreValues-copied (t ∷ ts) [] h same = absurd same
+      AreValues-copied (t ∷ ts) (y ∷ ys) h same =
+          All-cons is_value y ys (is_value-copied t y (All-head (IsMarkedTruly order a b) t ts h) same.0)
+          (AreValues-copied ts ys (All-tail (IsMarkedTruly order a b) t ts h) same.1)
+
     pub GivesTheResult-copied : (is_infallible : K → Type 0) (f : Table) (room : _) (a b : List K) (r : Result (List K) AllocError) →
         All (IsMarkedTruly order a b) (changes order f a b) → GivesOperation order is_copy is_infallible f room a b r → GivesTheResult order is_copy f a b r
     GivesTheResult-copied is_infallible f room a b (Ok items) marks h =
@@ -139,23 +153,13 @@ module _ {K : Type 0} {order : K → K → Ordering} (o : IsTotalOrder order) wh
 
   -- negation
 
-  IsTheNegation-negates : (is_value : K → Type 0) (a : List K) (r : Result (List K) AllocError) → IfOk r (λ items. Negates order is_value items a) →
+  pub IsTheNegation-negates : (is_value : K → Type 0) (a : List K) (r : Result (List K) AllocError) → IfOk r (λ items. Negates order is_value items a) →
       IfOk r (IsTheNegation order is_value a)
   IsTheNegation-negates is_value a (Ok items) h = record {
     negates = h;
     unique = λ other n v w. same_values o is_value items other v w h.sorted n.sorted (λ x u. h.members x u ∙ sym (n.members x u));
   }
   IsTheNegation-negates is_value a (Err e) h = tt
-
-  pub GivesNegation-headline : (is_value : K → Type 0) (is_copy : K → K → Type 0) (least : K) (infallible : Type 0) (a : List K) (r : Result (List K) AllocError) →
-      GivesNegation order is_value is_copy least infallible a r →
-      GivesNegation order is_value is_copy least infallible a r × IfOk r (IsTheNegation order is_value a)
-  GivesNegation-headline is_value is_copy least infallible a r h = (h, IsTheNegation-negates is_value a r h.negates)
-
-  pub GivesOwnNegation-headline : (is_value : K → Type 0) (least : K) (infallible : Type 0) (a : List K) (r : Result (List K) AllocError) →
-      GivesOwnNegation order is_value least infallible a r →
-      GivesOwnNegation order is_value least infallible a r × IfOk r (IsTheNegation order is_value a)
-  GivesOwnNegation-headline is_value least infallible a r h = (h, IsTheNegation-negates is_value a r h.negates)
 
   -- laws
 

@@ -38,12 +38,14 @@ pub mod Fronts
 pub mod ReadBack
 pub mod Decimals
 pub mod ManyRanges
+pub mod Pairs
+pub mod Underway
 pub mod Next
 pub mod Endless
 pub mod Previous
 pub mod Ranked
 pub mod Rows
-pub mod Multiples
+pub mod NextMultiple
 pub mod FirstGap
 pub mod MembersOf
 pub mod Ends

@@ -1,6 +1,6 @@
 -- A range added to a set: cuts near the set's end, the list after it, and the union of one range
 -- more.
-use Rattle.std.proofs.Common.{◌≡◌, ◌≢◌, refl, sym, ap, ◌∙◌, subst, ℕ, suc, inl, inr, ◌<◌, ◌≤◌, ◌+◌, ◌-◌, Option, Some, None, Bool, true, false, not, cond, ◌||◌, List, [], ◌∷◌, ◌++◌, length, take, drop, get_or, arith, All, true≢false, Result, Ok, Err, IsOk, IsErr, OnOk, append_assoc, length-append}
+use Rattle.std.proofs.Common.{◌≡◌, ◌≢◌, refl, sym, ap, ap₂, ◌∙◌, subst, ℕ, suc, ◌↔◌, ◌*◌, ◌/◌, inl, inr, ◌<◌, ◌≤◌, ◌+◌, ◌-◌, Option, Some, None, Bool, true, false, not, cond, ◌||◌, List, [], ◌∷◌, ◌++◌, length, take, drop, get_or, arith, All, true≢false, Result, Ok, Err, IsOk, IsErr, OnOk, append_assoc, length-append}
 use Rattle.std.specs.Cmp.{IsTotalOrder}
 use Rattle.std.specs.List.{AllZip, AllWithin, flat_map}
 use Rattle.std.specs.Ordering.{is_le, is_lt}
@@ -8,7 +8,7 @@ use Rattle.std.specs.declared.alloc.AllocError.{AllocError}
 use Rattle.std.specs.declared.cmp.Ordering.{Ordering}
 use Rattle.std.specs.declared.cmp.Ordering.TheVariants.{Less, Equal}
 use Rattle.std.proofs.lemmas.Bool.{cases_lt}
-use Rattle.std.proofs.lemmas.List.{get_or_default, take_more, take-append-drop}
+use Rattle.std.proofs.lemmas.List.{drop_all, get_or_default, take_all, take_more, take-append-drop}
 use Rattle.std.proofs.lemmas.List.Elements.{All-nil, All-cons, All-head, All-tail, length_all_zip}
 use Rattle.std.proofs.lemmas.Grind.{flat_map-append}
 use Rattle.range_merge.specs.Boundaries.{IsAscending, member, is_odd}
@@ -17,6 +17,7 @@ use Rattle.range_merge.proofs.Members.{member-nil, by_Ordering}
 use Rattle.range_merge.proofs.Orders.{Equal-sym, Less-from_equal, Less-then_equal}
 use Rattle.range_merge.proofs.Parity.{is_odd-suc}
 use Rattle.range_collections.specs.InPlace.{AreOwnElseOf}
+use Rattle.range_collections.specs.ManyRanges.{NoneStartsAbove}
 use Rattle.range_collections.specs.Ranges.{range_items}
 use Rattle.range_collections.specs.Splicing.{IsCut, range_table, spliced}
 use Rattle.range_collections.specs.Unions.{GivesUnion, IsAdded, IsJoined}
@@ -96,6 +97,44 @@ module _ {K : Type 0} {order : K → K → Ordering} (o : IsTotalOrder order) wh
           reaches =
               by_Ordering (order y at) (λ l. absurd (false_is_not_true (is_lt (order y at)) short (ap is_lt l)))
               (λ e. ap is_le (Equal-sym o y at e)) (λ g. le-from_greater o y at g)
+
+  -- ---- what lies at the end
+  module _ (xs : List K) (up : IsAscending order xs) where
+    pub All-below_last : (x y : K) → 0 < length xs → y ≡ get_or xs (length xs - 1) y → order y x ≡ Less → All (λ z. order z x ≡ Less) xs
+    All-below_last x y some is below k d within =
+        elim (cases_lt k (length xs - 1)) as (λ _. order (get_or xs k d) x ≡ Less) [
+          | inl less ↦ o.trans (get_or xs k d) y x (subst (λ z. order (get_or xs k d) z ≡ Less) (last_is (length xs - 1) refl) (up k (length xs - 1) d less (omega (arith, some)))) below
+          | inr last ↦ subst (λ z. order z x ≡ Less) (sym (last_is k (omega (arith, last, within)))) below
+        ]
+      where
+        last_is : (n : ℕ) → n ≡ length xs - 1 → get_or xs n d ≡ y
+        last_is n e = ap (λ m. get_or xs m d) e ∙ get_or_default xs (length xs - 1) d y (omega (arith, some)) ∙ sym is
+
+    pub IsCut-all_below : (x : K) → is_odd (length xs) ≡ false → All (λ z. order z x ≡ Less) xs → IsCut order true xs x (length xs) (Some x)
+    IsCut-all_below x even h = cut_after xs x up even (λ k d low high. h k d high)
+
+    pub none_above : (x y : K) → 0 < length xs → y ≡ get_or xs ((length xs - 1) / 2 * 2) y → (is_le (order y x) ≡ true) ↔ NoneStartsAbove order xs x
+    none_above x y some is = (
+      λ le i d within.
+          elim (cases_lt (2 * i) ((length xs - 1) / 2 * 2)) as (λ _. is_le (order (get_or xs (2 * i) d) x) ≡ true) [
+            | inl less ↦
+                ap is_le
+                (Less-then_le o (get_or xs (2 * i) d) y x
+                (subst (λ z. order (get_or xs (2 * i) d) z ≡ Less) (there d) (up (2 * i) ((length xs - 1) / 2 * 2) d less (omega (arith, some)))) le)
+            | inr far ↦
+                let same : 2 * i ≡ (length xs - 1) / 2 * 2 = omega (arith, far, within) in
+                subst (λ z. is_le (order z x) ≡ true) (sym (ap (λ n. get_or xs n d) same ∙ there d)) le
+          ],
+      λ none.
+          let even : 2 * ((length xs - 1) / 2) ≡ (length xs - 1) / 2 * 2 = omega arith in
+          subst (λ z. is_le (order z x) ≡ true) (ap (λ n. get_or xs n y) even ∙ there y) (none ((length xs - 1) / 2) y (omega (arith, some))),
+    )
+      where
+        there : (d : K) → get_or xs ((length xs - 1) / 2 * 2) d ≡ y
+        there d = get_or_default xs ((length xs - 1) / 2 * 2) d y (omega (arith, some)) ∙ sym is
+
+  pub spliced-end : (xs : List K) (start end : K) → spliced xs (length xs) (length xs) (Some start) (Some end) ≡ xs ++ (start ∷ end ∷ [])
+  spliced-end xs start end = ap₂ (λ us vs. us ++ (start ∷ end ∷ vs)) (take_all (length xs) xs (omega arith)) (drop_all (length xs) xs (omega arith))
 
   -- ---- a range with elements, put between its cuts
   pub range_is : (start end : K) → order start end ≡ Less → range_items order start end ≡ start ∷ end ∷ []

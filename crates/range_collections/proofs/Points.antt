@@ -1,25 +1,25 @@
 -- A strictly sorted list between a start and an end: how many items lie at or below the start, and
 -- how many below the end.
-use Rattle.std.proofs.Common.{Bool, ◌≡◌, ◌↔◌, IsTrue, refl, sym, ap, ◌∙◌, subst, ℕ, suc, inl, inr, ◌<◌, ◌≤◌, ◌+◌, ◌-◌, ◌%◌, ◌==◌, Option, Some, None, IsSome, IfSome, true, false, List, [], ◌∷◌, length, take, drop, get_or, arith, get_or-drop, length-drop, Contains}
+use Rattle.std.proofs.Common.{Bool, ◌≡◌, refl, sym, ap, ◌∙◌, subst, ℕ, inl, inr, ◌<◌, ◌≤◌, ◌+◌, ◌-◌, ◌%◌, ◌==◌, Option, Some, None, IsSome, IfSome, true, false, List, [], ◌∷◌, length, take, drop, get_or, arith, get_or-drop, length-drop, Contains}
 use Rattle.std.specs.Borrow.{Bor}
 use Rattle.std.specs.List.{AllWithin}
 use Rattle.std.specs.Iterator.{YieldsFirstBy}
 use Rattle.std.specs.Ordering.{is_le, is_lt}
 use Rattle.std.specs.Cmp.{IsTotalOrder}
-use Rattle.std.proofs.lemmas.Bool.{cases_lt, true≢false, eq-eqb, eqb-true}
+use Rattle.std.proofs.lemmas.Bool.{cases_lt, true≢false}
 use Rattle.std.proofs.lemmas.List.{take-append-drop, length-take-le}
 use Rattle.std.proofs.lemmas.List.Elements.{Contains-append_right}
 use Rattle.std.specs.declared.cmp.Ordering.{Ordering}
 use Rattle.std.specs.declared.cmp.Ordering.TheVariants.{Less, Equal, Greater}
 use Rattle.range_merge.specs.Boundaries.{IsAscending, member, is_odd}
-use Rattle.range_merge.proofs.Orders.{Greater-from_less, Less-from_greater, Equal-self}
+use Rattle.range_merge.proofs.Orders.{Less-from_greater, Equal-self}
 use Rattle.range_collections.specs.Extent.{HasAllWithin}
 use Rattle.range_collections.specs.Ranges.{ranges_of, range_now, IsInRange}
 use Rattle.range_collections.specs.declared.range_set_range.RangeSetRange.{RangeSetRange}
 use Rattle.range_collections.specs.declared.range_set_range.RangeSetRange.TheVariants.{Range, RangeFrom}
 use Rattle.range_collections.proofs.CountUpTo.{count_up_to-split}
 use Rattle.range_collections.proofs.RangesAtEnds.{ranges_of-append, nil-from_ranges}
-use Rattle.range_collections.proofs.Shortest.{Less-from_le, Less-then_le, le-trans, le-from_greater, count_up_to-item}
+use Rattle.range_collections.proofs.Shortest.{Less-from_le, le-trans}
 
 odd-one : (n : ℕ) → (n % 2 ≡ 0 → ⊥) → n % 2 ≡ 1
 odd-one n h = elim (cases_lt (n % 2) 1) as (λ _. n % 2 ≡ 1) [
@@ -121,30 +121,6 @@ module _ {K : Type 0} {order : K → K → Ordering} (o : IsTotalOrder order) wh
               absurd (cc)
           | inr fine ↦ fine
         ]
-
-    none_between : n ≡ m → n % 2 ≡ 1 → HasAllWithin order xs start end
-    none_between e odd x far low =
-        ap is_odd (count_up_to-split order x xs n within_n
-        (λ k d least high. le-trans o (get_or xs k d) start x (before_n k d least high) far)
-        (λ k d least high. Greater-from_less o x (get_or xs k d) (Less-then_le o x end (get_or xs k d) low (from_m k d (omega (arith, e)) high))))
-        ∙ is_odd-at_one n odd
-
-    -- the item at place n ends the range that the start is in
-    ends_between : n < m → n % 2 ≡ 1 → HasAllWithin order xs start end → ⊥
-    ends_between some odd all =
-        let more : n < length xs = omega (arith, within_m, some) in
-        let even : suc n % 2 ≡ 0 = omega (arith, odd) in
-        true≢false (sym (all (get_or xs n start) (le-from_greater o (get_or xs n start) start (from_n n start (omega arith) more)) (before_m n start (omega arith) some))
-        ∙ ap is_odd (count_up_to-item o xs up n start more) ∙ is_odd-at_zero (suc n) even)
-
-    pub IsTrue-all_within : (n % 2 ≡ 0 → ⊥) → IsTrue (n == m) ↔ HasAllWithin order xs start end
-    IsTrue-all_within odd = (
-      λ t. none_between (eqb-true n m t) (odd-one n odd),
-      λ all. eq-eqb n m (elim (cases_lt n m) as (λ _. n ≡ m) [
-        | inl some ↦ absurd (ends_between some (odd-one n odd) all)
-        | inr fine ↦ omega (arith, counts_ordered)
-      ]),
-    )
 
   -- an empty range or a reversed one has no element
   pub HasAllWithin-nothing : (start end : K) (xs : List K) → is_lt (order start end) ≡ false → HasAllWithin order xs start end

@@ -8,16 +8,17 @@ use Rattle.std.specs.declared.cmp.Ordering.TheVariants.{Less}
 use Rattle.std.proofs.lemmas.Bool.{cases_lt, true≢false}
 use Rattle.std.proofs.lemmas.Bool.Decides.{nat_tests}
 use Rattle.std.proofs.lemmas.Cmp.{by_ranked}
-use Rattle.std.proofs.Math.Nat.{mod-one}
 use Rattle.range_merge.specs.Boundaries.{IsAscending, member, is_odd}
 use Rattle.range_merge.specs.Connective.{differ}
 use Rattle.range_merge.proofs.Members.{member-cons, member-nil}
 use Rattle.range_merge.proofs.Orders.{Greater-from_less, Less-from_greater}
-use Rattle.range_collections.specs.Fits.{Fits, IsRow, has_values}
+use Rattle.range_collections.specs.Fits.{Fits, IsOneOf, IsRow, has_values}
 use Rattle.range_collections.specs.Ranges.{range_start, ranges_of}
 use Rattle.range_collections.specs.declared.range_set_range.RangeSetRange.TheVariants.{Range}
+use Rattle.range_collections.specs.declared.countable.multiples.Multiples.{Multiples}
 use Rattle.range_collections.proofs.Ascending.{Less-from_is_lt}
 use Rattle.range_collections.proofs.Counted.{le-value, Greater-value, place-less}
+use Rattle.range_collections.proofs.NextMultiple.{each_multiple}
 use Rattle.range_collections.proofs.Ranked.{place-le}
 use Rattle.range_collections.proofs.Shortest.{count_up_to-none, Less-from_le}
 
@@ -27,12 +28,12 @@ and-true true false e = absurd (cc)
 and-true false q e = absurd (cc)
 
 -- what a walk through ranges keeps: the members of those that are unread are members of all, and all
--- values in a row that begin at a multiple of `align` are still there
-pub record IsUnread {K : Type 0} (order : K → K → Ordering) (value : ℕ → K) (place : K → ℕ) (count n align : ℕ) (all unread : List K) : Type 0 where
+-- values in a row that begin at one of the multiples are still there
+pub record IsUnread {K : Type 0} (order : K → K → Ordering) (value : ℕ → K) (place : K → ℕ) (count n : ℕ) (m : Multiples) (all unread : List K) : Type 0 where
   pub sorted : IsAscending order unread
   pub members : (k : ℕ) → k < count → member order unread (value k) ≡ true → member order all (value k) ≡ true
-  pub rows : (at : ℕ) → at % align ≡ 0 → IsRow order value true all 0 count n at → IsRow order value true unread 0 count n at
-  pub first : align ≡ 1 →
+  pub rows : (at : ℕ) → IsOneOf m at → IsRow order value true all 0 count n at → IsRow order value true unread 0 count n at
+  pub first : m.of ≡ 1 →
       option_map range_start (slice_get (filter (has_values order place n) (ranges_of all)) 0) ≡ option_map range_start (slice_get (filter (has_values order place n) (ranges_of unread)) 0)
 
 twice : (b : Bool) → differ true (differ true b) ≡ b
@@ -140,18 +141,18 @@ module _ {K : Type 0} {order : K → K → Ordering} (o : IsTotalOrder order) (i
     IsAscending-rest i j d less within = up (suc (suc i)) (suc (suc j)) d (omega (arith, less)) (omega (arith, within))
 
     -- a range that has no room is passed
-    module _ (n align : ℕ) (some : 0 < n) (all unread : List K) (split : unread ≡ s ∷ e ∷ rest) (it : IsUnread order value place count n align all unread)
-        (short : (at : ℕ) → at % align ≡ 0 → place s ≤ at → place e < at + n) where
-      too_short : align ≡ 1 → nat_le n (place e - place s) ≡ false
+    module _ (n : ℕ) (m : Multiples) (some : 0 < n) (all unread : List K) (split : unread ≡ s ∷ e ∷ rest) (it : IsUnread order value place count n m all unread)
+        (short : (at : ℕ) → IsOneOf m at → place s ≤ at → place e < at + n) where
+      too_short : m.of ≡ 1 → nat_le n (place e - place s) ≡ false
       too_short one =
-          let long = short (place s) (ap (λ m. place s % m) one ∙ mod-one (place s)) (omega arith) in
+          let long = short (place s) (each_multiple m one (place s)) (omega arith) in
           let rises = place-less o is_value value place count value_is_value place_of_value place_fits in_order s e v w ends_in_order in
           grind (arith, nat_tests)
 
-      pub IsUnread-next : IsUnread order value place count n align all rest
+      pub IsUnread-next : IsUnread order value place count n m all rest
       IsUnread-next = record {
         sorted = IsAscending-rest;
-        members = λ k less m. it.members k less (subst (λ l. member order l (value k) ≡ true) (sym split) (member-from_rest k less m));
+        members = λ k less h. it.members k less (subst (λ l. member order l (value k) ≡ true) (sym split) (member-from_rest k less h));
         rows = λ at even row.
             let here = subst (λ l. IsRow order value true l 0 count n at) split (it.rows at even row) in
             IsRow-rest n at some (short at even (row_from n at some here)) here;

@@ -6,9 +6,9 @@ use Rattle.range_merge.specs.Changes.{changes, taken_items}
 use Rattle.range_merge.specs.Connective.{Table, Means}
 use Rattle.range_merge.specs.declared.merge_state.buffer.NoRoom.{NoRoom}
 
--- an Ok tells how many items were written: they are the one list of the operation, of two equal
+-- an Ok has how many items were written: they are the one list of the operation, of two equal
 -- items the left's, and after them the slice is as it was; an error comes exactly where the slice
--- is shorter than that list, and tells its length
+-- is shorter than that list, and has its length
 pub record WritesOperation {K : Type 0} (order : K → K → Ordering) (f : Table)
     (a b old new : List K) (r : Result ℕ NoRoom) : Type 0 where
   pub means : IfOk r (λ n. Means order f (take n new) a b)

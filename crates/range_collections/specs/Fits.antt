@@ -1,17 +1,28 @@
--- Where a stretch of values fits beside a set, or in it: of values that stand in a row, so many of
--- them below each.
+-- Where a stretch of values fits beside a set, or in it: of values that stand in a row, each with
+-- a number of values below it.
 --     Fits order number items start end len x     the len elements from x on lie between start and end, and none is a member
 --     IsRow order value inside items start end count at   the `count` values from the place `at` on lie between the places start and end, and are members exactly if `inside`
---     has_values place count range                the range has at least so many values
+--     IsMultiple from align n                     the place n is that of a multiple of `align`, if `from` is the place of the number 0
+--     IsOneOf multiples n                         the same of multiples that have both
+--     has_values place count range                the range has at least `count` values
 --     IsFirstFit order place items start end count answer     the start of the first gap that has as many
-use Rattle.std.specs.Prelude.{◌≡◌, ℕ, ◌+◌, ◌-◌, ◌<◌, ◌≤◌, nat_le, Bool, true, false, filter, List, Option, slice_get}
+use Rattle.std.specs.Prelude.{◌≡◌, ℕ, ◌%◌, ◌+◌, ◌-◌, ◌<◌, ◌≤◌, nat_le, Bool, true, false, filter, List, Option, slice_get}
 use Rattle.std.specs.Option.{option_map}
 use Rattle.std.specs.declared.cmp.Ordering.{Ordering}
 use Rattle.range_merge.specs.Boundaries.{member}
 use Rattle.range_merge.specs.Connective.{Means, difference_table}
 use Rattle.range_collections.specs.Ranges.{range_items, range_start, ranges_of}
+use Rattle.range_collections.specs.declared.countable.multiples.Multiples.{Multiples}
 use Rattle.range_collections.specs.declared.range_set_range.RangeSetRange.{RangeSetRange}
 use Rattle.range_collections.specs.declared.range_set_range.RangeSetRange.TheVariants.{Range, RangeFrom}
+
+-- the place n is a multiple of `align` above or below the place of the number 0
+abbrev pub IsMultiple : ℕ → ℕ → ℕ → Type 0
+IsMultiple from align n = n % align ≡ from % align
+
+-- the place n is one of those of the multiples
+abbrev pub IsOneOf : Multiples → ℕ → Type 0
+IsOneOf m n = IsMultiple m.zero m.of n
 
 module _ {K : Type 0} (order : K → K → Ordering) (number : K → ℕ) where
   -- x is at or above start, x and `len` together are at or below end, and none of the `len`

@@ -26,6 +26,10 @@ module _ {K : Type 0} where
   abbrev pub IsItself : K → K → Type 0
   IsItself x y = y ≡ x
 
+  -- y is x itself, or stands for it as is_copy says
+  abbrev pub IsItselfOr : (K → K → Type 0) → K → K → Type 0
+  IsItselfOr is_copy x y = (y ≡ x) ⊎ is_copy x y
+
 module _ {K : Type 0} (order : K → K → Ordering) where
   module _ (is_value : K → Type 0) (f : Table) (a b : List K) where
     -- an element is a member exactly if f says so of whether it is one of a and of b; where f is on

@@ -30,6 +30,7 @@ pub mod Insertion
 pub mod Splicing
 pub mod Buffers
 pub mod Unions
+pub mod ManyRanges
 pub mod Intersections
 pub mod Reading
 pub mod Overlapping

@@ -3,7 +3,7 @@ ghost use Rattle.std.specs.Prelude.{◌≡◌, ℕ};
 ghost use Rattle.range_merge.specs.Counting.{AddsAtMost};
 
 use range_entry::EntryClone;
-use range_merge::{Compare, Copier};
+use range_merge::{Compare, Copier, Work};
 use std::alloc::AllocError;
 use std::cmp::Ordering;
 use std::marker::Model;
@@ -63,13 +63,10 @@ impl<T: Ord> Compare<T> for Comparisons {
     }
 
     #[inline(always)]
-    fn fresh(&self) -> Self {
-        Comparisons::new()
-    }
-
-    #[inline(always)]
-    fn add(&mut self, other: Self) {
-        self.made += other.made;
+    fn apart<W: Work<T, Self>>(&mut self, work: &mut W) -> W::Answer {
+        let done = work.run(Comparisons::new());
+        self.made += done.cmp.made;
+        done.answer
     }
 
     ghost total = { T.total };

@@ -7,9 +7,11 @@ ghost use Rattle.std.specs.Ordering.{nat_cmp};
 
 mod chars;
 mod from_place;
+mod multiples;
 mod numbers;
 
 pub use from_place::FromPlace;
+pub use multiples::Multiples;
 use range_entry::RangeSetEntry;
 
 /// An ordered type whose values stand in a row, at most 2 to the power 128 of them.

@@ -19,8 +19,8 @@ pub use kept::{
     an_empty_range_changes_nothing, items_past_the_result_stay, the_left_boundary_stays,
 };
 pub use members::{
-    the_members_are_listed, the_previous_value_is_pinned, values_in_a_row_lie_between_the_ends,
-    what_fits_starts_in_a_gap,
+    aligned_numbers_are_multiples, the_members_are_listed, the_previous_value_is_pinned,
+    values_in_a_row_lie_between_the_ends, what_fits_starts_in_a_gap,
 };
 pub use operations::{
     disjoint_is_an_empty_intersection, operations_associate, operations_commute,

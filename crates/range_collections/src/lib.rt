@@ -17,7 +17,7 @@ mod view;
 mod whole_number;
 
 pub use comparisons::{Comparisons, EntryCopier};
-pub use countable::{Countable, FromPlace, Unsigned};
+pub use countable::{Countable, FromPlace, Multiples, Unsigned};
 pub use iter::{Gaps, Iter, RangesWithin};
 pub use json::JsonError;
 pub use members::Members;
@@ -28,11 +28,11 @@ pub use range_entry::{
 };
 pub use range_merge::{
     BoolOpMergeState, Buffer, BufferMergeState, Compare, Connective, Copier, CountMergeState,
-    DiffOp, InPlaceBuilder, InPlaceMergeState, InPlaceMergeStateRef, IntersectionOp,
+    DiffOp, Done, InPlaceBuilder, InPlaceMergeState, InPlaceMergeStateRef, IntersectionOp,
     MergeOperation, MergeState, MergeStateMut, NoRoom, Run, SliceIterator, SmallVecMergeState,
-    UnionOp, XorOp, count_up_to, merge, run_length, search,
+    UnionOp, Work, XorOp, count_up_to, merge, run_length, search,
 };
-pub use range_set::{RangeSet, RangeSet2};
-pub use range_set_range::{RangeSetRange, write_range};
-pub use view::{RangeSetRef, place_in};
+pub use range_set::{RangeSet, RangeSet2, cut_at};
+pub use range_set_range::{RangeSetRange, has_elements, write_range};
+pub use view::{RangeSetRef, Row, place_in};
 pub use whole_number::WholeNumber;

@@ -1,15 +1,15 @@
 //! Lists of boundaries: whether one is strictly sorted, whether it begins at the least value, which
-//! places are odd, and how much room a new one keeps.
-ghost use Rattle.std.specs.Prelude.{◌↔◌, IsTrue, ◌≡◌};
+//! places are odd, how much room a new one keeps, and two items put at its end.
+ghost use Rattle.std.specs.Prelude.{◌↔◌, IsTrue, ◌≡◌, ◌+◌, ◌≤◌, ◌∷◌, ◌++◌, [], length, IsOk, OnOk, OnErr};
 ghost use Rattle.range_merge.specs.Boundaries.{IsAscending, is_odd as odd};
 ghost use Rattle.range_collections.specs.Values.{BeginsAt, BeginsWithValue};
 
 use range_entry::RangeSetEntry;
 use smallvec::SmallVec;
-use std::alloc::Global;
+use std::alloc::{AllocError, Global};
 use std::default::MadeWith;
 
-// So many pairs of neighbours are compared with no branch between them.
+// This number of pairs of neighbours is compared with no branch between them.
 const BLOCK: usize = 16;
 
 // Whether each item is below the next. It goes block by block, each of which begins with the last
@@ -53,7 +53,7 @@ pub(crate) fn begins_at_least<T: RangeSetEntry>(items: &[T]) -> bool
     }
 }
 
-// Whether a number of boundaries is odd: an element with so many at or below it is a member.
+// Whether a number of boundaries is odd: an element with an odd number at or below it is a member.
 #[inline(always)]
 pub(crate) fn is_odd(n: usize) -> bool
     ensures { result ≡ odd n }
@@ -70,4 +70,23 @@ pub(crate) fn give_back_room<T: MadeWith<Global> + Drop, const N: usize>(list: &
     if list.capacity() > list.len().saturating_mul(2) {
         list.shrink_to_fit();
     }
+}
+
+// Puts two items at the end.
+#[inline(always)]
+pub(crate) fn append_both<T: MadeWith<Global> + Drop, const N: usize>(
+    list: &mut SmallVec<T, N>,
+    start: T,
+    end: T,
+) -> Result<(), AllocError>
+    ensures items { OnOk result (list.new.items ≡ list.old.items ++ (start ∷ end ∷ [])) }
+    ensures unchanged { OnErr result (list.new.items ≡ list.old.items) }
+    ensures succeeds { length list.old.items + 2 ≤ N → IsOk result }
+{
+    // `capacity` is called for its clause that it is at least N, which the proof cites.
+    let _inline = list.capacity();
+    list.reserve(2)?;
+    list.push_reserved(start);
+    list.push_reserved(end);
+    Ok(())
 }

@@ -61,6 +61,7 @@ impl<'a, T: FromPlace> Iterator for Members<'a, T> {
 
     ghost remaining = { item_count (λ members. members) };
 
+    #[inline]
     fn next(&mut self) -> Option<T> {
         if self.unread.is_empty() {
             return None;
@@ -80,6 +81,7 @@ impl<'a, T: FromPlace> Iterator for Members<'a, T> {
 impl<'a, T: FromPlace> DoubleEndedIterator for Members<'a, T> {
     ghost next_back_gives = { YieldsLast (λ members. members) };
 
+    #[inline]
     fn next_back(&mut self) -> Option<T> {
         if self.unread.is_empty() {
             return None;
@@ -132,6 +134,7 @@ fn last_place<T: FromPlace>(before: &[T], end: &T) -> u128
 }
 
 // What is left above the lowest member: the boundaries from the next one's range on, and its place.
+#[inline(always)]
 fn above<T: Countable>(items: &[T], first: u128, last: u128) -> Option<(&[T], u128)>
     requires { AreEnds T.cmp T.value T.count items.now first last }
     ensures ends { IfSome result (λ left.
@@ -159,6 +162,7 @@ fn above<T: Countable>(items: &[T], first: u128, last: u128) -> Option<(&[T], u1
 
 // What is left below the highest member: the boundaries up to the range of the one before it, and
 // its place.
+#[inline(always)]
 fn below<T: Countable>(items: &[T], first: u128, last: u128) -> Option<(&[T], u128)>
     requires { AreEnds T.cmp T.value T.count items.now first last }
     ensures ends { IfSome result (λ left.
@@ -184,6 +188,7 @@ fn below<T: Countable>(items: &[T], first: u128, last: u128) -> Option<(&[T], u1
 }
 
 // The start of the last range, and the boundaries before it.
+#[inline(always)]
 fn last_start<T>(items: &[T]) -> Option<(&T, &[T])>
     ensures some { IfSome result (λ parts. (after : List T) ×
         (items.now ≡ parts.1.now ++ parts.0.now ∷ after) × (length after ≤ 1)) }

@@ -11,15 +11,15 @@ ghost use Rattle.range_collections.specs.Sets.{AreEqual};
 mod by_view;
 mod constructors;
 mod endless;
-mod fitting;
+mod first_fit;
 mod in_place;
 mod insertion;
+mod intersection_all;
 mod joining;
 mod many_ranges;
-mod meeting;
-mod members;
 mod operations;
 mod operators;
+mod rank;
 mod splicing;
 mod taking;
 mod values;
@@ -30,6 +30,7 @@ use crate::range_set_range::RangeSetRange;
 use crate::view::RangeSetRef;
 use range_entry::EntryClone;
 use smallvec::SmallVec;
+pub use splicing::cut_at;
 use std::alloc::{AllocError, Global};
 use std::default::MadeWith;
 use std::marker::Model;
@@ -63,7 +64,8 @@ use std::marker::Model;
 /// | Calls | Comparisons, at most | Memory |
 /// |---|---|---|
 /// | `contains`, `range_at`, `split`, `next_member`, `next_gap`, `prev_member`, `prev_gap`, `rank` | `d(n)` | |
-/// | `contains_range`, `gaps`, `ranges_within`, `overlapping` | `2 d(n) + 1` | |
+/// | `contains_range` | `d(n) + 2` | |
+/// | `gaps`, `ranges_within`, `overlapping` | `2 d(n) + 1` | |
 /// | `intersects_range` | `d(n) + 2` | |
 /// | `first_fit`, `first_fit_count`, `first_fit_aligned`, `first_run` | `2 d(n) + 1`, then two numbers a boundary | |
 /// | `iter`, `members`, `first`, `last`, `span`, `ranges_len`, `covered`, `select`, `is_empty`, `as_ref`, `boundaries`, `pop_first`, `pop_last` | none | |
@@ -71,14 +73,15 @@ use std::marker::Model;
 /// | `==`, `eq_ref`, `new` | one a boundary | |
 /// | `intersects`, `is_disjoint`, `is_subset`, `is_superset`, `merge_test`, `merge_len` | `2 w` | |
 /// | `insert`, `remove` | `2 d(n) + 1` | if the list grows beyond its room |
-/// | `insert_changed`, `remove_changed` | `4 d(n) + 2` | the same |
+/// | `insert_changed`, `remove_changed` | `3 d(n) + 3` | the same |
 /// | `bitor_assign` and the like, `merge_owned` | `2 w` | room for the right side |
 /// | `union_with` and the like, `merge_ref` | `2 w` | a list for both, if they are long and hold numbers or characters; else the same, and copies of the right side where a copy may fail |
 /// | `union` and the like, operators, `merge_new`, `combine` | `2 w` | the result |
 /// | `merge_into` a slice | `2 w` | |
 /// | `!` | one `is_min_value` | one boundary; of a reference the result |
 /// | `from_range` | 1 | beyond `N` |
-/// | `from_ranges`, `from_values`, `union_all`, `intersection_all` of k parts with l boundaries | `2 l d(k - 1)`, and two a range | the result |
+/// | `from_ranges`, `from_values` | eight a range that comes in order, from the first without an end on `2 d(n) + 5`; of the others also the sorts of their starts and of their ends | the result; of those not in order as much again, and a sort's buffer |
+/// | `union_all`, `intersection_all` of k sets with l boundaries | `2 l d(k - 1)` | the result |
 /// | `from_unsorted`, `from_json` | a sort's | a sort's buffer |
 /// | `clone`, `to_json` | none | the result |
 ///

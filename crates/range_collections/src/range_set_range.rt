@@ -4,6 +4,7 @@
 //! ranges of nothing differ where their ends do.
 ghost use Rattle.std.specs.Prelude.{◌≡◌, ℕ, List, IsOk, IfOk, ◌↔◌, ◌+◌, ◌<◌, ◌^◌, IsTrue};
 ghost use Rattle.std.specs.Fmt.{WritesOnOk};
+ghost use Rattle.std.specs.Ordering.{is_lt};
 ghost use Rattle.range_collections.specs.Ranges.{range_now, bound_now, range_start, range_end, IsEqualRange, AllEnds, AllEndsZip};
 ghost use Rattle.range_collections.specs.EqualRanges.{eq_range, eq_range-per, eq_range-equiv};
 ghost use Rattle.range_collections.specs.Text.{IsText, range_text};
@@ -26,12 +27,14 @@ pub enum RangeSetRange<T> {
     RangeFrom(RangeFrom<T>),
 }
 
-// Whether the range has an element: its start is below its end. Every call that takes a range asks
-// this. An empty or reversed range stands for the empty set.
+/// Whether the range from `start` to below `end` has an element, which is that `start` is below
+/// `end`. Calls that take a range ask this first: an empty or reversed range has no element, and
+/// stands for the empty set.
 #[inline(always)]
-pub(crate) fn has_elements<T: Ord>(start: &T, end: &T, count: &mut Comparisons) -> bool
+pub fn has_elements<T: Ord>(start: &T, end: &T, count: &mut Comparisons) -> bool
     requires { count.old < 2 ^ 127 }
     ensures answer { IsTrue result ↔ (T.cmp start.now end.now ≡ Less) }
+    ensures value { result ≡ is_lt (T.cmp start.now end.now) }
     ensures counted { count.new ≡ count.old + 1 }
 {
     count.compare(start, end).is_lt()

@@ -8,15 +8,15 @@ ghost use Rattle.range_merge.specs.Boundaries.{IsAscending, member};
 mod counting;
 mod endless;
 mod equality;
-mod fitting;
-mod members;
+mod first_fit;
 mod operations;
 mod parts;
 mod predicates;
 mod ranges;
+mod rank;
 
 use crate::lists::is_ascending;
-pub use fitting::place_in;
+pub use first_fit::{Row, place_in};
 use std::alloc::AllocError;
 use std::slice;
 

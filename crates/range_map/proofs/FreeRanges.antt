@@ -17,8 +17,7 @@ use Rattle.range_collections.proofs.Ascending.{Less-from_is_lt}
 use Rattle.range_collections.proofs.Shortest.{le-trans, Less-from_le, Less-then_le}
 use Rattle.range_map.specs.Steps.{Steps, value_at, IsCanonical}
 use Rattle.range_map.specs.Changed.{is_in_range, IsFree, IsSetTo}
-use Rattle.range_map.specs.Places.{ArePlaces, IsAboveEnd}
-use Rattle.range_map.specs.declared.places.Places.{Places}
+use Rattle.range_map.specs.Places.{Span, ArePlaces, IsAboveEnd}
 use Rattle.range_map.proofs.Stretched.{both, from-first, option_before, value_at-place, value_at-key, neighbours}
 use Rattle.range_map.proofs.UpToEnd.{not_before}
 
@@ -99,7 +98,7 @@ module _ {K V : Type 0} (order : K → K → Ordering) (o : IsTotalOrder order) 
   above_start (Some z) some y above = Greater-from_less o start y (o.trans start z y (some z refl) (Less-from_greater o y z above))
 
   -- where no step lies in a free range, none holds at its end
-  pub none_after : (end : Option K) (some : (z : K) → end ≡ Some z → order start z ≡ Less) (p : Option V) (places : Places) →
+  pub none_after : (end : Option K) (some : (z : K) → end ≡ Some z → order start z ≡ Less) (p : Option V) (places : Span) →
       ArePlaces order E m start end p places → IsFree order start end m → places.from ≡ places.to → get_or (None ∷ m.options) places.to None ≡ None
   none_after end some p places are free same =
       sym (value_at-place order o E e m canonical start places.to are.to_in

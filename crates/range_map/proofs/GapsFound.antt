@@ -1,6 +1,6 @@
 -- The gaps of a map within a range: their members, and that they lie apart.
-use Rattle.std.proofs.Common.{◌≡◌, ℕ, ◌+◌, ◌-◌, ◌<◌, ◌≤◌, ◌&&◌, ◌||◌, zero, suc, Bool, true, false, not, cond, None, Some, Option, List, [], ◌∷◌, ◌++◌, length, take, drop, get_or, map, refl, sym, ap, ap₂, ◌∙◌, All, AllPairs, arith, true≢false}
-use Rattle.std.specs.List.{AllWithin, HoldsAt}
+use Rattle.std.proofs.Common.{◌≡◌, ℕ, ◌+◌, ◌-◌, ◌≤◌, ◌&&◌, ◌||◌, Bool, true, false, not, cond, None, Some, Option, List, [], ◌∷◌, length, take, drop, get_or, map, refl, sym, ap, ap₂, ◌∙◌, All, AllPairs, arith, true≢false}
+use Rattle.std.specs.List.{AllWithin}
 use Rattle.std.specs.Option.{is_some, option_eq}
 use Rattle.std.specs.Cmp.{IsTotalOrder, IsEquivalence}
 use Rattle.std.specs.Cmp.Lexicographic.{options_equiv}
@@ -18,95 +18,17 @@ use Rattle.range_collections.specs.Ranges.{EndsBelow, range_start}
 use Rattle.range_collections.specs.declared.range_set_range.RangeSetRange.{RangeSetRange}
 use Rattle.range_collections.proofs.Ascending.{Less-from_is_lt, IsAscending-head, IsAscending-tail, IsAscending-cons}
 use Rattle.range_collections.proofs.Cut.{All-take_within, All-drop_within, IsAscending-take}
-use Rattle.range_collections.proofs.Shortest.{is_le-cases, le-trans, Less-then_le}
+use Rattle.range_collections.proofs.Shortest.{is_le-cases, le-trans, Less-from_le, Less-then_le}
 use Rattle.range_merge.proofs.Pairs.{AllPairs-drop}
 use Rattle.range_map.specs.Steps.{Steps, value_at, IsCanonical}
 use Rattle.range_map.specs.Entries.{range_until, first_or, entries_until}
-use Rattle.range_map.specs.Gaps.{unvalued, free_until, gaps_until, has, is_in_some, AreGaps}
-use Rattle.range_map.specs.Units.{unit_if}
+use Rattle.range_map.specs.Gaps.{unvalued, gaps_until, has, is_in_some, AreGaps}
 use Rattle.range_map.proofs.Along.{along, along-in, along-out, along-below, along-front, above_later, value_at-along}
 use Rattle.range_map.proofs.Differing.{Differ, Differ-from_adjacent, Differ-drop, Differ-take}
-use Rattle.range_map.proofs.EntriesLemmas.{entries-first, entries-last, entries-none, first_or-split}
 use Rattle.range_map.proofs.FromStart.{along-cut}
 use Rattle.range_map.proofs.FreeRanges.{less_to}
-use Rattle.range_map.proofs.Overlapping.{and-false, first-above, first_or-at}
+use Rattle.range_map.proofs.Overlapping.{and-false, first-above}
 use Rattle.range_map.proofs.Setlike.{is_some-unit}
-
--- what holds of an item holds of what is made of it
-held : {X Y : Type 0} (f : X → Y) (P : X → Type 0) (Q : Y → Type 0) → ((x : X) → P x → Q (f x)) → (xs : List X) (n : ℕ) → n < length xs → HoldsAt P xs n →
-    HoldsAt Q (map f xs) n
-held f P Q of [] n within h = absurd (omega (arith, within))
-held f P Q of (x ∷ xs) zero within h = λ d. of x (h x)
-held f P Q of (x ∷ xs) (suc n) within h = λ d. held f P Q of xs n (omega (arith, within)) (λ e. h e) d
-
-unvalued-some : {V : Type 0} (p : Option V) → is_some p ≡ true → unvalued p ≡ None
-unvalued-some p h = ap (λ b. unit_if (not b)) h
-
-unvalued-none : {V : Type 0} (p : Option V) → p ≡ None → unvalued p ≡ Some tt
-unvalued-none p h = ap unvalued h
-
-map-take : {X Y : Type 0} (f : X → Y) (n : ℕ) (xs : List X) → map f (take n xs) ≡ take n (map f xs)
-map-take f zero xs = refl
-map-take f (suc n) [] = refl
-map-take f (suc n) (x ∷ xs) = ap (λ ys. f x ∷ ys) (map-take f n xs)
-
-map-drop : {X Y : Type 0} (f : X → Y) (n : ℕ) (xs : List X) → map f (drop n xs) ≡ drop n (map f xs)
-map-drop f zero xs = refl
-map-drop f (suc n) [] = refl
-map-drop f (suc n) (x ∷ xs) = map-drop f n xs
-
-map-push : {X Y : Type 0} (f : X → Y) (xs : List X) (x : X) → map f (xs ++ x ∷ []) ≡ map f xs ++ f x ∷ []
-map-push f [] x = refl
-map-push f (y ∷ ys) x = ap (λ zs. f y ∷ zs) (map-push f ys x)
-
--- steps read one by one
-module _ {K V : Type 0} (ks : List K) (ps : List (Option V)) (end : K) (same : length ps ≡ length ks) where
-  same_units : length (map unvalued ps) ≡ length ks
-  same_units = length-map ps unvalued ∙ same
-
-  -- where all have values there are none
-  pub free-none : All (λ p. is_some p ≡ true) ps → free_until ks ps end ≡ []
-  free-none h =
-      ap (map (λ e. e.0))
-      (entries-none ks (map unvalued ps) (Some end)
-      (λ i d within.
-      held unvalued (λ p. is_some p ≡ true) (λ q. q ≡ None) unvalued-some ps i (omega (arith, within, length-map ps unvalued)) (λ e. h i e (omega (arith, within, length-map ps unvalued))) d))
-
-  module _ (i : ℕ) (k : K) (within : i < length ks) (key : get_or ks i k ≡ k) (none : HoldsAt (λ p. p ≡ None) ps i) where
-    here : HoldsAt (λ q. q ≡ Some tt) (map unvalued ps) i
-    here = held unvalued (λ p. p ≡ None) (λ q. q ≡ Some tt) unvalued-none ps i (omega (arith, within, same)) none
-
-    -- the first one, where those before it have values
-    pub free-first : AllWithin (λ p. is_some p ≡ true) ps 0 i →
-        free_until ks ps end ≡ range_until k (first_or (drop (i + 1) ks) (Some end)) ∷ free_until (drop (i + 1) ks) (drop (i + 1) ps) end
-    free-first h =
-        ap (map (λ e. e.0))
-        (entries-first i ks (map unvalued ps) (Some end) k tt same_units within
-        (λ j d low high. held unvalued (λ p. is_some p ≡ true) (λ q. q ≡ None) unvalued-some ps j (omega (arith, high, within, same)) (λ e. h j e low high) d) key here)
-        ∙ ap (λ ws. range_until k (first_or (drop (i + 1) ks) (Some end)) ∷ map (λ e. e.0) (entries_until (drop (i + 1) ks) ws (Some end))) (sym (map-drop unvalued (i + 1) ps))
-
-    -- the last one, where those behind it have values
-    free-last : AllWithin (λ p. is_some p ≡ true) ps (i + 1) (length ps) →
-        free_until ks ps end ≡ free_until (take i ks) (take i ps) k ++ range_until k (first_or (drop (i + 1) ks) (Some end)) ∷ []
-    free-last h =
-        ap (map (λ e. e.0))
-        (entries-last i ks (map unvalued ps) (Some end) k tt same_units within
-        (λ j d low high.
-        let in_it : j < length ps = omega (arith, high, length-map ps unvalued) in
-        held unvalued (λ p. is_some p ≡ true) (λ q. q ≡ None) unvalued-some ps j in_it (λ e. h j e low in_it) d) key here)
-        ∙ map-push (λ e. e.0) (entries_until (take i ks) (take i (map unvalued ps)) (Some k)) (range_until k (first_or (drop (i + 1) ks) (Some end)), tt)
-        ∙ ap (λ ws. map (λ e. e.0) (entries_until (take i ks) ws (Some k)) ++ range_until k (first_or (drop (i + 1) ks) (Some end)) ∷ []) (sym (map-take unvalued i ps))
-
-    -- the range before it ends there
-    first_or-before : first_or ks (Some end) ≡ first_or (take i ks) (Some k)
-    first_or-before =
-        first_or-split i ks (Some end) ∙ ap (first_or (take i ks)) (first_or-at i ks (Some end) k within ∙ ap Some key)
-
-    -- the last one of all
-    pub gaps-last : AllWithin (λ p. is_some p ≡ true) ps (i + 1) (length ps) → (first : Option K) →
-        gaps_until first ks ps end ≡ gaps_until first (take i ks) (take i ps) k ++ range_until k (first_or (drop (i + 1) ks) (Some end)) ∷ []
-    gaps-last h None = free-last h
-    gaps-last h (Some start) = ap₂ (λ e rest. range_until start e ∷ rest) first_or-before (free-last h)
 
 module _ {K : Type 0} (order : K → K → Ordering) (o : IsTotalOrder order) where
   lt-not_le : (x y : K) → is_lt (order x y) ≡ not (is_le (order y x))
@@ -303,3 +225,17 @@ module _ {K V : Type 0} (order : K → K → Ordering) (o : IsTotalOrder order) 
             map (λ e. e.0) (entries_until (start ∷ ks) (map unvalued (p ∷ ps)) (Some end))
         by_first None = refl
         by_first (Some v) = refl
+
+-- an empty or reversed range has no part without a value
+pub AreGaps-nothing : {K V : Type 0} (order : K → K → Ordering) (o : IsTotalOrder order) (m : Steps K V) (start end : K) → is_lt (order start end) ≡ false → AreGaps order m start end []
+AreGaps-nothing order o m start end none = record {
+  members = λ x. outside (is_le (order start x)) (is_lt (order x end)) (not (is_some (value_at order m x)))
+      (λ above below. true≢false (sym (ap is_lt (Less-from_le o start x end above (Less-from_is_lt (order x end) below))) ∙ none));
+  filled = All-nil (λ r. has order r (range_start r) ≡ true);
+  apart = AllPairs-nil (EndsBelow order);
+}
+  where
+    outside : (b c q : Bool) → (b ≡ true → c ≡ true → ⊥) → false ≡ ((b && c) && q)
+    outside true true q h = absurd (h refl refl)
+    outside true false q h = refl
+    outside false c q h = refl

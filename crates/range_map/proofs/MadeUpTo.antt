@@ -123,6 +123,15 @@ module _ {K U : Type 0} (order : K → K → Ordering) (o : IsTotalOrder order) 
       (along-all order None None old.keys old.options x canonical.one_each (λ n d within. ap is_le (Less-then_le o (get_or old.keys n d) put.key_put x (below n d within) h))))
       ∙ along-one order (option_eq E) o (options_equiv e) (option_before old (length old.options)) p put.is_put put.key_put x h put.differs
 
+module _ {K U : Type 0} (order : K → K → Ordering) (o : IsTotalOrder order) (E : U → U → Bool) (e : IsEquivalence E) where
+  -- no steps are canonical
+  pub IsCanonical-nothing : (m : Steps K U) → m.keys ≡ [] → m.options ≡ [] → IsCanonical order E m
+  IsCanonical-nothing m keys options = record {
+    ascending = rw keys (IsAscending-nil order);
+    one_each = rw (keys, options) refl;
+    changes = AllAdjacent-from_differ (option_eq E) None m.options (rw options tt);
+  }
+
 module _ {K V W U : Type 0} (order : K → K → Ordering) (o : IsTotalOrder order) (E : U → U → Bool) (e : IsEquivalence E)
     (f : Option V → Option W → Option U) (a : Steps K V) (b : Steps K W) where
   -- one more key, of one side or of both
@@ -209,12 +218,7 @@ module _ {K V W U : Type 0} (order : K → K → Ordering) (o : IsTotalOrder ord
   }
     where
       canonical : IsCanonical order E old
-      canonical =
-          record {
-            ascending = rw keys (IsAscending-nil order);
-            one_each = rw (keys, options) refl;
-            changes = AllAdjacent-from_differ (option_eq E) None old.options (rw options tt);
-          }
+      canonical = IsCanonical-nothing order o E e old keys options
 
   -- behind the last step all is made
   pub IsCombined-made : (made : Steps K U) → IsMadeUpTo order E f a b (length a.keys) (length b.keys) made → (x : K) → AreAlike E (value_at order made x) (f (value_at order a x) (value_at order b x))

@@ -11,8 +11,7 @@ use Rattle.std.specs.declared.cmp.Ordering.TheVariants.{Less, Equal, Greater}
 use Rattle.range_collections.specs.Splicing.{spliced}
 use Rattle.range_map.specs.Steps.{Steps, value_at, AreAlike, IsCanonical}
 use Rattle.range_map.specs.Changed.{IsSetTo, FitsAfter, is_in_range}
-use Rattle.range_map.specs.Places.{ArePlaces, after_range, put_len, IsAboveEnd, needs_end}
-use Rattle.range_map.specs.declared.places.Places.{Places}
+use Rattle.range_map.specs.Places.{Span, ArePlaces, after_range, put_len, IsAboveEnd, needs_end}
 use Rattle.range_map.proofs.Along.{along, value_at-along}
 use Rattle.range_map.proofs.Differing.{Differ, Differ-from_adjacent, AllAdjacent-from_differ}
 use Rattle.range_map.proofs.Uniqueness.{AreEqualSteps-from_same}
@@ -21,7 +20,7 @@ use Rattle.range_map.proofs.UpToEnd.{IsRest-any}
 use Rattle.range_map.proofs.Spliced.{length-spliced}
 
 -- where no more steps are put than give way, some step gives way or none is put at the end
-pub no_copy : (places : Places) → put_len places ≤ places.to - places.from → (places.from < places.to) ⊎ (places.ends ≡ false)
+pub no_copy : (places : Span) → put_len places ≤ places.to - places.from → (places.from < places.to) ⊎ (places.ends ≡ false)
 no_copy places h =
     elim (cases_lt places.from places.to) as (λ _. (places.from < places.to) ⊎ (places.ends ≡ false)) [
       | inl less ↦ inl less
@@ -34,7 +33,7 @@ no_copy places h =
     not_put false true h = absurd (omega (arith, h))
 
 -- the option moved or copied to the end is like the one that held there
-pub after_range-alike : {V : Type 0} (E : V → V → Bool) → IsEquivalence E → (options : List (Option V)) (places : Places) (copied : Option V) →
+pub after_range-alike : {V : Type 0} (E : V → V → Bool) → IsEquivalence E → (options : List (Option V)) (places : Span) (copied : Option V) →
     places.from ≤ places.to → (places.from ≡ places.to → places.ends ≡ true → AreAlike E copied (get_or (None ∷ options) places.to None)) →
     places.ends ≡ true → AreAlike E (after_range options places copied) (get_or (None ∷ options) places.to None)
 after_range-alike {V} E e options places copied ordered copy ends =
@@ -59,7 +58,7 @@ after_range-alike {V} E e options places copied ordered copy ends =
 module _ {K V : Type 0} (order : K → K → Ordering) (o : IsTotalOrder order) (E : V → V → Bool) (e : IsEquivalence E)
     (m : Steps K V) (canonical : IsCanonical order E m)
     (start : K) (end : Option K) (some : (z : K) → end ≡ Some z → order start z ≡ Less) (option : Option V)
-    (places : Places) (are : ArePlaces order E m start end option places) where
+    (places : Span) (are : ArePlaces order E m start end option places) where
   -- no key is below the start and above the end
   pub places_ordered : places.from ≤ places.to
   places_ordered =

@@ -1,14 +1,26 @@
--- Steps that move down where they stay, told as steps that are put one by one.
-use Rattle.std.proofs.Common.{◌≡◌, ℕ, ◌+◌, ◌<◌, ◌≤◌, zero, suc, inl, inr, Bool, true, false, not, Option, None, List, [], ◌∷◌, ◌++◌, length, take, drop, set, get_or, sym, ap, ◌∙◌, refl, arith}
+-- Steps that move down where they stay, as steps that are put one by one.
+use Rattle.std.proofs.Common.{◌≡◌, ap₂, subst, ℕ, ◌+◌, ◌-◌, ◌<◌, ◌≤◌, zero, suc, inl, inr, Bool, true, false, Option, None, List, [], ◌∷◌, ◌++◌, length, take, drop, set, get_or, sym, ap, ◌∙◌, refl, arith}
 use Rattle.std.proofs.lemmas.Bool.{cases_lt}
-use Rattle.std.proofs.lemmas.List.{append-nil, drop-drop, drop-set-lt, length-set, length-take-le, get_or-drop, get_or-set_same, get_or-take, take-set-le, take_more_set}
+use Rattle.std.proofs.lemmas.List.{take-map, get_or-map, drop-drop, drop-set-lt, length-set, length-take-le, get_or-drop, get_or-set_same, get_or-take, take-set-le, take_more_set}
 use Rattle.std.proofs.lemmas.List.Edits.{swap_is}
 use Rattle.std.specs.List.{swap}
 use Rattle.std.specs.Option.{option_eq}
 use Rattle.std.specs.Cmp.{IsTotalOrder}
 use Rattle.std.specs.declared.cmp.Ordering.{Ordering}
 use Rattle.range_merge.proofs.Orders.{Equal-self}
-use Rattle.range_map.specs.Combining.{IsPut}
+use Rattle.std.specs.Cmp.{IsEquivalence}
+use Rattle.std.specs.Cmp.Lexicographic.{options_equiv}
+use Rattle.range_merge.specs.Boundaries.{IsAscending}
+use Rattle.range_collections.proofs.Ascending.{IsAscending-nil}
+use Rattle.range_map.specs.Steps.{Steps, value_at, AreAlike}
+use Rattle.range_map.specs.Combining.{IsPut, IsMadeUpTo}
+use Rattle.range_map.specs.Listed.{steps_of}
+use Rattle.range_map.specs.Updated.{kept, kept_step}
+use Rattle.range_map.specs.declared.step.Step.{Step}
+use Rattle.range_map.proofs.Pushed.{IsPut-left_out, IsPut-behind}
+use Rattle.range_map.proofs.Along.{get_or-behind_first}
+use Rattle.range_map.proofs.Listed.{length-keys}
+use Rattle.range_map.proofs.MadeUpTo.{IsMadeUpTo-nothing, IsMadeUpTo-left, IsCombined-made}
 
 module _ {X : Type 0} (xs : List X) (len i : ℕ) (ordered : len ≤ i) (within : i < length xs) (d : X) where
   swap-sets : swap xs len i ≡ set (set xs len (get_or xs i d)) i (get_or xs len d)
@@ -51,36 +63,96 @@ get_or-from_drop xs ys n d h =
 pub later : {X : Type 0} (xs ys : List X) (n : ℕ) → drop n xs ≡ drop n ys → drop (n + 1) xs ≡ drop (n + 1) ys
 later xs ys n h = sym (drop-drop 1 n xs) ∙ ap (drop 1) h ∙ drop-drop 1 n ys
 
-module _ {K V : Type 0} (order : K → K → Ordering) (o : IsTotalOrder order) (E : V → V → Bool) (ks : List K) (ps : List (Option V)) (len i : ℕ)
-    (ordered : len ≤ i) (within : i < length ps) (same : length ps ≡ length ks) (q : Option V) (d : K) where
-  -- the option before the place, after that at place i was changed
-  last-option : get_or (None ∷ take len ps) (length (take len ps)) None ≡ get_or (None ∷ set ps i q) len None
+-- a step that is moved down, or left out, as one that is put behind those before
+module _ {K V : Type 0} (order : K → K → Ordering) (o : IsTotalOrder order) (E : V → V → Bool) (items : List (Step K V)) (n i : ℕ)
+    (ordered : n ≤ i) (within : i < length items) (test : V → Bool) (d : Step K V) where
+  abbrev kept_one : Step K V
+  kept_one = kept_step test (get_or items i d)
+
+  abbrev changed : List (Step K V)
+  changed = set items i kept_one
+
+  front : take n changed ≡ take n items
+  front = take-set-le n items i kept_one ordered
+
+  front-len : n ≡ length (take n items)
+  front-len = sym (length-take-le n items (omega (arith, ordered, within)))
+
+  last-option : get_or (None ∷ (steps_of (take n items)).options) n None ≡ get_or (None ∷ (steps_of changed).options) n None
   last-option =
-      ap (λ n. get_or (None ∷ take len ps) n None) (length-take-le len ps (omega (arith, ordered, within)))
-      ∙ ap (λ ws. get_or (None ∷ ws) len None) (sym (take-set-le len ps i q ordered))
-      ∙ get_or-take (suc len) (None ∷ set ps i q) len None (omega arith)
+      ap (λ (xs : List (Step K V)). get_or (None ∷ (steps_of xs).options) n None) (sym front)
+      ∙ ap (λ ws. get_or (None ∷ ws) n None) (sym (take-map (λ (s : Step K V). s.option) n changed))
+      ∙ get_or-take (suc n) (None ∷ (steps_of changed).options) n None (omega arith)
 
-  pub IsPut-not : option_eq E (get_or (None ∷ set ps i q) len None) q ≡ true →
-      IsPut order E (record { keys = take len ks; options = take len ps }) (get_or ks i d) q (record { keys = take len ks; options = take len (set ps i q) })
-  IsPut-not h = record {
-    key_put = get_or ks i d;
-    is_put = false;
-    equal = Equal-self o (get_or ks i d);
-    differs = sym (ap not (ap (λ p. option_eq E p q) last-option ∙ h));
-    keys_are = sym (append-nil (take len ks));
-    options_are = take-set-le len ps i q ordered ∙ sym (append-nil (take len ps));
-  }
+  own-option : get_or (steps_of changed).options i None ≡ kept_one.option
+  own-option =
+      get_or-map (λ (s : Step K V). s.option) changed i d None (omega (arith, within, length-set items i kept_one))
+      ∙ ap (λ (s : Step K V). s.option) (get_or-set_same items i kept_one d within)
 
-  pub IsPut-moved : option_eq E (get_or (None ∷ set ps i q) len None) q ≡ false →
-      IsPut order E (record { keys = take len ks; options = take len ps }) (get_or ks i d) q
-      (record { keys = take (len + 1) (swap ks len i); options = take (len + 1) (swap (set ps i q) len i) })
-  IsPut-moved h = record {
-    key_put = get_or ks i d;
-    is_put = true;
-    equal = Equal-self o (get_or ks i d);
-    differs = sym (ap not (ap (λ p. option_eq E p q) last-option ∙ h));
-    keys_are = take-swap ks len i ordered (omega (arith, within, same)) d;
-    options_are = take-swap (set ps i q) len i ordered (omega (arith, within, length-set ps i q)) None
-        ∙ ap (λ front. front ++ get_or (set ps i q) i None ∷ []) (take-set-le len ps i q ordered)
-        ∙ ap (λ p. take len ps ++ p ∷ []) (get_or-set_same ps i q None within);
-  }
+  compared : (b : Bool) → b ≡ option_eq E (get_or (None ∷ (steps_of changed).options) n None) (get_or (steps_of changed).options i None) →
+      option_eq E (get_or (None ∷ (steps_of (take n items)).options) n None) kept_one.option ≡ b
+  compared b h = ap₂ (option_eq E) last-option (sym own-option) ∙ sym h
+
+  pub IsPut-stays : (b : Bool) → b ≡ option_eq E (get_or (None ∷ (steps_of changed).options) n None) (get_or (steps_of changed).options i None) → b ≡ true →
+      (new : List (Step K V)) → new ≡ changed → IsPut order E (steps_of (take n items)) kept_one.key kept_one.option (steps_of (take n new))
+  IsPut-stays b h on new is =
+      subst (λ (xs : List (Step K V)). IsPut order E (steps_of (take n items)) kept_one.key kept_one.option (steps_of xs)) (sym (ap (take n) is ∙ front))
+      (IsPut-left_out order o E (take n items) kept_one.key kept_one.option n front-len (compared b h ∙ on))
+
+  pub IsPut-moved : (b : Bool) → b ≡ option_eq E (get_or (None ∷ (steps_of changed).options) n None) (get_or (steps_of changed).options i None) → b ≡ false →
+      (new : List (Step K V)) → new ≡ swap changed n i → IsPut order E (steps_of (take n items)) kept_one.key kept_one.option (steps_of (take (n + 1) new))
+  IsPut-moved b h off new is =
+      IsPut-behind order o E (take n items) kept_one.key kept_one.option n front-len (compared b h ∙ off) kept_one.key (Equal-self o kept_one.key) (take (n + 1) new)
+      (ap (take (n + 1)) is ∙ take-swap changed n i ordered (omega (arith, within, length-set items i kept_one)) d
+      ∙ ap₂ (λ xs s. xs ++ s ∷ []) front (get_or-set_same items i kept_one d within))
+
+  pub later-stays : (new : List (Step K V)) → new ≡ changed → drop (i + 1) new ≡ drop (i + 1) items
+  later-stays new is = ap (drop (i + 1)) is ∙ drop-set-lt (i + 1) items i kept_one (omega arith)
+
+  pub later-moved : (new : List (Step K V)) → new ≡ swap changed n i → drop (i + 1) new ≡ drop (i + 1) items
+  later-moved new is =
+      ap (drop (i + 1)) is ∙ drop-swap changed n i ordered (omega (arith, within, length-set items i kept_one)) d ∙ drop-set-lt (i + 1) items i kept_one (omega arith)
+
+  pub len-stays : (new : List (Step K V)) → new ≡ changed → length new ≡ length items
+  len-stays new is = ap length is ∙ length-set items i kept_one
+
+  pub len-moved : (new : List (Step K V)) → new ≡ swap changed n i → length new ≡ length items
+  len-moved new is =
+      ap length is
+      ∙ ap length (sym (swap_is changed n i d (omega (arith, ordered, within, length-set items i kept_one)) (omega (arith, within, length-set items i kept_one))))
+      ∙ length-set (set changed n (get_or changed i d)) i (get_or changed n d) ∙ length-set changed n (get_or changed i d) ∙ length-set items i kept_one
+
+-- one more step of a list is read, as far as what was made of it
+module _ {K V : Type 0} (order : K → K → Ordering) (o : IsTotalOrder order) (E : V → V → Bool) (e : IsEquivalence E) (test : V → Bool)
+    (old items : List (Step K V)) (i : ℕ) (ascending : IsAscending order (steps_of old).keys) where
+  abbrev nothing : Steps K (Unit {0})
+  nothing = record { keys = []; options = [] }
+
+  pub IsMadeUpTo-kept : (made new : Steps K V) (d : Step K V) → IsMadeUpTo order E (λ p q. kept test p) (steps_of old) nothing i 0 made →
+      IsPut order E made (get_or items i d).key (kept test (get_or items i d).option) new → i < length old → drop i items ≡ drop i old →
+      IsMadeUpTo order E (λ p q. kept test p) (steps_of old) nothing (i + 1) 0 new
+  IsMadeUpTo-kept made new d up_to put more same =
+      let s : Step K V = get_or items i d in
+      let n = length-keys old in
+      let within : i < length (steps_of old).keys = omega (arith, more, n) in
+      let read : s ≡ get_or old i d = get_or-from_drop items old i d same in
+      let key_is : s.key ≡ get_or (steps_of old).keys i s.key = ap (λ (t : Step K V). t.key) read ∙ sym (get_or-map (λ (t : Step K V). t.key) old i d s.key more) in
+      let option_is : get_or (None ∷ (steps_of old).options) (i + 1) None ≡ s.option =
+      get_or-behind_first None (steps_of old).options (i + 1) None (omega arith) ∙ one (steps_of old).options
+      ∙ get_or-map (λ (t : Step K V). t.option) old i d None more ∙ sym (ap (λ (t : Step K V). t.option) read) in
+      IsMadeUpTo-left order o E e (λ p q. kept test p) (steps_of old) nothing ascending (IsAscending-nil order) i 0 (omega (arith, within)) (omega arith) made new
+      s.key (kept test s.option) up_to put within key_is (λ m f low high. absurd (omega (arith, high)))
+      (ap (λ r. option_eq E (kept test s.option) (kept test r)) option_is ∙ (options_equiv e).refl (kept test s.option))
+    where
+      one : (ws : List (Option V)) → get_or ws (i + 1 - 1) None ≡ get_or ws i None
+      one ws = let same : i + 1 - 1 ≡ i = omega arith in ap (λ n. get_or ws n None) same
+
+  pub nothing-made : (made : Steps K V) → made.keys ≡ [] → made.options ≡ [] → IsMadeUpTo order E (λ p q. kept test p) (steps_of old) nothing 0 0 made
+  nothing-made made keys options = IsMadeUpTo-nothing order o E e (λ p q. kept test p) (steps_of old) nothing refl made keys options
+
+  pub all-kept : (made : Steps K V) → length old ≤ i → i ≤ length old → IsMadeUpTo order E (λ p q. kept test p) (steps_of old) nothing i 0 made →
+      (x : K) → AreAlike E (value_at order made x) (kept test (value_at order (steps_of old) x))
+  all-kept made past within up_to =
+      let all : i ≡ length (steps_of old).keys = omega (arith, past, within, length-keys old) in
+      IsCombined-made order o E e (λ p q. kept test p) (steps_of old) nothing made
+      (subst (λ (n : ℕ). IsMadeUpTo order E (λ p q. kept test p) (steps_of old) nothing n 0 made) all up_to)

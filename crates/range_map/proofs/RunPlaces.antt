@@ -33,7 +33,7 @@ module _ {X : Type 0} where
   All-unmap f P (x ∷ xs) h =
       All-cons (λ x. P (f x)) x xs (All-head P (f x) (map f xs) h) (All-unmap f P xs (All-tail P (f x) (map f xs) h))
 
-  -- what holds of a list from a place on, and of so many items from there
+  -- what holds of a list from a place on, and of a number of items from there
   AllWithin-drop : (P : X → Type 0) (n : ℕ) (xs : List X) → All P (drop n xs) → AllWithin P xs n (length xs)
   AllWithin-drop P n xs h k d low high =
       let e : n + (k - n) ≡ k = omega (arith, low) in

@@ -88,6 +88,13 @@ pub is_some-unit : (b : Bool) → is_some (unit_if b) ≡ b
 is_some-unit true = refl
 is_some-unit false = refl
 
+-- an option like the unit, or like none
+pub is_some-alike : (E : Unit {0} → Unit {0} → Bool) (p : Option (Unit {0})) (b : Bool) → option_eq E p (unit_if b) ≡ true → is_some p ≡ b
+is_some-alike E None true h = absurd (true≢false (sym h))
+is_some-alike E None false h = refl
+is_some-alike E (Some u) true h = refl
+is_some-alike E (Some u) false h = absurd (true≢false (sym h))
+
 pub even-test : (n : ℕ) → ((n % 2) == 0) ≡ differ true (is_odd n)
 even-test n = grind (arith, nat_tests)
 

@@ -2,6 +2,7 @@
 --     range_until k end    from k up to the end, if there is one
 --     first_or keys end    the first key, or else the end
 --     entries m            the ranges with their values, from the lowest on
+--     entries_of items end those of a list of steps, up to the end, if there is one
 --     overlaps order start end e    the range with its value shares a key with the one from start to end
 --     entry_now e          the range and the value that references point to
 use Rattle.std.specs.Prelude.{Bool, ◌&&◌, List, [], ◌∷◌, Option, Some, None}
@@ -12,6 +13,8 @@ use Rattle.range_collections.specs.Ranges.{range_now}
 use Rattle.range_collections.specs.declared.range_set_range.RangeSetRange.{RangeSetRange}
 use Rattle.range_collections.specs.declared.range_set_range.RangeSetRange.TheVariants.{Range, RangeFrom}
 use Rattle.range_map.specs.Steps.{Steps}
+use Rattle.range_map.specs.Listed.{steps_of}
+use Rattle.range_map.specs.declared.step.Step.{Step}
 
 module _ {K : Type 0} where
   -- from k up to the end, if there is one
@@ -36,6 +39,10 @@ module _ {K V : Type 0} where
   -- the ranges of a map with their values, from the lowest on
   abbrev pub entries : Steps K V → List (RangeSetRange K × V)
   entries m = entries_until m.keys m.options None
+
+  -- those of a list of steps, up to the end, if there is one
+  abbrev pub entries_of : List (Step K V) → Option K → List (RangeSetRange K × V)
+  entries_of items end = entries_until (steps_of items).keys (steps_of items).options end
 
   -- the range begins below the end and ends above the start, of which the start is the lower one
   abbrev pub overlaps : (K → K → Ordering) → K → K → RangeSetRange K × V → Bool

@@ -1,5 +1,6 @@
 -- The parts of a range whose keys have no value.
 --     gaps_until start keys options end    the parts of the steps up to the end, and one from the start
+--     free_of items end, gaps_of start items end    the same of a list of steps
 --     is_in_some order rs x     some range of the list has x
 --     AreGaps order m start end rs    the ranges have the keys between without a value, and lie apart
 use Rattle.std.specs.Prelude.{◌≡◌, Bool, true, false, not, ◌&&◌, ◌||◌, List, [], ◌∷◌, map, Option, Some, None, All}
@@ -10,6 +11,8 @@ use Rattle.range_collections.specs.Ranges.{EndsBelow, range_start}
 use Rattle.range_collections.specs.declared.range_set_range.RangeSetRange.{RangeSetRange}
 use Rattle.range_collections.specs.declared.range_set_range.RangeSetRange.TheVariants.{Range, RangeFrom}
 use Rattle.range_map.specs.Steps.{Steps, value_at}
+use Rattle.range_map.specs.Listed.{steps_of}
+use Rattle.range_map.specs.declared.step.Step.{Step}
 use Rattle.range_map.specs.Changed.{is_in_range}
 use Rattle.range_map.specs.Entries.{range_until, first_or, entries_until}
 use Rattle.range_map.specs.Units.{unit_if}
@@ -29,6 +32,13 @@ module _ {K V : Type 0} where
   gaps_until None keys options end = free_until keys options end
   gaps_until (Some start) keys options end =
       range_until start (first_or keys (Some end)) ∷ free_until keys options end
+
+  -- the same of a list of steps
+  abbrev pub free_of : List (Step K V) → K → List (RangeSetRange K)
+  free_of items end = free_until (steps_of items).keys (steps_of items).options end
+
+  abbrev pub gaps_of : Option K → List (Step K V) → K → List (RangeSetRange K)
+  gaps_of start items end = gaps_until start (steps_of items).keys (steps_of items).options end
 
 module _ {K : Type 0} (order : K → K → Ordering) where
   -- the range has x

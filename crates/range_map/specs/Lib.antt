@@ -1,4 +1,6 @@
 pub mod Steps
+pub mod Listed
+pub mod Read
 pub mod Changed
 pub mod Places
 pub mod Entries

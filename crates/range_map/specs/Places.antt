@@ -1,6 +1,8 @@
 -- Where a range lies among the steps of a map; contracts of private functions use these words.
---     after_range options places copied    the option that holds from the end on
---     put_len places             how many steps are put
+--     Span, span_of lists places    places as numbers: how many steps stand before each
+--     after_range options span copied    the option that holds from the end on
+--     end_step items span end copied     the step that stands at the end, if one does
+--     put_len span               how many steps are put
 --     needs_end E end p after    whether one has to stand at the end
 --     ArePlaces ..               which steps lie in the range, and whether some stand at its ends
 use Rattle.std.specs.Prelude.{◌≡◌, ℕ, ◌+◌, ◌≤◌, Bool, true, false, not, cond, List, ◌∷◌, length, get_or, nat_lt, Option, Some, None}
@@ -10,16 +12,39 @@ use Rattle.std.specs.Ordering.{is_le}
 use Rattle.std.specs.declared.cmp.Ordering.{Ordering}
 use Rattle.std.specs.declared.cmp.Ordering.TheVariants.{Less, Greater}
 use Rattle.range_map.specs.Steps.{Steps}
+use Rattle.range_map.specs.Listed.{steps_of}
+use Rattle.range_map.specs.declared.step.Step.{Step}
 use Rattle.range_map.specs.declared.places.Places.{Places}
+use Rattle.range_list.specs.Lists.{place_at}
+
+-- how many steps stand before the first one in the range, and before the first one behind it; whether
+-- steps have to stand at its start and at its end
+pub record Span : Type 0 where
+  pub from : ℕ
+  pub to : ℕ
+  pub starts : Bool
+  pub ends : Bool
+
+-- places as numbers
+abbrev pub span_of : {K V : Type 0} → List (List (Step K V)) → Places → Span
+span_of lists p =
+    record { from = place_at lists p.from; to = place_at lists p.to; starts = p.starts; ends = p.ends }
 
 -- the last option in the range, or if no step lies in it the copy
-abbrev pub after_range : {V : Type 0} → List (Option V) → Places → Option V → Option V
-after_range options places copied =
-    cond (nat_lt places.from places.to) (get_or (None ∷ options) places.to None) copied
+abbrev pub after_range : {V : Type 0} → List (Option V) → Span → Option V → Option V
+after_range options span copied =
+    cond (nat_lt span.from span.to) (get_or (None ∷ options) span.to None) copied
+
+-- the step that stands at the end, if one does
+abbrev pub end_step : {K V : Type 0} → List (Step K V) → Span → Option K → Option V →
+    Option (Step K V)
+end_step items span None copied = None
+end_step items span (Some end) copied =
+    Some (record { key = end; option = after_range (steps_of items).options span copied })
 
 -- how many steps are put
-abbrev pub put_len : Places → ℕ
-put_len places = cond places.starts 1 0 + cond places.ends 1 0
+abbrev pub put_len : Span → ℕ
+put_len span = cond span.starts 1 0 + cond span.ends 1 0
 
 -- whether a step has to stand at the end: the option that held there isn't p
 abbrev pub needs_end : {K W : Type 0} → (W → W → Bool) → Option K → W → W → Bool
@@ -41,12 +66,12 @@ module _ {K : Type 0} (order : K → K → Ordering) where
   -- place `to` are at or below the end, those from there on are above it; and steps have to stand
   -- where the option changes to p and where it changes back
   pub record ArePlaces {V : Type 0} (E : V → V → Bool) (m : Steps K V) (start : K) (end : Option K)
-      (p : Option V) (places : Places) : Type 0 where
-    pub from_in : places.from ≤ length m.keys
-    pub to_in : places.to ≤ length m.keys
-    pub below : AllWithin (λ y. order y start ≡ Less) m.keys 0 places.from
-    pub at_least : AllWithin (λ y. is_le (order start y) ≡ true) m.keys places.from (length m.keys)
-    pub up_to : AllWithin (IsUpToEnd end) m.keys 0 places.to
-    pub above : AllWithin (IsAboveEnd end) m.keys places.to (length m.keys)
-    pub starts : places.starts ≡ not (option_eq E (get_or (None ∷ m.options) places.from None) p)
-    pub ends : places.ends ≡ needs_end (option_eq E) end p (get_or (None ∷ m.options) places.to None)
+      (p : Option V) (span : Span) : Type 0 where
+    pub from_in : span.from ≤ length m.keys
+    pub to_in : span.to ≤ length m.keys
+    pub below : AllWithin (λ y. order y start ≡ Less) m.keys 0 span.from
+    pub at_least : AllWithin (λ y. is_le (order start y) ≡ true) m.keys span.from (length m.keys)
+    pub up_to : AllWithin (IsUpToEnd end) m.keys 0 span.to
+    pub above : AllWithin (IsAboveEnd end) m.keys span.to (length m.keys)
+    pub starts : span.starts ≡ not (option_eq E (get_or (None ∷ m.options) span.from None) p)
+    pub ends : span.ends ≡ needs_end (option_eq E) end p (get_or (None ∷ m.options) span.to None)

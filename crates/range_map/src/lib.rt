@@ -2,6 +2,7 @@
 //! up to the next one, or none.
 #![tactic(auto)]
 
+mod borrowed_steps;
 mod filter;
 mod free;
 mod gaps;
@@ -15,8 +16,7 @@ mod places;
 mod replacing;
 mod retaining;
 mod runs;
-mod side;
-mod splicing;
+mod step;
 mod update;
 mod value;
 mod within;

@@ -1,29 +1,31 @@
 //! The map: strictly sorted keys, and the option that holds from each of them on.
-ghost use Rattle.std.specs.Prelude.{◌≡◌, ◌↔◌, ◌+◌, ◌*◌, ◌^◌, ◌<◌, [], false, filter, length, IsTrue, Some, None, OnOk, OnErr, IsOk, option_copied};
+ghost use Rattle.std.specs.Prelude.{◌≡◌, ◌↔◌, ◌+◌, ◌-◌, ◌*◌, ◌^◌, ◌<◌, [], false, filter, length, IsTrue, Some, None, OnOk, OnErr, IsOk, option_copied};
 ghost use Rattle.std.specs.Option.{is_some};
 ghost use Rattle.std.specs.Ordering.{is_lt};
 ghost use Rattle.range_merge.specs.Counting.{AddsAtMost};
 ghost use Rattle.range_merge.specs.Runs.{digits};
 ghost use Rattle.range_map.specs.Steps.{value_at, ranges_len};
+ghost use Rattle.range_map.specs.Listed.{steps_in};
 ghost use Rattle.range_map.specs.Changed.{IsSetTo, FitsAfter, IsFree};
 
-mod booking;
 mod building;
 mod combining;
 mod copying;
 mod depth;
 mod equality;
+mod insert_free;
 mod ranges;
 mod sets;
 mod text;
 mod union;
 mod updating;
 
-use crate::places::option_before;
+use crate::places::{option_before, place_up_to};
 use crate::replacing::set_range;
+use crate::step::Step;
 use crate::value::MapValue;
-use range_collections::Comparisons;
-use range_merge::{Compare, count_up_to};
+use range_collections::{Comparisons, has_elements};
+use range_list::Chunks;
 pub use ranges::Stretch;
 use std::alloc::{AllocError, Global};
 use std::marker::Model;
@@ -45,26 +47,32 @@ use std::ops::{Range, RangeFrom};
 ///
 /// A range has its start and not its end; an empty or reversed range has no keys. Of two equal keys
 /// where ranges begin, either may stay. If memory runs out, the map is as it was. A value is copied
-/// only where a range becomes two.
+/// only where a range becomes two, or into a new map, which `update` makes too.
 ///
-/// It is one list, so a change moves all later keys. A search makes at most as many comparisons as
-/// twice the number of ranges has binary digits.
-#[derive(Drop)]
+/// Its keys lie in chunks of at most 128, and a change moves those of one chunk. A search makes at
+/// most 7 comparisons more than the number of keys has binary digits; a range has two keys at most.
 pub struct RangeMap<K: Ord, V: Eq> {
-    keys: Vec<K>,
-    options: Vec<Option<V>>,
+    steps: Chunks<Step<K, V>, ()>,
+}
+
+impl<K: Ord + Drop, V: Eq + Drop> Drop for RangeMap<K, V> {
+    #[inline]
+    fn drop(self) {
+        let Self { steps: _steps } = self;
+    }
 }
 
 impl<K: Ord, V: Eq> Model for RangeMap<K, V> {
     ghost use Rattle.range_map.specs.Steps.{Steps, IsCanonical, coded_steps};
+    ghost use Rattle.range_map.specs.Listed.{steps_in};
 
     ghost Value = { Steps K V };
 
     ghost coded = { coded_steps K.code V.code };
 
-    ghost view = { λ map. record { keys = map.keys.items; options = map.options.items } };
+    ghost view = { λ map. steps_in map.steps };
 
-    ghost invariant = { λ map. IsCanonical K.cmp V.eq (record { keys = map.keys.items; options = map.options.items }) };
+    ghost invariant = { λ map. IsCanonical K.cmp V.eq (steps_in map.steps) };
 }
 
 impl<K: Ord, V: Eq> RangeMap<K, V> {
@@ -75,8 +83,7 @@ impl<K: Ord, V: Eq> RangeMap<K, V> {
         ensures values { (x : K) → value_at K.cmp result x ≡ None }
     {
         RangeMap {
-            keys: Vec::new(alloc),
-            options: Vec::new(alloc),
+            steps: Chunks::new(alloc),
         }
     }
 
@@ -87,15 +94,16 @@ impl<K: Ord, V: Eq> RangeMap<K, V> {
         self.get_counted(key, &mut Comparisons::new())
     }
 
-    /// The same, counted: at most as many comparisons as the number of the map's keys has binary
-    /// digits. A range has two keys at most.
+    /// The same, counted: at most 7 comparisons more than the number of the map's keys has binary
+    /// digits.
+    #[inline]
     pub fn get_counted(&self, key: &K, count: &mut Comparisons) -> Option<&V>
         requires { count.old < 2 ^ 64 }
         ensures value { option_copied result ≡ value_at K.cmp self.now key.now }
-        ensures comparisons { AddsAtMost count.old count.new (digits (length self.now.keys)) }
+        ensures comparisons { AddsAtMost count.old count.new (digits (length self.now.keys) + 7) }
     {
-        let n = count_up_to(self.keys.as_slice(), key, count);
-        option_before(self.options.as_slice(), n)
+        let place = place_up_to(&self.steps, key, count);
+        option_before(&self.steps, place)
     }
 
     /// Whether `key` has a value.
@@ -110,25 +118,25 @@ impl<K: Ord, V: Eq> RangeMap<K, V> {
     pub fn is_empty(&self) -> bool
         ensures { IsTrue result ↔ ((x : K) → value_at K.cmp self.now x ≡ None) }
     {
-        self.keys.is_empty()
+        self.steps.is_empty()
     }
 
-    /// How many ranges there are, where those that touch and have equal values are one.
+    /// How many ranges there are, where those that touch and have equal values are one. It reads all
+    /// of them.
     pub fn len(&self) -> usize
         ensures { result ≡ ranges_len self.now }
     {
-        some_len(self.options.as_slice())
+        some_len(&self.steps)
     }
 }
 
 impl<K: Ord + Drop, V: Eq + Drop> RangeMap<K, V> {
-    /// Takes all ranges out. The room that they had stays.
+    /// Takes all ranges out. It keeps the room for the list of chunks.
     pub fn clear(&mut self)
         ensures steps { (self.new.keys ≡ []) × (self.new.options ≡ []) }
         ensures values { (x : K) → value_at K.cmp self.new x ≡ None }
     {
-        self.keys.clear();
-        self.options.clear();
+        self.steps.clear();
     }
 }
 
@@ -150,7 +158,7 @@ impl<K: Ord + Drop, V: MapValue> RangeMap<K, V> {
     }
 
     /// The same, counted: one comparison of the start with the end, and for each of the two at most
-    /// as many as the number of the map's keys has binary digits.
+    /// 7 more than the number of the map's keys has binary digits.
     pub fn insert_counted(
         &mut self,
         range: Range<K>,
@@ -163,7 +171,7 @@ impl<K: Ord + Drop, V: MapValue> RangeMap<K, V> {
         ensures empty { is_lt (K.cmp range.start range.end) ≡ false → (self.new ≡ self.old) × IsOk result }
         ensures succeeds { FitsAfter K.cmp V.eq range.start (Some range.end) (Some value) self.old → IsOk result }
         ensures no_change { IsSetTo K.cmp V.eq range.start (Some range.end) (Some value) self.old self.old → IsOk result }
-        ensures comparisons { AddsAtMost count.old count.new (2 * digits (length self.old.keys) + 1) }
+        ensures comparisons { AddsAtMost count.old count.new (2 * (digits (length self.old.keys) + 7) + 1) }
     {
         self.set(range, Some(value), count)
     }
@@ -183,7 +191,7 @@ impl<K: Ord + Drop, V: MapValue> RangeMap<K, V> {
     }
 
     /// The same, counted: one comparison of the start with the end, and for each of the two at most
-    /// as many as the number of the map's keys has binary digits.
+    /// 7 more than the number of the map's keys has binary digits.
     pub fn remove_counted(
         &mut self,
         range: Range<K>,
@@ -195,7 +203,7 @@ impl<K: Ord + Drop, V: MapValue> RangeMap<K, V> {
         ensures empty { is_lt (K.cmp range.start range.end) ≡ false → (self.new ≡ self.old) × IsOk result }
         ensures succeeds { FitsAfter K.cmp V.eq range.start (Some range.end) None self.old → IsOk result }
         ensures free { IsFree K.cmp range.start (Some range.end) self.old → IsOk result }
-        ensures comparisons { AddsAtMost count.old count.new (2 * digits (length self.old.keys) + 1) }
+        ensures comparisons { AddsAtMost count.old count.new (2 * (digits (length self.old.keys) + 7) + 1) }
     {
         self.set(range, None, count)
     }
@@ -234,8 +242,7 @@ impl<K: Ord + Drop, V: MapValue> RangeMap<K, V> {
         ensures no_change { IsSetTo K.cmp V.eq start None option self.old self.old → IsOk result }
     {
         set_range(
-            &mut self.keys,
-            &mut self.options,
+            &mut self.steps,
             start,
             None,
             option,
@@ -256,26 +263,26 @@ impl<K: Ord + Drop, V: MapValue> RangeMap<K, V> {
         ensures empty { is_lt (K.cmp range.start range.end) ≡ false → (self.new ≡ self.old) × IsOk result }
         ensures succeeds { FitsAfter K.cmp V.eq range.start (Some range.end) option self.old → IsOk result }
         ensures no_change { IsSetTo K.cmp V.eq range.start (Some range.end) option self.old self.old → IsOk result }
-        ensures comparisons { AddsAtMost count.old count.new (2 * digits (length self.old.keys) + 1) }
+        ensures comparisons { AddsAtMost count.old count.new (2 * (digits (length self.old.keys) + 7) + 1) }
     {
         let Range { start, end } = range;
-        if !count.compare(&start, &end).is_lt() {
+        if !has_elements(&start, &end, count) {
             return Ok(());
         }
-        set_range(
-            &mut self.keys,
-            &mut self.options,
-            start,
-            Some(end),
-            option,
-            count,
-        )
+        set_range(&mut self.steps, start, Some(end), option, count)
     }
 }
 
-// How many of the options have a value.
-fn some_len<V>(options: &[Option<V>]) -> usize
-    ensures { result ≡ length (filter is_some options.now) }
+// How many of the steps have a value: all but those without one.
+fn some_len<K, V>(steps: &Chunks<Step<K, V>, ()>) -> usize
+    ensures { result ≡ length (filter is_some (steps_in steps.now).options) }
 {
-    options.iter().filter(|option| option.is_some()).count()
+    let mut len = steps.len();
+    let mut unread = steps.items();
+    while let Some(step) = unread.take_first() {
+        if step.option.is_none() {
+            len -= 1;
+        }
+    }
+    len
 }

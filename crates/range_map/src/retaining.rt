@@ -1,80 +1,114 @@
 //! Values taken away in place: what stays moves down, and steps with equal options become one.
-ghost use Rattle.std.specs.Prelude.{◌≡◌, ◌+◌, ◌<◌, ◌≤◌, None, cond, length, take, drop, set, get_or, option_copied};
-ghost use Rattle.std.specs.List.{swap};
+ghost use Rattle.std.specs.Prelude.{◌≡◌, ◌+◌, ◌<◌, ◌≤◌, ◌∷◌, true, false, None, cond, length, take, drop, set, get_or, option_copied};
+ghost use Rattle.std.specs.Option.{option_eq};
+ghost use Rattle.range_list.specs.Lists.{joined, place_at, IsPlaceAt, HasPlacesOf};
 ghost use Rattle.range_map.specs.Combining.{IsPut};
+ghost use Rattle.range_map.specs.Listed.{steps_of, steps_in};
 ghost use Rattle.range_map.specs.Steps.{value_at, AreAlike, IsCanonical};
-ghost use Rattle.range_map.specs.Updated.{kept};
+ghost use Rattle.range_map.specs.Updated.{kept, kept_step};
 
 use crate::filter::MapFilter;
 use crate::places::is_before;
+use crate::step::{Step, StepOption};
+use range_list::{Chunks, FRONT, Place};
 
 /// Takes away each value that the filter doesn't keep.
 pub fn retain_values<K: Ord + Drop, V: Eq + Drop, F: MapFilter<V>>(
-    keys: &mut Vec<K>,
-    options: &mut Vec<Option<V>>,
+    steps: &mut Chunks<Step<K, V>, ()>,
     filter: &F,
 )
-    requires { IsCanonical K.cmp V.eq (record { keys = keys.old.items; options = options.old.items }) }
-    ensures canonical { IsCanonical K.cmp V.eq (record { keys = keys.new.items; options = options.new.items }) }
-    ensures values { (x : K) → AreAlike V.eq
-        (value_at K.cmp (record { keys = keys.new.items; options = options.new.items }) x)
-        (kept (F.is_kept filter.now)
-        (value_at K.cmp (record { keys = keys.old.items; options = options.old.items }) x)) }
+    requires { IsCanonical K.cmp V.eq (steps_in steps.old) }
+    ensures canonical { IsCanonical K.cmp V.eq (steps_in steps.new) }
+    ensures values { (x : K) → AreAlike V.eq (value_at K.cmp (steps_in steps.new) x)
+        (kept (F.is_kept filter.now) (value_at K.cmp (steps_in steps.old) x)) }
 {
-    let steps = options.len();
-    let mut len = 0;
-    for i in 0..steps {
-        len = keep_step(keys, options, len, i, filter);
+    let mut end = FRONT;
+    let mut at = FRONT;
+    let mut more = is_item(steps, at);
+    while more {
+        end = keep_step(steps, end, at, filter);
+        at = steps.place_after(at);
+        more = is_item(steps, at);
     }
-    keys.truncate(len);
-    options.truncate(len);
+    steps.truncate(end);
 }
 
-// Moves the step at place `i` down to the end of those that were kept, without its value if that
-// doesn't stay, and if its option then differs from the one before it. Returns how many were kept.
-fn keep_step<K: Ord + Drop, V: Eq + Drop, F: MapFilter<V>>(
-    keys: &mut Vec<K>,
-    options: &mut Vec<Option<V>>,
-    len: usize,
-    i: usize,
-    filter: &F,
-) -> usize
-    requires ordered { len ≤ i }
-    requires within { i < length options.old.items }
-    requires one_each { length options.old.items ≡ length keys.old.items }
-    ensures keys_len { length keys.new.items ≡ length keys.old.items }
-    ensures options_len { length options.new.items ≡ length options.old.items }
-    ensures later_keys { drop (i + 1) keys.new.items ≡ drop (i + 1) keys.old.items }
-    ensures later_options { drop (i + 1) options.new.items ≡ drop (i + 1) options.old.items }
-    ensures ordered { result ≤ i + 1 }
-    ensures put { (d : K) → IsPut K.cmp V.eq
-        (record { keys = take len keys.old.items; options = take len options.old.items })
-        (get_or keys.old.items i d)
-        (kept (F.is_kept filter.now) (get_or options.old.items i None))
-        (record { keys = take result keys.new.items; options = take result options.new.items }) }
+// Whether there is a step at a place.
+fn is_item<K, V>(steps: &Chunks<Step<K, V>, ()>, at: Place) -> bool
+    requires { IsPlaceAt steps.now at }
+    ensures item { result ≡ true → place_at steps.now at < length (joined steps.now) }
+    ensures end { result ≡ false → length (joined steps.now) ≤ place_at steps.now at }
 {
-    drop_unkept(options, i, filter);
-    if is_before(options.as_slice(), len, &options[i]) {
-        return len;
+    steps.item_at(at).is_some()
+}
+
+// Moves the step at a place down to the end of those that were kept, without its value if that
+// doesn't stay, and if its option then differs from the one before it. Returns the new end.
+fn keep_step<K: Ord + Drop, V: Eq + Drop, F: MapFilter<V>>(
+    steps: &mut Chunks<Step<K, V>, ()>,
+    end: Place,
+    at: Place,
+    filter: &F,
+) -> Place
+    requires end { IsPlaceAt steps.old end }
+    requires at { IsPlaceAt steps.old at }
+    requires ordered { place_at steps.old end ≤ place_at steps.old at }
+    requires item { place_at steps.old at < length (joined steps.old) }
+    ensures places { HasPlacesOf steps.old steps.new }
+    ensures len { length (joined steps.new) ≡ length (joined steps.old) }
+    ensures later { drop (place_at steps.old at + 1) (joined steps.new) ≡
+        drop (place_at steps.old at + 1) (joined steps.old) }
+    ensures place { IsPlaceAt steps.new result }
+    ensures ordered { place_at steps.new result ≤ place_at steps.old at + 1 }
+    ensures put { (d : Step K V) → IsPut K.cmp V.eq
+        (steps_of (take (place_at steps.old end) (joined steps.old)))
+        (get_or (joined steps.old) (place_at steps.old at) d).key
+        (kept (F.is_kept filter.now) (get_or (joined steps.old) (place_at steps.old at) d).option)
+        (steps_of (take (place_at steps.new result) (joined steps.new))) }
+{
+    drop_unkept(steps, at, filter);
+    if is_like_last(steps, end, at) {
+        return end;
     }
-    move_down(keys, len, i);
-    move_down(options, len, i);
-    len + 1
+    steps.swap(end, at);
+    steps.place_after(end)
 }
 
 // Takes away the value at a place, if the filter doesn't keep it.
-fn drop_unkept<V: Drop, F: MapFilter<V>>(options: &mut Vec<Option<V>>, i: usize, filter: &F)
-    requires { i < length options.old.items }
-    ensures { options.new.items ≡ set options.old.items i
-        (kept (F.is_kept filter.now) (get_or options.old.items i None)) }
+fn drop_unkept<K: Drop, V: Drop, F: MapFilter<V>>(
+    steps: &mut Chunks<Step<K, V>, ()>,
+    at: Place,
+    filter: &F,
+)
+    requires at { IsPlaceAt steps.old at }
+    requires item { place_at steps.old at < length (joined steps.old) }
+    ensures places { HasPlacesOf steps.old steps.new }
+    ensures items { (d : Step K V) → joined steps.new ≡ set (joined steps.old) (place_at steps.old at)
+        (kept_step (F.is_kept filter.now) (get_or (joined steps.old) (place_at steps.old at) d)) }
 {
-    if !stays(options[i].as_ref(), filter) {
-        options[i] = None;
+    if !stays(steps, at, filter) {
+        steps.set_key(at, &StepOption, None);
+    }
+}
+
+// Whether the option at a place stays as it is.
+fn stays<K, V, F: MapFilter<V>>(steps: &Chunks<Step<K, V>, ()>, at: Place, filter: &F) -> bool
+    requires at { IsPlaceAt steps.now at }
+    requires item { place_at steps.now at < length (joined steps.now) }
+    ensures { (d : Step K V) → kept_step (F.is_kept filter.now) (get_or (joined steps.now) (place_at steps.now at) d) ≡
+        record {
+          key = (get_or (joined steps.now) (place_at steps.now at) d).key;
+          option = cond result (get_or (joined steps.now) (place_at steps.now at) d).option None;
+        } }
+{
+    match steps.item_at(at) {
+        Some(step) => is_kept(step.option.as_ref(), filter),
+        None => true,
     }
 }
 
 // Whether an option stays as it is.
-fn stays<V, F: MapFilter<V>>(option: Option<&V>, filter: &F) -> bool
+fn is_kept<V, F: MapFilter<V>>(option: Option<&V>, filter: &F) -> bool
     ensures { kept (F.is_kept filter.now) (option_copied option.entry) ≡
         cond result (option_copied option.entry) None }
 {
@@ -84,11 +118,16 @@ fn stays<V, F: MapFilter<V>>(option: Option<&V>, filter: &F) -> bool
     }
 }
 
-// Swaps the item at place `i` with the one at place `len`.
-fn move_down<T>(list: &mut Vec<T>, len: usize, i: usize)
-    requires ordered { len ≤ i }
-    requires within { i < length list.old.items }
-    ensures { list.new.items ≡ swap list.old.items len i }
+// Whether the option at a place equals the one before another.
+fn is_like_last<K, V: Eq>(steps: &Chunks<Step<K, V>, ()>, end: Place, at: Place) -> bool
+    requires end { IsPlaceAt steps.now end }
+    requires at { IsPlaceAt steps.now at }
+    requires item { place_at steps.now at < length (joined steps.now) }
+    ensures { result ≡ option_eq V.eq (get_or (None ∷ (steps_in steps.now).options) (place_at steps.now end) None)
+        (get_or (steps_in steps.now).options (place_at steps.now at) None) }
 {
-    list.swap(len, i);
+    match steps.item_at(at) {
+        Some(step) => is_before(steps, end, &step.option),
+        None => true,
+    }
 }

@@ -4,22 +4,27 @@ ghost use Rattle.range_merge.specs.Boundaries.{IsAscending};
 ghost use Rattle.range_merge.specs.Counting.{AddsAtMost};
 ghost use Rattle.range_merge.specs.Runs.{weight, runs, run_len, digits};
 ghost use Rattle.range_map.specs.Combining.{IsRun, left_len, right_len};
+ghost use Rattle.range_map.specs.Read.{steps_read};
 
+use crate::borrowed_steps::BorrowedSteps;
+use crate::step::Step;
 use range_collections::{Comparisons, MergeState, Run, run_length};
 
-// Two lists of keys that are unread.
+// The steps of two maps that are unread.
 #[derive(Drop)]
-struct Unread<'a, K> {
-    left: &'a [K],
-    right: &'a [K],
+struct Unread<'a, 'l, 'r, K, V, W> {
+    left: &'a [Step<&'l K, &'l V>],
+    right: &'a [Step<&'r K, &'r W>],
 }
 
-impl<'a, K> MergeState for Unread<'a, K> {
+impl<'a, 'l, 'r, K, V, W> MergeState for Unread<'a, 'l, 'r, K, V, W> {
+    ghost use Rattle.range_map.specs.Read.{steps_read};
+
     type Item = K;
 
-    ghost left = { λ s. s.left.now };
+    ghost left = { λ s. (steps_read s.left.now).keys };
 
-    ghost right = { λ s. s.right.now };
+    ghost right = { λ s. (steps_read s.right.now).keys };
 
     #[inline(always)]
     fn a_len(&self) -> usize {
@@ -33,41 +38,47 @@ impl<'a, K> MergeState for Unread<'a, K> {
 
     #[inline(always)]
     fn a_at(&self, i: usize) -> &K {
-        &self.left[i]
+        self.left[i].key
     }
 
     #[inline(always)]
     fn b_at(&self, i: usize) -> &K {
-        &self.right[i]
+        self.right[i].key
     }
 }
 
 /// The first run of the keys from places `i` and `j` on.
 #[inline(always)]
-pub fn next_run<K: Ord>(a: &[K], i: usize, b: &[K], j: usize, count: &mut Comparisons) -> Run
-    requires a_some { i < length a.now }
-    requires b_some { j < length b.now }
-    requires a_ascends { IsAscending K.cmp a.now }
-    requires b_ascends { IsAscending K.cmp b.now }
+pub fn next_run<K: Ord, V, W>(
+    a: &BorrowedSteps<'_, K, V>,
+    i: usize,
+    b: &BorrowedSteps<'_, K, W>,
+    j: usize,
+    count: &mut Comparisons,
+) -> Run
+    requires a_some { i < length a.now.keys }
+    requires b_some { j < length b.now.keys }
+    requires a_ascends { IsAscending K.cmp a.now.keys }
+    requires b_ascends { IsAscending K.cmp b.now.keys }
     requires made { count.old < 2 ^ 127 }
-    ensures run { IsRun K.cmp a.now i b.now j result }
+    ensures run { IsRun K.cmp a.now.keys i b.now.keys j result }
     ensures onward { 0 < left_len result + right_len result }
     ensures at_least { count.old ≤ count.new }
-    ensures paid { count.new + 2 * weight K.cmp (drop (i + left_len result) a.now) (drop (j + right_len result) b.now) ≤
-        count.old + 2 * weight K.cmp (drop i a.now) (drop j b.now) }
+    ensures paid { count.new + 2 * weight K.cmp (drop (i + left_len result) a.now.keys) (drop (j + right_len result) b.now.keys) ≤
+        count.old + 2 * weight K.cmp (drop i a.now.keys) (drop j b.now.keys) }
 {
-    first_run(&a[i..], &b[j..], count)
+    first_run(a.behind(i), b.behind(j), count)
 }
 
-// The first run of two lists of keys.
+// The first run of two lists of steps.
 #[inline(always)]
-fn first_run<K: Ord>(a: &[K], b: &[K], count: &mut Comparisons) -> Run
-    requires a_some { 0 < length a.now }
-    requires b_some { 0 < length b.now }
-    requires a_ascends { IsAscending K.cmp a.now }
-    requires b_ascends { IsAscending K.cmp b.now }
+fn first_run<K: Ord, V, W>(a: &[Step<&K, &V>], b: &[Step<&K, &W>], count: &mut Comparisons) -> Run
+    requires a_some { 0 < length (steps_read a.now).keys }
+    requires b_some { 0 < length (steps_read b.now).keys }
+    requires a_ascends { IsAscending K.cmp (steps_read a.now).keys }
+    requires b_ascends { IsAscending K.cmp (steps_read b.now).keys }
     requires made { count.old < 2 ^ 127 }
-    ensures first { slice_get (runs K.cmp a.now b.now) 0 ≡ Some result }
+    ensures first { slice_get (runs K.cmp (steps_read a.now).keys (steps_read b.now).keys) 0 ≡ Some result }
     ensures comparisons { AddsAtMost count.old count.new (2 * digits (run_len result)) }
 {
     let unread = Unread { left: a, right: b };

@@ -5,7 +5,7 @@ ghost use Rattle.range_map.specs.Steps.{AreAlike};
 use std::alloc::AllocError;
 
 /// A type whose values can be copied, which may fail. A map copies a value only where one of its
-/// ranges becomes two.
+/// ranges becomes two, or into a new map.
 pub trait MapValue: Eq + Drop {
     // A copy of this value never fails.
     ghost is_infallible: { Self → Type 0 };

@@ -3,7 +3,11 @@
 #![tactic(auto)]
 
 #[cfg(test)]
+mod chunks;
+#[cfg(test)]
 mod comparisons;
+#[cfg(test)]
+mod depths;
 #[cfg(test)]
 mod made_up;
 #[cfg(test)]

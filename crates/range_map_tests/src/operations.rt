@@ -4,6 +4,7 @@ ghost use Rattle.std.specs.Option.{is_some};
 ghost use Rattle.std.specs.Prelude.{cond, nat_eq, not, Some, None};
 ghost use Rattle.range_map.specs.Units.{unit_if};
 
+use crate::depths::has_depths;
 use crate::made_up::{KEYS, LIMIT, next_range, set};
 use range_collections::{Comparisons, RangeSet2};
 use range_map::{MapFilter, MapOperation, MapUpdate, RangeMap};
@@ -178,27 +179,6 @@ fn made_up_maps_are_asked(rt: HostRuntime) -> Result<(), AllocError> {
         );
     }
     Ok(())
-}
-
-// How many of the ranges hold the key.
-fn depth_at(ranges: &[Range<u64>], key: u64) -> usize {
-    let mut depth = 0usize;
-    for range in ranges {
-        if range.start <= key && key < range.end {
-            depth = depth.saturating_add(1);
-        }
-    }
-    depth
-}
-
-// Whether the map has the depths of these ranges.
-fn has_depths(map: &RangeMap<u64, usize>, ranges: &[Range<u64>]) -> bool {
-    for key in 0..LIMIT {
-        if map.get(&key).copied().unwrap_or(0) != depth_at(ranges, key) {
-            return false;
-        }
-    }
-    true
 }
 
 #[test]

@@ -18,7 +18,7 @@ struct Row {
 
 // The first range, some that add steps, and some that don't.
 #[rattlefmt::skip]
-const ROWS: [Row; 9] = [
+const ROWS: [Row; 12] = [
     Row { ranges: 0, start: 5, end: 10, value: 1, takes: true },
     Row { ranges: 16, start: 12, end: 15, value: 3, takes: true },
     Row { ranges: 16, start: 2, end: 5, value: 3, takes: true },
@@ -28,6 +28,10 @@ const ROWS: [Row; 9] = [
     Row { ranges: 16, start: 5, end: 300, value: 3, takes: false },
     Row { ranges: 16, start: 0, end: 320, value: 0, takes: false },
     Row { ranges: 16, start: 15, end: 315, value: 0, takes: false },
+    // A chunk is full, and becomes two.
+    Row { ranges: 64, start: 2, end: 5, value: 3, takes: true },
+    Row { ranges: 64, start: 2, end: 5, value: 0, takes: true },
+    Row { ranges: 64, start: 1275, end: 1290, value: 0, takes: false },
 ];
 
 #[derive(Drop)]
@@ -54,7 +58,7 @@ fn value_after(row: Row, number: u16) -> u16 {
     }
 }
 
-// The map of so many ranges.
+// The map of `ranges` ranges.
 fn spread(alloc: Global, ranges: u16) -> Option<RangeMap<u16, u16>> {
     let mut map = RangeMap::new(alloc);
     for k in 0..ranges {
@@ -66,7 +70,7 @@ fn spread(alloc: Global, ranges: u16) -> Option<RangeMap<u16, u16>> {
 
 // Whether the map has the values that it began with, or those after the change, and no other.
 fn has(map: &RangeMap<u16, u16>, row: Row, changed: bool) -> bool {
-    for number in 0..400u16 {
+    for number in 0..1400u16 {
         let value = if changed {
             value_after(row, number)
         } else {

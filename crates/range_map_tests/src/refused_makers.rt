@@ -49,10 +49,10 @@ struct Attempt {
     wanted: Wanted,
 }
 
-// The map of 16 ranges of 10, one in each 20, with the value 1.
+// The map of 2 ranges of 10, one in each 20, with the value 1.
 fn spread(alloc: Global) -> Option<RangeMap<u16, u16>> {
     let mut map = RangeMap::new(alloc);
-    for k in 0..16u16 {
+    for k in 0..2u16 {
         let start = k.saturating_mul(20);
         map.insert(start..start.saturating_add(10), 1).ok()?;
     }
@@ -62,7 +62,7 @@ fn spread(alloc: Global) -> Option<RangeMap<u16, u16>> {
 // Whether the map has its ranges from the start up to the end, and none elsewhere.
 fn has(map: &RangeMap<u16, u16>, start: u16, end: u16) -> bool {
     for number in 0..400u16 {
-        let inside = start <= number && number < end && number < 320 && number % 20 < 10;
+        let inside = start <= number && number < end && number < 40 && number % 20 < 10;
         if map.contains_key(&number) != inside {
             return false;
         }
@@ -73,7 +73,7 @@ fn has(map: &RangeMap<u16, u16>, start: u16, end: u16) -> bool {
 // The map of many ranges, which are made for it.
 fn from_ranges(alloc: Global) -> Result<RangeMap<u16, u16>, AllocError> {
     let mut ranges = Vec::new(alloc);
-    for k in 0..16u16 {
+    for k in 0..2u16 {
         let start = k.saturating_mul(20);
         ranges.push((start..start.saturating_add(10), 1))?;
     }
@@ -97,7 +97,7 @@ fn answer_of(
 fn set_answer(made: Result<RangeSet2<u16>, AllocError>, map: &RangeMap<u16, u16>) -> Answer {
     match made {
         Ok(set) => {
-            Answer::right_if(set.ranges_len() == 16 && set.contains(&309) && !set.contains(&310))
+            Answer::right_if(set.ranges_len() == 2 && set.contains(&29) && !set.contains(&30))
         }
         Err(_) => refused_if(has(map, 0, 400)),
     }
@@ -106,7 +106,7 @@ fn set_answer(made: Result<RangeSet2<u16>, AllocError>, map: &RangeMap<u16, u16>
 // The answer of a range that is booked.
 fn book(mut map: RangeMap<u16, u16>) -> Answer {
     match map.insert_free(12..15, 2) {
-        Ok(()) => Answer::right_if(map.get(&14) == Some(&2) && map.len() == 17),
+        Ok(()) => Answer::right_if(map.get(&14) == Some(&2) && map.len() == 3),
         Err(InsertError::OutOfMemory(2)) => refused_if(has(&map, 0, 400)),
         Err(_) => Answer::Wrong,
     }
@@ -139,24 +139,24 @@ impl MapUpdate<u16> for Twos {
 // The answer of a range whose keys are given another value.
 fn update(mut map: RangeMap<u16, u16>) -> Answer {
     match map.update(12..15, &Twos) {
-        Ok(()) => Answer::right_if(map.get(&14) == Some(&2) && map.len() == 17),
+        Ok(()) => Answer::right_if(map.get(&14) == Some(&2) && map.len() == 3),
         Err(_) => refused_if(has(&map, 0, 400)),
     }
 }
 
 // The answer of keys from a start on that are given another value.
 fn update_from(mut map: RangeMap<u16, u16>) -> Answer {
-    match map.update_from(305.., &Twos) {
-        Ok(()) => Answer::right_if(map.get(&310) == Some(&2) && map.len() == 17),
+    match map.update_from(25.., &Twos) {
+        Ok(()) => Answer::right_if(map.get(&30) == Some(&2) && map.len() == 3),
         Err(_) => refused_if(has(&map, 0, 400)),
     }
 }
 
 // The answer of many ranges counted.
 fn count(alloc: Global) -> Answer {
-    let ranges = [0..10u16, 5..20, 8..30, 9..10];
+    let ranges = [0..10u16, 5..20];
     match RangeMap::depth(alloc, &ranges) {
-        Ok(depth) => Answer::right_if(depth.get(&9) == Some(&4) && depth.get(&29) == Some(&1)),
+        Ok(depth) => Answer::right_if(depth.get(&9) == Some(&2) && depth.get(&19) == Some(&1)),
         Err(_) => Answer::Refused,
     }
 }
@@ -170,7 +170,7 @@ impl Call for Attempt {
 
     fn answer(&self, map: RangeMap<u16, u16>) -> Answer {
         let alloc = self.alloc;
-        let half = RangeSetRef::new(&[0, 160]);
+        let half = RangeSetRef::new(&[0, 20]);
         let Some(half) = half else {
             return Answer::Wrong;
         };
@@ -180,8 +180,8 @@ impl Call for Attempt {
             Wanted::Booking => book(map),
             Wanted::UnionLeft => answer_of(map.union_with_left(alloc, &map), &map, 0, 400),
             Wanted::UnionRight => answer_of(map.union_with_right(alloc, &map), &map, 0, 400),
-            Wanted::Restricted => answer_of(map.restrict(alloc, half), &map, 0, 160),
-            Wanted::Without => answer_of(map.without(alloc, half), &map, 160, 400),
+            Wanted::Restricted => answer_of(map.restrict(alloc, half), &map, 0, 20),
+            Wanted::Without => answer_of(map.without(alloc, half), &map, 20, 400),
             Wanted::Domain => set_answer(map.domain(alloc), &map),
             Wanted::Ones => set_answer(map.where_equal(alloc, &1), &map),
             Wanted::Depth => count(alloc),

@@ -1,5 +1,5 @@
 //! Out of memory in the constructors.
-use range_collections::{RangeSet, RangeSetRange};
+use range_collections::{RangeSet, RangeSetEntry, RangeSetRange};
 use range_tests_kit::starving::{Answer, Call, Starved};
 use range_tests_kit::ways::set_is;
 use std::alloc::{AllocError, Global};
@@ -65,7 +65,7 @@ impl Constructor {
     }
 }
 
-// A set with room in itself for so many boundaries, at most two.
+// A set with room in itself for `room` boundaries, at most two.
 #[derive(Drop)]
 struct Attempt<'a> {
     alloc: Global,
@@ -106,5 +106,37 @@ fn constructors_are_refused_beyond_their_room(rt: HostRuntime) -> Result<(), All
             assert!(rt; agrees, "{call:?}, room for {room}");
         }
     }
+    Ok(())
+}
+
+// The least text and the least list.
+#[derive(Drop)]
+struct Least {
+    alloc: Global,
+}
+
+impl Call for Least {
+    type Given = ();
+
+    fn given(&self) -> Option<()> {
+        Some(())
+    }
+
+    fn answer(&self, _given: ()) -> Answer {
+        match (
+            String::min_value(self.alloc),
+            Vec::<u8>::min_value(self.alloc),
+        ) {
+            (Ok(text), Ok(list)) => Answer::right_if(text.is_empty() && list.is_empty()),
+            _ => Answer::Refused,
+        }
+    }
+}
+
+#[test]
+fn the_least_text_and_the_least_list_take_no_memory(rt: HostRuntime) -> Result<(), AllocError> {
+    let alloc = rt.alloc();
+    let mut starved = Starved::new(alloc)?;
+    assert!(rt; starved.needs_none(&Least { alloc }));
     Ok(())
 }

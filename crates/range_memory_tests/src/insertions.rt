@@ -65,8 +65,8 @@ const ROWS: [Row; 15] = [
     },
 ];
 
-// Where the boundaries have room: for four in the set itself, or for so many in an allocation, if
-// they are more than two.
+// Where the boundaries have room: for four in the set itself, or in an allocation for a number
+// above two.
 #[derive(Clone, Copy, Debug)]
 enum Room {
     Four,

@@ -1,6 +1,9 @@
 //! Tests in a process whose memory is taken away: each request of a call is refused in turn. The
 //! call answers that it is out of memory, with what was passed in as it was, or else what it
 //! answers with ample memory. Where the result has room, none is needed.
+//!
+//! They run by `rt test` or `rt ci`. Under `rt try --test` all fail: its sanitizer needs the address
+//! space that they take away.
 #![tactic(auto)]
 
 #[cfg(test)]

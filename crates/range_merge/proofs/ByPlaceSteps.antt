@@ -1,5 +1,5 @@
 -- One step of a read by place: what it counts, and how far the read came.
---     Counts                      how far a read came, so many steps after a look
+--     Counts                      how far a read came, some steps after a look
 --     Counts-start                nothing was read yet
 --     Counts-four, Counts-looked  after four steps, and at a look
 --     Progress-counted            what was counted, with what was counted before
@@ -19,7 +19,7 @@ use Rattle.range_merge.specs.Connective.{Table, differ}
 use Rattle.range_merge.specs.Copies.{IsAppended, items_if}
 use Rattle.range_merge.specs.Parts.{Progress}
 use Rattle.range_merge.specs.Runs.{weight}
-use Rattle.range_merge.specs.Singly.{table_from, lefts_of, rights_of, IsLong}
+use Rattle.range_merge.specs.Singly.{table_from, IsLong, IsCountStep, AreFourCounted}
 use Rattle.range_merge.specs.Steps.{FirstsStand, one_of_run, takes}
 use Rattle.range_merge.proofs.SinglySteps.{Reads, Reads-start, Reads-more, Reads-made, Reads-cost, Reads-looked, takes-at}
 use Rattle.range_merge.proofs.Relative.{Progress-from}
@@ -122,11 +122,10 @@ module _ {K : Type 0} (order : K → K → Ordering) (f : Table) (a b : List K) 
   module _ (o : IsTotalOrder order) (a_ascends : IsAscending order a) (b_ascends : IsAscending order b) where
     -- one step more, in windows that begin at i and j
     pub Counts-step : (n n' i j u v k0 k : ℕ) {count0 m i1 j1 count : ℕ} {how : Ordering} {u' v' k' count' : ℕ} {next : Ordering}
-        → m ≤ 3 → Counts count0 m i1 j1 (i + u) (j + v) (k0 + k) count how → u' ≡ u + lefts_of how → v' ≡ v + rights_of how
-        → k' ≡ k + one_if (takes (table_from f (is_odd i) (is_odd j)) (is_odd u) (is_odd v) (one_of_run how))
-        → FirstsStand order (drop u' (take n (drop i a))) (drop v' (take n' (drop j b))) (Some next) → count' ≡ count + 1
+        → m ≤ 3 → Counts count0 m i1 j1 (i + u) (j + v) (k0 + k) count how
+        → IsCountStep order (table_from f (is_odd i) (is_odd j)) (take n (drop i a)) (take n' (drop j b)) u v k how u' v' k' next → count' ≡ count + 1
         → Counts count0 (m + 1) i1 j1 (i + u') (j + v') (k0 + k') count' next
-    Counts-step n n' i j u v k0 k {how} {u'} {v'} {k'} {next} few w left right taken stands counted =
+    Counts-step n n' i j u v k0 k {how} {u'} {v'} {k'} {next} few w step counted =
         let firsts : List K = take 1 (cond (is_le how) (drop (i + u) a) (drop (j + v) b)) in
         let run = one_of_run how in
         let wanted : Bool = takes f (is_odd (i + u)) (is_odd (j + v)) run in
@@ -135,28 +134,22 @@ module _ {K : Type 0} (order : K → K → Ordering) (f : Table) (a b : List K) 
         let same : one_if (takes (table_from f (is_odd i) (is_odd j)) (is_odd u) (is_odd v) run) ≡ one_if wanted = ap one_if (takes-at f i j u v run) in
         record {
           out = w.out ++ items_if wanted firsts;
-          len = omega (arith, length-append w.out (items_if wanted firsts), w.len, many, same, taken);
-          reads = Reads-more (λ x y. x ≡ y) order f a b o a_ascends b_ascends few w.reads (omega (arith, left)) (omega (arith, right)) (themselves (items_if wanted firsts) w.out)
-              (FirstsStand-window order n n' i j u' v' a b next stands) counted;
+          len = omega (arith, length-append w.out (items_if wanted firsts), w.len, many, same, step.taken);
+          reads = Reads-more (λ x y. x ≡ y) order f a b o a_ascends b_ascends few w.reads (omega (arith, step.lefts)) (omega (arith, step.rights)) (themselves (items_if wanted firsts) w.out)
+              (FirstsStand-window order n n' i j u' v' a b next step.stands) counted;
         }
 
     -- four steps from a look on, which was at u and v of the windows
-    pub Counts-four : (n n' i j u v k0 k : ℕ) {count0 c0 c1 c2 c3 c4 u1 u2 u3 u4 v1 v2 v3 v4 k1 k2 k3 k4 : ℕ} {h0 h1 h2 h3 h4 : Ordering}
-        → Counts count0 0 (i + u) (j + v) (i + u) (j + v) (k0 + k) c0 h0
-        → u1 ≡ u + lefts_of h0 → v1 ≡ v + rights_of h0 → k1 ≡ k + one_if (takes (table_from f (is_odd i) (is_odd j)) (is_odd u) (is_odd v) (one_of_run h0))
-        → FirstsStand order (drop u1 (take n (drop i a))) (drop v1 (take n' (drop j b))) (Some h1) → c1 ≡ c0 + 1
-        → u2 ≡ u1 + lefts_of h1 → v2 ≡ v1 + rights_of h1 → k2 ≡ k1 + one_if (takes (table_from f (is_odd i) (is_odd j)) (is_odd u1) (is_odd v1) (one_of_run h1))
-        → FirstsStand order (drop u2 (take n (drop i a))) (drop v2 (take n' (drop j b))) (Some h2) → c2 ≡ c1 + 1
-        → u3 ≡ u2 + lefts_of h2 → v3 ≡ v2 + rights_of h2 → k3 ≡ k2 + one_if (takes (table_from f (is_odd i) (is_odd j)) (is_odd u2) (is_odd v2) (one_of_run h2))
-        → FirstsStand order (drop u3 (take n (drop i a))) (drop v3 (take n' (drop j b))) (Some h3) → c3 ≡ c2 + 1
-        → u4 ≡ u3 + lefts_of h3 → v4 ≡ v3 + rights_of h3 → k4 ≡ k3 + one_if (takes (table_from f (is_odd i) (is_odd j)) (is_odd u3) (is_odd v3) (one_of_run h3))
-        → FirstsStand order (drop u4 (take n (drop i a))) (drop v4 (take n' (drop j b))) (Some h4) → c4 ≡ c3 + 1
-        → Counts count0 4 (i + u) (j + v) (i + u4) (j + v4) (k0 + k4) c4 h4
-    Counts-four n n' i j u v k0 k {u1} {u2} {u3} {v1} {v2} {v3} {k1} {k2} {k3} w l1 r1 t1 s1 c1 l2 r2 t2 s2 c2 l3 r3 t3 s3 c3 l4 r4 t4 s4 c4 =
-        let one = Counts-step n n' i j u v k0 k (omega arith) w l1 r1 t1 s1 c1 in
-        let two = Counts-step n n' i j u1 v1 k0 k1 (omega arith) one l2 r2 t2 s2 c2 in
-        let three = Counts-step n n' i j u2 v2 k0 k2 (omega arith) two l3 r3 t3 s3 c3 in
-        Counts-step n n' i j u3 v3 k0 k3 (omega arith) three l4 r4 t4 s4 c4
+    pub Counts-four : (n n' i j u v k0 k : ℕ) {count0 count u' v' k' count' : ℕ} {how next : Ordering} (wa wb : List K) → wa ≡ take n (drop i a) → wb ≡ take n' (drop j b)
+        → Counts count0 0 (i + u) (j + v) (i + u) (j + v) (k0 + k) count how
+        → AreFourCounted order (table_from f (is_odd i) (is_odd j)) wa wb u v k how u' v' k' next → count' ≡ count + 4
+        → Counts count0 4 (i + u) (j + v) (i + u') (j + v') (k0 + k') count' next
+    Counts-four n n' i j u v k0 k {count} wa wb wa_is wb_is w steps counted =
+        let s = rw (wa_is, wb_is) at steps in
+        let one = Counts-step n n' i j u v k0 k {count' = count + 1} (omega arith) w s.one refl in
+        let two = Counts-step n n' i j s.i1 s.j1 k0 s.k1 {count' = count + 2} (omega arith) one s.two (omega arith) in
+        let three = Counts-step n n' i j s.i2 s.j2 k0 s.k2 {count' = count + 3} (omega arith) two s.three (omega arith) in
+        Counts-step n n' i j s.i3 s.j3 k0 s.k3 (omega arith) three s.four (omega (arith, counted))
 
     -- it goes on after a look
     pub Counts-looked : (i j u v u' v' : ℕ) {count0 k count : ℕ} {next : Ordering} → Counts count0 4 (i + u) (j + v) (i + u') (j + v') k count next

@@ -21,6 +21,7 @@ pub mod FirstRun
 pub mod MergeLoop
 pub mod PartsOfMerge
 pub mod EndOfMerge
+pub mod EqualPairs
 pub mod Testing
 pub mod CopiesLemmas
 pub mod Outputs
@@ -38,3 +39,5 @@ pub mod Rounds
 pub mod ReadInto
 pub mod Relative
 pub mod ByPlaceSteps
+pub mod Works
+pub mod Overwritten

@@ -17,7 +17,7 @@ use Rattle.range_merge.specs.declared.runs.Run.TheVariants.{Left, Right, Both}
 use Rattle.range_merge.proofs.Pairs.{AllPairs-drop}
 
 -- a state that can stop and goes on did not take
-goes_on-untaken : (s t : Bool) → true ≡ not (s && t) → s ≡ true → t ≡ false
+pub goes_on-untaken : (s t : Bool) → true ≡ not (s && t) → s ≡ true → t ≡ false
 goes_on-untaken true true h e = cc
 goes_on-untaken true false h e = refl
 goes_on-untaken false true h e = cc

@@ -7,7 +7,7 @@ use Rattle.std.specs.declared.cmp.Ordering.{Ordering}
 use Rattle.range_merge.specs.Boundaries.{IsAscending}
 use Rattle.range_merge.specs.Changes.{Taken}
 use Rattle.range_merge.specs.Connective.{Table}
-use Rattle.range_merge.specs.Parts.{IsFront, Ran, Part}
+use Rattle.range_merge.specs.Parts.{IsFirstRun, Ran, Part}
 use Rattle.range_merge.specs.Runs.{runs, run_len, digits, weight}
 use Rattle.range_merge.specs.Steps.{FirstsStand, StandsFirst, ahead_of, left_after, right_after, takes, one_of_run}
 use Rattle.range_merge.specs.declared.merging.Went.{Went}
@@ -24,10 +24,10 @@ module _ {K : Type 0} {order : K → K → Ordering} (o : IsTotalOrder order) (l
   ahead_of-weight (Some how) stands = omega (arith, weight-some o l r l_ascends r_ascends stands.0)
 
   -- the first run
-  pub front-first : (run : Run) (next : Option Ordering) (goes_on : Bool) (known count0 count : ℕ) → slice_get (runs order l r) 0 ≡ Some run
+  pub first_run-first : (run : Run) (next : Option Ordering) (goes_on : Bool) (known count0 count : ℕ) → slice_get (runs order l r) 0 ≡ Some run
       → FirstsStand order (left_after run l) (right_after run r) next → count0 ≤ count → count + known ≤ count0 + 2 * digits (run_len run)
-      → IsFront order run l r next goes_on known count0 count
-  front-first run next goes_on known count0 count is after at_least cost =
+      → IsFirstRun order run l r next goes_on known count0 count
+  first_run-first run next goes_on known count0 count is after at_least cost =
       let first : StandsFirst order run l r = stands_first o l r l_ascends r_ascends run is in
       record {
         at_start = first.at_start;
@@ -39,9 +39,9 @@ module _ {K : Type 0} {order : K → K → Ordering} (o : IsTotalOrder order) (l
       }
 
   -- one item of the first run, where the merge does not go on after it
-  pub front-one : (run : Run) (how : Ordering) (next : Option Ordering) (goes_on : Bool) (count : ℕ) → run ≡ one_of_run how → FirstsStand order l r (Some how)
-      → goes_on ≡ false → IsFront order run l r next goes_on 1 count count
-  front-one run how next goes_on count is firsts stops = record {
+  pub first_run-one : (run : Run) (how : Ordering) (next : Option Ordering) (goes_on : Bool) (count : ℕ) → run ≡ one_of_run how → FirstsStand order l r (Some how)
+      → goes_on ≡ false → IsFirstRun order run l r next goes_on 1 count count
+  first_run-one run how next goes_on count is firsts stops = record {
     at_start = one_stands o l r l_ascends r_ascends run how is firsts;
     weighs = λ goes. absurd (false≢true (sym stops ∙ goes));
     after = λ goes. absurd (false≢true (sym stops ∙ goes));
@@ -51,13 +51,13 @@ module _ {K : Type 0} {order : K → K → Ordering} (o : IsTotalOrder order) (l
   }
 
   -- where the right list is used up, the left is the first run, and the other way round
-  pub front-left_all : (goes_on : Bool) (count : ℕ) → 1 ≤ length l → length r ≡ 0 → IsFront order (Left (length l)) l r None goes_on 0 count count
-  front-left_all goes_on count some none =
-      front-first (Left (length l)) None goes_on 0 count count (runs-left_all o l r l_ascends r_ascends (omega arith) none) (λ _. none) (omega arith) (omega arith)
+  pub first_run-left_all : (goes_on : Bool) (count : ℕ) → 1 ≤ length l → length r ≡ 0 → IsFirstRun order (Left (length l)) l r None goes_on 0 count count
+  first_run-left_all goes_on count some none =
+      first_run-first (Left (length l)) None goes_on 0 count count (runs-left_all o l r l_ascends r_ascends (omega arith) none) (λ _. none) (omega arith) (omega arith)
 
-  pub front-right_all : (goes_on : Bool) (count : ℕ) → 1 ≤ length r → length l ≡ 0 → IsFront order (Right (length r)) l r None goes_on 0 count count
-  front-right_all goes_on count some none =
-      front-first (Right (length r)) None goes_on 0 count count (runs-right_all o l r l_ascends r_ascends (omega arith) none) (λ any. absurd (omega arith)) (omega arith) (omega arith)
+  pub first_run-right_all : (goes_on : Bool) (count : ℕ) → 1 ≤ length r → length l ≡ 0 → IsFirstRun order (Right (length r)) l r None goes_on 0 count count
+  first_run-right_all goes_on count some none =
+      first_run-first (Right (length r)) None goes_on 0 count count (runs-right_all o l r l_ascends r_ascends (omega arith) none) (λ any. absurd (omega arith)) (omega arith) (omega arith)
 
 module _ {K S E : Type 0} {left right : S → List K} {left_on right_on : S → Bool} {output : S → List (Taken K) → Type 0} {fixed : S → ℕ} {is_infallible : S → Type 0} {can_stop : Bool}
     {order : K → K → Ordering} {f : Table} (o : IsTotalOrder order) where
@@ -77,7 +77,7 @@ module _ {K S E : Type 0} {left right : S → List K} {left_on right_on : S → 
   }
 
   module _ (run : Run) {take : Bool} {old new : S} {next : Option Ordering} {known count0 count : ℕ} (takes_is : take ≡ takes f (left_on old) (right_on old) run)
-      (front : IsFront order run (left old) (right old) next (not (can_stop && take)) known count0 count) where
+      (front : IsFirstRun order run (left old) (right old) next (not (can_stop && take)) known count0 count) where
     -- a run was taken or dropped, and the merge goes on
     pub Part-on : IsAscending order (left old) → IsAscending order (right old)
         → Ran left right left_on right_on output fixed is_infallible can_stop run take old new {E = E} (Ok true)
@@ -186,19 +186,19 @@ module _ {K S E : Type 0} {left right : S → List K} {left_on right_on : S → 
     rest-on zero zero no_left no_right goes = rw (nothing no_left no_right).1 (Part-none mid None 0 count count l_ascends r_ascends one (omega arith) (omega arith))
     rest-on (suc n) m is_left is_right goes =
         let some : 1 ≤ length (left mid) = omega arith in
-        Part-on (Left (length (left mid))) refl (front-left_all o (left mid) (right mid) l_ascends r_ascends _ count some (one some)) l_ascends r_ascends (rw goes at lefts some)
+        Part-on (Left (length (left mid))) refl (first_run-left_all o (left mid) (right mid) l_ascends r_ascends _ count some (one some)) l_ascends r_ascends (rw goes at lefts some)
     rest-on zero (suc m) no_left is_right goes =
         let some : 1 ≤ length (right mid) = omega arith in
-        Part-on (Right (length (right mid))) refl (front-right_all o (left mid) (right mid) l_ascends r_ascends _ count some no_left) l_ascends r_ascends (rw goes at rights some)
+        Part-on (Right (length (right mid))) refl (first_run-right_all o (left mid) (right mid) l_ascends r_ascends _ count some no_left) l_ascends r_ascends (rw goes at rights some)
 
     rest-stopped : (n m : ℕ) → length (left mid) ≡ n → length (right mid) ≡ m → more ≡ false → Part left right left_on right_on output fixed is_infallible can_stop order f mid new 0 count count {E = E} (Ok Stopped)
     rest-stopped zero zero no_left no_right stops = absurd (false≢true (sym stops ∙ cc ((nothing no_left no_right).0)))
     rest-stopped (suc n) m is_left is_right stops =
         let some : 1 ≤ length (left mid) = omega arith in
-        Part-stopped (Left (length (left mid))) refl (front-left_all o (left mid) (right mid) l_ascends r_ascends _ count some (one some)) (rw stops at lefts some)
+        Part-stopped (Left (length (left mid))) refl (first_run-left_all o (left mid) (right mid) l_ascends r_ascends _ count some (one some)) (rw stops at lefts some)
     rest-stopped zero (suc m) no_left is_right stops =
         let some : 1 ≤ length (right mid) = omega arith in
-        Part-stopped (Right (length (right mid))) refl (front-right_all o (left mid) (right mid) l_ascends r_ascends _ count some no_left) (rw stops at rights some)
+        Part-stopped (Right (length (right mid))) refl (first_run-right_all o (left mid) (right mid) l_ascends r_ascends _ count some no_left) (rw stops at rights some)
 
     pub Part-rest : more ≡ true → Part left right left_on right_on output fixed is_infallible can_stop order f mid new 0 count count {E = E} (Ok (On None))
     Part-rest = rest-on (length (left mid)) (length (right mid)) refl refl

@@ -5,12 +5,12 @@ use Rattle.std.specs.declared.cmp.Ordering.TheVariants.{Less, Equal, Greater}
 use Rattle.std.specs.Cmp.{IsTotalOrder}
 use Rattle.range_merge.specs.Changes.{Taken}
 use Rattle.range_merge.specs.Connective.{Table}
-use Rattle.range_merge.specs.Parts.{IsFront, IsTurn, Leaves, GoesOn, Part}
+use Rattle.range_merge.specs.Parts.{IsFirstRun, IsTurn, Leaves, GoesOn, Part}
 use Rattle.range_merge.specs.declared.merging.Went.TheVariants.{On}
 use Rattle.range_merge.proofs.MergeLoop.{Progress-then}
 use Rattle.range_merge.proofs.PartsOfMerge.{ahead_of-weight}
 use Rattle.range_merge.specs.Runs.{weight}
-use Rattle.range_merge.specs.Steps.{left_after, right_after}
+use Rattle.range_merge.specs.Steps.{ahead_of, left_after, right_after}
 use Rattle.range_merge.specs.declared.runs.Run.{Run}
 
 -- nothing was done
@@ -22,10 +22,10 @@ pub Leaves-one : (mine : Ordering) (next : Option Ordering) (count0 w0 count w :
 Leaves-one mine next count0 w0 count w cost = record { one = λ _. cost; at_most = omega (arith, cost); same = λ others. absurd (others refl) }
 
 -- a run, of which one comparison was made before
-pub front-leaves : {K : Type 0} {order : K → K → Ordering} (run : Run) {l r l' r' : List K} {next : Option Ordering} {goes_on : Bool} {count0 count : ℕ}
-    → IsFront order run l r next goes_on 1 count0 count → goes_on ≡ true → l' ≡ left_after run l → r' ≡ right_after run r
+pub first_run-leaves : {K : Type 0} {order : K → K → Ordering} (run : Run) {l r l' r' : List K} {next : Option Ordering} {goes_on : Bool} {count0 count : ℕ}
+    → IsFirstRun order run l r next goes_on 1 count0 count → goes_on ≡ true → l' ≡ left_after run l → r' ≡ right_after run r
     → count + 1 + 2 * weight order l' r' ≤ count0 + 2 * weight order l r
-front-leaves run front goes lefts rights = rw (lefts, rights) (omega (arith, front.weighs goes, front.cost goes))
+first_run-leaves run front goes lefts rights = rw (lefts, rights) (omega (arith, front.weighs goes, front.cost goes))
 
 module _ {firsts next1 next2 next3 : Option Ordering} {count0 w0 count1 w1 count2 w2 count3 w3 : ℕ}
     (first : Leaves Less firsts next1 count0 w0 count1 w1) (second : Leaves Greater next1 next2 count1 w1 count2 w2) (third : Leaves Equal next2 next3 count2 w2 count3 w3) where
@@ -72,6 +72,23 @@ counted-rounds None next how six whole is =
     let none : Some how ≡ None = sym is ∙ whole refl in
     absurd cc
 counted-rounds (Some n) next how six whole is = (n, refl, six)
+
+-- comparisons were made beyond those of a part, of which a number were left
+module _ {K S E : Type 0} {left right : S → List K} {left_on right_on : S → Bool} {output : S → List (Taken K) → Type 0} {fixed : S → ℕ} {is_infallible : S → Type 0} {can_stop : Bool}
+    {order : K → K → Ordering} {f : Table} (o : IsTotalOrder order) {old new : S} {known count0 count1 count2 : ℕ} {next : Option Ordering} where
+  pub Part-more : Part left right left_on right_on output fixed is_infallible can_stop order f old new known count0 count1 {E = E} (Ok (On next))
+      → count1 ≤ count2 → count2 + known + 2 * weight order (left new) (right new) ≤ count0 + 2 * weight order (left old) (right old) + ahead_of next
+      → Part left right left_on right_on output fixed is_infallible can_stop order f old new known count0 count2 {E = E} (Ok (On next))
+  Part-more a more cost = record {
+    on = a.on;
+    stops = tt;
+    counted = cost;
+    at_least = omega (arith, a.at_least, more);
+    at_most = omega (arith, cost, ahead_of-weight o (left new) (right new) a.on.left_ascends a.on.right_ascends next a.on.stands);
+    stays = a.stays;
+    succeeds = λ _. refl;
+    still_infallible = a.still_infallible;
+  }
 
 -- what a read costs beyond the weight of what it read, where six comparisons were left before it
 module _ {K S E : Type 0} {left right : S → List K} {left_on right_on : S → Bool} {output : S → List (Taken K) → Type 0} {fixed : S → ℕ} {is_infallible : S → Type 0} {can_stop : Bool}

@@ -1,5 +1,5 @@
 -- How the first run of two lists that ascend is known from a few comparisons.
---     runs-left, runs-right           so many items stand before the other list's first, and the next does not
+--     runs-left, runs-right           a run's items stand before the other list's first, and the next does not
 --     runs-both                       the first of each are equal
 --     runs-left_all, runs-right_all   the other list is empty
 use Rattle.std.proofs.Common.{◌≡◌, refl, ap, sym, ◌∙◌, subst, ℕ, zero, suc, ◌-◌, ◌<◌, ◌≤◌, List, [], ◌∷◌, ◌++◌, length, map, take, drop, get_or, slice_get, Some, All, inl, inr, eq-or-lt_of_le, append-nil, length-take-le, length-drop, get_or-drop, add-zero, arith}

@@ -1,8 +1,9 @@
 -- What a search knows after each comparison, if it leaves one item less than a power of two.
 --     IsNarrowed-start, -first, -step     before any comparison, after the first one, after each further one
+--     IsNarrowed-half                     after one that leaves half of what was left
 --     IsSearched-narrowed                 what is known once nothing is left
 --     adds_at_most                        as many comparisons as the length has digits
-use Rattle.std.proofs.Common.{◌≡◌, ℕ, ◌+◌, ◌-◌, ◌*◌, ◌%◌, ◌^◌, ◌<◌, ◌≤◌, Bool, true, false, ◌||◌, List, length, get_or, ⊎_elim, HoldsAt, min, arith, add-one, ap, refl, sym, ◌∙◌}
+use Rattle.std.proofs.Common.{◌≡◌, ℕ, ◌+◌, ◌-◌, ◌*◌, ◌/◌, ◌%◌, ◌^◌, ◌<◌, ◌≤◌, Bool, true, false, ◌&&◌, ◌||◌, List, length, get_or, ⊎_elim, HoldsAt, min, arith, add-one, ap, refl, sym, ◌∙◌}
 use Rattle.std.specs.List.{AllWithin}
 use Rattle.std.specs.Cmp.{IsTotalOrder}
 use Rattle.std.specs.Bool.{if◌then◌else◌}
@@ -39,8 +40,20 @@ module _ {K : Type 0} (order : K → K → Ordering) (o : IsTotalOrder order) (i
         Greater-from_less o key (get_or items k d) (sym (same_left o (get_or items i d) key (get_or items k d) (equal d)) ∙ ascends i k d (omega arith) high)
 
   module _ (i : ℕ) (x : K) (within : i < length items) (read : x ≡ get_or items i x) where
-    at : (how : Ordering) → order x key ≡ how → HoldsAt (λ y. order y key ≡ how) items i
+    -- what the item that was read is to the key holds at its place
+    pub at : (how : Ordering) → order x key ≡ how → HoldsAt (λ y. order y key ≡ how) items i
     at how is d = ap (λ y. order y key) (sym (get_or_read_under items i (length items) x d read within refl)) ∙ is
+
+pub Equal-from_test : (b : Bool) (o p : Ordering) → o ≡ p → b ≡ is_eq o → b ≡ true → p ≡ Equal
+Equal-from_test b Less p e t h = cc
+Equal-from_test b Equal p e t h = sym e
+Equal-from_test b Greater p e t h = cc
+
+-- a search that ends at an equal item has seen none before
+pub none_equal : (finds seen test is : Bool) → (finds && test) ≡ false → test ≡ is → finds ≡ true → seen ≡ false → (seen || is) ≡ false
+none_equal true false test is none e _ _ = sym e ∙ none
+none_equal true true test is none e _ seen = absurd (false≢true (sym seen))
+none_equal false seen test is none e off _ = absurd (false≢true off)
 
 pub double : (k : ℕ) → 2 ^ (k + 1) ≡ 2 ^ k * 2
 double k = rw add-one (pow-suc 2 k)
@@ -121,18 +134,18 @@ module _ {K : Type 0} (order : K → K → Ordering) (o : IsTotalOrder order) (i
     }
     IsNarrowed-after low rest low_next rest_next has_equal Greater is le few same s = absurd (false≢true le)
 
-    -- the item is above the key: what is left ends at it
-    pub IsNarrowed-before : (low rest rest_next : ℕ) (has_equal : Bool) → order x key ≡ Greater → low + rest_next ≡ i →
+    -- the item is above the key: what is left ends at it, or later
+    pub IsNarrowed-before : (low rest rest_next : ℕ) (has_equal : Bool) → order x key ≡ Greater → i ≤ low + rest_next → rest_next ≤ rest →
         IsNarrowed order items key low rest has_equal → IsNarrowed order items key low rest_next (has_equal || false)
-    IsNarrowed-before low rest rest_next true greater place s = record {
-      within = omega arith;
+    IsNarrowed-before low rest rest_next true greater from less s = record {
+      within = omega (arith, s.within);
       before = s.before;
       from = λ k d a b. above_from order o items key ascends i x within read greater k d (omega arith) b;
       found = s.found;
       missing = s.missing;
     }
-    IsNarrowed-before low rest rest_next false greater place s = record {
-      within = omega arith;
+    IsNarrowed-before low rest rest_next false greater from less s = record {
+      within = omega (arith, s.within);
       before = s.before;
       from = λ k d a b. above_from order o items key ascends i x within read greater k d (omega arith) b;
       found = s.found;
@@ -151,7 +164,18 @@ module _ {K : Type 0} (order : K → K → Ordering) (o : IsTotalOrder order) (i
         IsNarrowed-after low (2 ^ (bits + 1) - 1) _ _ has_equal Equal is refl (omega arith) (omega (arith, double bits, pow_pos bits)) s
     IsNarrowed-step low bits has_equal Greater is few place s =
         IsNarrowed-at order items key (omega arith) refl
-        (IsNarrowed-before low (2 ^ (bits + 1) - 1) (2 ^ bits - 1) has_equal is (omega (arith, pow_pos bits)) s)
+        (IsNarrowed-before low (2 ^ (bits + 1) - 1) (2 ^ bits - 1) has_equal is (omega (arith, pow_pos bits)) (omega (arith, double bits)) s)
+
+    -- the last item of the first half: half of the items are left
+    pub IsNarrowed-half : (low left : ℕ) (has_equal : Bool) (how : Ordering) → order x key ≡ how → 0 < left → i ≡ low + (left - left / 2 - 1) →
+        IsNarrowed order items key low left has_equal →
+        IsNarrowed order items key (if is_le how then i + 1 else low) (left / 2) (has_equal || is_eq how)
+    IsNarrowed-half low left has_equal Less is some place s =
+        IsNarrowed-after low left (i + 1) (left / 2) has_equal Less is refl (omega arith) (omega arith) s
+    IsNarrowed-half low left has_equal Equal is some place s =
+        IsNarrowed-after low left (i + 1) (left / 2) has_equal Equal is refl (omega arith) (omega arith) s
+    IsNarrowed-half low left has_equal Greater is some place s =
+        IsNarrowed-before low left (left / 2) has_equal is (omega arith) (omega arith) s
 
     -- the first item that is compared: as many items are left before it as at the list's end
     pub IsNarrowed-first : (power past : ℕ) (how : Ordering) → order x key ≡ how → i + 1 ≡ power → past ≡ length items - power + 1 → length items < 2 * power →
@@ -161,7 +185,7 @@ module _ {K : Type 0} (order : K → K → Ordering) (o : IsTotalOrder order) (i
     IsNarrowed-first power past Equal is place left few =
         IsNarrowed-after 0 (length items) _ _ false Equal is refl (omega arith) (omega arith) (IsNarrowed-start order items key)
     IsNarrowed-first power past Greater is place left few =
-        IsNarrowed-before 0 (length items) (power - 1) false is (omega arith) (IsNarrowed-start order items key)
+        IsNarrowed-before 0 (length items) (power - 1) false is (omega arith) (omega arith) (IsNarrowed-start order items key)
 
 -- if a power of two is at most n, and n is below another, its exponent is the smaller
 pub pow_below : (a b n : ℕ) → 2 ^ a ≤ n → n < 2 ^ b → a < b

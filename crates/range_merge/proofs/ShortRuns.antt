@@ -186,7 +186,7 @@ ended-pays (Some (Right n)) Equal rs owed ends h = ended_at_look (Right n) _ _ o
 ended-pays (Some (Right n)) Greater rs owed ends h = absurd cc
 ended-pays (Some Both) next rs owed ends h = ended_at_look Both _ _ owed refl h
 
--- the items since a look, so many left and so many right: where all of them are of the run that is
+-- the items since a look, of the left and of the right: where all of them are of the run that is
 -- being read, the other side has none
 abbrev pub IsBack : ℕ → ℕ → ℕ → Option Run → Type 0
 IsBack m di dj None = Unit {0}

@@ -1,14 +1,11 @@
--- One step of a read: what it puts out, and how far the read came.
---     IsAppended-one              the item that is put out, or none
---     Reads                       how far a read came, so many steps after a look
---     Reads-four, Reads-looked    after four steps, and at a look
---     Reads-cost, Reads-made      what it cost
+-- One step of a read: the item that it puts out, or none (IsAppended-one), and how far it came.
+--     Reads, Reads-four, Reads-looked    how far a read came: some steps after a look, four, and at a look
+--     Reads-cost, Reads-made             what it cost
 use Rattle.std.proofs.Common.{◌≡◌, refl, ap, sym, ◌∙◌, ℕ, zero, suc, ◌+◌, ◌-◌, ◌*◌, ◌^◌, ◌<◌, ◌≤◌, Bool, true, false, not, ◌||◌, cond, List, [], ◌∷◌, ◌++◌, length, map, take, drop, get_or, slice_get, append_assoc, Option, Some, None, ◌⊎◌, inl, inr, eq-zero-or-pos, arith}
 use Rattle.std.proofs.Math.Bool.{beq}
 use mir.Val.{bool_byte}
-use Rattle.std.proofs.Math.Seq.{drop-cons}
 use Rattle.std.proofs.Math.ListN.{set}
-use Rattle.std.proofs.Math.Seq.{drop-append-add, take-append-add}
+use Rattle.std.proofs.Math.Seq.{drop-cons, drop-append-add, take-append-add}
 use Rattle.std.proofs.lemmas.List.{append-nil, drop-append-le, drop-drop, drop-set-lt, length-take-le, set-get_or, take-append-drop, take-take, take_more_set}
 use Rattle.std.proofs.lemmas.Option.{get_or_from_slice_get, slice_get_within}
 use Rattle.std.proofs.lemmas.Slice.{take-put_mid}
@@ -24,7 +21,7 @@ use Rattle.range_merge.specs.Copies.{AreCopies, IsAppended, items_if}
 use Rattle.range_merge.specs.Owners.{Owner, left_only, right_only, shared}
 use Rattle.range_merge.specs.Parts.{Progress}
 use Rattle.range_merge.specs.Runs.{joined, runs, runs_of, weight, weight_of}
-use Rattle.range_merge.specs.Singly.{is_answer, table_from, lefts_of, rights_of, IsLong, IsRead}
+use Rattle.range_merge.specs.Singly.{is_answer, table_from, lefts_of, rights_of, IsLong, IsRead, IsStep, AreFour}
 use Rattle.range_merge.specs.Steps.{FirstsStand, one_of_run, takes, taken_of_run, left_after, right_after, left_on_after, right_on_after}
 use Rattle.range_merge.specs.declared.runs.Run.{Run}
 use Rattle.range_merge.specs.declared.runs.Run.TheVariants.{Left, Right, Both}
@@ -176,7 +173,7 @@ module _ {K : Type 0} where
       let sum : k' ≡ k + (k' - k) = omega (arith, more) in
       ap (λ n. drop n xs) sum ∙ sym (drop-drop (k' - k) k xs) ∙ ap (drop (k' - k)) same ∙ drop-drop (k' - k) k ys ∙ ap (λ n. drop n ys) (sym sum)
 
-  -- what stands behind so many items of a room at k
+  -- what stands behind the items of a room at k
   drop-window : (k q : ℕ) (out room rest : List K) → k ≤ length out → q ≤ length room → drop (k + q) (take k out ++ (room ++ rest)) ≡ drop q room ++ rest
   drop-window k q out room rest before within =
       ap (λ m. drop (m + q) (take k out ++ (room ++ rest))) (sym (length-take-le k out before))
@@ -419,39 +416,27 @@ module _ {K : Type 0} (alike : K → K → Type 0) (order : K → K → Ordering
     -- the same of windows that begin at i and j, where what it puts out comes behind other items
     Reads-step : (n n' i j u v : ℕ) (front : List K) {count0 m i1 j1 : ℕ} {old : List K} {count : ℕ} {how : Ordering} {x y : K} {u' v' : ℕ} {new : List K} {count' : ℕ} {next : Ordering} {x' y' : K}
         → m ≤ 3 → Reads count0 m i1 j1 (i + u) (j + v) (front ++ old) count how
-        → slice_get (take n (drop i a)) u ≡ Some x → slice_get (take n' (drop j b)) v ≡ Some y → u' ≡ u + lefts_of how → v' ≡ v + rights_of how
-        → IsAppended alike (items_if (takes (table_from f (is_odd i) (is_odd j)) (is_odd u) (is_odd v) (one_of_run how)) (cond (is_le how) x y ∷ [])) old new
-        → slice_get (take n (drop i a)) u' ≡ Some x' → slice_get (take n' (drop j b)) v' ≡ Some y' → order x' y' ≡ next → count' ≡ count + 1
+        → slice_get (take n (drop i a)) u ≡ Some x → slice_get (take n' (drop j b)) v ≡ Some y
+        → IsStep alike order (table_from f (is_odd i) (is_odd j)) (take n (drop i a)) (take n' (drop j b)) u v old how x y u' v' new next x' y' → count' ≡ count + 1
         → Reads count0 (m + 1) i1 j1 (i + u') (j + v') (front ++ new) count' next
-    Reads-step n n' i j u v front {how} {x} {y} {u'} {v'} {next} {x'} {y'} few w x_is y_is left right put x'_is y'_is stands counted =
+    Reads-step n n' i j u v front {how} {x} {y} {u'} {v'} {next} {x'} {y'} few w x_is y_is step counted =
         let first_is = take-first how (drop (i + u) a) (drop (j + v) b) x y (first-of_window n i u a x x_is) (first-of_window n' j v b y y_is) in
-        Reads-more few w (omega (arith, left)) (omega (arith, right)) (IsAppended-behind front (takes-at f i j u v (one_of_run how)) first_is put)
-        (FirstsStand-of order (drop (i + u') a) (drop (j + v') b) x' y' next (first-of_window n i u' a x' x'_is) (first-of_window n' j v' b y' y'_is) stands)
+        Reads-more few w (omega (arith, step.lefts)) (omega (arith, step.rights)) (IsAppended-behind front (takes-at f i j u v (one_of_run how)) first_is step.put)
+        (FirstsStand-of order (drop (i + u') a) (drop (j + v') b) x' y' next (first-of_window n i u' a x' step.left_is) (first-of_window n' j v' b y' step.right_is) step.stands)
         counted
 
     -- four steps from a look on, in windows that begin at i and j, from their items u0 and v0 on
-    pub Reads-four : (n n' i j u0 v0 : ℕ) (front wa wb : List K) {count0 i1 j1 : ℕ} {r0 r1 r2 r3 r4 : List K} {c0 c1 c2 c3 c4 u1 u2 u3 u4 v1 v2 v3 v4 : ℕ} {h0 h1 h2 h3 h4 : Ordering} {x0 x1 x2 x3 x4 y0 y1 y2 y3 y4 : K}
+    pub Reads-four : (n n' i j u v : ℕ) (front wa wb : List K) {count0 i1 j1 : ℕ} {old new : List K} {count u' v' count' : ℕ} {how next : Ordering} {x y x' y' : K}
         → wa ≡ take n (drop i a) → wb ≡ take n' (drop j b)
-        → Reads count0 0 i1 j1 (i + u0) (j + v0) (front ++ r0) c0 h0 → slice_get wa u0 ≡ Some x0 → slice_get wb v0 ≡ Some y0
-        → u1 ≡ u0 + lefts_of h0 → v1 ≡ v0 + rights_of h0
-        → IsAppended alike (items_if (takes (table_from f (is_odd i) (is_odd j)) (is_odd u0) (is_odd v0) (one_of_run h0)) (cond (is_le h0) x0 y0 ∷ [])) r0 r1
-        → slice_get wa u1 ≡ Some x1 → slice_get wb v1 ≡ Some y1 → order x1 y1 ≡ h1 → c1 ≡ c0 + 1
-        → u2 ≡ u1 + lefts_of h1 → v2 ≡ v1 + rights_of h1
-        → IsAppended alike (items_if (takes (table_from f (is_odd i) (is_odd j)) (is_odd u1) (is_odd v1) (one_of_run h1)) (cond (is_le h1) x1 y1 ∷ [])) r1 r2
-        → slice_get wa u2 ≡ Some x2 → slice_get wb v2 ≡ Some y2 → order x2 y2 ≡ h2 → c2 ≡ c1 + 1
-        → u3 ≡ u2 + lefts_of h2 → v3 ≡ v2 + rights_of h2
-        → IsAppended alike (items_if (takes (table_from f (is_odd i) (is_odd j)) (is_odd u2) (is_odd v2) (one_of_run h2)) (cond (is_le h2) x2 y2 ∷ [])) r2 r3
-        → slice_get wa u3 ≡ Some x3 → slice_get wb v3 ≡ Some y3 → order x3 y3 ≡ h3 → c3 ≡ c2 + 1
-        → u4 ≡ u3 + lefts_of h3 → v4 ≡ v3 + rights_of h3
-        → IsAppended alike (items_if (takes (table_from f (is_odd i) (is_odd j)) (is_odd u3) (is_odd v3) (one_of_run h3)) (cond (is_le h3) x3 y3 ∷ [])) r3 r4
-        → slice_get wa u4 ≡ Some x4 → slice_get wb v4 ≡ Some y4 → order x4 y4 ≡ h4 → c4 ≡ c3 + 1
-        → Reads count0 4 i1 j1 (i + u4) (j + v4) (front ++ r4) c4 h4
-    Reads-four n n' i j u0 v0 front wa wb {u1} {u2} {u3} {v1} {v2} {v3} wa_is wb_is w x0_is y0_is
-        l1 r1 p1 x1_is y1_is s1 k1 l2 r2 p2 x2_is y2_is s2 k2 l3 r3 p3 x3_is y3_is s3 k3 l4 r4 p4 x4_is y4_is s4 k4 =
-        let one = Reads-step n n' i j u0 v0 front (omega arith) w (rw wa_is at x0_is) (rw wb_is at y0_is) l1 r1 p1 (rw wa_is at x1_is) (rw wb_is at y1_is) s1 k1 in
-        let two = Reads-step n n' i j u1 v1 front (omega arith) one (rw wa_is at x1_is) (rw wb_is at y1_is) l2 r2 p2 (rw wa_is at x2_is) (rw wb_is at y2_is) s2 k2 in
-        let three = Reads-step n n' i j u2 v2 front (omega arith) two (rw wa_is at x2_is) (rw wb_is at y2_is) l3 r3 p3 (rw wa_is at x3_is) (rw wb_is at y3_is) s3 k3 in
-        Reads-step n n' i j u3 v3 front (omega arith) three (rw wa_is at x3_is) (rw wb_is at y3_is) l4 r4 p4 (rw wa_is at x4_is) (rw wb_is at y4_is) s4 k4
+        → Reads count0 0 i1 j1 (i + u) (j + v) (front ++ old) count how → slice_get wa u ≡ Some x → slice_get wb v ≡ Some y
+        → AreFour alike order (table_from f (is_odd i) (is_odd j)) wa wb u v old how x y u' v' new next x' y' → count' ≡ count + 4
+        → Reads count0 4 i1 j1 (i + u') (j + v') (front ++ new) count' next
+    Reads-four n n' i j u v front wa wb {count} wa_is wb_is w x_is y_is steps counted =
+        let s = rw (wa_is, wb_is) at steps in
+        let one = Reads-step n n' i j u v front {count' = count + 1} (omega arith) w (rw wa_is at x_is) (rw wb_is at y_is) s.one refl in
+        let two = Reads-step n n' i j s.i1 s.j1 front {count' = count + 2} (omega arith) one s.one.left_is s.one.right_is s.two (omega arith) in
+        let three = Reads-step n n' i j s.i2 s.j2 front {count' = count + 3} (omega arith) two s.two.left_is s.two.right_is s.three (omega arith) in
+        Reads-step n n' i j s.i3 s.j3 front (omega arith) three s.three.left_is s.three.right_is s.four (omega (arith, counted))
 
     -- a look at the start of windows
     pub Reads-window : {count0 i j : ℕ} {out : List K} {count : ℕ} {next : Ordering}

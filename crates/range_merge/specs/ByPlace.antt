@@ -1,5 +1,5 @@
 -- Short runs of two slices that are only counted.
---     IsCounted .. i j k next       so many items are taken up to these, and how the next ones stand
+--     IsCounted .. i j k next       how many items are taken up to these, and how the next ones stand
 use Rattle.std.specs.Prelude.{◌≡◌, ℕ, List, length}
 use Rattle.std.specs.declared.cmp.Ordering.{Ordering}
 use Rattle.range_merge.specs.Connective.{Table}

@@ -15,4 +15,5 @@ pub mod Building
 pub mod Buffers
 pub mod Filling
 pub mod Singly
+pub mod Reading
 pub mod ByPlace

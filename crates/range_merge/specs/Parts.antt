@@ -1,6 +1,6 @@
 -- A part of a merge: what it takes, what is left after it, and what it costs.
 --     Progress order f s ..       what was taken between two places of a merge
---     IsFront order run ..        a run at the start of two lists, found for so many comparisons
+--     IsFirstRun order run ..     a run at the start of two lists, and what it cost to find
 --     Ran .. run take old new r   a state before and after it took a run or dropped it
 --     Part .. old new .. r        a state before and after a part of a merge
 use Rattle.std.specs.Prelude.{◌≡◌, ℕ, ◌+◌, ◌*◌, ◌≤◌, ◌<◌, Bool, true, not, ◌&&◌, List, [], ◌++◌, Option, Some, Result, IsOk, OnOk, IfOk}
@@ -56,7 +56,7 @@ module _ {K : Type 0} (order : K → K → Ordering) where
 
   -- a run at the start of two lists, of which it is the first where the merge goes on after it;
   -- what comes after it, and what it cost to find, where `known` comparisons were made before
-  pub record IsFront (run : Run) (l r : List K) (next : Option Ordering) (goes_on : Bool)
+  pub record IsFirstRun (run : Run) (l r : List K) (next : Option Ordering) (goes_on : Bool)
       (known count0 count : ℕ) : Type 0 where
     pub at_start : StandsAtStart order run l r
     pub weighs : goes_on ≡ true → weight order l r ≡

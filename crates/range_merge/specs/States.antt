@@ -18,21 +18,23 @@ abbrev pub HasRoomForAll : {K : Type 0} → (K → Type 0) → Merging K (SmallV
 HasRoomForAll is_infallible s =
     (length s.taken.items + (length s.left + length s.right) ≤ s.taken.capacity) × All is_infallible s.left × All is_infallible s.right
 
--- a builder that works in place: the items that are kept, those that are still unread, and how many
--- may still be put
+-- a builder that works in place: the items that are kept, those that are still unread, how many may
+-- still be put, and how many have room
 pub record Building (K : Type 0) : Type 0 where
   pub kept : List K
   pub unread : List K
   pub puts_left : ℕ
+  pub room : ℕ
 
--- a merge in place: the unread items of each side, whether the side is on, and the items that were
--- kept
+-- a merge in place: the unread items of each side, whether the side is on, the items that were kept,
+-- and how many have room
 pub record Placing (K : Type 0) : Type 0 where
   pub left : List K
   pub right : List K
   pub left_on : Bool
   pub right_on : Bool
   pub kept : List K
+  pub room : ℕ
 
 -- whether there is an item
 abbrev pub any_item : {T : Type 0} → List T → Bool

@@ -1,6 +1,6 @@
 -- One run of a merge: what it removes from the unread lists, what it takes, and how the two truths
 -- change.
-use Rattle.std.specs.Prelude.{◌≡◌, ℕ, ◌≤◌, ◌+◌, Option, Some, None, Bool, true, false, not, List, length, map, drop, get_or, ◌++◌}
+use Rattle.std.specs.Prelude.{◌≡◌, ℕ, ◌≤◌, ◌<◌, ◌&&◌, ◌+◌, Option, Some, None, Bool, true, false, not, List, length, map, drop, get_or, ◌++◌}
 use Rattle.std.specs.declared.cmp.Ordering.{Ordering}
 use Rattle.std.specs.declared.cmp.Ordering.TheVariants.{Less, Equal, Greater}
 use Rattle.range_merge.specs.Boundaries.{is_odd}
@@ -87,6 +87,14 @@ module _ {K : Type 0} where
   FirstsStand order a b None = 1 ≤ length a → length b ≡ 0
   FirstsStand order a b (Some how) =
       (1 ≤ length a) × (1 ≤ length b) × ((d : K) → order (get_or a 0 d) (get_or b 0 d) ≡ how)
+
+-- the first n items of both lists are equal, each to the one at its place
+abbrev pub ArePairs : {K : Type 0} → (K → K → Ordering) → ℕ → List K → List K → Type 0
+ArePairs order n a b = (i : ℕ) → i < n → FirstsStand order (drop i a) (drop i b) (Some Equal)
+
+-- a merge goes on after a pair of equal items: it drops it, or the state can't stop
+abbrev pub PairsGoOn : Table → Bool → Bool → Bool → Type 0
+PairsGoOn f can_stop ac bc = true ≡ not (can_stop && takes f ac bc Both)
 
 -- how many comparisons were made ahead, to know how the first items stand
 abbrev pub ahead_of : Option Ordering → ℕ

@@ -8,7 +8,7 @@ ghost use Rattle.std.specs.Prelude.{◌≡◌, ◌+◌, ◌-◌, ◌*◌, ◌^�
 ghost use Rattle.range_merge.specs.Boundaries.{IsAscending, is_odd};
 ghost use Rattle.range_merge.specs.ByPlace.{IsCounted};
 ghost use Rattle.range_merge.specs.Runs.{weight};
-ghost use Rattle.range_merge.specs.Singly.{is_answer, lefts_of, rights_of};
+ghost use Rattle.range_merge.specs.Singly.{is_answer, lefts_of, rights_of, AreFourCounted};
 ghost use Rattle.range_merge.specs.Steps.{FirstsStand, one_of_run, takes};
 
 use crate::compare::Compare;
@@ -51,6 +51,36 @@ fn step<K, O: MergeOperation, C: Compare<K>>(
     let k = at.k + (on != (at.k % 2 == 1)) as usize;
     let next = cmp.compare(&a[i], &b[j]);
     Place { i, j, k, next }
+}
+
+// Four steps, as many as a read makes between two looks at the length of a run.
+#[inline(always)]
+fn four_steps<K, O: MergeOperation, C: Compare<K>>(
+    a: &[K],
+    b: &[K],
+    at: Place,
+    op: &O,
+    cmp: &mut C,
+) -> Place
+    requires left_some { at.i + 4 < length a.now }
+    requires right_some { at.j + 4 < length b.now }
+    requires room { at.k ≤ at.i + at.j }
+    requires fits { length a.now + length b.now < 2 ^ 64 }
+    requires answered { is_odd at.k ≡ is_answer (O.connective op.now) (is_odd at.i) (is_odd at.j) }
+    requires made { C.count cmp.old + 4 < 2 ^ 128 }
+    ensures steps { AreFourCounted C.order (O.connective op.now) a.now b.now
+        at.i at.j at.k at.next result.i result.j result.k result.next }
+    ensures answered { is_odd result.k
+        ≡ is_answer (O.connective op.now) (is_odd result.i) (is_odd result.j) }
+    ensures left_within { result.i ≤ at.i + 4 }
+    ensures right_within { result.j ≤ at.j + 4 }
+    ensures at_most { result.k + (at.i + at.j) ≤ at.k + (result.i + result.j) }
+    ensures counted { C.count cmp.new ≡ C.count cmp.old + 4 }
+{
+    let one = step(a, b, at, op, cmp);
+    let two = step(a, b, one, op, cmp);
+    let three = step(a, b, two, op, cmp);
+    step(a, b, three, op, cmp)
 }
 
 /// Reads items of both slices, one or both at a step, from their starts on, until a run is long or
@@ -103,17 +133,11 @@ pub(crate) fn read_by_place<K, O: MergeOperation, C: Compare<K>>(
             k: 0,
             next: here.next,
         };
-        let one = step(left, right, from, op, cmp);
-        let two = step(left, right, one, op, cmp);
-        let three = step(left, right, two, op, cmp);
-        let four = step(left, right, three, op, cmp);
+        let four = four_steps(left, right, from, op, cmp);
         if is_long(from, four) {
             return beyond(here, four);
         }
-        let five = step(left, right, four, op, cmp);
-        let six = step(left, right, five, op, cmp);
-        let seven = step(left, right, six, op, cmp);
-        let eight = step(left, right, seven, op, cmp);
+        let eight = four_steps(left, right, four, op, cmp);
         lefts = &lefts[eight.i..];
         rights = &rights[eight.j..];
         here = beyond(here, eight);

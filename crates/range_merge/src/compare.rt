@@ -1,5 +1,9 @@
 //! What a merge is given to compare and to copy items. Nothing in this crate can make either, so
 //! each comparison of items is one call that its caller counts.
+//!
+//! A comparer itself may have a part of a merge done by another one that it makes (`apart`), and
+//! counts what that made. No comparison hides there: work that is given a comparer has to give it
+//! back, since it can't be dropped, and the comparer's count grows by as many as it made.
 ghost use Rattle.std.specs.Prelude.{◌≡◌, ℕ, ◌+◌, ◌-◌, ◌^◌, ◌<◌, ◌≤◌, length, take, drop, All, IsTrue, IsOk, IfOk, OnOk};
 ghost use Rattle.std.specs.Cmp.{IsTotalOrder};
 ghost use Rattle.std.specs.List.{AllZip};
@@ -27,17 +31,54 @@ pub trait Compare<K> {
     fn made(&self) -> u128
         ensures { result ≡ count self.now };
 
-    /// One that compares by the same order, and has made no comparison.
-    fn fresh(&self) -> Self
-        ensures { count result ≡ 0 };
-
-    /// Counts what another made as well.
-    fn add(&mut self, other: Self)
-        requires { count self.old + count other < 2 ^ 128 }
-        ensures { count self.new ≡ count self.old + count other };
+    /// Has some work done by another comparer of the same order, which goes by value, and counts
+    /// what that made. If there is no other, as here, it leaves the work undone: then a merge takes
+    /// each run whole.
+    #[inline(always)]
+    fn apart<W: Work<K, Self>>(&mut self, work: &mut W) -> W::Answer
+        requires ready { W.is_ready work.old }
+        requires made { count self.old < 2 ^ 126 }
+        ensures { (n : ℕ) × (count self.new ≡ count self.old + n)
+            × W.is_done work.old work.new n result }
+    {
+        work.undone()
+    }
 
     // The order is total and transitive.
     ghost total: { IsTotalOrder order };
+}
+
+/// What a comparer of type `C` has done by another one: a part of a merge.
+pub trait Work<K, C: Compare<K>> {
+    /// What it answers.
+    type Answer;
+
+    // It can be done.
+    ghost is_ready: { Self → Type 0 };
+
+    // What was done of it: the work before and after, the number of comparisons, the answer.
+    ghost is_done: { Self → Self → ℕ → Self.Answer → Type 0 };
+
+    /// Does it, and gives the comparer back.
+    fn run(&mut self, cmp: C) -> Done<C, Self::Answer>
+        requires ready { is_ready self.old }
+        requires made { C.count cmp < 2 ^ 126 }
+        ensures { (n : ℕ) × (C.count result.cmp ≡ C.count cmp + n) × (n < 2 ^ 127)
+            × is_done self.old self.new n result.answer };
+
+    /// What it answers if nothing of it is done.
+    fn undone(&self) -> Self::Answer
+        requires ready { is_ready self.now }
+        ensures { is_done self.now self.now 0 result };
+}
+
+/// What some work answers, with the comparer that it was given.
+#[derive(Drop)]
+pub struct Done<C, A> {
+    /// The comparer, which counted.
+    pub cmp: C,
+    /// The answer.
+    pub answer: A,
 }
 
 /// Copies items into a result.

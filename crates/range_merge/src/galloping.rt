@@ -13,7 +13,7 @@ use std::cmp::Ordering;
 /// How many items at the start of a side are below a key, and how the item after them stands to the
 /// key, if there is one.
 #[derive(Clone, Copy)]
-pub(crate) struct Front {
+pub(crate) struct Below {
     pub(crate) len: usize,
     pub(crate) next: Option<Ordering>,
 }
@@ -31,7 +31,7 @@ struct Window {
 /// For an answer of `n` it makes at most twice as many comparisons as `n` has binary digits, less
 /// one. Most runs are of one item, so the second is looked at before any step is doubled.
 #[inline(always)]
-pub(crate) fn gallop<K, L: Indexed<K>, C: Compare<K>>(side: &L, key: &K, cmp: &mut C) -> Front
+pub(crate) fn gallop<K, L: Indexed<K>, C: Compare<K>>(side: &L, key: &K, cmp: &mut C) -> Below
     requires some { 0 < length (L.items side.now) }
     requires first { HoldsAt (λ y. C.order y key.now ≡ Less) (L.items side.now) 0 }
     requires made { C.count cmp.old + 2 ^ 66 < 2 ^ 128 }
@@ -41,11 +41,11 @@ pub(crate) fn gallop<K, L: Indexed<K>, C: Compare<K>>(side: &L, key: &K, cmp: &m
         (2 * digits result.len - 1) }
 {
     if side.len() < 2 {
-        return Front { len: 1, next: None };
+        return Below { len: 1, next: None };
     }
     let second = cmp.compare(side.at(1), key);
     if !second.is_lt() {
-        return Front {
+        return Below {
             len: 1,
             next: Some(second),
         };
@@ -89,7 +89,7 @@ fn doubled<K, L: Indexed<K>, C: Compare<K>>(side: &L, key: &K, cmp: &mut C) -> W
 
 // Halves a window until it is empty, which is where the items below the key end.
 #[inline(always)]
-fn halved<K, L: Indexed<K>, C: Compare<K>>(side: &L, key: &K, window: Window, cmp: &mut C) -> Front
+fn halved<K, L: Indexed<K>, C: Compare<K>>(side: &L, key: &K, window: Window, cmp: &mut C) -> Below
     requires bracket { IsBracket C.order (L.items side.now) key.now window.low window.high }
     requires next { StandsAt C.order (L.items side.now) key.now window.high window.next }
     requires made { C.count cmp.old + 2 ^ 64 < 2 ^ 128 }
@@ -114,5 +114,5 @@ fn halved<K, L: Indexed<K>, C: Compare<K>>(side: &L, key: &K, window: Window, cm
             next = Some(how);
         }
     }
-    Front { len: low, next }
+    Below { len: low, next }
 }

@@ -9,9 +9,9 @@ ghost use Rattle.range_merge.specs.Building.{IsSound};
 ghost use Rattle.range_merge.specs.Changes.{Taken, taken_right};
 ghost use Rattle.range_merge.specs.Copies.{items_if};
 
+use crate::in_place_list::GrowsByGap;
 use crate::in_place_memory::prepared;
 use crate::merge_state::Supply;
-use crate::place::GrowsByGap;
 use smallvec::SmallVec;
 use std::alloc::{AllocError, Global};
 use std::default::MadeWith;
@@ -39,6 +39,7 @@ impl<K, const N: usize, L: GrowsByGap<K>> Model for InPlaceBuilder<K, N, L> {
       kept = take s.kept (L.items s.list);
       unread = drop s.start (L.items s.list);
       puts_left = s.puts;
+      room = L.room s.list;
     } };
 
     ghost invariant = { λ s. IsSound s.kept s.start s.puts (L.items s.list) (L.room s.list) };
@@ -53,6 +54,7 @@ impl<K: MadeWith<Global> + Drop, const N: usize> InPlaceBuilder<K, N> {
         ensures kept { IfOk result (λ builder. builder.kept ≡ []) }
         ensures unread { IfOk result (λ builder. builder.unread ≡ list.items) }
         ensures puts_left { IfOk result (λ builder. builder.puts_left ≡ extra) }
+        ensures room { IfOk result (λ builder. list.capacity ≤ builder.room) }
         ensures handed_back { IfErr result (λ refused. refused.1.items ≡ list.items) }
         ensures succeeds { length list.items + extra ≤ N → IsOk result }
     {
@@ -70,6 +72,7 @@ impl<K, const N: usize, L: GrowsByGap<K>> InPlaceBuilder<K, N, L> {
         ensures kept { result.kept ≡ [] }
         ensures unread { result.unread ≡ L.items list }
         ensures puts_left { result.puts_left ≡ extra }
+        ensures room { result.room ≡ L.room list }
     {
         InPlaceBuilder {
             list,
@@ -114,6 +117,7 @@ impl<K, const N: usize, L: GrowsByGap<K>> InPlaceBuilder<K, N, L> {
         ensures kept { self.new.kept ≡ self.old.kept ++ take n self.old.unread }
         ensures unread { self.new.unread ≡ drop n self.old.unread }
         ensures puts_left { self.new.puts_left ≡ self.old.puts_left }
+        ensures room { self.new.room ≡ self.old.room }
     {
         self.list.move_down(self.kept, self.start, n);
         // `len` is called for its clause that the length is within usize, which the proof cites.
@@ -129,6 +133,7 @@ impl<K, const N: usize, L: GrowsByGap<K>> InPlaceBuilder<K, N, L> {
         ensures kept { self.new.kept ≡ self.old.kept }
         ensures unread { self.new.unread ≡ drop n self.old.unread }
         ensures puts_left { self.new.puts_left ≡ self.old.puts_left }
+        ensures room { self.new.room ≡ self.old.room }
     {
         // `len` is called for its clause that the length is within usize, which the proof cites.
         let _len = self.list.len();
@@ -142,6 +147,7 @@ impl<K, const N: usize, L: GrowsByGap<K>> InPlaceBuilder<K, N, L> {
         ensures kept { self.new.kept ≡ self.old.kept ++ items_if wanted (take n self.old.unread) }
         ensures unread { self.new.unread ≡ drop n self.old.unread }
         ensures puts_left { self.new.puts_left ≡ self.old.puts_left }
+        ensures room { self.new.room ≡ self.old.room }
     {
         if wanted {
             self.keep(n);
@@ -158,6 +164,7 @@ impl<K, const N: usize, L: GrowsByGap<K>> InPlaceBuilder<K, N, L> {
         ensures kept { self.new.kept ≡ self.old.kept ++ value ∷ [] }
         ensures unread { self.new.unread ≡ self.old.unread }
         ensures puts_left { self.new.puts_left + 1 ≡ self.old.puts_left }
+        ensures room { self.new.room ≡ self.old.room }
     {
         self.start = put_item(&mut self.list, self.kept, self.start, self.puts, value);
         self.kept += 1;
@@ -175,6 +182,7 @@ impl<K, const N: usize, L: GrowsByGap<K>> InPlaceBuilder<K, N, L> {
             R.may_be (ts ++ taken_right true n (R.items right.old)) self.new.kept }
         ensures unread { self.new.unread ≡ self.old.unread }
         ensures puts_left { self.new.puts_left + n ≡ self.old.puts_left }
+        ensures room { self.new.room ≡ self.old.room }
         ensures rest { R.items right.new ≡ drop n (R.items right.old) }
     {
         self.start = put_items(&mut self.list, self.kept, self.start, self.puts, n, right);
@@ -184,7 +192,8 @@ impl<K, const N: usize, L: GrowsByGap<K>> InPlaceBuilder<K, N, L> {
 
     /// The list, with the kept items followed by those that are still unread.
     pub fn finish(mut self) -> L
-        ensures { L.items result ≡ self.kept ++ self.unread }
+        ensures items { L.items result ≡ self.kept ++ self.unread }
+        ensures room { L.room result ≡ self.room }
     {
         let rest = self.unread_len();
         self.keep(rest);
@@ -193,7 +202,8 @@ impl<K, const N: usize, L: GrowsByGap<K>> InPlaceBuilder<K, N, L> {
 
     /// The list, with the kept items alone. What is still unread is dropped.
     pub(crate) fn only_kept(self) -> L
-        ensures { L.items result ≡ self.kept }
+        ensures items { L.items result ≡ self.kept }
+        ensures room { L.room result ≡ self.room }
     {
         let InPlaceBuilder {
             mut list,
@@ -221,6 +231,7 @@ fn put_item<K, L: GrowsByGap<K>>(
     ensures sound { IsSound (kept + 1) result (puts - 1) (L.items list.new) (L.room list.new) }
     ensures kept { take (kept + 1) (L.items list.new) ≡ take kept (L.items list.old) ++ value ∷ [] }
     ensures unread { drop result (L.items list.new) ≡ drop start (L.items list.old) }
+    ensures room { L.room list.new ≡ L.room list.old }
 
     // If there is no gap, it opens one for all that may still be put, so the unread items move up
     // once.
@@ -250,6 +261,7 @@ fn put_items<K, L: GrowsByGap<K>, R: Supply<K>>(
     ensures kept { (ts : List (Taken K)) → R.may_be ts (take kept (L.items list.old)) →
         R.may_be (ts ++ taken_right true n (R.items right.old)) (take (kept + n) (L.items list.new)) }
     ensures unread { drop result (L.items list.new) ≡ drop start (L.items list.old) }
+    ensures room { L.room list.new ≡ L.room list.old }
     ensures rest { R.items right.new ≡ drop n (R.items right.old) }
 
     // If the gap is too small, it opens one for all that the right side has, so the unread items
@@ -280,6 +292,7 @@ fn with_gap<K, L: GrowsByGap<K>>(
     ensures gap { kept + n ≤ result }
     ensures kept { take kept (L.items list.new) ≡ take kept (L.items list.old) }
     ensures unread { drop result (L.items list.new) ≡ drop start (L.items list.old) }
+    ensures room { L.room list.new ≡ L.room list.old }
 
     // It opens as much as is wanted, and nothing where there is a gap.
     ensures whole { start < kept + n → result ≡ kept + wanted }

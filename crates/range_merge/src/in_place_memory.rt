@@ -16,6 +16,7 @@ pub(crate) fn prepared<K: MadeWith<Global> + Drop, const N: usize>(
 ) -> Result<(), AllocError>
     ensures items { list.new.items ≡ list.old.items }
     ensures room { OnOk result (HasRoomFor list.new extra) }
+    ensures keeps_room { list.old.capacity ≤ list.new.capacity }
     ensures succeeds { length list.old.items + extra ≤ N → IsOk result }
 {
     // `capacity` is called for its clause that it is at least N, which the proof cites.
@@ -32,6 +33,7 @@ pub(crate) fn prepared_copies<K: MadeWith<Global> + Drop, P: Copier<K>, const N:
 ) -> Result<SmallVec<K, N>, AllocError>
     ensures items { list.new.items ≡ list.old.items }
     ensures room { OnOk result (HasRoomFor list.new (length items.now)) }
+    ensures keeps_room { list.old.capacity ≤ list.new.capacity }
     ensures copies { IfOk result (λ made. AllZip P.alike items.now made.items) }
     ensures succeeds { length list.old.items + length items.now ≤ N →
         All P.is_infallible items.now → IsOk result }
@@ -41,7 +43,7 @@ pub(crate) fn prepared_copies<K: MadeWith<Global> + Drop, P: Copier<K>, const N:
 }
 
 // A copy of each item. It asks for room once.
-fn copies<K: MadeWith<Global> + Drop, P: Copier<K>, const N: usize>(
+pub(crate) fn copies<K: MadeWith<Global> + Drop, P: Copier<K>, const N: usize>(
     alloc: Global,
     items: &[K],
     copier: &P,

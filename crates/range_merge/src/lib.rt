@@ -3,8 +3,10 @@
 
 mod by_place;
 mod compare;
+mod equal_pairs;
 mod galloping;
 mod in_place_builder;
+mod in_place_list;
 mod in_place_memory;
 mod indexed;
 pub mod laws;
@@ -12,7 +14,6 @@ mod merge_state;
 mod merging;
 mod operations;
 mod pacing;
-mod place;
 mod runs;
 mod searching;
 mod short_runs;
@@ -20,7 +21,7 @@ mod singly;
 mod slice_iterator;
 mod turning;
 
-pub use compare::{Compare, Copier};
+pub use compare::{Compare, Copier, Done, Work};
 pub use in_place_builder::InPlaceBuilder;
 pub use indexed::Indexed;
 pub use merge_state::{

@@ -1,18 +1,19 @@
 //! The merge: it takes the first run of the unread lists whole or drops it whole, until both lists
 //! are used up. A reader may read short runs in between.
-ghost use Rattle.std.specs.Prelude.{◌≡◌, ◌+◌, ◌*◌, ◌^◌, ◌<◌, ◌≤◌, true, false, not, ◌&&◌, List, [], ◌++◌, length, IsOk, OnOk, IfOk, IfSome, Ok, None, Some, IsTrue, ◌↔◌, ℕ};
+ghost use Rattle.std.specs.Prelude.{◌≡◌, ◌+◌, ◌*◌, ◌^◌, ◌<◌, ◌≤◌, true, false, not, ◌&&◌, List, [], ◌++◌, length, IsOk, OnOk, IfOk, IfSome, Ok, None, Some, IsTrue, ◌↔◌, ℕ, if◌then◌else◌};
 ghost use Rattle.std.specs.declared.cmp.Ordering.TheVariants.{Less, Equal, Greater};
 ghost use Rattle.range_merge.specs.Boundaries.{IsAscending};
 ghost use Rattle.range_merge.specs.Changes.{Taken, changes, StopsAmong};
 ghost use Rattle.range_merge.specs.Counting.{AddsAtMost};
 ghost use Rattle.range_merge.specs.Owners.{owners};
-ghost use Rattle.range_merge.specs.Parts.{GoesOn, IfOn, IsFront, IsTurn, Leaves, Part, Ran};
+ghost use Rattle.range_merge.specs.Parts.{GoesOn, IfOn, IsFirstRun, IsTurn, Leaves, Part, Ran};
 ghost use Rattle.range_merge.specs.Runs.{weight};
-ghost use Rattle.range_merge.specs.Steps.{FirstsStand, ahead_of, takes};
+ghost use Rattle.range_merge.specs.Steps.{ArePairs, FirstsStand, PairsGoOn, ahead_of, takes};
 ghost use Rattle.range_merge.specs.declared.runs.Run.TheVariants.{Left, Right};
 
 use crate::compare::Compare;
-use crate::galloping::{Front, gallop};
+use crate::equal_pairs::steps_both;
+use crate::galloping::{Below, gallop};
 use crate::merge_state::MergeStateMut;
 use crate::operations::MergeOperation;
 use crate::runs::{LeftOf, RightOf, order_at, reversed};
@@ -181,7 +182,7 @@ fn read_on<S: MergeStateMut, O: MergeOperation, C: Compare<S::Item>, R: ShortRun
     }
 }
 
-// Takes runs or drops them, for so many rounds, or fewer if a list is used up; for `None`, until
+// Takes runs or drops them, for `rounds` rounds, or fewer if a list is used up; for `None`, until
 // then. Each round leaves one comparison of those that twice the weight allows.
 #[inline(always)]
 fn take_rounds<S: MergeStateMut, O: MergeOperation, C: Compare<S::Item>>(
@@ -273,11 +274,11 @@ fn step_left<S: MergeStateMut, O: MergeOperation, C: Compare<S::Item>>(
         return Ok(Went::On(firsts));
     }
     let take = op.takes_a(state.bc());
-    let front = left_front(state, take, cmp);
-    if !advance_left(state, front.len, take)? {
+    let run = left_run(state, take, cmp);
+    if !advance_left(state, run.len, take)? {
         return Ok(Went::Stopped);
     }
-    Ok(Went::On(front.next))
+    Ok(Went::On(run.next))
 }
 
 // Takes or drops the first run, where it is of the right list.
@@ -306,77 +307,16 @@ fn step_right<S: MergeStateMut, O: MergeOperation, C: Compare<S::Item>>(
         return Ok(Went::On(firsts));
     }
     let take = op.takes_b(state.ac());
-    let front = right_front(state, take, cmp);
-    if !advance_right(state, front.len, take)? {
+    let run = right_run(state, take, cmp);
+    if !advance_right(state, run.len, take)? {
         return Ok(Went::Stopped);
     }
-    Ok(Went::On(front.next))
+    Ok(Went::On(run.next))
 }
 
-// Takes or drops the first items, while they are equal.
+/// Whether the first items stand so to one another.
 #[inline(always)]
-fn steps_both<S: MergeStateMut, O: MergeOperation, C: Compare<S::Item>>(
-    state: &mut S,
-    op: &O,
-    mut firsts: Option<Ordering>,
-    cmp: &mut C,
-) -> Result<Went, AllocError>
-    requires stands { FirstsStand C.order (S.left state.old) (S.right state.old) firsts }
-    requires left_ascending { IsAscending C.order (S.left state.old) }
-    requires right_ascending { IsAscending C.order (S.right state.old) }
-    requires fits { length (S.left state.old) + length (S.right state.old) < 2 ^ 65 }
-    requires made { C.count cmp.old < 2 ^ 126 }
-    ensures part { Part S.left S.right S.left_on S.right_on S.output S.fixed S.is_infallible
-        S.can_stop C.order (O.connective op.now) state.old state.new
-        (ahead_of firsts) (C.count cmp.old) (C.count cmp.new) result }
-    ensures turn { IfOk result (IfOn (λ next. IsTurn Equal firsts next
-        (length (S.left state.old) + length (S.right state.old))
-        (length (S.left state.new) + length (S.right state.new)))) }
-    ensures leaves { IfOk result (IfOn (λ next. Leaves Equal firsts next
-        (C.count cmp.old) (weight C.order (S.left state.old) (S.right state.old))
-        (C.count cmp.new) (weight C.order (S.left state.new) (S.right state.new)))) }
-{
-    while stand(firsts, Ordering::Equal) {
-        let Went::On(next) = step_both(state, op, cmp)? else {
-            return Ok(Went::Stopped);
-        };
-        firsts = next;
-    }
-    Ok(Went::On(firsts))
-}
-
-// Takes or drops the first items, which are equal.
-#[inline(always)]
-fn step_both<S: MergeStateMut, O: MergeOperation, C: Compare<S::Item>>(
-    state: &mut S,
-    op: &O,
-    cmp: &mut C,
-) -> Result<Went, AllocError>
-    requires stands { FirstsStand C.order (S.left state.old) (S.right state.old) (Some Equal) }
-    requires left_ascending { IsAscending C.order (S.left state.old) }
-    requires right_ascending { IsAscending C.order (S.right state.old) }
-    requires made { C.count cmp.old < 2 ^ 127 }
-    ensures part { Part S.left S.right S.left_on S.right_on S.output S.fixed S.is_infallible
-        S.can_stop C.order (O.connective op.now) state.old state.new
-        1 (C.count cmp.old) (C.count cmp.new) result }
-    ensures shorter { IfOk result (IfOn (λ _.
-        (length (S.left state.new) + 1 ≡ length (S.left state.old))
-        × (length (S.right state.new) + 1 ≡ length (S.right state.old)))) }
-    ensures leaves { IfOk result (IfOn (λ _.
-        C.count cmp.new + 1 + 2 * weight C.order (S.left state.new) (S.right state.new)
-        ≤ C.count cmp.old + 2 * weight C.order (S.left state.old) (S.right state.old))) }
-{
-    let take = op.takes_both(state.ac(), state.bc());
-    match state.advance_both(take) {
-        Ok(true) => Ok(Went::On(order_at(state, 0, cmp))),
-        Ok(false) => Ok(Went::Stopped),
-        Err(error) => Err(error),
-    }
-}
-
-// Whether the first items stand so to one another.
-#[inline(always)]
-fn stand(firsts: Option<Ordering>, how: Ordering) -> bool
+pub(crate) fn stand(firsts: Option<Ordering>, how: Ordering) -> bool
     ensures { IsTrue result ↔ (firsts ≡ Some how) }
 {
     firsts == Some(how)
@@ -416,37 +356,37 @@ fn take_rest<S: MergeStateMut, O: MergeOperation>(state: &mut S, op: &O) -> Resu
 
 // The first run, which is of the left list. Where the state stops at it, its first item is enough.
 #[inline(always)]
-fn left_front<S: MergeStateMut, C: Compare<S::Item>>(state: &S, take: bool, cmp: &mut C) -> Front
+fn left_run<S: MergeStateMut, C: Compare<S::Item>>(state: &S, take: bool, cmp: &mut C) -> Below
     requires stands { FirstsStand C.order (S.left state.now) (S.right state.now) (Some Less) }
     requires left_ascending { IsAscending C.order (S.left state.now) }
     requires right_ascending { IsAscending C.order (S.right state.now) }
     requires made { C.count cmp.old < 2 ^ 127 }
-    ensures { IsFront C.order (Left result.len) (S.left state.now) (S.right state.now) result.next
-        (not (S.can_stop && take)) 1 (C.count cmp.old) (C.count cmp.new) }
+    ensures { IsFirstRun C.order (Left result.len) (S.left state.now) (S.right state.now)
+        result.next (not (S.can_stop && take)) 1 (C.count cmp.old) (C.count cmp.new) }
 {
     if take && state.stops() {
-        return Front { len: 1, next: None };
+        return Below { len: 1, next: None };
     }
     gallop(&LeftOf(state), state.b_at(0), cmp)
 }
 
 // The first run, which is of the right list. Where the state stops at it, its first item is enough.
 #[inline(always)]
-fn right_front<S: MergeStateMut, C: Compare<S::Item>>(state: &S, take: bool, cmp: &mut C) -> Front
+fn right_run<S: MergeStateMut, C: Compare<S::Item>>(state: &S, take: bool, cmp: &mut C) -> Below
     requires stands { FirstsStand C.order (S.left state.now) (S.right state.now) (Some Greater) }
     requires left_ascending { IsAscending C.order (S.left state.now) }
     requires right_ascending { IsAscending C.order (S.right state.now) }
     requires made { C.count cmp.old < 2 ^ 127 }
-    ensures { IsFront C.order (Right result.len) (S.left state.now) (S.right state.now) result.next
-        (not (S.can_stop && take)) 1 (C.count cmp.old) (C.count cmp.new) }
+    ensures { IsFirstRun C.order (Right result.len) (S.left state.now) (S.right state.now)
+        result.next (not (S.can_stop && take)) 1 (C.count cmp.old) (C.count cmp.new) }
 {
     if take && state.stops() {
-        return Front { len: 1, next: None };
+        return Below { len: 1, next: None };
     }
-    let front = gallop(&RightOf(state), state.a_at(0), cmp);
-    Front {
-        len: front.len,
-        next: reversed(front.next),
+    let run = gallop(&RightOf(state), state.a_at(0), cmp);
+    Below {
+        len: run.len,
+        next: reversed(run.next),
     }
 }
 

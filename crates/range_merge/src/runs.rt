@@ -18,9 +18,9 @@ use std::cmp::Ordering;
 /// stand before the other side's first item, or an item of each that are equal.
 #[derive(Clone, Copy, Debug, PartialEq, Eq)]
 pub enum Run {
-    /// So many items of the left list.
+    /// This number of items of the left list.
     Left(usize),
-    /// So many items of the right list.
+    /// This number of items of the right list.
     Right(usize),
     /// One item of each list, equal to one another.
     Both,

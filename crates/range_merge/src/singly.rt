@@ -1,13 +1,13 @@
 //! Short runs of two slices, read item by item, without a branch on what is compared.
 //!
-//! From where it began, a side changed if its place is odd, and the answer if the output's is. So
-//! no truth is carried from step to step.
+//! Since a read began, a side has changed if an odd number of its items was read, and the result if an
+//! odd number was put out. So no truth is carried from step to step.
 ghost use Rattle.std.specs.Prelude.{◌≡◌, ◌↔◌, IsTrue, ◌+◌, ◌-◌, ◌*◌, ◌^◌, ◌<◌, ◌≤◌, [], ◌∷◌, length, take, drop, Some, slice_get, if◌then◌else◌};
 ghost use Rattle.std.specs.Ordering.{is_le};
 ghost use Rattle.range_merge.specs.Boundaries.{IsAscending, is_odd};
 ghost use Rattle.range_merge.specs.Copies.{IsAppended, items_if};
 ghost use Rattle.range_merge.specs.Runs.{weight};
-ghost use Rattle.range_merge.specs.Singly.{is_answer, table_from, lefts_of, rights_of, IsLong, IsRead};
+ghost use Rattle.range_merge.specs.Singly.{is_answer, table_from, lefts_of, rights_of, IsLong, IsRead, AreFour};
 ghost use Rattle.range_merge.specs.Steps.{FirstsStand, one_of_run, takes};
 
 use crate::compare::{Compare, Copier};
@@ -23,6 +23,24 @@ pub(crate) struct Place {
     pub(crate) j: usize,
     pub(crate) k: usize,
     pub(crate) next: Ordering,
+}
+
+impl Place {
+    /// The start of both lists, where nothing was read.
+    #[inline(always)]
+    pub(crate) fn start(next: Ordering) -> Self
+        ensures lefts { result.i ≡ 0 }
+        ensures rights { result.j ≡ 0 }
+        ensures taken { result.k ≡ 0 }
+        ensures next { result.next ≡ next }
+    {
+        Place {
+            i: 0,
+            j: 0,
+            k: 0,
+            next,
+        }
+    }
 }
 
 /// An operation from where the sides stand so: each is on where it changed an odd number of times
@@ -156,6 +174,49 @@ fn step<K: Drop, P: Copier<K>, O: MergeOperation, C: Compare<K>>(
     Place { i, j, k, next }
 }
 
+// Four steps, as many as a read makes between two looks at the length of a run.
+#[inline(always)]
+fn four_steps<K: Drop, P: Copier<K>, O: MergeOperation, C: Compare<K>>(
+    a: &[K],
+    b: &[K],
+    at: Place,
+    firsts: &mut Firsts<K>,
+    op: &O,
+    by: &P,
+    cmp: &mut C,
+    out: &mut [K],
+    keeps: bool,
+) -> Place
+    requires left_some { at.i + 4 < length a.now }
+    requires right_some { at.j + 4 < length b.now }
+    requires left_is { slice_get a.now at.i ≡ Some firsts.old.left }
+    requires right_is { slice_get b.now at.j ≡ Some firsts.old.right }
+    requires fits { length a.now + length b.now < 2 ^ 65 }
+    requires room { at.k + 4 ≤ length out.old }
+    requires answered { is_odd at.k ≡ is_answer (O.connective op.now) (is_odd at.i) (is_odd at.j) }
+    requires infallible { (x : K) → P.is_infallible x }
+    requires plain { (x y : K) → P.alike x y → y ≡ x }
+    requires made { C.count cmp.old + 4 < 2 ^ 128 }
+    ensures steps { AreFour P.alike C.order (O.connective op.now) a.now b.now
+        at.i at.j (take at.k out.old) at.next firsts.old.left firsts.old.right
+        result.i result.j (take result.k out.new) result.next firsts.new.left firsts.new.right }
+    ensures answered { is_odd result.k
+        ≡ is_answer (O.connective op.now) (is_odd result.i) (is_odd result.j) }
+    ensures left_within { result.i ≤ at.i + 4 }
+    ensures right_within { result.j ≤ at.j + 4 }
+    ensures from { at.k ≤ result.k }
+    ensures within { result.k ≤ at.k + 4 }
+    ensures at_most { result.k + (at.i + at.j) ≤ at.k + (result.i + result.j) }
+    ensures len { length out.new ≡ length out.old }
+    ensures behind { IsTrue keeps → drop result.k out.new ≡ drop result.k out.old }
+    ensures counted { C.count cmp.new ≡ C.count cmp.old + 4 }
+{
+    let one = step(a, b, at, firsts, op, by, cmp, out, keeps);
+    let two = step(a, b, one, firsts, op, by, cmp, out, keeps);
+    let three = step(a, b, two, firsts, op, by, cmp, out, keeps);
+    step(a, b, three, firsts, op, by, cmp, out, keeps)
+}
+
 /// Whether items of one side alone were read since `from`, and the next one is of that side.
 #[inline(always)]
 pub(crate) fn is_long(from: Place, at: Place) -> bool
@@ -164,8 +225,7 @@ pub(crate) fn is_long(from: Place, at: Place) -> bool
     (at.j == from.j && at.next.is_lt()) || (at.i == from.i && at.next.is_gt())
 }
 
-/// Whether each list has items enough for eight steps, where so many are unread: each step compares
-/// the next ones.
+/// Whether each list has unread items enough for eight steps, of which each compares the next ones.
 #[inline(always)]
 pub(crate) fn has_nine(lefts: usize, rights: usize) -> bool
     ensures lefts { IsTrue result → 9 ≤ lefts }
@@ -174,7 +234,7 @@ pub(crate) fn has_nine(lefts: usize, rights: usize) -> bool
     lefts >= 9 && rights >= 9
 }
 
-// Whether eight steps can be made, where so many items are unread and so many have room.
+// Whether there are unread items and room enough for eight steps.
 #[inline(always)]
 fn has_eight(lefts: usize, rights: usize, room: usize) -> bool
     ensures lefts { IsTrue result → 9 ≤ lefts }
@@ -268,17 +328,11 @@ pub(crate) fn read_singly<K: Drop, P: Copier<K>, O: MergeOperation, C: Compare<K
             k: 0,
             next: here.next,
         };
-        let one = step(left, right, from, &mut firsts, op, by, cmp, room, keeps);
-        let two = step(left, right, one, &mut firsts, op, by, cmp, room, keeps);
-        let three = step(left, right, two, &mut firsts, op, by, cmp, room, keeps);
-        let four = step(left, right, three, &mut firsts, op, by, cmp, room, keeps);
+        let four = four_steps(left, right, from, &mut firsts, op, by, cmp, room, keeps);
         if is_long(from, four) {
             return beyond(here, four);
         }
-        let five = step(left, right, four, &mut firsts, op, by, cmp, room, keeps);
-        let six = step(left, right, five, &mut firsts, op, by, cmp, room, keeps);
-        let seven = step(left, right, six, &mut firsts, op, by, cmp, room, keeps);
-        let eight = step(left, right, seven, &mut firsts, op, by, cmp, room, keeps);
+        let eight = four_steps(left, right, four, &mut firsts, op, by, cmp, room, keeps);
         lefts = &lefts[eight.i..];
         rights = &rights[eight.j..];
         here = beyond(here, eight);

@@ -11,9 +11,9 @@ pub fn move_last_two<T>(items: &mut [T], at: usize)
     last_two_to_front(&mut items[at..]);
 }
 
-// So many items are turned by two places at once, which first clears a buffer of 4 KB. Fewer are
-// turned twice by one place, which takes none.
-const MANY: usize = 512;
+// From this number of items on they are rotated by two places at once, which first clears a buffer
+// of 4 KB. Fewer are rotated twice by one place, which needs none.
+const ROTATED_ONCE: usize = 512;
 
 // Moves the last two items to the front.
 fn last_two_to_front<T>(items: &mut [T])
@@ -21,7 +21,7 @@ fn last_two_to_front<T>(items: &mut [T])
     ensures { (front : List T) (a b : T) →
         items.old ≡ front ++ a ∷ b ∷ [] → items.new ≡ a ∷ b ∷ front }
 {
-    if items.len() < MANY {
+    if items.len() < ROTATED_ONCE {
         items.rotate_right(1);
         items.rotate_right(1);
     } else {

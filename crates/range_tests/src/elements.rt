@@ -48,18 +48,21 @@ fn both<T: RangeSetEntry + EntryClone + Drop>(
 #[test]
 fn whole_numbers_begin_with_their_least(rt: HostRuntime) {
     let alloc = rt.alloc();
-    assert!(rt; are(alloc, &0u8, &255));
-    assert!(rt; are(alloc, &0u16, &65_535));
-    assert!(rt; are(alloc, &0u32, &1));
-    assert!(rt; are(alloc, &0u64, &1));
-    assert!(rt; are(alloc, &0u128, &1));
-    assert!(rt; are(alloc, &0usize, &1));
-    assert!(rt; are(alloc, &-128i8, &127));
-    assert!(rt; are(alloc, &-32_768i16, &0));
-    assert!(rt; are(alloc, &-2_147_483_648i32, &0));
-    assert!(rt; are(alloc, &-9_223_372_036_854_775_808i64, &0));
-    assert!(rt; are(alloc, &i128::MIN, &0));
-    assert!(rt; are(alloc, &isize::MIN, &0));
+    let begin = [
+        are(alloc, &0u8, &255),
+        are(alloc, &0u16, &65_535),
+        are(alloc, &0u32, &1),
+        are(alloc, &0u64, &1),
+        are(alloc, &0u128, &1),
+        are(alloc, &0usize, &1),
+        are(alloc, &-128i8, &127),
+        are(alloc, &-32_768i16, &0),
+        are(alloc, &-2_147_483_648i32, &0),
+        are(alloc, &-9_223_372_036_854_775_808i64, &0),
+        are(alloc, &i128::MIN, &0),
+        are(alloc, &isize::MIN, &0),
+    ];
+    assert_eq!(rt; begin, [true; 12]);
 }
 
 #[test]
@@ -69,28 +72,42 @@ fn characters_begin_with_the_least(rt: HostRuntime) {
     }
 }
 
+// Whether this number is there, or none.
+fn is_number(found: Option<NonZeroU8>, want: Option<u8>) -> bool {
+    match found {
+        Some(number) => want == Some(number.get()),
+        None => want.is_none(),
+    }
+}
+
 #[test]
 fn numbers_other_than_0_begin_with_1(rt: HostRuntime) {
     let alloc = rt.alloc();
-    assert!(rt; both(alloc, NonZeroU8::new(1), NonZeroU8::new(255)));
-    assert!(rt; both(alloc, NonZeroU16::new(1), NonZeroU16::new(2)));
-    assert!(rt; both(alloc, NonZeroU32::new(1), NonZeroU32::new(2)));
-    assert!(rt; both(alloc, NonZeroU64::new(1), NonZeroU64::new(2)));
-    assert!(rt; both(alloc, NonZeroU128::new(1), NonZeroU128::new(2)));
-    assert!(rt; both(alloc, NonZeroUsize::new(1), NonZeroUsize::new(2)));
-    assert!(rt; NonZeroU8::new(0).is_none());
-    assert!(rt; matches!(NonZeroU8::new(7), Some(number) if number.get() == 7));
+    let begin = [
+        both(alloc, NonZeroU8::new(1), NonZeroU8::new(255)),
+        both(alloc, NonZeroU16::new(1), NonZeroU16::new(2)),
+        both(alloc, NonZeroU32::new(1), NonZeroU32::new(2)),
+        both(alloc, NonZeroU64::new(1), NonZeroU64::new(2)),
+        both(alloc, NonZeroU128::new(1), NonZeroU128::new(2)),
+        both(alloc, NonZeroUsize::new(1), NonZeroUsize::new(2)),
+        is_number(NonZeroU8::new(0), None),
+        is_number(NonZeroU8::new(7), Some(7)),
+    ];
+    assert_eq!(rt; begin, [true; 8]);
 }
 
 #[test]
 fn those_of_the_library_begin_with_1(rt: HostRuntime) {
     let alloc = rt.alloc();
-    assert!(rt; are(alloc, &num::NonZeroU8::MIN, &num::NonZeroU8::MAX));
-    assert!(rt; are(alloc, &num::NonZeroU16::MIN, &num::NonZeroU16::MAX));
-    assert!(rt; are(alloc, &num::NonZeroU32::MIN, &num::NonZeroU32::MAX));
-    assert!(rt; are(alloc, &num::NonZeroU64::MIN, &num::NonZeroU64::MAX));
-    assert!(rt; are(alloc, &num::NonZeroU128::MIN, &num::NonZeroU128::MAX));
-    assert!(rt; are(alloc, &num::NonZeroUsize::MIN, &num::NonZeroUsize::MAX));
+    let begin = [
+        are(alloc, &num::NonZeroU8::MIN, &num::NonZeroU8::MAX),
+        are(alloc, &num::NonZeroU16::MIN, &num::NonZeroU16::MAX),
+        are(alloc, &num::NonZeroU32::MIN, &num::NonZeroU32::MAX),
+        are(alloc, &num::NonZeroU64::MIN, &num::NonZeroU64::MAX),
+        are(alloc, &num::NonZeroU128::MIN, &num::NonZeroU128::MAX),
+        are(alloc, &num::NonZeroUsize::MIN, &num::NonZeroUsize::MAX),
+    ];
+    assert_eq!(rt; begin, [true; 6]);
 }
 
 // Whether the texts and lists without an item are the least ones.
@@ -102,10 +119,13 @@ fn owned_begin_empty(alloc: Global) -> Result<bool, AllocError> {
 #[test]
 fn options_texts_and_lists_begin_with_the_empty_one(rt: HostRuntime) {
     let (alloc, none) = (rt.alloc(), [].as_slice());
-    assert!(rt; are(alloc, &None, &Some(3u8)));
-    assert!(rt; are(alloc, &"", &"ab"));
-    assert!(rt; are(alloc, &none, &[1u8, 2].as_slice()));
-    assert!(rt; owned_begin_empty(alloc) == Ok(true));
+    let begin = [
+        are(alloc, &None, &Some(3u8)),
+        are(alloc, &"", &"ab"),
+        are(alloc, &none, &[1u8, 2].as_slice()),
+        owned_begin_empty(alloc) == Ok(true),
+    ];
+    assert_eq!(rt; begin, [true; 4]);
 }
 
 // Whether the items are appended after the front of a list, which stays: by the copier, or else by
@@ -148,17 +168,20 @@ fn copies_in_bulk_are_all_items_in_order(rt: HostRuntime) -> Result<(), Fail> {
     let alloc = rt.alloc();
     let many = numbers(alloc, 0, 1000)?;
     let back = [from_end(5), from_end(9), from_end(5)];
-    assert!(rt; append(alloc, &-7i64, many.as_slice()));
-    assert!(rt; append(alloc, &-7i64, &[]));
-    assert!(rt; append(alloc, &9u8, &[3, 1, 2, 3]));
-    assert!(rt; append(alloc, &None, &[Some(3u8), None, Some(1)]));
-    assert!(rt; append(alloc, &from_end(7), &back));
-    assert!(rt; appends_by(alloc, Some(&Copies), &5, &[7, 6]) == Ok(true));
-    assert!(rt; owned_append(alloc) == Ok(true));
+    let are_copied = [
+        append(alloc, &-7i64, many.as_slice()),
+        append(alloc, &-7i64, &[]),
+        append(alloc, &9u8, &[3, 1, 2, 3]),
+        append(alloc, &None, &[Some(3u8), None, Some(1)]),
+        append(alloc, &from_end(7), &back),
+        appends_by(alloc, Some(&Copies), &5, &[7, 6]) == Ok(true),
+        owned_append(alloc) == Ok(true),
+    ];
+    assert_eq!(rt; are_copied, [true; 7]);
     Ok(())
 }
 
-// Whether copies of elements that their letters alone tell apart have the letters of the originals.
+// Whether copies of elements that differ by their letters alone have the letters of the originals.
 fn letters_stay(alloc: Global) -> Result<bool, AllocError> {
     let mut list = Vec::new(alloc);
     list.push(with_letter(1, b'a'))?;

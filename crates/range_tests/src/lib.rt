@@ -6,25 +6,17 @@ mod advances;
 #[cfg(test)]
 mod comparisons;
 #[cfg(test)]
-mod connectives;
-#[cfg(test)]
 mod constructors;
 #[cfg(test)]
 mod copies;
+#[cfg(test)]
+mod costs;
 #[cfg(test)]
 mod counts;
 #[cfg(test)]
 mod elements;
 #[cfg(test)]
-mod fitting;
-#[cfg(test)]
-mod gaps;
-#[cfg(test)]
 mod insertion;
-#[cfg(test)]
-mod intersections;
-#[cfg(test)]
-mod json;
 #[cfg(test)]
 mod made_up_pairs;
 #[cfg(test)]
@@ -36,13 +28,11 @@ mod merging;
 #[cfg(test)]
 mod negation;
 #[cfg(test)]
+mod one_word;
+#[cfg(test)]
 mod operations;
 #[cfg(test)]
 mod orders;
-#[cfg(test)]
-mod parsing;
-#[cfg(test)]
-mod parts;
 #[cfg(test)]
 mod questions;
 #[cfg(test)]
@@ -54,8 +44,14 @@ mod rooms;
 #[cfg(test)]
 mod run_lengths;
 #[cfg(test)]
+mod searches;
+#[cfg(test)]
 mod structs;
 #[cfg(test)]
+mod tallies;
+#[cfg(test)]
 mod text;
+#[cfg(test)]
+mod two_methods;
 #[cfg(test)]
 mod unions;

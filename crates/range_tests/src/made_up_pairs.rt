@@ -2,10 +2,9 @@
 //! found by membership alone, point by point.
 ghost use Rattle.std.specs.Prelude.{◌<◌, ◌≤◌};
 
-use crate::connectives::combines;
 use crate::merging::{gives_count, gives_length, gives_test, gives_written};
 use crate::operations::{Call, wrong_of};
-use range_collections::{RangeSet, RangeSet2, RangeSetRef};
+use range_collections::{Comparisons, Connective, RangeSet, RangeSet2, RangeSetRef};
 use range_tests_kit::generator::Generator;
 use range_tests_kit::lists::{gives, set_of};
 use range_tests_kit::membership::{NOT_LEFT, Stands, TABLES, agree, connective, is_on};
@@ -95,7 +94,23 @@ fn every_form_of_made_up_pairs(rt: HostRuntime) -> Result<(), Fail> {
     Ok(())
 }
 
-// The first call of two sides that doesn't tell where the table's answer turns between them.
+// Whether the connective of a set and a view, and of two views, is this list, made in at most twice
+// as many comparisons as there are boundaries.
+fn combines(
+    alloc: Global,
+    left: &RangeSet2<i64>,
+    right: RangeSetRef<i64>,
+    op: &Connective,
+    want: &[i64],
+) -> bool {
+    let (mut count, mut again) = (Comparisons::new(), Comparisons::new());
+    gives(left.as_ref().combine(alloc, right, op, &mut count), want)
+        && gives(left.combine(right, op, &mut again), want)
+        && count.made() <= most(left.boundaries(), right.boundaries())
+        && again.made() == count.made()
+}
+
+// The first call of two sides that doesn't find where the table's answer turns between them.
 fn wrong_call(
     alloc: Global,
     set: &RangeSet2<i64>,

@@ -1,7 +1,6 @@
 //! The everyday calls on made-up sets: what they answer is what asking for each value of a small
 //! type finds.
-use crate::gaps::are_ranges;
-use range_collections::{Countable, RangeSetRef};
+use range_collections::{Countable, RangeSetRef, RangesWithin};
 use range_tests_kit::generator::Generator;
 use range_tests_kit::lists::is_range;
 use range_tests_kit::membership::all_u8;
@@ -41,6 +40,17 @@ fn ask_each<T: Ord + Copy>(
         asked.push((*value, is_member))?;
     }
     Ok(asked)
+}
+
+// Whether the ranges that the iterator gives have these boundaries.
+fn are_ranges<T: Ord>(ranges: RangesWithin<T>, want: &[T]) -> bool {
+    let mut rest = want.iter();
+    for range in ranges {
+        if rest.next() != Some(range.start) || rest.next() != Some(range.end) {
+            return false;
+        }
+    }
+    rest.next().is_none()
 }
 
 // The boundaries of the longest stretches of these values that are members, or that are none; the
@@ -180,7 +190,7 @@ fn has_member(asked: &[(u8, bool)]) -> bool {
     false
 }
 
-// The first value of the range from which on so many are no members, found by trying each.
+// The first value of the range from which on `len` are no members, found by trying each.
 fn tried(asked: &[(u8, bool)], start: usize, end: usize, len: usize) -> Option<u8> {
     for x in start..=end.checked_sub(len)? {
         if !has_member(asked.get(x..x.checked_add(len)?)?) {

@@ -1,4 +1,4 @@
-//! Searches, first runs and merges of lists of numbers: by a comparer and a copier of the tests'
+//! Merges of lists of numbers: by a comparer and a copier of the tests'
 //! own into a list, a count and a test, and by sets and views into a count, a test and a slice.
 ghost use Rattle.std.specs.Prelude.{◌≡◌, false};
 
@@ -6,7 +6,7 @@ use crate::operations::{Call, Case};
 use range_collections::{Comparisons, NoRoom, RangeSet2, RangeSetRef};
 use range_merge::{
     BoolOpMergeState, Compare, Copier, CountMergeState, DiffOp, IntersectionOp, MergeOperation,
-    Run, SliceIterator, SmallVecMergeState, UnionOp, XorOp, count_up_to, merge, run_length, search,
+    SliceIterator, SmallVecMergeState, UnionOp, XorOp, merge,
 };
 use range_tests_kit::comparers::{Copies, NoCopies, Numbers};
 use range_tests_kit::forms::Operation;
@@ -43,7 +43,7 @@ fn appended<O: MergeOperation>(
     Ok((state.result(), ended.then_some(numbers.made())))
 }
 
-// Whether the merges into a list find this one, after what was there, in at most so many
+// Whether the merges into a list find this one, after what was there, in at most `most`
 // comparisons.
 fn gives_list<O: MergeOperation>(
     alloc: Global,
@@ -60,7 +60,7 @@ fn gives_list<O: MergeOperation>(
     is_merged && is_appended
 }
 
-// Whether the merges that count find so many changes, in at most so many comparisons.
+// Whether the merges that count find this number of changes, in at most `most` comparisons.
 pub(crate) fn gives_count<O: MergeOperation>(
     left: RangeSetRef<i64>,
     right: RangeSetRef<i64>,
@@ -79,7 +79,7 @@ pub(crate) fn gives_count<O: MergeOperation>(
     ended && (count, state.result()) == (want, want) && numbers.made().max(others.made()) <= most
 }
 
-// Whether a set and its view count so many boundaries, in at most so many comparisons each.
+// Whether a set and its view count this number of boundaries, in at most `most` comparisons each.
 pub(crate) fn gives_length<O: MergeOperation>(
     set: &RangeSet2<i64>,
     that: RangeSetRef<i64>,
@@ -161,7 +161,7 @@ fn tests<O: MergeOperation>(
     (found == [want; 4]).then_some([numbers.made(), others.made(), count.made(), again.made()])
 }
 
-// Whether they do, each in at most so many.
+// Whether they do, each in at most `most`.
 pub(crate) fn gives_test<O: MergeOperation>(
     set: &RangeSet2<i64>,
     that: RangeSetRef<i64>,
@@ -211,54 +211,34 @@ pub(crate) fn wrong_merge(alloc: Global, case: Case) -> Option<Call> {
     }
 }
 
-// Two lists of which the operation takes something, and how many comparisons find it.
-#[derive(Clone, Copy)]
-struct Found<'a> {
-    op: Operation,
-    left: &'a [i64],
-    right: &'a [i64],
-    made: u128,
-}
-
-// One comparison finds a first item that is taken, of however long a run.
-#[rattlefmt::skip]
-const FOUND: [Found; 12] = [
-    Found { op: Operation::Union, left: &[0, 1, 2, 3], right: &[10, 20], made: 1 },
-    Found { op: Operation::Union, left: &[10, 20], right: &[0, 1, 2, 3], made: 1 },
-    Found { op: Operation::Union, left: &[0, 20], right: &[10], made: 1 },
-    Found { op: Operation::Union, left: &[10], right: &[0, 20], made: 1 },
-    Found { op: Operation::Union, left: &[0, 1], right: &[0, 1, 2], made: 1 },
-    Found { op: Operation::Intersection, left: &[0, 1, 2], right: &[0, 5], made: 1 },
-    Found { op: Operation::Difference, left: &[0, 1, 2, 3], right: &[10, 20], made: 1 },
-    Found { op: Operation::SymmetricDifference, left: &[0, 20], right: &[10, 30, 40], made: 1 },
-    Found { op: Operation::SymmetricDifference, left: &[10, 30, 40], right: &[0, 20], made: 1 },
-    Found { op: Operation::SymmetricDifference, left: &[5, 6], right: &[0, 1, 2, 3, 4], made: 1 },
-    // A run of one is dropped first, which takes two comparisons and tells how the next one begins.
-    Found { op: Operation::Intersection, left: &[0, 5, 6, 7], right: &[3, 4], made: 2 },
-    Found { op: Operation::Intersection, left: &[3, 4], right: &[0, 5, 6, 7], made: 2 },
-];
-
-fn found_after(alloc: Global, row: Found) -> Option<[u128; 4]> {
-    let (set, that) = (set_of(alloc, row.left)?, RangeSetRef::new(row.right)?);
-    match row.op {
-        Operation::Union => tests(&set, that, &UnionOp, true),
-        Operation::Intersection => tests(&set, that, &IntersectionOp, true),
-        Operation::Difference => tests(&set, that, &DiffOp, true),
-        Operation::SymmetricDifference => tests(&set, that, &XorOp, true),
+// How many comparisons the union of two lists takes on a state.
+fn cost_of_union(alloc: Global, a: &[i64], b: &[i64]) -> Option<u128> {
+    let (left, right) = (RangeSetRef::new(a)?, RangeSetRef::new(b)?);
+    match appended(alloc, left, right, &UnionOp) {
+        Ok((_, made)) => made,
+        Err(_) => None,
     }
 }
+
+// Seventeen numbers, of which sixteen are two eights.
+const SEVENTEEN: [i64; 17] = [0, 1, 2, 3, 4, 5, 6, 7, 8, 9, 10, 11, 12, 13, 14, 15, 16];
 
 #[test]
-fn a_test_stops_before_it_measures_a_run(rt: HostRuntime) {
-    for row in FOUND {
-        let found = found_after(rt.alloc(), row);
-        let (op, left, right) = (row.op, row.left, row.right);
-        assert_eq!(rt;
-            found,
-            Some([row.made; 4]),
-            "{op:?} of {left:?} and {right:?}"
-        );
+fn equal_pairs_are_compared_once(rt: HostRuntime) {
+    for len in [1usize, 8, 9, 15, 16, 17] {
+        let items = &SEVENTEEN[..len];
+        let cost = cost_of_union(rt.alloc(), items, items);
+        assert!(rt; cost == Some(len as u128), "{cost:?} for {len}");
     }
+}
+
+// After eight pairs the next seven are compared ahead, which is lost if one of them isn't equal.
+#[test]
+fn pairs_after_eight_are_compared_ahead(rt: HostRuntime) {
+    let shorter = &SEVENTEEN[..15];
+    let with_16 = [0, 1, 2, 3, 4, 5, 6, 7, 8, 9, 10, 11, 12, 13, 14, 16];
+    assert!(rt; cost_of_union(rt.alloc(), &SEVENTEEN[..16], &with_16) == Some(16 + 7));
+    assert!(rt; cost_of_union(rt.alloc(), shorter, &with_16) == Some(15));
 }
 
 // Whether a union of two lists is refused where each copy is.
@@ -302,110 +282,32 @@ fn takes<O: MergeOperation>(op: &O) -> [bool; 8] {
 
 #[test]
 fn operations_answer_by_their_tables(rt: HostRuntime) {
-    assert!(rt; answers(&UnionOp) == [false, true, true, true]);
-    assert!(rt; answers(&IntersectionOp) == [false, false, false, true]);
-    assert!(rt; answers(&DiffOp) == [false, true, false, false]);
-    assert!(rt; answers(&XorOp) == [false, true, true, false]);
-    assert!(rt; takes(&UnionOp) == [true, false, true, false, true, false, false, true]);
-    assert!(rt; takes(&IntersectionOp) == [false, true, false, true, true, false, false, true]);
-    assert!(rt; takes(&DiffOp) == [true, false, false, true, false, true, true, false]);
-    assert!(rt; takes(&XorOp) == [true, true, true, true, false, false, false, false]);
+    let right = [
+        answers(&UnionOp) == [false, true, true, true],
+        answers(&IntersectionOp) == [false, false, false, true],
+        answers(&DiffOp) == [false, true, false, false],
+        answers(&XorOp) == [false, true, true, false],
+        takes(&UnionOp) == [true, false, true, false, true, false, false, true],
+        takes(&IntersectionOp) == [false, true, false, true, true, false, false, true],
+        takes(&DiffOp) == [true, false, false, true, false, true, true, false],
+        takes(&XorOp) == [true, true, true, true, false, false, false, false],
+    ];
+    assert_eq!(rt; right, [true; 8]);
 }
 
 #[test]
 fn slices_are_read_from_the_front(rt: HostRuntime) {
     let items = [1i64, 2, 3, 4, 5];
     let mut unread = SliceIterator::new(&items);
-    assert!(rt; unread.as_slice() == [1, 2, 3, 4, 5].as_slice());
+    let all = unread.as_slice() == [1, 2, 3, 4, 5].as_slice();
     unread.drop_front(1);
-    assert!(rt; unread.as_slice() == [2, 3, 4, 5].as_slice());
-    assert!(rt; unread.take_front(2) == [2, 3].as_slice());
-    assert!(rt; unread.next() == Some(&4));
-    assert!(rt; unread.next() == Some(&5));
-    assert!(rt; unread.next().is_none());
-}
-
-// Whether a search of a list gives this answer, in at most so many comparisons.
-fn finds(items: &[i64], key: i64, want: Result<usize, usize>, most: u128) -> bool {
-    let mut numbers = Numbers { made: 0 };
-    match RangeSetRef::new(items) {
-        Some(list) => {
-            search(list.boundaries(), &key, &mut numbers) == want && numbers.made() <= most
-        }
-        None => false,
-    }
-}
-
-#[test]
-fn searches_find_the_place(rt: HostRuntime) {
-    for (key, want) in [
-        (4, Ok(2)),
-        (5, Err(3)),
-        (0, Ok(0)),
-        (-1, Err(0)),
-        (9, Err(4)),
-    ] {
-        assert!(rt; finds(&[0, 2, 4, 8], key, want, 3), "for {key}");
-    }
-}
-
-// Whether so many items of a list are counted at or below a key, in at most so many comparisons.
-fn counts(items: &[i64], key: i64, want: usize, most: u128) -> bool {
-    let mut numbers = Numbers { made: 0 };
-    match RangeSetRef::new(items) {
-        Some(list) => {
-            count_up_to(list.boundaries(), &key, &mut numbers) == want && numbers.made() <= most
-        }
-        None => false,
-    }
-}
-
-#[test]
-fn searches_count_the_items_at_or_below(rt: HostRuntime) {
-    for (key, want) in [(4, 3), (5, 3), (0, 1), (-1, 0), (9, 4)] {
-        assert!(rt; counts(&[0, 2, 4, 8], key, want, 3), "for {key}");
-    }
-}
-
-// Two lists, their first run, and how many comparisons it may take.
-#[derive(Clone, Copy)]
-struct First<'a> {
-    left: &'a [i64],
-    right: &'a [i64],
-    run: Run,
-    most: u128,
-}
-
-#[rattlefmt::skip]
-const FIRSTS: [First; 3] = [
-    First { left: &[0, 1, 2, 7], right: &[3, 5], run: Run::Left(3), most: 4 },
-    First { left: &[3], right: &[3, 5], run: Run::Both, most: 2 },
-    First { left: &[3, 5], right: &[0, 1, 2, 7], run: Run::Right(3), most: 4 },
-];
-
-// The first run of two lists that are not empty, and how many comparisons it took.
-fn first_run(a: &[i64], b: &[i64]) -> Option<(Run, u128)> {
-    let (a, b) = (
-        RangeSetRef::new(a)?.boundaries(),
-        RangeSetRef::new(b)?.boundaries(),
-    );
-    if a.is_empty() || b.is_empty() {
-        return None;
-    }
-    let mut numbers = Numbers { made: 0 };
-    let run = run_length(&BoolOpMergeState::new(a, b), &mut numbers);
-    Some((run, numbers.made()))
-}
-
-#[test]
-fn first_runs_are_measured(rt: HostRuntime) {
-    for row in FIRSTS {
-        let found = first_run(row.left, row.right);
-        assert!(rt;
-            matches!(found, Some((run, made)) if run == row.run && made <= row.most),
-            "{:?}",
-            row.run
-        );
-    }
-    assert!(rt; Run::Left(3) != Run::Right(3) && Run::Left(3) != Run::Left(2));
+    let right = [
+        all,
+        unread.as_slice() == [2, 3, 4, 5].as_slice(),
+        unread.take_front(2) == [2, 3].as_slice(),
+        unread.next() == Some(&4),
+        unread.next() == Some(&5),
+        unread.next().is_none(),
+    ];
+    assert_eq!(rt; right, [true; 6]);
 }

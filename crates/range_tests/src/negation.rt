@@ -1,4 +1,4 @@
-//! What is not in a set, and back, at types with and without a least number of 0.
+//! What is not in a set, and back, at types that are neither numbers nor characters.
 use range_collections::RangeSet2;
 use range_entry::{EntryClone, NonZeroU8, RangeSetEntry};
 use range_tests_kit::elements::{Only, from_end};
@@ -38,12 +38,6 @@ fn negates<T: RangeSetEntry + EntryClone + MadeWith<Global> + Drop>(
 #[test]
 fn negation_leads_to_the_other_values_and_back(rt: HostRuntime) {
     let (alloc, back) = (rt.alloc(), [from_end(255), from_end(250)]);
-    assert!(rt; negates(own(alloc, &[1i32, 5, 10]), &[i32::MIN, 1, 5, 10]));
-    assert!(rt; negates(own(alloc, &[255u8]), &[0, 255]));
-    assert!(rt; negates(own(alloc, &[i64::MAX]), &[i64::MIN, i64::MAX]));
-    assert!(rt; negates(own(alloc, &[i64::MIN]), &[]));
-    assert!(rt; negates(own(alloc, &[0i64, 10]), &[i64::MIN, 0, 10]));
-    assert!(rt; negates(own(alloc, &['a', '{']), &['\0', 'a', '{']));
     assert!(rt; negates(own(alloc, &back), &[from_end(250)]));
     assert!(rt; negates(own(alloc, &[Only]), &[]));
     assert!(rt; negates(own(alloc, &[]), &[Only]));

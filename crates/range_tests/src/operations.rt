@@ -1,10 +1,9 @@
-//! The four operations in every form: the list that each gives, how often it may compare, and whose
-//! boundaries stay.
+//! The four operations in every form, and by their merges: the list that each gives, and how often
+//! it may compare.
 use crate::merging::wrong_merge;
 use range_collections::{Comparisons, RangeSet, RangeSet2};
-use range_tests_kit::elements::Lettered;
 use range_tests_kit::forms::{FORMS, Form, OPERATIONS, Operation, Row};
-use range_tests_kit::lists::{every_other, lettered, numbers, own, prints};
+use range_tests_kit::lists::{every_other, numbers, own, prints};
 use range_tests_kit::membership::Stands;
 use std::alloc::{AllocError, Global};
 use std::test::Fail;
@@ -24,7 +23,7 @@ macro_rules! row {
 
 // Two lists, their union, intersection, difference and symmetric difference, and how many
 // comparisons each may take.
-pub(crate) const ROWS: [Row; 20] = [
+pub(crate) const ROWS: [Row; 24] = [
     row!([], [] => [], [], [], []; 0),
     row!([], [0, 5] => [0, 5], [], [], [0, 5]; 4),
     row!([0, 5], [] => [0, 5], [], [0, 5], [0, 5]; 4),
@@ -45,6 +44,19 @@ pub(crate) const ROWS: [Row; 20] = [
         => [0, 1, 2, 3, 10, 11, 12, 13], [], [0, 1, 2, 3], [0, 1, 2, 3, 10, 11, 12, 13]; 12),
     row!([0, 1, 2, 3, 4, 5, 6, 7, 8, 9, 10, 11], [3, 8] => [0, 1, 2, 9, 10, 11], [4, 5, 6, 7],
         [0, 1, 2, 3, 8, 9, 10, 11], [0, 1, 2, 4, 5, 6, 7, 9, 10, 11]; 18),
+    row!([0, 1, 2, 3, 4, 5, 6, 7, 8, 9, 10, 11, 12, 13, 14, 15, 16], [0, 1, 2, 3, 4, 5, 6, 7,
+        8, 9, 10, 11, 12, 13, 14, 15, 16] => [0, 1, 2, 3, 4, 5, 6, 7, 8, 9, 10, 11, 12, 13,
+        14, 15, 16], [0, 1, 2, 3, 4, 5, 6, 7, 8, 9, 10, 11, 12, 13, 14, 15, 16], [], []; 34),
+    row!([0, 1, 2, 3, 4, 5, 6, 7, 8, 9, 10, 11, 12, 13, 14, 15], [0, 1, 2, 3, 4, 5, 6, 7, 8,
+        9, 10, 11, 12, 13, 14, 16] => [0, 1, 2, 3, 4, 5, 6, 7, 8, 9, 10, 11, 12, 13, 14, 16],
+        [0, 1, 2, 3, 4, 5, 6, 7, 8, 9, 10, 11, 12, 13, 14, 15], [], [15, 16]; 34),
+    row!([0, 1, 2, 3, 4, 5, 6, 7, 10, 20], [0, 1, 2, 3, 4, 5, 6, 7, 11, 20] => [0, 1, 2, 3, 4,
+        5, 6, 7, 10, 20], [0, 1, 2, 3, 4, 5, 6, 7, 11, 20], [10, 11], [10, 11]; 22),
+    row!([0, 1, 2, 3, 4, 5, 6, 7, 8, 10, 11, 12, 13, 14, 15, 16, 17], [0, 1, 2, 3, 4, 5, 6, 7,
+        8, 30, 31, 32, 33, 34, 35, 36, 37] => [0, 1, 2, 3, 4, 5, 6, 7, 8], [0, 1, 2, 3, 4, 5,
+        6, 7, 8, 10, 11, 12, 13, 14, 15, 16, 17, 30, 31, 32, 33, 34, 35, 36, 37], [30, 31, 32,
+        33, 34, 35, 36, 37], [10, 11, 12, 13, 14, 15, 16, 17, 30, 31, 32, 33, 34, 35, 36, 37];
+        34),
     row!([MIN, 10], [20] => [MIN, 10, 20], [], [MIN, 10], [MIN, 10, 20]; 6),
     row!([0, 10], [MIN, 10] => [MIN, 10], [0, 10], [], [MIN, 0]; 6),
 ];
@@ -181,7 +193,7 @@ fn every_form_gives_long_lists(rt: HostRuntime) -> Result<(), Fail> {
     Ok(())
 }
 
-// So many numbers beside as many, and how many comparisons that may take.
+// How many numbers each side has, and how many comparisons that may take.
 #[derive(Clone, Copy)]
 struct Block {
     length: usize,
@@ -202,7 +214,7 @@ const BLOCKS: [Block; 9] = [
     Block { length: 10_000, most: 56 },
 ];
 
-// The first wrong call of so many numbers and as many that follow them.
+// The first wrong call of a block of numbers and as many that follow them.
 fn wrong_blocks(
     alloc: Global,
     all: &[i64],
@@ -233,57 +245,6 @@ fn one_boundary_beside_ten_thousand(rt: HostRuntime) -> Result<(), Fail> {
         assert_eq!(rt; found, None, "{one} on the left");
         let found = wrong_of(alloc, points.as_slice(), long.as_slice(), &[one], 30)?;
         assert_eq!(rt; found, None, "{one} on the right");
-    }
-    Ok(())
-}
-
-// Whether the items are these numbers, those of the left list with the letter `a` and all others
-// with `b`.
-fn are_lettered(items: &[Lettered], want: &[i64], left: &[i64]) -> bool {
-    for (item, number) in items.iter().zip(want) {
-        let letter = if left.contains(number) { b'a' } else { b'b' };
-        if item.number != *number || item.letter != letter {
-            return false;
-        }
-    }
-    items.len() == want.len()
-}
-
-// What the form makes of both sides.
-fn made_of(
-    alloc: Global,
-    form: Form,
-    op: Operation,
-    a: &[Lettered],
-    b: &[Lettered],
-) -> Option<RangeSet2<Lettered>> {
-    let (left, right) = (own(alloc, a)?, own(alloc, b)?);
-    form.call(op, alloc, left, right, &mut Comparisons::new())
-        .made
-}
-
-// The first operation and form that makes other items.
-fn wrong_letters(alloc: Global, row: &Row) -> Result<Option<(Operation, Form)>, AllocError> {
-    let (a, b) = (
-        lettered(alloc, row.left, b'a')?,
-        lettered(alloc, row.right, b'b')?,
-    );
-    for (op, want) in OPERATIONS.iter().zip(row.wants) {
-        for form in FORMS {
-            match made_of(alloc, form, *op, a.as_slice(), b.as_slice()) {
-                Some(set) if are_lettered(set.boundaries(), want, row.left) => {}
-                _ => return Ok(Some((*op, form))),
-            }
-        }
-    }
-    Ok(None)
-}
-
-#[test]
-fn of_equal_boundaries_the_left_one_stays(rt: HostRuntime) -> Result<(), Fail> {
-    for row in &ROWS {
-        let found = wrong_letters(rt.alloc(), row)?;
-        assert_eq!(rt; found, None, "of {:?} and {:?}", row.left, row.right);
     }
     Ok(())
 }

@@ -23,7 +23,7 @@ struct Refusing<'a, K> {
 }
 
 impl<'a, K> Refusing<'a, K> {
-    // All items of both slices unread, both sides off, and so many advances until one is refused.
+    // All items of both slices unread, both sides off, and `until` advances before one is refused.
     fn new(a: &'a [K], b: &'a [K], until: usize) -> Self
         ensures left { result.a.now ≡ a.now }
         ensures right { result.b.now ≡ b.now }
@@ -135,7 +135,7 @@ struct Row<'a> {
     most: u128,
 }
 
-// Whether the merge whose advance after so many is refused ends there, or at the end where it makes
+// Whether the merge whose advance after `until` is refused ends there, or at the end where it makes
 // no more of them.
 fn ends_rightly(table: [u8; 4], row: &Row, until: usize) -> bool {
     let (Some(left), Some(right)) = (RangeSetRef::new(row.left), RangeSetRef::new(row.right)) else {

@@ -1,10 +1,10 @@
-//! How much room a set keeps that a call makes.
+//! How much room a set keeps that a call makes or changes.
 use range_collections::{Comparisons, DiffOp, RangeSet, RangeSet2, RangeSetRef};
 use range_merge::SmallVecMergeState;
 use range_tests_kit::comparers::Copies;
 use range_tests_kit::forms::{FORMS, Form, OPERATIONS, Operation};
 use range_tests_kit::generator::Generator;
-use range_tests_kit::lists::{numbers, own};
+use range_tests_kit::lists::{every_other, numbers, own};
 use range_tests_kit::membership::{TABLES, all_u8, connective};
 use smallvec::SmallVec;
 use std::alloc::{AllocError, Global};
@@ -88,8 +88,8 @@ fn a_long_set_has_room_for_both_sides(rt: HostRuntime) {
     assert_eq!(rt; room_of_both(rt.alloc()), Some(100));
 }
 
-// Whether so many boundaries, without four others before them, lie in the set itself, which has
-// room for eight.
+// Whether `len` boundaries, without four others before them, lie in the set itself, which has room
+// for eight.
 fn set_is_inline(alloc: Global, len: i64) -> Option<bool> {
     let items = numbers(alloc, 0, len).ok()?;
     let right = RangeSetRef::new(&[-4, -3, -2, -1])?;
@@ -139,5 +139,76 @@ fn negation_keeps_little(alloc: Global, len: u8) -> Option<bool> {
 fn negations_keep_little_room(rt: HostRuntime) {
     for len in [0, 1, 2, 3, 10, 99] {
         assert_eq!(rt; negation_keeps_little(rt.alloc(), len), Some(true), "{len}");
+    }
+}
+
+// How many numbers each side goes up to, every other one on the right: a few, many, and many more on
+// one side.
+const LENGTHS: [(i64, i64); 7] = [
+    (0, 0),
+    (0, 80),
+    (2, 2),
+    (60, 80),
+    (400, 4),
+    (3, 400),
+    (60, 0),
+];
+
+// The room of a list of numbers with room for `room`, before and after an operation in place in this
+// form.
+fn rooms(
+    alloc: Global,
+    form: Form,
+    op: Operation,
+    (left, right): (i64, i64),
+    room: usize,
+) -> Option<(usize, usize)> {
+    let mut list = SmallVec::with_capacity(alloc, room).ok()?;
+    for x in 0..left {
+        list.push(x).ok()?;
+    }
+    let before = list.capacity();
+    let changed: RangeSet2<i64> = RangeSet::new(list)?;
+    let that = own(alloc, every_other(alloc, 1, right).ok()?.as_slice())?;
+    let outcome = form.call(op, alloc, changed, that, &mut Comparisons::new());
+    Some((before, outcome.made?.into_inner().capacity()))
+}
+
+// The first operation and form in place that leaves another room than it finds, which is enough.
+fn changes_room(alloc: Global, lengths: (i64, i64)) -> Option<(Operation, Form)> {
+    for op in OPERATIONS {
+        for form in FORMS {
+            if form.is_in_place() && rooms(alloc, form, op, lengths, 1000) != Some((1000, 1000)) {
+                return Some((op, form));
+            }
+        }
+    }
+    None
+}
+
+// The first one that leaves less room than it finds, which may be too little.
+fn gives_room_back(alloc: Global, lengths: (i64, i64)) -> Option<(Operation, Form)> {
+    for op in OPERATIONS {
+        for form in FORMS {
+            if form.is_in_place() {
+                match rooms(alloc, form, op, lengths, 0) {
+                    Some((before, after)) if before <= after => {}
+                    _ => return Some((op, form)),
+                }
+            }
+        }
+    }
+    None
+}
+
+#[test]
+fn changes_in_place_keep_the_room(rt: HostRuntime) {
+    for lengths in LENGTHS {
+        assert_eq!(rt;
+            changes_room(rt.alloc(), lengths),
+            None,
+            "room for 1,000, {lengths:?}"
+        );
+        assert_eq!(rt; gives_room_back(rt.alloc(), lengths), None, "{lengths:?}");
     }
 }

@@ -21,7 +21,7 @@ struct Sides {
 }
 
 impl Sides {
-    // Runs of so many numbers, of the left list and of the right one in turn. Where it is 0, the
+    // Runs of these lengths, of the left list and of the right one in turn. Where one is 0, the
     // next number is in both.
     fn of(alloc: Global, runs: &[u32]) -> Result<Sides, AllocError> {
         let mut sides = Sides {
@@ -170,7 +170,7 @@ fn made_up_runs_cost_their_digits(rt: HostRuntime) -> Result<(), Fail> {
     Ok(())
 }
 
-// So many runs, each as long as one of these says.
+// `n` runs, each as long as one of these says.
 fn short_runs(draws: &mut Generator, alloc: Global, n: usize) -> Result<Vec<u32>, AllocError> {
     let mut runs = Vec::new(alloc);
     for _ in 0..n {

@@ -5,7 +5,7 @@ use range_merge::{MergeState, MergeStateMut, SmallVecMergeState};
 use smallvec::SmallVec;
 use std::alloc::{AllocError, Global};
 
-/// Past so many items of the left list, past so many of the right one, or past one of each.
+/// Past items of the left list, past items of the right one, or past one of each.
 #[derive(Clone, Copy, Debug)]
 pub enum Advance {
     Left(usize),

@@ -3,7 +3,7 @@ ghost use Rattle.std.specs.Prelude.{◌≡◌, ⊤};
 ghost use Rattle.std.specs.Ordering.{int_cmp};
 ghost use Rattle.std.proofs.lemmas.Cmp.{int_cmp_total};
 
-use range_merge::{Compare, Copier};
+use range_merge::{Compare, Copier, Work};
 use std::alloc::AllocError;
 use std::cmp::Ordering;
 
@@ -27,12 +27,10 @@ impl Compare<i64> for Numbers {
         self.made
     }
 
-    fn fresh(&self) -> Self {
-        Numbers { made: 0 }
-    }
-
-    fn add(&mut self, other: Self) {
-        self.made += other.made;
+    fn apart<W: Work<i64, Self>>(&mut self, work: &mut W) -> W::Answer {
+        let done = work.run(Numbers { made: 0 });
+        self.made += done.cmp.made;
+        done.answer
     }
 
     ghost total = { int_cmp_total };

@@ -52,7 +52,7 @@ impl Generator {
         items.get(at % items.len().max(1))
     }
 
-    /// About one in so many of the values, in their order.
+    /// About one in `one_in` of the values, in their order.
     pub fn some_of<T: Copy>(
         &mut self,
         alloc: Global,

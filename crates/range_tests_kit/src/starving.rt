@@ -1,9 +1,9 @@
 //! A process whose memory is taken away for a test, so that a call's requests are refused: with no
 //! room left all of them, and with a little more room in each round fewer, until none is.
 //!
-//! The library's allocator cannot be told to refuse. So the address space is taken in blocks, which
-//! are never written to, and in each round every hole that is left. Each test runs in a process of
-//! its own.
+//! A program can't make the library's allocator refuse. So the address space is taken in blocks,
+//! which are never written to, and in each round every hole that is left. Each test runs in a
+//! process of its own.
 ghost use Rattle.std.specs.Prelude.{◌≤◌};
 
 use std::alloc::{AllocError, Global};
@@ -82,7 +82,7 @@ impl Starved {
         Starved::with_rounds(alloc, 4_000)
     }
 
-    /// Takes the address space, but for what is given back in so many rounds.
+    /// Takes the address space, but for what is given back in `rounds` rounds.
     pub fn with_rounds(alloc: Global, rounds: usize) -> Result<Starved, AllocError> {
         let mut taken = Vec::with_capacity(alloc, 262_144)?;
         let mut spares = Vec::with_capacity(alloc, rounds)?;

@@ -4,7 +4,7 @@
 //! next. Its one argument is the most boundaries that there may be.
 #![tactic(auto)]
 
-use range_chunks::ChunkedTracker;
+use range_chunked_tracker::ChunkedTracker;
 use range_track_answers::{Status, limit_asked, serve};
 use std::env;
 use std::io::{self, BufReader, BufWriter, ErrorKind};

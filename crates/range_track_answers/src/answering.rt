@@ -6,7 +6,7 @@ ghost use Rattle.range_track_answers.specs.Requests.{request_of};
 
 use crate::request::Request;
 use crate::writing::{write_gaps, write_ranges, write_reply, write_truth};
-use range_chunks::ChunkedTracker;
+use range_chunked_tracker::ChunkedTracker;
 use std::io::{self, Write};
 
 /// Answers the line with one line, and flushes it.

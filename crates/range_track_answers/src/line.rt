@@ -1,4 +1,4 @@
-//! Lines as they come, of which no more is kept than tells that one is too long.
+//! Lines as they come. Of one that is too long no more is kept than shows that.
 ghost use Rattle.std.specs.Prelude.{◌≡◌, [], ◌∷◌, ◌++◌, take, IfOk, IfSome, OnOk};
 ghost use Rattle.std.specs.Io.Iter.{bytes_remaining};
 ghost use Rattle.range_track_answers.specs.Lines.{IsLine, IsLineRead};

@@ -9,7 +9,7 @@ ghost use Rattle.range_track_answers.specs.Requests.{request_of};
 use crate::answering::answer;
 use crate::line::{Ending, read_line};
 use arrayvec::ArrayVec;
-use range_chunks::ChunkedTracker;
+use range_chunked_tracker::ChunkedTracker;
 use std::io::{self, ErrorKind, Read, Write};
 
 /// Answers each line of the input before it reads the next, until the input ends.

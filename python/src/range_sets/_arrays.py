@@ -2,69 +2,127 @@
 
 from __future__ import annotations
 
-from operator import index
 from typing import Any
 
 from . import _core
-from ._kinds import AWARE, DELTA, FLOAT, NAT, UNTOLD, Kind, Now, of_some
-from ._numbers import code_of, least, most
+from ._kinds import AWARE, DELTA, FLOAT, NAT, NO_KIND, UNCOUNTED, Kind, Now, of_some
+from ._numbers import code_of
 
 
-def contains_each(a: Any, values: Any) -> Any:
-    """For each number of an array whether it is a member of a list, as an array of bools. A number out of range is no member."""
-    import numpy
-
-    numbers, unsigned = numpy.asarray(values), not _core.is_signed(a)
-    if numbers.dtype.kind == "O" or (numbers.dtype.kind not in "iu" and not hasattr(values, "dtype")):
-        return _contains_each_object(a, values, unsigned)
-    if numbers.dtype.kind not in "iu" and numbers.size:
-        raise TypeError(f"whole numbers are wanted, not {numbers.dtype}")
-    alike = numpy.ascontiguousarray(numbers, dtype=numpy.dtype(code_of(unsigned))).reshape(-1)
-    found = numpy.frombuffer(_core.contains_each(a, alike), dtype=bool).reshape(numbers.shape)
-    if (numbers.dtype.kind == "u") == unsigned:
-        return found
-    return found & (numbers >= least(unsigned) if unsigned else numbers <= most(unsigned))
-
-
-def _contains_each_object(a: Any, values: Any, unsigned: bool) -> Any:
-    """The same of what is no array of numbers: a list may have some of more than 64 bits, or none."""
-    import numpy
-
-    objects = numpy.asarray(values, dtype=object)
-    found = [least(unsigned) <= index(it) <= most(unsigned) and _core.contains(a, it) for it in objects.reshape(-1).tolist()]
-    return numpy.array(found, dtype=bool).reshape(objects.shape)
-
-
-def none_of_each(values: Any) -> Any:
-    """The same of a set of nothing, whatever the kind of the elements is."""
-    import numpy
-
-    found = numpy.asarray(values)
-    of_some(found.reshape(-1)[:1].tolist())
-    return numpy.zeros(found.shape, dtype=bool)
-
-
-def codes_of_each(kind: Kind, values: Any) -> Any:
-    """The numbers of the elements in an array of numpy, or in what it makes one of."""
+def codes_of_each(kind: Kind, values: Any) -> tuple[Any, Any]:
+    """The numbers of the elements in an array of numpy, or in what it makes one of; and which are no elements, as NaT, NaN, and whole
+    numbers out of range. The numbers of these mean nothing."""
     import numpy
 
     in_utc = times_in_utc(values, kind)
     found = numpy.asarray(values) if in_utc is None else in_utc
+    gone = numpy.zeros(found.shape, dtype=bool)
+    if kind.is_whole and found.dtype.kind in "iu":
+        if (found.dtype.kind == "u") != kind.unsigned:
+            gone = found < 0 if kind.unsigned else found > kind.most
+        return found.astype(code_of(kind.unsigned)), gone
     if kind.dtype is not None and found.dtype.newbyteorder("=") == numpy.dtype(kind.dtype):
-        see_no_nat(found)
-        return found.astype(kind.dtype).view("i8")
-    elements = found.reshape(-1).tolist()
+        return found.astype(kind.dtype).view("i8"), numpy.isnat(found)
+    if kind is FLOAT and found.dtype.kind == "f" and found.dtype.itemsize <= 8:
+        gone = numpy.isnan(found)
+        return codes_of_floats(numpy.where(gone, 0, found)), gone
+    if kind.is_whole and found.size and hasattr(values, "dtype") and found.dtype.kind != "O":
+        raise TypeError(f"expected whole numbers, not {found.dtype}")
+    # A list may have whole numbers of more than 64 bits.
+    elements = (numpy.asarray(values, dtype=object) if kind.is_whole else found).reshape(-1).tolist()
     # As which numpy has times of units that Python has no type for.
     if found.dtype.kind in "mM" and any(isinstance(it, int) for it in elements):
         raise kind.wrong_array(found.dtype)
-    return numpy.array([kind.number(it) for it in elements], dtype="i8").reshape(found.shape)
+    codes = [None if it != it else kind.code(it) if kind.is_whole else kind.number(it) for it in elements]
+    none = [it is None or not kind.least <= it <= kind.most for it in codes]
+    numbers = [0 if is_none else it for it, is_none in zip(codes, none)]
+    return numpy.array(numbers, dtype=code_of(kind.unsigned)).reshape(found.shape), numpy.array(none, dtype=bool).reshape(found.shape)
+
+
+def codes_of_floats(floats: Any) -> Any:
+    """The numbers of an array of floats, as `FLOAT.code` gives them."""
+    import numpy
+
+    bits = numpy.ascontiguousarray(floats, dtype=float).view("i8")
+    codes = numpy.empty_like(bits)
+    _core.mirror(bits.reshape(-1), codes.reshape(-1))
+    return codes
+
+
+def contains_each(now: Now, values: Any) -> Any:
+    """For each element whether it is a member, as an array of bools. What is no element is none."""
+    codes, gone = asked_of(now, values)
+    return (_each(_core.places, now, codes, "i8") >= 0) & ~gone
+
+
+def asked_of(now: Now, values: Any) -> tuple[Any, Any]:
+    """What `codes_of_each` returns for the kind of a set. One of no kind has no element, of whatever kind these are."""
+    import numpy
+
+    if now[1] is not NO_KIND:
+        return codes_of_each(now[1], values)
+    found = numpy.asarray(values)
+    of_some(found.reshape(-1)[:1].tolist())
+    return numpy.zeros(found.shape, dtype="i8"), numpy.zeros(found.shape, dtype=bool)
+
+
+def _each(call: Any, now: Now, codes: Any, dtype: str) -> Any:
+    import numpy
+
+    return numpy.frombuffer(call(now[0], numpy.ascontiguousarray(codes).reshape(-1)), dtype=dtype).reshape(codes.shape)
+
+
+def _ranks(now: Now, *columns: Any) -> tuple[Any, Any]:
+    """How many members are below each element, with a last dimension for the columns; and which aren't elements."""
+    import numpy
+
+    codes, gone = (numpy.stack(it, axis=-1) for it in zip(*(asked_of(now, it) for it in columns)))
+    return _each(_core.ranks, now, codes, "u8"), gone
+
+
+def overlaps_each(now: Now, starts: Any, ends: Any) -> Any:
+    """For each start and end whether an element from the one up to below the other is a member."""
+    found, gone = _ranks(now, starts, ends)
+    return (found[..., 0] < found[..., 1]) & ~gone.any(axis=-1)
+
+
+def rank_each(now: Now, *columns: Any) -> Any:
+    """For each element how many members are below. Two columns make a table."""
+    kind, (found, gone) = now[1], _ranks(now, *columns)
+    if kind is FLOAT:
+        raise TypeError(UNCOUNTED)
+    if gone.any():
+        raise OverflowError(f"expected {kind.element}") if kind.is_whole else ValueError(NAT)
+    return found.view("i8") if (found < 2**63).all() else found
+
+
+def covered_within_each(now: Now, starts: Any, ends: Any) -> Any:
+    """How much of each range is covered, as lengths of numpy's if the elements are times."""
+    import numpy
+
+    before, after = numpy.moveaxis(rank_each(now, starts, ends), -1, 0)
+    found, dtype = numpy.where(after > before, after - before, 0), now[1].dtype
+    return found if dtype is None else found.view(numpy.dtype(dtype).str.replace("M8", "m8"))
+
+
+def range_at_each(now: Now, values: Any) -> tuple[Any, Any]:
+    """The start and the end of the range of each element. They are masked where there is none."""
+    import numpy
+
+    codes, gone = asked_of(now, values)
+    places, ends = _each(_core.places, now, codes, "i8"), array_of(now)
+    some = numpy.zeros(len(ends) + 2, dtype=ends.dtype)
+    some[: len(ends)] = ends
+    none = gone | (places < 0)
+    masked: Any = numpy.ma.MaskedArray
+    return masked(some[places], mask=none), masked(some[places + 1], mask=none | (places + 1 >= len(ends)))
 
 
 def times_in_utc(column: Any, kind: Kind | None) -> Any:
     """A column of pandas with a time zone, as microseconds in UTC, if its times may be of the kind. None for another, for one of
     nothing, and where a time has nanoseconds or is out of range: one by one they say which."""
     dtype: Any = getattr(column, "dtype", None)
-    if getattr(dtype, "tz", None) is None or kind not in (None, UNTOLD, AWARE) or not len(column):
+    if getattr(dtype, "tz", None) is None or kind not in (None, NO_KIND, AWARE) or not len(column):
         return None
     import numpy
 
@@ -95,7 +153,9 @@ def array_of(now: Now) -> Any:
 
     boundaries, kind = now
     if kind is FLOAT:
-        return numpy.array([*kind.values(boundaries)], dtype=float)
+        floats = numpy.empty(len(boundaries))
+        _core.mirror(boundaries, floats.view("i8"))
+        return floats
     numbers = numpy.asarray(boundaries)
     if kind is DELTA and len(numbers) and numbers[0] == kind.least:
         raise ValueError("numpy has no timedelta64 for the least timedelta: its number is NaT's")

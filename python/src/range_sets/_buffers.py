@@ -14,11 +14,13 @@ from __future__ import annotations
 from array import array
 from itertools import zip_longest
 from operator import index
-from typing import Any, Iterator, Literal, Protocol, SupportsIndex, overload
+from typing import Any, Iterator, Protocol, SupportsIndex, overload
 
 from . import _core
 from ._arrays import contains_each
-from ._numbers import range_list
+from ._core import Boundaries
+from ._kinds import whole
+from ._numbers import code_of
 
 
 class Buffer(Protocol):
@@ -28,34 +30,57 @@ class Buffer(Protocol):
         ...
 
 
-def _array(items: memoryview) -> array[int]:
-    code: Literal["q", "Q"] = "q" if items.format == "q" else "Q"
-    made = array(code)
-    made.frombytes(items.obj)
+def _array(items: Boundaries) -> array[int]:
+    made = array(code_of(not _core.is_signed(items)))
+    made.frombytes(items)  # type: ignore[arg-type]
     return made
 
 
-def _written(answer: memoryview | int) -> array[int] | int:
+def _written(answer: Boundaries | int) -> array[int] | int:
     return answer if isinstance(answer, int) else _array(answer)
 
 
-def _range(start: SupportsIndex, end: SupportsIndex, a: Buffer) -> memoryview:
+class _OfTwo(Protocol):
+    @overload
+    def __call__(self, a: Buffer, b: Buffer, *, out: None = None) -> array[int]:
+        ...
+
+    @overload
+    def __call__(self, a: Buffer, b: Buffer, *, out: Buffer) -> int:
+        ...
+
+
+class _OfARange(Protocol):
+    @overload
+    def __call__(self, a: Buffer, start: SupportsIndex, end: SupportsIndex, *, out: None = None) -> array[int]:
+        ...
+
+    @overload
+    def __call__(self, a: Buffer, start: SupportsIndex, end: SupportsIndex, *, out: Buffer) -> int:
+        ...
+
+
+# What checkers of types know of these: with `out` they answer a length.
+
+
+def _of_two(call: Any) -> _OfTwo:
+    return call  # type: ignore[no-any-return]
+
+
+def _of_a_range(call: Any) -> _OfARange:
+    return call  # type: ignore[no-any-return]
+
+
+def _range(start: SupportsIndex, end: SupportsIndex, a: Buffer) -> Boundaries:
     """The boundaries of a range, of the type of the numbers in a buffer."""
-    return range_list(index(start), index(end), not _core.is_signed(a))
+    return _core.range_list(index(start), index(end), not _core.is_signed(a))
 
 
-@overload
-def union(a: Buffer, b: Buffer, *, out: None = None) -> array[int]:
-    ...
-
-
-@overload
-def union(a: Buffer, b: Buffer, *, out: Buffer) -> int:
-    ...
-
-
+@_of_two
 def union(a: Buffer, b: Buffer, *, out: Buffer | None = None) -> array[int] | int:
     """The numbers in either set.
+
+    Cost: goes over both lists.
 
     >>> union(array("q", [0, 10]), array("q", [5, 20]))
     array('q', [0, 20])
@@ -66,18 +91,11 @@ def union(a: Buffer, b: Buffer, *, out: Buffer | None = None) -> array[int] | in
     return _written(_core.union(a, b, out))
 
 
-@overload
-def intersection(a: Buffer, b: Buffer, *, out: None = None) -> array[int]:
-    ...
-
-
-@overload
-def intersection(a: Buffer, b: Buffer, *, out: Buffer) -> int:
-    ...
-
-
+@_of_two
 def intersection(a: Buffer, b: Buffer, *, out: Buffer | None = None) -> array[int] | int:
     """The numbers in both sets.
+
+    Cost: goes over both lists.
 
     >>> intersection(array("q", [0, 10]), array("q", [5, 20]))
     array('q', [5, 10])
@@ -85,18 +103,11 @@ def intersection(a: Buffer, b: Buffer, *, out: Buffer | None = None) -> array[in
     return _written(_core.intersection(a, b, out))
 
 
-@overload
-def difference(a: Buffer, b: Buffer, *, out: None = None) -> array[int]:
-    ...
-
-
-@overload
-def difference(a: Buffer, b: Buffer, *, out: Buffer) -> int:
-    ...
-
-
+@_of_two
 def difference(a: Buffer, b: Buffer, *, out: Buffer | None = None) -> array[int] | int:
     """The numbers in the left set and not in the right.
+
+    Cost: goes over both lists.
 
     >>> difference(array("q", [0, 10]), array("q", [5, 20]))
     array('q', [0, 5])
@@ -104,18 +115,11 @@ def difference(a: Buffer, b: Buffer, *, out: Buffer | None = None) -> array[int]
     return _written(_core.difference(a, b, out))
 
 
-@overload
-def symmetric_difference(a: Buffer, b: Buffer, *, out: None = None) -> array[int]:
-    ...
-
-
-@overload
-def symmetric_difference(a: Buffer, b: Buffer, *, out: Buffer) -> int:
-    ...
-
-
+@_of_two
 def symmetric_difference(a: Buffer, b: Buffer, *, out: Buffer | None = None) -> array[int] | int:
     """The numbers in exactly one of the two sets.
+
+    Cost: goes over both lists.
 
     >>> symmetric_difference(array("q", [0, 10]), array("q", [5, 20]))
     array('q', [0, 5, 10, 20])
@@ -136,24 +140,19 @@ def negation(a: Buffer, *, out: Buffer) -> int:
 def negation(a: Buffer, *, out: Buffer | None = None) -> array[int] | int:
     """The numbers that are no members.
 
+    Cost: a copy.
+
     >>> negation(array("Q", [0, 10]))
     array('Q', [10])
     """
     return _written(_core.negation(a, out))
 
 
-@overload
-def insert(a: Buffer, start: SupportsIndex, end: SupportsIndex, *, out: None = None) -> array[int]:
-    ...
-
-
-@overload
-def insert(a: Buffer, start: SupportsIndex, end: SupportsIndex, *, out: Buffer) -> int:
-    ...
-
-
+@_of_a_range
 def insert(a: Buffer, start: SupportsIndex, end: SupportsIndex, *, out: Buffer | None = None) -> array[int] | int:
     """The set with the numbers from `start` up to, not including, `end`.
+
+    Cost: a copy.
 
     >>> insert(array("q", [0, 10]), 12, 14)
     array('q', [0, 10, 12, 14])
@@ -161,18 +160,11 @@ def insert(a: Buffer, start: SupportsIndex, end: SupportsIndex, *, out: Buffer |
     return _written(_core.union(a, _range(start, end, a), out))
 
 
-@overload
-def remove(a: Buffer, start: SupportsIndex, end: SupportsIndex, *, out: None = None) -> array[int]:
-    ...
-
-
-@overload
-def remove(a: Buffer, start: SupportsIndex, end: SupportsIndex, *, out: Buffer) -> int:
-    ...
-
-
+@_of_a_range
 def remove(a: Buffer, start: SupportsIndex, end: SupportsIndex, *, out: Buffer | None = None) -> array[int] | int:
     """The set without the numbers from `start` up to, not including, `end`.
+
+    Cost: a copy.
 
     >>> remove(array("q", [0, 10]), 3, 7)
     array('q', [0, 3, 7, 10])
@@ -180,18 +172,11 @@ def remove(a: Buffer, start: SupportsIndex, end: SupportsIndex, *, out: Buffer |
     return _written(_core.difference(a, _range(start, end, a), out))
 
 
-@overload
-def gaps(a: Buffer, start: SupportsIndex, end: SupportsIndex, *, out: None = None) -> array[int]:
-    ...
-
-
-@overload
-def gaps(a: Buffer, start: SupportsIndex, end: SupportsIndex, *, out: Buffer) -> int:
-    ...
-
-
+@_of_a_range
 def gaps(a: Buffer, start: SupportsIndex, end: SupportsIndex, *, out: Buffer | None = None) -> array[int] | int:
     """The numbers from `start` up to, not including, `end` that are no members.
+
+    Cost: goes over the list.
 
     >>> gaps(array("q", [0, 10, 20, 30]), 5, 25)
     array('q', [10, 20])
@@ -202,6 +187,8 @@ def gaps(a: Buffer, start: SupportsIndex, end: SupportsIndex, *, out: Buffer | N
 def from_ranges(numbers: Buffer) -> array[int]:
     """The numbers in some range, from ranges in any order: a start and an end in turn, or a table with a row for each range.
 
+    Cost: that of sorting them.
+
     >>> from_ranges(array("q", [20, 30, 0, 5, 3, 8]))
     array('q', [0, 8, 20, 30])
     """
@@ -211,6 +198,8 @@ def from_ranges(numbers: Buffer) -> array[int]:
 def from_unsorted(items: Buffer) -> array[int]:
     """The set whose boundaries are these numbers, in any order, each once.
 
+    Cost: that of sorting them.
+
     >>> from_unsorted(array("q", [7, -2, 7, 5]))
     array('q', [-2, 5, 7])
     """
@@ -219,6 +208,8 @@ def from_unsorted(items: Buffer) -> array[int]:
 
 def ranges(a: Buffer) -> Iterator[tuple[int, int | None]]:
     """The ranges of the set in order, each as its start and its end; the end is None if the range has none.
+
+    Cost: a copy.
 
     >>> list(ranges(array("q", [0, 10, 20])))
     [(0, 10), (20, None)]
@@ -230,6 +221,8 @@ def ranges(a: Buffer) -> Iterator[tuple[int, int | None]]:
 def is_sorted(a: Buffer) -> bool:
     """Whether the list is strictly sorted.
 
+    Cost: goes over the list.
+
     >>> is_sorted(array("q", [3, 3]))
     False
     """
@@ -238,6 +231,8 @@ def is_sorted(a: Buffer) -> bool:
 
 def is_empty(a: Buffer) -> bool:
     """Whether no number is a member.
+
+    Cost: none.
 
     >>> is_empty(array("q"))
     True
@@ -258,14 +253,18 @@ def contains(a: Buffer, value: SupportsIndex) -> bool:
 def contains(a: Buffer, value: Any) -> Any:
     """Whether the number is a member; or, of a numpy array of numbers, an array that says so of each.
 
+    Cost: a search for each.
+
     >>> contains(array("q", [0, 10]), 9), contains(array("q", [0, 10]), 10)
     (True, False)
     """
-    return contains_each(a, value) if getattr(value, "ndim", 0) else _core.contains(a, value)
+    return contains_each((a, whole(not _core.is_signed(a))), value) if getattr(value, "ndim", 0) else _core.contains(a, value)  # type: ignore[arg-type]
 
 
 def contains_range(a: Buffer, start: SupportsIndex, end: SupportsIndex) -> bool:
     """Whether each number from `start` up to, not including, `end` is a member.
+
+    Cost: a search.
 
     >>> contains_range(array("q", [0, 10]), 3, 10)
     True
@@ -276,6 +275,8 @@ def contains_range(a: Buffer, start: SupportsIndex, end: SupportsIndex) -> bool:
 def range_at(a: Buffer, value: SupportsIndex) -> tuple[int, int | None] | None:
     """The range that holds the number, or None if it is no member.
 
+    Cost: a search.
+
     >>> range_at(array("q", [0, 10, 20]), 25)
     (20, None)
     """
@@ -284,6 +285,8 @@ def range_at(a: Buffer, value: SupportsIndex) -> tuple[int, int | None] | None:
 
 def covered(a: Buffer) -> int | None:
     """How many numbers are members, or None if the set has no end.
+
+    Cost: goes over the list.
 
     >>> covered(array("q", [0, 10, 20, 25]))
     15
@@ -294,6 +297,8 @@ def covered(a: Buffer) -> int | None:
 def is_disjoint(a: Buffer, b: Buffer) -> bool:
     """Whether no number is a member of both.
 
+    Cost: goes over both lists.
+
     >>> is_disjoint(array("q", [0, 10]), array("q", [10, 20]))
     True
     """
@@ -302,6 +307,8 @@ def is_disjoint(a: Buffer, b: Buffer) -> bool:
 
 def intersects(a: Buffer, b: Buffer) -> bool:
     """Whether some number is a member of both.
+
+    Cost: goes over both lists.
 
     >>> intersects(array("q", [0, 10]), array("q", [9, 20]))
     True
@@ -312,6 +319,8 @@ def intersects(a: Buffer, b: Buffer) -> bool:
 def is_subset(a: Buffer, b: Buffer) -> bool:
     """Whether each member of the left set is one of the right.
 
+    Cost: goes over both lists.
+
     >>> is_subset(array("q", [3, 5]), array("q", [0, 10]))
     True
     """
@@ -321,6 +330,8 @@ def is_subset(a: Buffer, b: Buffer) -> bool:
 def is_superset(a: Buffer, b: Buffer) -> bool:
     """Whether each member of the right set is one of the left.
 
+    Cost: goes over both lists.
+
     >>> is_superset(array("q", [0, 10]), array("q", [3, 5]))
     True
     """
@@ -329,6 +340,8 @@ def is_superset(a: Buffer, b: Buffer) -> bool:
 
 def equal(a: Buffer, b: Buffer) -> bool:
     """Whether both sets have the same members.
+
+    Cost: goes over both lists.
 
     >>> equal(array("q", [0, 10]), array("q", [0, 10]))
     True
@@ -340,6 +353,8 @@ def split(a: Buffer, at: SupportsIndex) -> tuple[int, int]:
     """Cuts the list at a number: how many boundaries are those of the members below `at`, and from which index on they are those of the others.
 
     Below `at` the first list is the set, and from `at` on the second is. A range that goes over `at` has a boundary in both.
+
+    Cost: a search.
 
     >>> split(array("q", [0, 10, 20, 30]), 25)
     (3, 2)

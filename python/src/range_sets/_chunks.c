@@ -4,11 +4,6 @@
  * its look at the set's kind on it runs none and lets no other thread run. */
 #include "_lists.h"
 
-typedef union {
-    range_set_i64_chunked i64;
-    range_set_u64_chunked u64;
-} Handle;
-
 typedef struct {
     PyObject_HEAD
     /* The kind of the elements, as Python has it. */
@@ -16,16 +11,13 @@ typedef struct {
     /* The boundaries as a list that nothing changes, and the kind; or NULL since a change. */
     PyObject *now;
     /* The boundaries in chunks, or none yet. The set is empty if there is no list either. */
-    Handle handle;
-    bool is_signed;
+    Chunked handle;
+    bool is_signed, is_plain;
     uint64_t changes;
+    /* Of a change that was refused memory midway, and then again to go back: what it put in or took out, and what of that the
+     * set had before. Until it is back, each call is refused memory. */
+    PyObject *undone, *had;
 } Chunks;
-
-/* The numbers from a start on, up to below an end if there is one. */
-typedef struct {
-    uint64_t start, end;
-    bool has_end;
-} Range;
 
 #define HANDLE(self) ((self)->handle.i64.at)
 #define ASK(self, name) \
@@ -34,7 +26,7 @@ typedef struct {
     ((self)->is_signed ? range_set_i64_chunked_##name((self)->handle.i64, __VA_ARGS__) \
                        : range_set_u64_chunked_##name((self)->handle.u64, __VA_ARGS__))
 
-static void free_handle(Handle *handle, bool is_signed)
+static void free_handle(Chunked *handle, bool is_signed)
 {
     if (is_signed) range_set_i64_chunked_free(&handle->i64);
     else range_set_u64_chunked_free(&handle->u64);
@@ -42,32 +34,71 @@ static void free_handle(Handle *handle, bool is_signed)
 
 /* ---- What the set is ---- */
 
-/* Makes the chunks of the list, or empty ones if there is none of such numbers. */
-static bool make_handle(Chunks *self, bool is_signed, Handle *made)
+/* Borrows the list, or one of no number if there is none of such numbers. It stays until the next change. */
+static void see_list(const Chunks *self, bool is_signed, List *list)
 {
-    List list = {.len = 0};
-    bool has_list = self->now != NULL && self->is_signed == is_signed;
-    if (has_list && !borrow(PyTuple_GET_ITEM(self->now, 0), &list, false, false)) return false;
-    range_set_status status = has_list ? check_list(&list) : RANGE_SET_DONE;
-    if (status == RANGE_SET_DONE)
-        status = is_signed ? range_set_i64_chunked_of(SET(i64, list), &made->i64)
-                           : range_set_u64_chunked_of(SET(u64, list), &made->u64);
-    if (has_list) release(&list);
+    *list = (List){.is_signed = is_signed, .is_own = true};
+    if (self->now != NULL && self->is_signed == is_signed) borrow_own(PyTuple_GET_ITEM(self->now, 0), list);
+}
+
+/* Makes the chunks of the list. */
+static bool make_handle(Chunks *self, bool is_signed, Chunked *made)
+{
+    List list;
+    see_list(self, is_signed, &list);
+    range_set_status status = is_signed ? range_set_i64_chunked_of(SET(i64, list), &made->i64)
+                                        : range_set_u64_chunked_of(SET(u64, list), &made->u64);
     return status == RANGE_SET_DONE || raise_status(status, 0) != NULL;
+}
+
+#define CHANGE(type, handle) \
+    (inserts ? range.has_end ? range_set_##type##_chunked_insert(handle, range.start, range.end) \
+                             : range_set_##type##_chunked_insert_from(handle, range.start) \
+             : range.has_end ? range_set_##type##_chunked_remove(handle, range.start, range.end) \
+                             : range_set_##type##_chunked_remove_from(handle, range.start))
+
+/* Puts each range of a list into the chunks, or takes it out. */
+static range_set_status change_each(Chunks *self, PyObject *ranges, bool inserts)
+{
+    List list;
+    range_set_status status = RANGE_SET_DONE;
+    borrow_own(ranges, &list);
+    for (size_t i = 0; status == RANGE_SET_DONE && 2 * i < list.len; i++) {
+        Range range = range_in(&list, i);
+        status = self->is_signed ? CHANGE(i64, &self->handle.i64) : CHANGE(u64, &self->handle.u64);
+    }
+    return status;
+}
+
+static void forget_undone(Chunks *self)
+{
+    Py_CLEAR(self->undone);
+    Py_CLEAR(self->had);
+}
+
+/* Goes back to what the set was before a change that was refused memory midway. */
+static bool settle(Chunks *self)
+{
+    if (self->undone == NULL) return true;
+    range_set_status status = change_each(self, self->undone, false);
+    if (status == RANGE_SET_DONE) status = change_each(self, self->had, true);
+    if (status != RANGE_SET_DONE) return raise_status(status, 0) != NULL;
+    forget_undone(self);
+    return true;
 }
 
 static bool see_handle(Chunks *self)
 {
-    return HANDLE(self) != NULL || make_handle(self, self->is_signed, &self->handle);
+    return settle(self) && (HANDLE(self) != NULL || make_handle(self, self->is_signed, &self->handle));
 }
 
-/* The first boundaries in some bytes, which it takes over, as a list, and their kind. */
-static PyObject *list_and_kind(PyObject *bytes, size_t len, bool is_signed, PyObject *kind)
+bool see_chunks(PyObject *object, bool wants_chunks, List *list, Chunked **chunked)
 {
-    PyObject *list = list_over(bytes, len, is_signed);
-    PyObject *both = list == NULL ? NULL : PyTuple_Pack(2, list, kind);
-    Py_XDECREF(list);
-    return both;
+    Chunks *self = (Chunks *)object;
+    see_list(self, self->is_signed, list);
+    if (!settle(self) || (wants_chunks && !see_handle(self))) return false;
+    *chunked = HANDLE(self) == NULL ? NULL : &self->handle;
+    return true;
 }
 
 /* What the set was at one moment of the call. It is kept until the next change. Making a list may run Python's collector
@@ -75,6 +106,7 @@ static PyObject *list_and_kind(PyObject *bytes, size_t len, bool is_signed, PyOb
 static PyObject *chunks_now(Chunks *self, void *unused)
 {
     if (self->now != NULL) return Py_NewRef(self->now);
+    if (!settle(self)) return NULL;
     uint64_t changes = self->changes;
     size_t len = ASK(self, boundaries_len);
     PyObject *bytes = PyBytes_FromStringAndSize(NULL, 8 * len);
@@ -89,45 +121,50 @@ static PyObject *chunks_now(Chunks *self, void *unused)
         return raise_status(status, len);
     }
     PyObject *kind = Py_NewRef(self->kind);
-    PyObject *now = list_and_kind(bytes, len, self->is_signed, kind);
+    PyObject *now = list_and_kind(list_over(bytes, len, self->is_signed), kind);
     Py_DECREF(kind);
     if (now != NULL && self->now == NULL && self->changes == changes) self->now = Py_NewRef(now);
     return now;
 }
 
+bool is_plain(PyObject *kind)
+{
+    PyObject *found = PyObject_GetAttrString(kind, "is_plain");
+    if (found == NULL) PyErr_Clear();
+    Py_XDECREF(found);
+    return found == Py_True;
+}
+
 /* Makes the set what it is from now on. */
-static void become(Chunks *self, PyObject *now, Handle handle, bool is_signed, PyObject *kind)
+static void become(Chunks *self, PyObject *now, Chunked handle, bool is_signed, PyObject *kind)
 {
     PyObject *now_before = self->now, *kind_before = self->kind;
     if (HANDLE(self) != handle.i64.at) free_handle(&self->handle, self->is_signed);
     self->now = now;
     self->handle = handle;
     self->is_signed = is_signed;
+    if (kind != kind_before) self->is_plain = is_plain(kind);
     self->kind = Py_NewRef(kind);
     self->changes++;
+    forget_undone(self);
     Py_XDECREF(now_before);
     Py_DECREF(kind_before);
 }
 
 /* ---- Changes ---- */
 
-#define CHANGE(type, handle) \
-    (inserts ? range.has_end ? range_set_##type##_chunked_insert(handle, range.start, range.end) \
-                             : range_set_##type##_chunked_insert_from(handle, range.start) \
-             : range.has_end ? range_set_##type##_chunked_remove(handle, range.start, range.end) \
-                             : range_set_##type##_chunked_remove_from(handle, range.start))
-
 /* Puts a range in or takes it out. A set of another kind is an empty one, which takes the kind that is given. */
 static bool change(Chunks *self, bool inserts, Range range, bool is_signed, PyObject *kind)
 {
-    Handle made = {.i64 = {NULL}};
+    Chunked made = {.i64 = {NULL}};
+    if (!settle(self)) return false;
     bool is_new = HANDLE(self) == NULL || self->is_signed != is_signed;
-    if (range.has_end && (is_signed ? (int64_t)range.start >= (int64_t)range.end : range.start >= range.end)) {
+    if (is_reversed(range, is_signed)) {
         if (self->kind != kind) become(self, NULL, made, is_signed, kind);
         return true;
     }
     if (is_new && !make_handle(self, is_signed, &made)) return false;
-    Handle *handle = is_new ? &made : &self->handle;
+    Chunked *handle = is_new ? &made : &self->handle;
     range_set_status status = is_signed ? CHANGE(i64, &handle->i64) : CHANGE(u64, &handle->u64);
     if (status != RANGE_SET_DONE) {
         if (is_new) free_handle(&made, is_signed);
@@ -135,13 +172,6 @@ static bool change(Chunks *self, bool inserts, Range range, bool is_signed, PyOb
     }
     become(self, NULL, *handle, is_signed, kind);
     return true;
-}
-
-static bool has_arguments(Py_ssize_t n, Py_ssize_t wanted)
-{
-    if (n == wanted) return true;
-    PyErr_Format(PyExc_TypeError, "%zd arguments are wanted, not %zd", wanted, n);
-    return false;
 }
 
 /* Whether the numbers of a kind have a sign. */
@@ -156,109 +186,161 @@ static bool read_sign(const Chunks *self, PyObject *kind, bool *is_signed)
     return true;
 }
 
-static bool read_range(PyObject *start, PyObject *end, bool is_signed, Range *range)
-{
-    range->has_end = end != Py_None;
-    range->start = is_signed ? (uint64_t)INT64_MIN : 0;
-    return (start == Py_None || read_number(start, is_signed, &range->start))
-           && (end == Py_None || read_number(end, is_signed, &range->end));
-}
-
 /* Is given a start, an end, the kind that the set was seen to have and the one that it takes. False if it has another
- * by now. */
+ * by now. Without kinds it is given numbers, or else the answer is False too. */
 static PyObject *change_range(Chunks *self, PyObject *const *args, Py_ssize_t n, bool inserts)
 {
     Range range;
     bool is_signed;
-    if (!has_arguments(n, 4) || !read_sign(self, args[3], &is_signed)) return NULL;
-    if (!read_range(args[0], args[1], is_signed, &range)) return NULL;
-    if (self->kind != args[2]) Py_RETURN_FALSE;
-    return change(self, inserts, range, is_signed, args[3]) ? Py_NewRef(Py_True) : NULL;
+    if (n == 2 && (!self->is_plain || (args[1] == Py_Ellipsis && !PyLong_CheckExact(args[0])))) Py_RETURN_FALSE;
+    if (n != 2 && !has_arguments(n, 4)) return NULL;
+    PyObject *seen = n == 2 ? self->kind : args[2], *kind = n == 2 ? seen : args[3];
+    if (!read_sign(self, kind, &is_signed) || !read_range(args[0], args[1], is_signed, &range)) return NULL;
+    if (self->kind != seen) Py_RETURN_FALSE;
+    return change(self, inserts, range, is_signed, kind) ? Py_NewRef(Py_True) : NULL;
 }
 
-static PyObject *chunks_insert(Chunks *self, PyObject *const *args, Py_ssize_t n)
-{
-    return change_range(self, args, n, true);
-}
+#define CHANGE_OF(name, inserts) \
+    static PyObject *chunks_##name(Chunks *self, PyObject *const *args, Py_ssize_t n) { return change_range(self, args, n, inserts); }
 
-static PyObject *chunks_remove(Chunks *self, PyObject *const *args, Py_ssize_t n)
-{
-    return change_range(self, args, n, false);
-}
+CHANGE_OF(insert, true)
+CHANGE_OF(remove, false)
 
 static PyObject *chunks_clear(Chunks *self, PyObject *unused)
 {
-    become(self, NULL, (Handle){.i64 = {NULL}}, self->is_signed, self->kind);
+    become(self, NULL, (Chunked){.i64 = {NULL}}, self->is_signed, self->kind);
     Py_RETURN_NONE;
 }
 
 /* ---- Operations with another set ---- */
 
-/* What an operation on the list and another gives, as a list of the kind. A list of another kind is empty. */
-static PyObject *combined(PyObject *now, const List *other, unsigned keep, PyObject *kind)
+/* Writes the ranges that have a number of a range, whole: as many of the first as there is room for. */
+static size_t overlapping(const Chunks *self, Range range, void *out, size_t room)
+{
+    range_set_i64 of_signed;
+    range_set_u64 of_unsigned;
+    range_set_status status =
+        self->is_signed
+            ? range.has_end ? range_set_i64_chunked_overlapping(self->handle.i64, range.start, range.end, out, room, &of_signed)
+                            : range_set_i64_chunked_next_ranges(self->handle.i64, range.start, out, room, &of_signed)
+            : range.has_end ? range_set_u64_chunked_overlapping(self->handle.u64, range.start, range.end, out, room, &of_unsigned)
+                            : range_set_u64_chunked_next_ranges(self->handle.u64, range.start, out, room, &of_unsigned);
+    bool is_written = status == RANGE_SET_DONE || status == RANGE_SET_MORE;
+    return !is_written ? 0 : self->is_signed ? of_signed.len : of_unsigned.len;
+}
+
+/* As many boundaries are few beside those of the set, in chunks or in a list. */
+static bool are_few(const Chunks *self, size_t len)
 {
     List list;
-    range_set_i64 of_signed = {NULL, 0};
-    range_set_u64 of_unsigned = {NULL, 0};
-    if (!borrow(PyTuple_GET_ITEM(now, 0), &list, false, false)) return NULL;
-    size_t room = list.len + other->len;
-    PyObject *bytes = PyBytes_FromStringAndSize(NULL, 8 * room), *made = NULL;
-    if (bytes != NULL) {
-        void *out = PyBytes_AS_STRING(bytes);
-        range_set_status status = check_list(other);
-        if (status == RANGE_SET_DONE)
-            status = other->is_signed ? range_set_i64_combine(SET(i64, list), SET(i64, *other), keep, out, room, &of_signed)
-                                      : range_set_u64_combine(SET(u64, list), SET(u64, *other), keep, out, room, &of_unsigned);
-        if (status == RANGE_SET_DONE) {
-            made = list_and_kind(bytes, other->is_signed ? of_signed.len : of_unsigned.len, other->is_signed, kind);
+    if (HANDLE(self) != NULL) return len <= 64 || len <= ASK(self, boundaries_len) / 64;
+    see_list(self, self->is_signed, &list);
+    return len <= list.len / 64;
+}
+
+/* The set's ranges that have a number of a list, whole, from its chunks. */
+static PyObject *near_in_chunks(const Chunks *self, const List *of)
+{
+    size_t len = 0, room = 64;
+    uint64_t *items = PyMem_Malloc(8 * room), *longer;
+    for (size_t i = 0; items != NULL && 2 * i < of->len && len % 2 == 0;) {
+        Range range = range_in(of, i);
+        /* Those up to the last end are written. */
+        if (len > 0 && !is_reversed((Range){range.start, items[len - 1], true}, self->is_signed)) range.start = items[len - 1];
+        size_t more = is_reversed(range, self->is_signed) ? 0 : overlapping(self, range, items + len, room - len);
+        if (len + more + 1 < room) {
+            len += more;
+            i++;
         } else {
-            Py_DECREF(bytes);
-            raise_status(status, 0);
+            longer = PyMem_Realloc(items, 8 * (room *= 8));
+            if (longer == NULL) PyMem_Free(items);
+            items = longer;
         }
     }
-    release(&list);
+    PyObject *bytes = items == NULL ? PyErr_NoMemory() : PyBytes_FromStringAndSize((const char *)items, 8 * len);
+    PyMem_Free(items);
+    return bytes == NULL ? NULL : list_over(bytes, len, self->is_signed);
+}
+
+static PyObject *list_now(Chunks *self)
+{
+    PyObject *now = chunks_now(self, NULL), *list = now == NULL ? NULL : Py_NewRef(PyTuple_GET_ITEM(now, 0));
+    Py_XDECREF(now);
+    return list;
+}
+
+/* At least the set's ranges that have a number of a list, whole: no others, if the list is short and the set in chunks. */
+static PyObject *near(Chunks *self, const List *of)
+{
+    if (!settle(self)) return NULL;
+    return HANDLE(self) != NULL && are_few(self, of->len) ? near_in_chunks(self, of) : list_now(self);
+}
+
+/* Is given a list and its kind. A set of another kind was empty when it was seen. */
+static PyObject *chunks_near(Chunks *self, PyObject *const *args, Py_ssize_t n)
+{
+    List of;
+    if (!has_arguments(n, 2) || !borrow_own(args[0], &of)) return NULL;
+    return self->kind == args[1] ? near(self, &of) : PyObject_GetAttrString(args[1], "nothing");
+}
+
+/* A connective with a list, by a change of the chunks for each of its ranges. All are done or none. */
+static bool combine_few(Chunks *self, PyObject *other, const List *ranges, unsigned keep, PyObject *kind)
+{
+    List list;
+    PyObject *around = see_handle(self) ? near_in_chunks(self, ranges) : NULL, *had = NULL, *puts = NULL;
+    range_set_status status = RANGE_SET_NO_MEMORY;
+    if (around != NULL && borrow_own(around, &list)) had = joined(&list, ranges, RANGE_SET_INTERSECTION);
+    if (had != NULL && borrow_own(had, &list)) puts = joined(ranges, &list, keep == RANGE_SET_UNION ? RANGE_SET_UNION : RANGE_SET_DIFFERENCE);
+    if (puts != NULL) {
+        self->undone = Py_NewRef(other);
+        self->had = Py_NewRef(had);
+        status = keep == RANGE_SET_UNION ? RANGE_SET_DONE : change_each(self, other, false);
+        if (status == RANGE_SET_DONE && keep != RANGE_SET_DIFFERENCE) status = change_each(self, puts, true);
+        if (status == RANGE_SET_DONE) become(self, NULL, self->handle, self->is_signed, kind);
+        else if (settle(self)) raise_status(status, 0);
+    }
+    Py_XDECREF(around);
+    Py_XDECREF(had);
+    Py_XDECREF(puts);
+    return status == RANGE_SET_DONE;
+}
+
+/* A connective with a list, as a list of the kind that takes the place of the set; NULL without an error if another change came
+ * between, by Python's collector. */
+static PyObject *combined(Chunks *self, const List *other, unsigned keep, PyObject *kind)
+{
+    List list;
+    uint64_t changes = self->changes;
+    bool is_narrow = keep == RANGE_SET_INTERSECTION && self->is_signed == other->is_signed;
+    PyObject *mine = is_narrow ? near(self, other) : list_now(self), *made = NULL;
+    if (mine != NULL && borrow_own(mine, &list)) made = list_and_kind(joined(&list, other, keep), kind);
+    Py_XDECREF(mine);
+    if (self->changes != changes) Py_CLEAR(made);
     return made;
 }
 
-/* The range that a list has, if it has no more than one. */
-static bool is_range(const List *list, Range *range)
-{
-    const uint64_t *numbers = list->items;
-    *range = (Range){.has_end = list->len != 1};
-    if (list->len > 0) range->start = numbers[0];
-    if (list->len > 1) range->end = numbers[1];
-    return list->len <= 2;
-}
-
 /* Is given another set's list, the kind that the set was seen to have and the one that it takes. False if it has another
- * by now. Goes over both sets, but for one range that is put in or taken out. */
+ * by now. Goes over both sets, unless the other has few ranges. */
 static PyObject *combine(Chunks *self, PyObject *const *args, Py_ssize_t n, unsigned keep)
 {
     List other;
-    Range range;
-    PyObject *answer = NULL;
-    if (!has_arguments(n, 3) || !borrow(args[0], &other, false, false)) return NULL;
-    while (answer == NULL) {
+    PyObject *answer = NULL, *made;
+    if (!has_arguments(n, 3) || !borrow_own(args[0], &other)) return NULL;
+    while (answer == NULL && !PyErr_Occurred()) {
+        bool adds = keep == RANGE_SET_UNION, takes = keep == RANGE_SET_DIFFERENCE;
         if (self->kind != args[1]) {
             answer = Py_False;
-        } else if ((keep == RANGE_SET_UNION || keep == RANGE_SET_DIFFERENCE) && is_range(&other, &range)) {
-            if (!change(self, keep == RANGE_SET_UNION, range, other.is_signed, args[2])) break;
+        } else if ((adds || takes) && other.len <= 2) {
+            Range range = other.len > 0 ? range_in(&other, 0) : (Range){0, 0, true};
+            if (change(self, adds, range, other.is_signed, args[2])) answer = Py_True;
+        } else if (keep != RANGE_SET_INTERSECTION && self->kind == args[2] && are_few(self, other.len)) {
+            if (combine_few(self, args[0], &other, keep, args[2])) answer = Py_True;
+        } else if ((made = combined(self, &other, keep, args[2])) != NULL) {
+            become(self, made, (Chunked){.i64 = {NULL}}, other.is_signed, args[2]);
             answer = Py_True;
-        } else {
-            PyObject *now = chunks_now(self, NULL), *made = now == NULL ? NULL : combined(now, &other, keep, args[2]);
-            /* Else the collector ran another change, and it is made anew. */
-            bool is_still = self->now == now;
-            Py_XDECREF(now);
-            if (made == NULL) break;
-            if (is_still) {
-                become(self, made, (Handle){.i64 = {NULL}}, other.is_signed, args[2]);
-                answer = Py_True;
-            } else {
-                Py_DECREF(made);
-            }
         }
     }
-    release(&other);
     return Py_XNewRef(answer);
 }
 
@@ -272,31 +354,10 @@ OPERATION(symmetric_difference, RANGE_SET_SYMMETRIC_DIFFERENCE)
 
 /* ---- Questions ---- */
 
-/* Is given a number and its kind. A set of another kind was empty when it was seen. */
-static PyObject *chunks_contains(Chunks *self, PyObject *const *args, Py_ssize_t n)
-{
-    uint64_t value;
-    if (!has_arguments(n, 2) || !read_number(args[0], self->is_signed, &value)) return NULL;
-    if (self->kind != args[1]) Py_RETURN_FALSE;
-    return see_handle(self) ? PyBool_FromLong(ASK_OF(self, contains, value)) : NULL;
-}
-
-/* Is given the start and the end of a range with numbers, and their kind. */
-static PyObject *chunks_contains_range(Chunks *self, PyObject *const *args, Py_ssize_t n)
-{
-    Range range;
-    bool is_signed;
-    if (!has_arguments(n, 3) || !read_sign(self, args[2], &is_signed)) return NULL;
-    if (!read_range(args[0], args[1], is_signed, &range)) return NULL;
-    if (self->kind != args[2]) Py_RETURN_FALSE;
-    if (!see_handle(self)) return NULL;
-    return PyBool_FromLong(range.has_end ? ASK_OF(self, contains_range, range.start, range.end)
-                                         : !ASK_OF(self, next_gap, range.start, NULL));
-}
-
 /* How many ranges the set has. */
 static Py_ssize_t chunks_len(Chunks *self)
 {
+    if (!settle(self)) return -1;
     if (HANDLE(self) != NULL) return ASK(self, ranges_len);
     Py_ssize_t len = self->now == NULL ? 0 : PyObject_Size(PyTuple_GET_ITEM(self->now, 0));
     return len < 0 ? len : (len + 1) / 2;
@@ -304,6 +365,7 @@ static Py_ssize_t chunks_len(Chunks *self)
 
 static int chunks_bool(Chunks *self)
 {
+    if (!settle(self)) return -1;
     if (HANDLE(self) != NULL) return ASK_OF(self, next_member, self->is_signed ? INT64_MIN : 0, NULL);
     Py_ssize_t len = chunks_len(self);
     return len < 0 ? -1 : len > 0;
@@ -322,12 +384,12 @@ static PyObject *chunks_sizeof(Chunks *self, PyObject *unused)
 
 /* ---- The type ---- */
 
+/* Is given a list of the library's own, and its kind. */
 static PyObject *chunks_new(PyTypeObject *type, PyObject *args, PyObject *names)
 {
     PyObject *boundaries, *kind;
     List list;
-    if (!PyArg_ParseTuple(args, "OO", &boundaries, &kind) || !borrow(boundaries, &list, false, false)) return NULL;
-    release(&list);
+    if (!PyArg_ParseTuple(args, "OO", &boundaries, &kind) || !borrow_own(boundaries, &list)) return NULL;
     PyObject *now = PyTuple_Pack(2, boundaries, kind);
     Chunks *self = now == NULL ? NULL : (Chunks *)type->tp_alloc(type, 0);
     if (self == NULL) {
@@ -337,24 +399,24 @@ static PyObject *chunks_new(PyTypeObject *type, PyObject *args, PyObject *names)
     self->now = now;
     self->kind = Py_NewRef(kind);
     self->is_signed = list.is_signed;
+    self->is_plain = is_plain(kind);
     return (PyObject *)self;
 }
 
 static void chunks_dealloc(Chunks *self)
 {
-    PyTypeObject *type = Py_TYPE(self);
     free_handle(&self->handle, self->is_signed);
+    forget_undone(self);
     Py_XDECREF(self->now);
     Py_XDECREF(self->kind);
-    type->tp_free(self);
-    Py_DECREF(type);
+    Py_TYPE(self)->tp_free(self);
 }
 
 #define METHOD(name) {#name, (PyCFunction)(void (*)(void))chunks_##name, METH_FASTCALL, NULL}
 
 static PyMethodDef methods[] = {
     METHOD(insert), METHOD(remove), METHOD(union), METHOD(intersection), METHOD(difference), METHOD(symmetric_difference),
-    METHOD(contains), METHOD(contains_range),
+    METHOD(near),
     {"clear", (PyCFunction)chunks_clear, METH_NOARGS, NULL},
     {"__sizeof__", (PyCFunction)chunks_sizeof, METH_NOARGS, NULL},
     {NULL, NULL, 0, NULL},
@@ -366,19 +428,27 @@ static PyGetSetDef attributes[] = {
     {NULL, NULL, NULL, NULL, NULL},
 };
 
-static PyType_Slot slots[] = {
-    {Py_tp_new, chunks_new}, {Py_tp_dealloc, chunks_dealloc}, {Py_tp_methods, methods}, {Py_tp_getset, attributes},
-    {Py_sq_length, chunks_len}, {Py_nb_bool, chunks_bool}, {0, NULL},
+static PyTypeObject chunks_type = {
+    PyVarObject_HEAD_INIT(NULL, 0)
+    .tp_name = "range_sets._core.Chunks",
+    .tp_basicsize = sizeof(Chunks),
+    .tp_flags = Py_TPFLAGS_DEFAULT,
+    .tp_new = chunks_new,
+    .tp_dealloc = (destructor)chunks_dealloc,
+    .tp_methods = methods,
+    .tp_getset = attributes,
+    .tp_as_sequence = &(PySequenceMethods){.sq_length = (lenfunc)chunks_len},
+    .tp_as_number = &(PyNumberMethods){.nb_bool = (inquiry)chunks_bool},
 };
 
-static PyType_Spec spec = {.name = "range_sets._core.Chunks", .basicsize = sizeof(Chunks),
-                           .flags = Py_TPFLAGS_DEFAULT | Py_TPFLAGS_IMMUTABLETYPE, .slots = slots};
+bool is_chunks(PyObject *object, bool *is_signed)
+{
+    if (!Py_IS_TYPE(object, &chunks_type)) return false;
+    *is_signed = ((Chunks *)object)->is_signed;
+    return true;
+}
 
 int add_chunks(PyObject *module)
 {
-    PyObject *type = PyType_FromModuleAndSpec(module, &spec, NULL);
-    if (type == NULL) return -1;
-    int added = PyModule_AddType(module, (PyTypeObject *)type);
-    Py_DECREF(type);
-    return added;
+    return PyModule_AddType(module, &chunks_type);
 }

@@ -5,6 +5,10 @@
 typedef struct {
     List lists[2];
     int held;
+    /* Whether the first list is any numbers. */
+    bool any_order;
+    /* A set in chunks in the place of the first list, or NULL. */
+    Chunked *chunked;
     uint64_t numbers[2], count;
 } Arguments;
 
@@ -13,6 +17,7 @@ typedef struct {
     (given->lists[0].is_signed ? range_set_i64_##name(arguments(i64)) : range_set_u64_##name(arguments(u64)))
 #define LIST(type) SET(type, given->lists[0])
 #define LISTS(type) SET(type, given->lists[0]), SET(type, given->lists[1])
+#define VALUES(type) given->lists[0].items, given->lists[0].len
 #define LIST_AND_NUMBER(type) SET(type, given->lists[0]), given->numbers[0]
 #define LIST_AND_NUMBERS(type) LIST_AND_NUMBER(type), given->numbers[1]
 
@@ -23,16 +28,18 @@ static void release_all(Arguments *given)
     while (given->held > 0) release(&given->lists[--given->held]);
 }
 
-/* Reads so many lists, then so many numbers and perhaps a count, and leaves so many objects that may follow. */
+/* Reads `lists` lists, then `numbers` numbers and perhaps a count; `more` objects may follow, which it leaves. */
 static bool read_arguments(Arguments *given, PyObject *const *args, Py_ssize_t n, int lists, int numbers, bool count, int more)
 {
     int wanted = lists + numbers + count;
     if (n < wanted || n > wanted + more) {
-        PyErr_Format(PyExc_TypeError, "%d arguments are wanted, not %zd", wanted, n);
+        PyErr_Format(PyExc_TypeError, "expected %d arguments, not %zd", wanted, n);
         return false;
     }
     bool fits = true;
     given->lists[1].len = 0;
+    given->chunked = NULL;
+    given->any_order = false;
     for (given->held = 0; fits && given->held < lists; given->held += fits)
         fits = borrow(args[given->held], &given->lists[given->held], false, false);
     if (fits && lists == 2 && given->lists[0].is_signed != given->lists[1].is_signed)
@@ -48,12 +55,23 @@ static bool read_arguments(Arguments *given, PyObject *const *args, Py_ssize_t n
 
 typedef range_set_status Operation(const Arguments *given, void *out, size_t room, size_t *written);
 
-/* Checks that each list is sorted. */
+/* Checks that each list of others is sorted. */
 static range_set_status check_sorted(const Arguments *given)
 {
     range_set_status status = RANGE_SET_DONE;
-    for (int i = 0; status == RANGE_SET_DONE && i < given->held; i++) status = check_list(&given->lists[i]);
+    for (int i = 0; !given->any_order && status == RANGE_SET_DONE && i < given->held; i++) status = check_list(&given->lists[i]);
     return status;
+}
+
+/* Of which lists a call reads no more than the ranges that have numbers of the span of the other; or that its numbers are no set. */
+enum { NONE = 0, LEFT = 1, RIGHT = 2, BOTH = 3, ANY_ORDER = 4 };
+
+/* Cuts the library's own lists. Others are gone over anyway, and `out` mustn't overlap any part of them. */
+static void cut(Arguments *given, int cuts)
+{
+    if (!given->lists[0].is_own || !given->lists[1].is_own) return;
+    if (cuts & RIGHT) cut_to_span(&given->lists[1], &given->lists[0]);
+    if (cuts & LEFT) cut_to_span(&given->lists[0], &given->lists[1]);
 }
 
 static range_set_status run(Operation *call, const Arguments *given, void *out, size_t room, size_t *written)
@@ -65,16 +83,18 @@ static range_set_status run(Operation *call, const Arguments *given, void *out, 
     return status;
 }
 
-/* The set as a new list. No result is longer than both lists together and one more. */
+/* The set as a new list. No result is longer than both lists together and one more, but a set of numbers has two for each. Of a few
+ * boundaries just the result is allocated. */
 static PyObject *write_new(const Arguments *given, Operation *call)
 {
-    size_t room = given->lists[0].len + given->lists[1].len + 1, written = 0;
-    PyObject *bytes = PyBytes_FromStringAndSize(NULL, 8 * room);
-    if (bytes == NULL) return NULL;
-    range_set_status status = run(call, given, PyBytes_AS_STRING(bytes), room, &written);
-    if (status == RANGE_SET_DONE) return list_over(bytes, written, given->lists[0].is_signed);
-    Py_DECREF(bytes);
-    return raise_status(status, written);
+    uint64_t few[64];
+    size_t room = given->lists[0].len + given->lists[given->any_order ? 0 : 1].len + 1, written = 0;
+    bool are_few = room <= sizeof few / 8;
+    PyObject *bytes = are_few ? NULL : PyBytes_FromStringAndSize(NULL, 8 * room);
+    if (bytes == NULL && !are_few) return NULL;
+    range_set_status status = run(call, given, are_few ? (char *)few : PyBytes_AS_STRING(bytes), room, &written);
+    if (are_few) bytes = PyBytes_FromStringAndSize((char *)few, status == RANGE_SET_DONE ? 8 * written : 0);
+    return bytes == NULL ? NULL : list_or_error(bytes, written, given->lists[0].is_signed, status);
 }
 
 /* The set in the caller's buffer, and its length as the answer. */
@@ -94,10 +114,12 @@ static PyObject *write_into(const Arguments *given, Operation *call, PyObject *o
     return answer;
 }
 
-static PyObject *operate(PyObject *const *args, Py_ssize_t n, int lists, Operation *call)
+static PyObject *operate(PyObject *const *args, Py_ssize_t n, int lists, int cuts, Operation *call)
 {
     Arguments given;
     if (!read_arguments(&given, args, n, lists, 0, false, 1)) return NULL;
+    if (lists == 2) cut(&given, cuts);
+    given.any_order = cuts == ANY_ORDER;
     PyObject *out = n > lists ? args[n - 1] : Py_None;
     PyObject *answer = out == Py_None ? write_new(&given, call) : write_into(&given, call, out);
     release_all(&given);
@@ -110,20 +132,21 @@ static PyObject *operate(PyObject *const *args, Py_ssize_t n, int lists, Operati
     *written = set.len; \
     return status;
 
-#define OPERATION(name, list_count, arguments) \
+#define OPERATION(name, list_count, cuts, arguments) \
     static range_set_status write_##name(const Arguments *given, void *out, size_t room, size_t *written) \
     { \
         if (given->lists[0].is_signed) { WRITE(i64, name, arguments) } \
         WRITE(u64, name, arguments) \
     } \
-    static PyObject *core_##name(PyObject *module, PyObject *const *args, Py_ssize_t n) \
-    { return operate(args, n, list_count, write_##name); }
+    PyObject *core_##name(PyObject *module, PyObject *const *args, Py_ssize_t n) \
+    { return operate(args, n, list_count, cuts, write_##name); }
 
-OPERATION(union, 2, LISTS)
-OPERATION(intersection, 2, LISTS)
-OPERATION(difference, 2, LISTS)
-OPERATION(symmetric_difference, 2, LISTS)
-OPERATION(negation, 1, LIST)
+OPERATION(union, 2, NONE, LISTS)
+OPERATION(intersection, 2, BOTH, LISTS)
+OPERATION(difference, 2, RIGHT, LISTS)
+OPERATION(symmetric_difference, 2, NONE, LISTS)
+OPERATION(negation, 1, NONE, LIST)
+OPERATION(from_values, 1, ANY_ORDER, VALUES)
 
 /* ---- Lists made of a copy, in its place ---- */
 
@@ -143,64 +166,74 @@ typedef range_set_status Arrangement(const List *copy, size_t *written);
     } \
     static PyObject *core_##name(PyObject *module, PyObject *object) { return arrange(object, pairs, arrange_##name); }
 
+/* Takes the bytes over, which have `len` numbers. */
+static PyObject *arranged(PyObject *bytes, size_t len, bool is_signed, Arrangement *call)
+{
+    if (bytes == NULL) return NULL;
+    List list = {.items = PyBytes_AS_STRING(bytes), .len = len, .is_signed = is_signed};
+    size_t written = 0;
+    PyThreadState *thread = let_others_run(len);
+    range_set_status status = call(&list, &written);
+    go_on(thread);
+    return list_or_error(bytes, written, is_signed, status);
+}
+
 static PyObject *arrange(PyObject *object, bool pairs, Arrangement *call)
 {
     List list;
-    size_t written = 0;
     if (!borrow(object, &list, pairs, false)) return NULL;
     PyObject *bytes = PyBytes_FromStringAndSize(list.items, 8 * list.len);
     release(&list);
-    if (bytes == NULL) return NULL;
-    list.items = PyBytes_AS_STRING(bytes);
-    PyThreadState *thread = let_others_run(list.len);
-    range_set_status status = call(&list, &written);
-    go_on(thread);
-    if (status == RANGE_SET_DONE) return list_over(bytes, written, list.is_signed);
-    Py_DECREF(bytes);
-    return raise_status(status, 0);
+    return arranged(bytes, list.len, list.is_signed, call);
 }
 
 ARRANGEMENT(from_boundaries, view, false, copy->len)
 ARRANGEMENT(from_unsorted, from_unsorted, false, copy->len)
 ARRANGEMENT(from_ranges, from_ranges, true, copy->len / 2)
 
-#define VALUES(type) values->items, values->len
-
-static range_set_status write_from_values(const List *values, void *out, size_t room, size_t *written)
+/* Reads a pair of whole numbers, which are read in tuples alone: their types may run code that changes a list. */
+static bool read_pair(PyObject *pair, bool is_signed, uint64_t *out)
 {
-    if (values->is_signed) { WRITE(i64, from_values, VALUES) }
-    WRITE(u64, from_values, VALUES)
+    return PyTuple_CheckExact(pair) && PyTuple_GET_SIZE(pair) == 2 && PyIndex_Check(PyTuple_GET_ITEM(pair, 0))
+           && PyIndex_Check(PyTuple_GET_ITEM(pair, 1)) && read_number(PyTuple_GET_ITEM(pair, 0), is_signed, &out[0])
+           && read_number(PyTuple_GET_ITEM(pair, 1), is_signed, &out[1]);
 }
 
-static PyObject *core_from_values(PyObject *module, PyObject *object)
+/* The union of a pair of whole numbers, or of a list or a tuple of these, or None for anything else. In a list a pair may be a list. */
+static PyObject *core_from_pairs(PyObject *module, PyObject *const *args, Py_ssize_t n)
 {
-    List list;
-    size_t written = 0;
-    if (!borrow(object, &list, false, false)) return NULL;
-    size_t room = 2 * list.len;
-    PyObject *bytes = PyBytes_FromStringAndSize(NULL, 8 * room);
-    range_set_status status = RANGE_SET_DONE;
-    if (bytes != NULL) {
-        PyThreadState *thread = let_others_run(list.len);
-        status = write_from_values(&list, PyBytes_AS_STRING(bytes), room, &written);
-        go_on(thread);
+    bool is_list = n == 2 && PyList_CheckExact(args[0]), is_signed = n == 2 && args[1] == Py_False;
+    if (!has_arguments(n, 2)) return NULL;
+    if (!is_list && !PyTuple_CheckExact(args[0])) Py_RETURN_NONE;
+    PyObject *pairs = is_list ? PyList_AsTuple(args[0]) : Py_NewRef(args[0]);
+    Py_ssize_t len = pairs == NULL ? 0 : PyTuple_GET_SIZE(pairs), read = 0;
+    PyObject *bytes = pairs == NULL ? NULL : PyBytes_FromStringAndSize(NULL, 16 * len);
+    uint64_t *out = bytes == NULL ? NULL : (uint64_t *)PyBytes_AS_STRING(bytes);
+    bool is_pair = !is_list && out != NULL && read_pair(pairs, is_signed, out);
+    for (bool fits = out != NULL && !is_pair && !PyErr_Occurred(); fits && read < len; read += fits) {
+        PyObject *item = PyTuple_GET_ITEM(pairs, read), *pair = is_list && PyList_CheckExact(item) ? PyList_AsTuple(item) : Py_NewRef(item);
+        fits = pair != NULL && read_pair(pair, is_signed, &out[2 * read]);
+        Py_XDECREF(pair);
     }
-    release(&list);
-    if (bytes == NULL) return NULL;
-    if (status == RANGE_SET_DONE) return list_over(bytes, written, list.is_signed);
+    Py_XDECREF(pairs);
+    if (out == NULL) return NULL;
+    if (is_pair || read == len) return arranged(bytes, is_pair ? 2 : 2 * len, is_signed, arrange_from_ranges);
+    /* It is read anew, and the error says more. */
+    PyErr_Clear();
     Py_DECREF(bytes);
-    return raise_status(status, 0);
+    Py_RETURN_NONE;
 }
 
 /* ---- Questions ---- */
 
 typedef bool Question(const Arguments *given);
 
-static PyObject *ask(PyObject *const *args, Py_ssize_t n, int lists, int numbers, Question *call)
+static PyObject *ask(PyObject *const *args, Py_ssize_t n, int lists, int numbers, int cuts, Question *call)
 {
     Arguments given;
     bool answer = false;
     if (!read_arguments(&given, args, n, lists, numbers, false, 0)) return NULL;
+    if (lists == 2) cut(&given, cuts);
     PyThreadState *thread = let_others_run(lists == 2 ? given.lists[0].len + given.lists[1].len : 0);
     range_set_status status = lists == 2 ? check_sorted(&given) : RANGE_SET_DONE;
     if (status == RANGE_SET_DONE) answer = call(&given);
@@ -209,100 +242,157 @@ static PyObject *ask(PyObject *const *args, Py_ssize_t n, int lists, int numbers
     return status == RANGE_SET_DONE ? PyBool_FromLong(answer) : raise_status(status, 0);
 }
 
-#define QUESTION(name, list_count, number_count, answer) \
+#define QUESTION(name, list_count, number_count, cuts, answer) \
     static bool ask_##name(const Arguments *given) { return answer; } \
     static PyObject *core_##name(PyObject *module, PyObject *const *args, Py_ssize_t n) \
-    { return ask(args, n, list_count, number_count, ask_##name); }
+    { return ask(args, n, list_count, number_count, cuts, ask_##name); }
 
-QUESTION(is_signed, 1, 0, given->lists[0].is_signed)
-QUESTION(is_sorted, 1, 0, check_sorted(given) == RANGE_SET_DONE)
-QUESTION(is_empty, 1, 0, CALL(is_empty, LIST))
-QUESTION(contains, 1, 1, CALL(contains, LIST_AND_NUMBER))
-QUESTION(contains_range, 1, 2, CALL(contains_range, LIST_AND_NUMBERS))
-QUESTION(is_disjoint, 2, 0, CALL(is_disjoint, LISTS))
-QUESTION(intersects, 2, 0, CALL(intersects, LISTS))
-QUESTION(is_subset, 2, 0, CALL(is_subset, LISTS))
-QUESTION(equal, 2, 0, CALL(equal, LISTS))
-
-/* For each number of the second list whether it is a member of the first, as bytes. */
-static PyObject *core_contains_each(PyObject *module, PyObject *const *args, Py_ssize_t n)
-{
-    Arguments given;
-    if (!read_arguments(&given, args, n, 2, 0, false, 0)) return NULL;
-    const List *set = &given.lists[0], *values = &given.lists[1];
-    PyObject *bytes = PyBytes_FromStringAndSize(NULL, values->len);
-    if (bytes != NULL) {
-        char *answers = PyBytes_AS_STRING(bytes);
-        PyThreadState *thread = let_others_run(values->len);
-        for (size_t i = 0; i < values->len; i++)
-            answers[i] = set->is_signed ? range_set_i64_contains(SET(i64, *set), ((const int64_t *)values->items)[i])
-                                        : range_set_u64_contains(SET(u64, *set), ((const uint64_t *)values->items)[i]);
-        go_on(thread);
-    }
-    release_all(&given);
-    return bytes;
-}
+QUESTION(is_signed, 1, 0, NONE, given->lists[0].is_signed)
+QUESTION(is_sorted, 1, 0, NONE, check_sorted(given) == RANGE_SET_DONE)
+QUESTION(is_empty, 1, 0, NONE, CALL(is_empty, LIST))
+QUESTION(is_disjoint, 2, 0, BOTH, CALL(is_disjoint, LISTS))
+QUESTION(intersects, 2, 0, BOTH, CALL(intersects, LISTS))
+QUESTION(is_subset, 2, 0, RIGHT, CALL(is_subset, LISTS))
+QUESTION(equal, 2, 0, NONE, CALL(equal, LISTS))
 
 /* ---- Numbers and ranges ---- */
 
+/* A set that changes may stand in the place of the list. It is looked at when the numbers are read, which may run Python's code. */
+static bool read_question(Arguments *given, PyObject *const *args, Py_ssize_t n, int numbers, bool count, bool wants_chunks)
+{
+    bool is_signed;
+    if (n == 0 || !is_chunks(args[0], &is_signed)) return read_arguments(given, args, n, 1, numbers, count, 0);
+    bool fits = has_arguments(n, 1 + numbers + count);
+    given->held = 0;
+    given->any_order = false;
+    for (int i = 0; fits && i < numbers; i++) fits = read_number(args[1 + i], is_signed, &given->numbers[i]);
+    if (fits && count) fits = read_number(args[n - 1], false, &given->count);
+    if (!fits || !see_chunks(args[0], wants_chunks, &given->lists[0], &given->chunked)) return false;
+    return given->lists[0].is_signed == is_signed || refuse(PyExc_TypeError, "the kind of the set has changed meanwhile");
+}
+
+/* A call of range_set.h for the set in chunks or the list. */
+#define ASK_OF(type, name, ...) \
+    (given->chunked ? range_set_##type##_chunked_##name(given->chunked->type, __VA_ARGS__) \
+                    : range_set_##type##_##name(SET(type, given->lists[0]), __VA_ARGS__))
+
 /* Each for a type of numbers, which `as_python` makes a number of Python's. */
+#define FOUND(type, name, ...) \
+    static PyObject *find_##name##_##type(const Arguments *given) { __VA_ARGS__ }
 #define FINDS(type, number, as_python) \
-    static PyObject *find_range_at_##type(const Arguments *given) \
+    static PyObject *found_range_##type(number start, const range_set_##type##_range *last) \
     { \
-        range_set_##type##_range range; \
-        if (!range_set_##type##_range_at(LIST_AND_NUMBER(type), &range)) Py_RETURN_NONE; \
-        return Py_BuildValue("NN", as_python(range.start), range.has_end ? as_python(range.end) : Py_NewRef(Py_None)); \
+        return Py_BuildValue("NN", as_python(start), last->has_end ? as_python(last->end) : Py_NewRef(Py_None)); \
     } \
-    static PyObject *find_split_##type(const Arguments *given) \
-    { \
-        range_set_##type below, from; \
-        range_set_##type##_split(LIST_AND_NUMBER(type), &below, &from); \
-        return Py_BuildValue("nn", (Py_ssize_t)below.len, (Py_ssize_t)(given->lists[0].len - from.len)); \
-    } \
-    static PyObject *find_rank_##type(const Arguments *given) \
-    { \
-        return PyLong_FromUnsignedLongLong(range_set_##type##_rank(LIST_AND_NUMBER(type))); \
-    } \
-    static PyObject *find_first_fit_##type(const Arguments *given) \
-    { \
-        number first; \
-        if (!range_set_##type##_first_fit(LIST_AND_NUMBERS(type), given->count, &first)) Py_RETURN_NONE; \
-        return as_python(first); \
-    } \
-    static PyObject *find_select_##type(const Arguments *given) \
-    { \
-        number at; \
-        if (!range_set_##type##_select(LIST(type), given->count, &at)) Py_RETURN_NONE; \
-        return as_python(at); \
-    } \
-    static PyObject *find_covered_##type(const Arguments *given) \
-    { \
-        uint64_t count; \
-        range_set_status status = check_sorted(given); \
-        if (status != RANGE_SET_DONE) return raise_status(status, 0); \
-        if (!range_set_##type##_covered(LIST(type), &count)) Py_RETURN_NONE; \
-        return PyLong_FromUnsignedLongLong(count); \
-    }
+    FOUND(type, contains, return PyBool_FromLong(ASK_OF(type, contains, given->numbers[0]));) \
+    FOUND(type, contains_range, return PyBool_FromLong(ASK_OF(type, contains_range, given->numbers[0], given->numbers[1]));) \
+    FOUND(type, rank, return PyLong_FromUnsignedLongLong(ASK_OF(type, rank, given->numbers[0]));) \
+    FOUND(type, range_at, range_set_##type##_range range; \
+          if (!ASK_OF(type, range_at, given->numbers[0], &range)) Py_RETURN_NONE; \
+          return found_range_##type(range.start, &range);) \
+    FOUND(type, span, range_set_##type##_range first, last; \
+          if (!ASK_OF(type, first, &first) || !ASK_OF(type, last, &last)) Py_RETURN_NONE; \
+          return found_range_##type(first.start, &last);) \
+    FOUND(type, split, range_set_##type below, from; \
+          range_set_##type##_split(LIST_AND_NUMBER(type), &below, &from); \
+          return Py_BuildValue("nn", (Py_ssize_t)below.len, (Py_ssize_t)(given->lists[0].len - from.len));) \
+    FOUND(type, first_fit, number first; Chunked *set = given->chunked; \
+          bool fits = set ? range_set_##type##_chunked_first_fit(&set->type, given->numbers[0], given->numbers[1], given->count, &first) \
+                          : range_set_##type##_first_fit(LIST_AND_NUMBERS(type), given->count, &first); \
+          return fits ? as_python(first) : Py_NewRef(Py_None);) \
+    FOUND(type, select, number at; \
+          return ASK_OF(type, select, given->count, &at) ? as_python(at) : Py_NewRef(Py_None);) \
+    FOUND(type, covered, uint64_t count; \
+          range_set_status status = check_sorted(given); \
+          if (status != RANGE_SET_DONE) return raise_status(status, 0); \
+          return ASK_OF(type, covered, &count) ? PyLong_FromUnsignedLongLong(count) : Py_NewRef(Py_None);)
 
 FINDS(i64, int64_t, PyLong_FromLongLong)
 FINDS(u64, uint64_t, PyLong_FromUnsignedLongLong)
 
-#define FIND(name, number_count, has_count) \
+#define FIND(name, number_count, has_count, wants_chunks) \
     static PyObject *core_##name(PyObject *module, PyObject *const *args, Py_ssize_t n) \
     { \
         Arguments given; \
-        if (!read_arguments(&given, args, n, 1, number_count, has_count, 0)) return NULL; \
+        if (!read_question(&given, args, n, number_count, has_count, wants_chunks)) return NULL; \
         PyObject *found = given.lists[0].is_signed ? find_##name##_i64(&given) : find_##name##_u64(&given); \
         release_all(&given); \
         return found; \
     }
 
-FIND(range_at, 1, false)
-FIND(split, 1, false)
-FIND(rank, 1, false)
-FIND(first_fit, 2, true)
-FIND(select, 0, true)
-FIND(covered, 0, false)
+FIND(contains, 1, false, false)
+FIND(contains_range, 2, false, false)
+FIND(range_at, 1, false, false)
+FIND(span, 0, false, false)
+FIND(split, 1, false, false)
+FIND(rank, 1, false, false)
+/* The chunks remember the gaps. */
+FIND(first_fit, 2, true, true)
+FIND(select, 0, true, false)
+FIND(covered, 0, false, false)
+
+/* ---- Questions of many numbers ---- */
+
+/* A number that follows the one before, within FAR boundaries, is sought from there on by longer and longer parts, and another in
+ * the whole list. Then it is asked for in the first range that ends above it. */
+enum { FAR = 4096 };
+
+#define EACH(type, number) \
+    static range_set_##type rest_##type(range_set_##type set, range_set_##type rest, number value) \
+    { \
+        bool is_after = rest.len < set.len && rest.boundaries[-1] <= value && (rest.len <= FAR || rest.boundaries[FAR - 1] > value); \
+        range_set_##type from = is_after ? rest : set; \
+        size_t part = 8; \
+        while (is_after && part < from.len && from.boundaries[part - 1] <= value) part *= 8; \
+        range_set_##type##_split((range_set_##type){from.boundaries, is_after && part < from.len ? part : from.len}, value, NULL, &rest); \
+        return (range_set_##type){rest.boundaries, from.len - (rest.boundaries - from.boundaries)}; \
+    } \
+    static void each_##type(range_set_##type set, const List *values, uint64_t *below, uint64_t *out) \
+    { \
+        const number *asked = values->items; \
+        range_set_##type rest = set; \
+        for (size_t i = 0; below != NULL && i < set.len; i += 2) { \
+            range_set_##type##_covered((range_set_##type){set.boundaries + i, i + 1 < set.len ? 2 : 0}, &below[i / 2 + 1]); \
+            below[i / 2 + 1] += below[i / 2]; \
+        } \
+        for (size_t i = 0; i < values->len; i++) { \
+            rest = rest_##type(set, rest, asked[i]); \
+            range_set_##type first = {rest.boundaries, rest.len < 2 ? rest.len : 2}; \
+            size_t place = set.len - rest.len; \
+            if (below != NULL) out[i] = below[place / 2] + range_set_##type##_rank(first, asked[i]); \
+            else out[i] = range_set_##type##_contains(first, asked[i]) ? place : SIZE_MAX; \
+        } \
+    }
+
+EACH(i64, int64_t)
+EACH(u64, uint64_t)
+
+/* For each number of the second list how many members of the first are below, or else at which place in it the number's range starts,
+ * or -1: as numbers in bytes. */
+static PyObject *each(PyObject *const *args, Py_ssize_t n, bool is_rank)
+{
+    Arguments given;
+    if (!read_arguments(&given, args, n, 2, 0, false, 0)) return NULL;
+    const List *set = &given.lists[0], *values = &given.lists[1];
+    uint64_t *below = is_rank ? PyMem_Calloc(set->len / 2 + 2, 8) : NULL;
+    PyObject *bytes = is_rank && below == NULL ? PyErr_NoMemory() : PyBytes_FromStringAndSize(NULL, 8 * values->len);
+    if (bytes != NULL) {
+        void *out = PyBytes_AS_STRING(bytes);
+        PyThreadState *thread = let_others_run(values->len);
+        if (set->is_signed) each_i64(SET(i64, *set), values, below, out);
+        else each_u64(SET(u64, *set), values, below, out);
+        go_on(thread);
+    }
+    PyMem_Free(below);
+    release_all(&given);
+    return bytes;
+}
+
+#define EACH_OF(name, is_rank) \
+    static PyObject *core_##name(PyObject *module, PyObject *const *args, Py_ssize_t n) { return each(args, n, is_rank); }
+
+EACH_OF(places, false)
+EACH_OF(ranks, true)
 
 /* ---- The module ---- */
 
@@ -313,13 +403,14 @@ static PyMethodDef methods[] = {
     METHOD(union), METHOD(intersection), METHOD(difference), METHOD(symmetric_difference), METHOD(negation),
     METHOD_OF_ONE(from_boundaries), METHOD_OF_ONE(from_unsorted), METHOD_OF_ONE(from_ranges), METHOD(is_signed), METHOD(is_sorted),
     METHOD(is_empty), METHOD(contains), METHOD(contains_range), METHOD(is_disjoint), METHOD(intersects), METHOD(is_subset),
-    METHOD(equal), METHOD(range_at), METHOD(split), METHOD(rank), METHOD(first_fit), METHOD(select), METHOD(covered), METHOD(parse),
-    METHOD_OF_ONE(print), METHOD_OF_ONE(pack), METHOD_OF_ONE(unpack), METHOD_OF_ONE(from_values), METHOD(contains_each),
+    METHOD(equal), METHOD(range_at), METHOD(split), METHOD(rank), METHOD(first_fit), METHOD(select), METHOD(covered), METHOD(span), METHOD(parse),
+    METHOD_OF_ONE(print), METHOD_OF_ONE(pack), METHOD_OF_ONE(unpack), METHOD(over), METHOD(from_values), METHOD(places), METHOD(ranks),
+    METHOD(range_list), METHOD(from_pairs), METHOD(ends_and_values), METHOD(mirror), METHOD_OF_ONE(lengths_of_floats),
     {NULL, NULL, 0, NULL},
 };
 
 static struct PyModuleDef definition = {PyModuleDef_HEAD_INIT, .m_name = "range_sets._core", .m_methods = methods,
-                                        .m_slots = (PyModuleDef_Slot[]){{Py_mod_exec, add_chunks}, {Py_mod_exec, add_maps}, {0, NULL}}};
+                                        .m_slots = (PyModuleDef_Slot[]){{Py_mod_exec, add_lists}, {Py_mod_exec, add_sets}, {Py_mod_exec, add_chunks}, {Py_mod_exec, add_maps}, {0, NULL}}};
 
 PyMODINIT_FUNC PyInit__core(void)
 {

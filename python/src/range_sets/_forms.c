@@ -1,12 +1,17 @@
 /* Sets in other forms: as texts of ranges, and in few bytes. */
 #include "_lists.h"
 
+/* Whether a call is given bytes, and whether numbers are unsigned. */
+static bool are_bytes(PyObject *const *args, Py_ssize_t n)
+{
+    return (n == 2 && PyBytes_CheckExact(args[0])) || refuse(PyExc_TypeError, "expected bytes, and whether numbers are unsigned");
+}
+
 /* Reads a text of ranges in UTF-8 as a list, or finds the byte at which it stops being one, or None if a number of it is out
  * of range. */
 PyObject *core_parse(PyObject *module, PyObject *const *args, Py_ssize_t n)
 {
-    if (n != 2 || !PyBytes_Check(args[0]))
-        return PyErr_Format(PyExc_TypeError, "bytes are wanted, and whether numbers are unsigned");
+    if (!are_bytes(args, n)) return NULL;
     const char *text = PyBytes_AS_STRING(args[0]);
     size_t text_len = PyBytes_GET_SIZE(args[0]), fault = 0;
     bool is_signed = args[1] == Py_False;
@@ -94,30 +99,73 @@ PyObject *core_pack(PyObject *module, PyObject *object)
     return bytes;
 }
 
+/* The eighth bit of each of eight bytes. */
+#define EIGHTH UINT64_C(0x8080808080808080)
+
+/* Eight bytes as a number, the first one lowest. */
+static uint64_t word_at(const unsigned char *at)
+{
+    uint64_t word;
+    memcpy(&word, at, sizeof word);
+    return PY_LITTLE_ENDIAN ? word : __builtin_bswap64(word);
+}
+
 /* How many distances some bytes have: a byte without the eighth bit ends each. */
 static size_t count_distances(const unsigned char *at, const unsigned char *end)
 {
     size_t count = 0;
+    /* The highest byte of the product is the sum of all. */
+    for (; end - at >= 8; at += 8) count += ((~word_at(at) & EIGHTH) >> 7) * UINT64_C(0x0101010101010101) >> 56;
     for (; at < end; at++) count += *at < 128;
     return count;
 }
 
-/* Reads so many distances, unless one has more than 64 bits or bytes are left. Whether the list is
- * sorted is checked afterwards. */
+/* The distance in the lowest `bits` bits of a word, eight for each seven of its own. */
+static uint64_t distance_in(uint64_t word, int bits)
+{
+    word &= ~EIGHTH & (UINT64_MAX >> (64 - bits));
+    word = (word & UINT64_C(0x007f007f007f007f)) | (word & UINT64_C(0x7f007f007f007f00)) >> 1;
+    word = (word & UINT64_C(0x00003fff00003fff)) | (word & UINT64_C(0x3fff00003fff0000)) >> 2;
+    return (word & UINT64_C(0x000000000fffffff)) | (word & UINT64_C(0x0fffffff00000000)) >> 4;
+}
+
+/* Reads one distance byte by byte, unless it has more than 64 bits or the bytes end within it. */
+static bool read_distance(const unsigned char **at, const unsigned char *end, uint64_t *distance)
+{
+    unsigned char byte = 128;
+    *distance = 0;
+    for (int shift = 0; byte > 127; shift += 7) {
+        if (*at == end || shift > 63) return false;
+        byte = *(*at)++;
+        if (shift == 63 && byte > 1) return false;
+        *distance |= (uint64_t)(byte & 127) << shift;
+    }
+    return true;
+}
+
+/* Reads `count` distances, unless one has more than 64 bits or bytes are left. Whether the list is sorted is checked afterwards. */
 static bool read_distances(const unsigned char *at, const unsigned char *end, List *list, size_t count)
 {
-    uint64_t *numbers = list->items, number = least_of(list->is_signed);
-    for (list->len = 0; list->len < count; list->len++) {
-        uint64_t distance = 0;
-        unsigned char byte = 128;
-        for (int shift = 0; byte > 127; shift += 7) {
-            if (at == end || shift > 63) return false;
-            byte = *at++;
-            if (shift == 63 && byte > 1) return false;
-            distance |= (uint64_t)(byte & 127) << shift;
+    uint64_t *numbers = list->items, number = least_of(list->is_signed), distance;
+    size_t len = 0;
+    while (len < count) {
+        uint64_t word = end - at < 8 ? EIGHTH : word_at(at), lasts = ~word & EIGHTH;
+        if (lasts == EIGHTH && count - len >= 8) {
+            /* Eight of one byte each; fewer are left only if another thread writes into the bytes. */
+#pragma GCC unroll 8
+            for (int i = 0; i < 8; i++) numbers[len + i] = number += word >> 8 * i & 127;
+            len += 8;
+            at += 8;
+        } else if (lasts > 0) {
+            int bits = __builtin_ctzll(lasts) + 1;
+            numbers[len++] = number += distance_in(word, bits);
+            at += bits / 8;
+        } else {
+            if (!read_distance(&at, end, &distance)) return false;
+            numbers[len++] = number += distance;
         }
-        numbers[list->len] = number += distance;
     }
+    list->len = len;
     return at == end;
 }
 
@@ -151,4 +199,16 @@ PyObject *core_unpack(PyObject *module, PyObject *object)
     PyObject *list = unpack(&packed);
     PyBuffer_Release(&packed);
     return list;
+}
+
+/* The list of boundaries as they lie in bytes, which stay. */
+PyObject *core_over(PyObject *module, PyObject *const *args, Py_ssize_t n)
+{
+    if (!are_bytes(args, n)) return NULL;
+    if (PyBytes_GET_SIZE(args[0]) % 8 != 0) return PyErr_Format(PyExc_ValueError, "the bytes of a set are damaged");
+    List list = {.items = PyBytes_AS_STRING(args[0]), .len = PyBytes_GET_SIZE(args[0]) / 8, .is_signed = args[1] == Py_False};
+    PyThreadState *thread = let_others_run(list.len);
+    range_set_status status = check_list(&list);
+    go_on(thread);
+    return list_or_error(Py_NewRef(args[0]), list.len, list.is_signed, status);
 }

@@ -11,17 +11,20 @@ from typing import Any, Self, SupportsIndex
 
 from . import _core, _svg
 from ._arrays import array_of
-from ._kinds import FLOAT, SIGNED, UNSIGNED, UNTOLD, Kind, Now, told
+from ._core import Boundaries
+from ._kinds import FLOAT, NO_KIND, SIGNED, UNSIGNED, Kind, Now, agreed, kind_of
 from ._numbers import code_of
 
-# A set of more ranges isn't written whole by `repr`: so many stand at either end.
+# `repr` writes a set of more than `_MANY` ranges by `_SHOWN` at either end.
 _MANY, _SHOWN = 1000, 3
+# This many boundaries of a list show how far apart all are. Distances above _FAR take six bytes or more in a pickle.
+_ASKED, _FAR = 64, 2**35
 
 
 class Attributes:
     """What a subclass has beside a set or a map."""
 
-    __slots__ = ()
+    __slots__ = ("__weakref__",)
     # The slots of the package's own classes.
     _own: tuple[str, ...]
 
@@ -29,7 +32,8 @@ class Attributes:
         """The attributes of a subclass and those of its slots, or None."""
         if type(self).__module__ == "range_sets":
             return None
-        attributes, all_slots = object.__getstate__(self)  # type: ignore[attr-defined]
+        state = object.__getstate__(self)  # type: ignore[attr-defined]
+        attributes, all_slots = state if isinstance(state, tuple) else (state, {})
         slots = {name: value for name, value in all_slots.items() if name not in self._own}
         return (attributes, slots) if attributes or slots else None
 
@@ -44,20 +48,17 @@ class Attributes:
         return self
 
 
-class Kept(Attributes):
-    """What a set is now, and its other forms."""
+class Kept(Attributes, _core.Set):
+    """What a set is now, and its other forms. A set that changes has another `_now` after each change, perhaps by another thread
+    meanwhile: so a call takes it once. Questions are asked of `_seen`: of a set that changes, in chunks."""
 
-    __slots__ = ("_now",)
-    _own = ("_now", "_chunks")
-    # Strictly sorted boundaries that nothing changes, and their kind. A set that changes has others after each change, perhaps by
-    # another thread meanwhile: so a call takes them once.
-    _now: Now
+    __slots__ = ()
+    _own = ("_chunks",)
 
-    @classmethod
-    def _over(cls, boundaries: memoryview, kind: Kind) -> Self:
-        made = object.__new__(cls)
-        made._now = boundaries, kind
-        return made
+    def _beside(self, other: Now) -> tuple[Boundaries, Boundaries, Kind]:
+        """At least the ranges that have elements of another set, whole; the other's, and the kind of both."""
+        (left, kind), (right, other_kind) = self._now, other
+        return (left, right, kind) if kind is other_kind else agreed((left, kind), other)
 
     @property
     def _kind(self) -> Kind:
@@ -100,14 +101,17 @@ class Kept(Attributes):
 
     def __sizeof__(self) -> int:
         # Parts share their memory, and each counts its own.
-        return object.__sizeof__(self) + self._now[0].nbytes
+        return object.__sizeof__(self) + 8 * len(self._now[0])
 
     def __reduce_ex__(self, protocol: SupportsIndex) -> tuple[Any, ...]:
         # From protocol 5 on the memory may go beside the pickle, as between the processes of Dask.
         boundaries, kind = self._now
-        packed = _core.pack(boundaries)
-        memory = PickleBuffer(packed) if index(protocol) >= 5 else packed
+        is_far = _are_far_apart(boundaries)
+        packed: Any = boundaries if is_far else _core.pack(boundaries)
+        memory = PickleBuffer(packed) if index(protocol) >= 5 else bytes(packed)
         names = () if kind is _kind_of(boundaries) else (kind.name,)
+        if is_far:
+            return _restored, (type(self), memory, kind.unsigned, sys.byteorder, *names), self.__getstate__()
         return _unpacked, (type(self), memory, *names), self.__getstate__()
 
     def __copy__(self) -> Self:
@@ -118,31 +122,40 @@ class Kept(Attributes):
         return made._with(copy.deepcopy(self.__getstate__(), memo))
 
 
-def _pairs(boundaries: memoryview, kind: Kind) -> str:
+def _pairs(boundaries: Boundaries, kind: Kind) -> str:
     """The ranges as Python reads them."""
     shown = [kind.shown(it) for it in kind.values(boundaries)]
     return ", ".join(f"({start}, {end})" for start, end in zip(shown[::2], [*shown[1::2], "None"]))
 
 
-def _kind_of(boundaries: memoryview) -> Kind:
+def _kind_of(boundaries: Boundaries) -> Kind:
     """The kind of elements of a pickle that names none."""
-    return UNSIGNED if boundaries.format == "Q" else SIGNED if boundaries else UNTOLD
+    return UNSIGNED if not _core.is_signed(boundaries) else SIGNED if boundaries else NO_KIND
 
 
-def _unpacked(cls: type[Kept], memory: Any, name: str | None = None) -> Kept:
-    """The set of a pickle, whose boundaries are checked anew."""
-    boundaries = _core.unpack(memory)
-    kind = told(name) or _kind_of(boundaries)
+def _are_far_apart(boundaries: Boundaries) -> bool:
+    """Whether most of many are so far apart that distances take about as many bytes as the boundaries."""
+    places = range(1, len(boundaries), len(boundaries) // _ASKED or 1)
+    return len(boundaries) > _MANY and sum(boundaries[it] - boundaries[it - 1] > _FAR for it in places) > _ASKED * 3 // 4
+
+
+def _checked(cls: type[Kept], boundaries: Boundaries, name: str | None) -> Kept:
+    kind = kind_of(name) or _kind_of(boundaries)
     if not kind.has(boundaries):
         raise ValueError(f"the bytes are no set of the kind {kind.name}")
     return cls._over(boundaries, kind)
 
 
-def _restored(cls: type[Kept], memory: Any, unsigned: bool, order: str) -> Kept:
-    """The same of a pickle by version 0.2, with the boundaries as they lie in memory."""
-    numbers = array(code_of(unsigned))
-    numbers.frombytes(memory)
+def _unpacked(cls: type[Kept], memory: Any, name: str | None = None) -> Kept:
+    """The set of a pickle, whose boundaries are checked anew."""
+    return _checked(cls, _core.unpack(memory), name)
+
+
+def _restored(cls: type[Kept], memory: Any, unsigned: bool, order: str, name: str | None = None) -> Kept:
+    """The same of one with the boundaries as they lie in memory, as version 0.2 wrote all."""
     if order != sys.byteorder:
+        numbers = array(code_of(unsigned), bytes(memoryview(memory)))
         numbers.byteswap()
-    boundaries = _core.from_boundaries(numbers)
-    return cls._over(boundaries, _kind_of(boundaries))
+        memory = numbers.tobytes()
+    # Bytes don't change, so that they aren't copied.
+    return _checked(cls, _core.over(memory if type(memory) is bytes else bytes(memoryview(memory)), unsigned), name)

@@ -10,12 +10,13 @@ import struct
 from array import array
 from datetime import date, datetime, timedelta, timezone
 from ipaddress import IPv4Address, IPv6Address
-from math import fsum, inf
+from math import inf
 from operator import index
 from typing import Any, Iterable, Iterator, Protocol, SupportsIndex, Union
 
 from . import _core
-from ._numbers import code_of, empty_list, least, most, range_list, wanted
+from ._core import Boundaries
+from ._numbers import least, most, wanted
 
 
 class Scalar(Protocol):
@@ -26,16 +27,29 @@ class Scalar(Protocol):
         ...
 
 
+class Array(Protocol):
+    """What they know of arrays and columns."""
+
+    @property
+    def dtype(self) -> Any:
+        ...
+
+    def __len__(self) -> int:
+        ...
+
+
 # One element of a set.
 Element = Union[SupportsIndex, float, date, timedelta, IPv4Address, Scalar]
 # What is given as `kind`.
-Told = Union[str, type, None]
+KindLike = Union[str, type, None]
 
 _DAY, _MICROSECOND = timedelta(days=1), timedelta(microseconds=1)
 _FIRST_DAY = date(1970, 1, 1).toordinal()
 # The numbers of 64 bits with a sign.
 _LEAST, _MOST = least(unsigned=False), most(unsigned=False)
+NAN = "NaN is in no order, and no element of a set"
 NAT = "NaT is in no order, and no element of a set"
+UNCOUNTED = "floats aren't counted one by one"
 
 
 class Kind:
@@ -45,12 +59,16 @@ class Kind:
     """
 
     unsigned = False
+    # Whether the extension reads its elements itself.
+    is_plain = False
+    # What an error adds to say between which elements one has to lie.
+    span = ""
     # numpy's type of arrays that have these numbers as they lie.
     dtype: Any = None
 
     def __init__(self, name: str, element: str, least: int, most: int, plural: str) -> None:
         self.name, self.element, self.least, self.most, self.plural = name, element, least, most, plural
-        self.nothing = empty_list(self.unsigned)
+        self.nothing = _core.range_list(0, 0, self.unsigned)
         self.is_whole = isinstance(self, Whole)
 
     def code(self, value: Any) -> int:
@@ -65,21 +83,21 @@ class Kind:
         return map(self.value, codes)
 
     def wrong(self, value: Any) -> TypeError:
-        return TypeError(f"{self.element} is wanted, as the set has, not {_named(value)}")
+        return TypeError(f"expected {self.element}, not {_named(value)}: the kind is {self.name!r}")
 
     def wrong_array(self, dtype: Any) -> TypeError:
         """The error of an array of times or lengths of numpy's that the kind doesn't have."""
         hint = _of_timestamps(dtype.name) if self is NAIVE and dtype.name.startswith("datetime64[") else ""
-        return TypeError(f"{self.element} each is wanted, not an array of numpy's {dtype.name}{hint}")
+        return TypeError(f"expected {self.element} each, not an array of numpy's {dtype.name}{hint}")
 
-    def has(self, boundaries: memoryview) -> bool:
+    def has(self, boundaries: Boundaries) -> bool:
         """Whether sorted numbers are all of the kind."""
         ends = *boundaries[:1], *boundaries[-1:]
-        return boundaries.format == code_of(self.unsigned) and all(self.least <= it <= self.most for it in ends)
+        return _core.is_signed(boundaries) != self.unsigned and all(self.least <= it <= self.most for it in ends)
 
     def within(self, code: int) -> int:
         if not self.least <= code <= self.most:
-            raise OverflowError(f"{self.element} is wanted")
+            raise OverflowError(f"expected {self.element}{self.span}")
         return code
 
     def number(self, value: Any) -> int:
@@ -100,24 +118,28 @@ class Kind:
         code = self.code(value)
         return code, None if code == self.most else code + 1
 
-    def listed(self, start: int, end: int | None) -> memoryview:
+    def listed(self, start: int, end: int | None) -> Boundaries:
         """The boundaries of a range that is given by its numbers."""
-        return range_list(self.within(start), None if end is None else self.within(end), self.unsigned)
+        return _core.range_list(self.within(start), None if end is None else self.within(end), self.unsigned)
 
-    def trimmed(self, boundaries: memoryview) -> memoryview:
+    def trimmed(self, boundaries: Boundaries) -> Boundaries:
         """The list without an end past the greatest element."""
         return boundaries[:-1] if self.most != most(self.unsigned) and boundaries and boundaries[-1] > self.most else boundaries
 
-    def all(self) -> memoryview:
-        return range_list(self.least, None, self.unsigned)
+    def all(self) -> Boundaries:
+        return _core.range_list(self.least, None, self.unsigned)
 
-    def covered(self, boundaries: memoryview) -> Any:
+    def pair(self, codes: tuple[int, int | None] | None) -> tuple[Any, Any] | None:
+        """The elements of a start and an end; None stands for itself."""
+        return codes and (self.value(codes[0]), None if codes[1] is None else self.value(codes[1]))
+
+    def covered(self, asked: Any) -> Any:
         """How much a set covers, or None if it has no end."""
-        count = _core.covered(boundaries)
+        count = _core.covered(asked)
         return None if count is None else self.length(count)
 
     def length(self, count: int) -> Any:
-        """So many elements, as people count them."""
+        """This number of elements, as people count them."""
         return count
 
     def count(self, length: Any) -> int:
@@ -149,12 +171,19 @@ class Whole(Kind):
     def values(self, codes: Iterable[int]) -> Iterator[int]:
         return iter(codes)
 
-    def listed(self, start: int, end: int | None) -> memoryview:
-        return range_list(start, end, self.unsigned)
+    def listed(self, start: int, end: int | None) -> Boundaries:
+        return _core.range_list(start, end, self.unsigned)
+
+
+def mirrored(numbers: Any) -> memoryview:
+    """The numbers of floats from a buffer of their bits, or the bits from one of the numbers."""
+    made = array("q", bytes(8 * len(numbers)))
+    _core.mirror(numbers, made)
+    return memoryview(made)
 
 
 class Float(Kind):
-    """Floats in the order of their bits, those below zero by the bits of what they are above it with a minus."""
+    """Floats by their bits; the number of one below zero is minus the bits of its absolute value, so numbers sort as floats do."""
 
     def __init__(self) -> None:
         self.infinity = struct.unpack("q", struct.pack("d", inf))[0]
@@ -164,7 +193,7 @@ class Float(Kind):
         if not isinstance(value, float):
             value = _exact_float(value, self)
         if value != value:
-            raise ValueError("NaN is in no order, and no element of a set")
+            raise ValueError(NAN)
         bits: int = struct.unpack("q", struct.pack("d", value))[0]
         return bits if bits >= 0 else _LEAST - bits
 
@@ -172,24 +201,23 @@ class Float(Kind):
         found: float = struct.unpack("d", struct.pack("q", abs(code)))[0]
         return found if code >= 0 else -found
 
-    def codes(self, floats: Any) -> memoryview:
-        """The numbers of floats in a buffer."""
-        return memoryview(array("q", map(self.code, floats.tolist())))
+    def values(self, codes: Any) -> Iterator[float]:
+        return iter(mirrored(codes).cast("B").cast("d"))
 
     def one(self, value: Any) -> tuple[int, int | None]:
-        raise TypeError("floats aren't counted one by one: a start and an end are wanted")
+        raise TypeError(f"{UNCOUNTED}: expected a start and an end")
 
-    def covered(self, boundaries: memoryview) -> float | None:
+    def covered(self, boundaries: Boundaries) -> float | None:
         if len(boundaries) % 2:
             return None
-        ends = self.values(boundaries)
         try:
-            return fsum(end - start for start, end in zip(ends, ends))
+            # Exact until the division, which rounds once.
+            return sum(count << at for count, at in _core.lengths_of_floats(boundaries)) / 2**1074
         except OverflowError:
             return inf
 
     def count(self, length: Any) -> int:
-        raise TypeError("floats aren't counted one by one, so no number of them fits anywhere")
+        raise TypeError(f"{UNCOUNTED}, so no number of them fits anywhere: look at the lengths of gaps()")
 
     def shown(self, value: float) -> str:
         return f"float('{value}')" if value in (inf, -inf) else repr(value)
@@ -200,7 +228,7 @@ class Float(Kind):
 
 
 class Timed(Kind):
-    """Times and dates, whose lengths are a timedelta, of so many of its `step`."""
+    """Times and dates, whose lengths are a timedelta, in units of its `step`."""
 
     def __init__(self, name: str, element: str, least: int, most: int, step: timedelta, dtype: str, plural: str) -> None:
         super().__init__(name, element, least, most, plural)
@@ -211,10 +239,10 @@ class Timed(Kind):
 
     def count(self, length: Any) -> int:
         if not isinstance(length, timedelta):
-            raise TypeError(f"a timedelta is wanted, not {_named(length)}")
+            raise TypeError(f"expected a timedelta, not {_named(length)}")
         count, rest = divmod(DELTA.code(length), DELTA.code(self.step))
         if rest:
-            raise ValueError("a timedelta of whole days is wanted")
+            raise ValueError("expected a timedelta of whole days")
         return count
 
 
@@ -241,6 +269,7 @@ class Times(Timed):
         self.zone, self.first = zone, datetime(1970, 1, 1, tzinfo=zone)
         least, most = ((it.replace(tzinfo=zone) - self.first) // _MICROSECOND for it in (datetime.min, datetime.max))
         super().__init__(name, element, least, most, _MICROSECOND, "M8[us]", "times")
+        self.span = ", of the years 1 to 9999" + " in UTC" * (zone is not None)
 
     def code(self, value: Any) -> int:
         if type(value) is not datetime:
@@ -298,21 +327,23 @@ class Numpys(Kind):
     def length(self, count: int) -> Any:
         import numpy
 
+        if count > _MOST:
+            raise OverflowError(f"numpy has no timedelta64[{self._unit()}] of more than 2**63 - 1, and the ranges have {count}")
         return numpy.timedelta64(count, self._unit())
 
     def count(self, length: Any) -> int:
         import numpy
 
         if not isinstance(length, (timedelta, numpy.timedelta64)):
-            raise TypeError(f"a timedelta is wanted, not {_named(length)}")
+            raise TypeError(f"expected a timedelta, not {_named(length)}")
         if isinstance(length, timedelta):
             # numpy makes another length of one with more bits.
             DELTA.within(length // _MICROSECOND)
         given = numpy.timedelta64(length)
         found: Any = given.astype(f"m8[{self._unit()}]")
-        # NaT differs from itself. What has more than 64 bits of the unit is only told when it is converted back.
+        # NaT differs from itself. What has more than 64 bits of the unit is only seen when it is converted back.
         if found != given or found.astype(given.dtype) != given:
-            raise ValueError(f"a timedelta of whole {self._unit()} in 64 bits is wanted")
+            raise ValueError(f"expected a timedelta of whole {self._unit()} in 64 bits")
         return int(found.view("i8"))
 
     def shown(self, value: Any) -> str:
@@ -325,7 +356,7 @@ class Numpys(Kind):
         found = given.astype(self.dtype)
         # NaT differs from itself.
         if given == given and found.astype(given.dtype) != given:
-            raise ValueError(f"a time of whole {self._unit()} in 64 bits is wanted")
+            raise ValueError(f"expected a time of whole {self._unit()} in 64 bits")
         return found
 
     def _unit(self) -> str:
@@ -347,37 +378,37 @@ class Addresses(Kind):
     def value(self, code: int) -> IPv4Address:
         return IPv4Address(code)
 
-    def covered(self, boundaries: memoryview) -> Any:
+    def covered(self, asked: Any) -> Any:
         # There are none above the greatest address, so that each set of them has an end.
-        whole = len(boundaries) - len(boundaries) % 2
-        return (_core.covered(boundaries[:whole]) or 0) + sum(self.most + 1 - it for it in boundaries[whole:])
+        return _core.rank(asked, self.most + 1)
 
 
 SIGNED, UNSIGNED = Whole("int", False), Whole("unsigned", True)
 # That of an empty set whose kind isn't known yet. Until it meets a set or an element of another kind it is one of signed numbers.
-UNTOLD = Whole("int", False)
+NO_KIND = Whole("int", False)
+SIGNED.is_plain = UNSIGNED.is_plain = True
 FLOAT, DATE, DELTA, ADDRESS = Float(), Dates(), Deltas(), Addresses()
 NAIVE = Times("datetime", "a datetime without a time zone", None)
 AWARE = Times("datetime[UTC]", "a datetime with a time zone", timezone.utc)
-_TOLD: dict[str | type, Kind] = {it.name: it for it in (SIGNED, UNSIGNED, FLOAT, DATE, DELTA, ADDRESS, NAIVE, AWARE)}
-_TOLD |= {int: SIGNED, float: FLOAT, date: DATE, timedelta: DELTA, IPv4Address: ADDRESS}
+_NAMED: dict[str | type, Kind] = {it.name: it for it in (SIGNED, UNSIGNED, FLOAT, DATE, DELTA, ADDRESS, NAIVE, AWARE)}
+_NAMED |= {int: SIGNED, float: FLOAT, date: DATE, timedelta: DELTA, IPv4Address: ADDRESS}
 
 _OF_UNITS: dict[str, Kind] = {}
 
 # The boundaries of a set and their kind.
-Now = tuple[memoryview, Kind]
+Now = tuple[Boundaries, Kind]
 
 
 def of_dtype(dtype: Any) -> Kind:
     """The kind of numpy's times of a unit: one for each, also if two threads ask for it at once."""
     if dtype.kind != "M" or "[" not in dtype.name:
-        raise TypeError(f"numpy's datetime64 of a unit is wanted, not {dtype.name}")
+        raise TypeError(f"expected numpy's datetime64 of a unit, not {dtype.name}")
     return _OF_UNITS.get(dtype.name) or _OF_UNITS.setdefault(dtype.name, Numpys(dtype.newbyteorder("=")))
 
 
-def told(kind: Any, unsigned: bool | None = None) -> Kind | None:
+def kind_of(kind: Any, unsigned: bool | None = None) -> Kind | None:
     """The kind that these two name, or None."""
-    found = _named_kind(kind)
+    found = None if kind is None else _named_kind(kind)
     if unsigned is None or (found is not None and found.unsigned == unsigned):
         return found
     if found is not None and (unsigned or found is UNSIGNED):
@@ -385,14 +416,12 @@ def told(kind: Any, unsigned: bool | None = None) -> Kind | None:
     return found or whole(unsigned)
 
 
-def _named_kind(kind: Any) -> Kind | None:
-    if kind is None:
-        return None
+def _named_kind(kind: Any) -> Kind:
     if kind is datetime:
-        raise TypeError("kind='datetime' for times without a time zone or kind='datetime[UTC]' for those with one is wanted")
+        raise TypeError("expected kind='datetime' for times without a time zone or kind='datetime[UTC]' for those with one")
     try:
-        if kind in _TOLD:
-            return _TOLD[kind]
+        if kind in _NAMED:
+            return _NAMED[kind]
     except TypeError:
         pass
     if str(kind).startswith("datetime64["):
@@ -401,9 +430,9 @@ def _named_kind(kind: Any) -> Kind | None:
         try:
             import numpy
         except ImportError:
-            raise ModuleNotFoundError(f"numpy is wanted, whose times are the elements of the kind {kind}", name="numpy") from None
+            raise ModuleNotFoundError(f"numpy is missing, whose times are the elements of the kind {kind}", name="numpy") from None
         return of_dtype(numpy.dtype(kind))
-    raise TypeError(f"a kind is one of {', '.join(sorted(it.name for it in set(_TOLD.values())))} and datetime64[..], not {kind!r}")
+    raise TypeError(f"a kind is one of {', '.join(sorted(it.name for it in set(_NAMED.values())))} and datetime64[..], not {kind!r}")
 
 
 def whole(unsigned: bool) -> Whole:
@@ -415,7 +444,10 @@ def of(value: Any) -> Kind | None:
     if type(value) is int:
         return SIGNED
     if isinstance(value, datetime):
-        return NAIVE if value.tzinfo is None or value.utcoffset() is None else AWARE
+        if value.tzinfo is not None and value.utcoffset() is not None:
+            return AWARE
+        # pandas' own may have nanoseconds.
+        return of_dtype(value.to_datetime64().dtype) if hasattr(value, "to_datetime64") else NAIVE
     for type_of, kind in ((float, FLOAT), (date, DATE), (timedelta, DELTA), (IPv4Address, ADDRESS)):
         if isinstance(value, type_of):
             return kind
@@ -441,14 +473,14 @@ def of_some(values: Iterable[Any]) -> Kind | None:
     return None
 
 
-def agreed(left: Now, right: Now) -> tuple[memoryview, memoryview, Kind]:
+def agreed(left: Now, right: Now) -> tuple[Boundaries, Boundaries, Kind]:
     """The boundaries of two sets and the one kind of both. A set of nothing whose kind isn't known takes that of the other."""
     (a, kind), (b, other) = left, right
     if kind is other:
         return a, b, kind
-    if kind is UNTOLD:
+    if kind is NO_KIND:
         return other.nothing, b, other
-    if other is UNTOLD:
+    if other is NO_KIND:
         return a, kind.nothing, kind
     raise TypeError(mixed(kind, other))
 
@@ -456,8 +488,8 @@ def agreed(left: Now, right: Now) -> tuple[memoryview, memoryview, Kind]:
 def mixed(kind: Kind, other: Kind) -> str:
     if isinstance(kind, Whole) and isinstance(other, Whole):
         return "signed and unsigned numbers don't mix: both sets have to be of one kind"
-    numpys = next((it for it in (kind, other) if isinstance(it, Numpys)), None)
-    hint = _of_timestamps(numpys.name) if numpys and NAIVE in (kind, other) else ""
+    numpys = [it for it in (kind, other) if isinstance(it, Numpys)]
+    hint = _of_timestamps(numpys[-1].name) if len(numpys) + (NAIVE in (kind, other)) == 2 else ""
     return f"two kinds of elements don't mix: one set has the kind {kind.name}, and the other {other.name}{hint}"
 
 
@@ -487,7 +519,7 @@ def _see_no_loss(value: Any, part: str) -> None:
     """Refuses what pandas has beside Python's own times: NaT and nanoseconds."""
     _see_no_nat(value)
     if getattr(value, part, 0):
-        raise ValueError(f"microseconds are wanted, and {value!r} has nanoseconds: numpy's datetime64[ns] keep them")
+        raise ValueError(f"expected microseconds, and {value!r} has nanoseconds: numpy's datetime64[ns] keep them")
 
 
 def _see_no_nat(value: Any) -> None:

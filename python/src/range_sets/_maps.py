@@ -2,31 +2,38 @@
 
 from __future__ import annotations
 
+import sys
 from array import array
 from collections import Counter
 from ipaddress import IPv4Network
-from itertools import groupby
-from typing import Any, Callable, Generic, Iterable, Iterator, Mapping, Self, TypeVar, Union
+from typing import Any, Callable, Generic, Iterable, Iterator, Mapping, Self, TypeVar, Union, overload
 
 from . import _core
-from ._core import Steps
+from ._arrays import asked_of
+from ._core import Boundaries, Steps
 from ._kept import Attributes
-from ._kinds import UNSIGNED, UNTOLD, Element, Kind, Told, mixed, of_some, told
-from ._numbers import code_of, least
+from ._kinds import NO_KIND, SIGNED, UNSIGNED, Array, Element, Kind, KindLike, Now, agreed, kind_of, mixed, of_some
+from ._numbers import code_of, least, most
+from ._ranges import AnyRangeSet
 from ._sets import RangeSet
-from ._sources import Source, codes_of, gather, of_one_kind, range_of
-from ._values import Values
+from ._sources import OneRange, Source, gather, of_one_kind, range_of
 
+K = TypeVar("K")
 V = TypeVar("V")
-M = TypeVar("M", bound="RangeMap[Any]")
+D = TypeVar("D")
+M = TypeVar("M", bound="RangeMap[Any, Any]")
 # A range and its value; the end None says that it has no end.
-Item = tuple[tuple[Any, Any], V]
+Item = tuple[tuple[K, Union[K, None]], V]
 # What a map is made of.
-Items = Union["RangeMap[V]", Iterable[tuple[Any, V]]]
+Pair = tuple[Union[K, None], Union[K, None]]
+Items = Union["RangeMap[K, V]", Mapping[Any, V], Iterable[tuple[Union[Pair[K], list[K], range, IPv4Network, AnyRangeSet], V]]]
+# What stands in the brackets of a change, or of a part.
+Keys = Union[slice, range, IPv4Network, AnyRangeSet]
+# Stands for the value of keys that have none.
 _NOTHING: Any = object()
 
 
-class RangeMap(Attributes, Generic[V]):
+class RangeMap(Attributes, Generic[K, V]):
     """A map that gives ranges of whole numbers, times or other elements values. It is changed in place, and has no hash.
 
     A key has the value of the last range that was put around it, or none. Ranges that touch and have one value are one. Two values are
@@ -41,32 +48,38 @@ class RangeMap(Attributes, Generic[V]):
     >>> del bookings[13:]
     >>> bookings.find("Bob"), bookings.gaps(8, 18)
     (RangeSet([(11, 13)]), RangeSet([(8, 9), (13, 18)]))
+    >>> bookings[RangeSet([(8, 9), (10, 12)])] = "Eve"
+    >>> bookings[8:11]
+    RangeMap([((8, 9), 'Eve'), ((9, 10), 'Ada'), ((10, 11), 'Eve')])
 
-    It is made of pairs of a range and a value, or of another map; where ranges overlap, the later one's value holds. Keys are of one
-    kind, as those of a `RangeSet`, and the length is the number of ranges. A question takes some microseconds also of a million ranges.
-    A change moves all ranges that come after it, so a map grows to some 10,000 ranges well, and to more from the lowest on.
+    It is made of pairs of a range or set and a value, of a dict of these, or of another map; where ranges overlap, the later one's
+    value holds. Keys are of one kind, as those of a `RangeSet`, and the length is the number of ranges. In brackets a key has a value,
+    and a slice, a `range`, a network or a set is a part: it is changed, or read as another map.
+
+    Calls that touch a few ranges take some microseconds also of a million, and `items`, `domain`, `find` and `==` go over all. A
+    value without a hash is compared with each other one that has none. To checkers of types it is a `RangeMap[K, V]`. They refuse
+    slices of dates: `put` and `remove` do the same.
 
     Where a change raises an error, as an `==` of values may, the map is as it was. Threads that share a map lock for themselves.
     """
 
-    __slots__ = _own = ("_steps", "_kind", "_values", "_changes")
+    __slots__ = _own = ("_steps",)
     __module__ = "range_sets"
     __hash__ = None  # type: ignore[assignment]
     _steps: Steps
-    _kind: Kind
-    _values: Values[V]
-    # How many changes there were.
-    _changes: int
 
-    def __init__(self, items: Items[V] = (), *, unsigned: bool | None = None, kind: Told = None) -> None:
-        found = told(kind, unsigned)
-        self._begin(UNTOLD if found is None else found)
+    def __init__(self, items: Items[K, V] = (), *, unsigned: bool | None = None, kind: KindLike = None) -> None:
+        self._begin(kind_of(kind, unsigned) or NO_KIND)
         self.update(items)
 
     def _begin(self, kind: Kind) -> None:
-        self._kind, self._steps, self._values, self._changes = kind, Steps(kind.unsigned), Values(), 0
+        self._steps = Steps(kind, kind.unsigned)
 
     # ---- Keys ----
+
+    @property
+    def _kind(self) -> Kind:
+        return self._steps.kind
 
     @property
     def kind(self) -> str | None:
@@ -75,12 +88,13 @@ class RangeMap(Attributes, Generic[V]):
         >>> RangeMap([((0, 10), "low")]).kind
         'int'
         """
-        return None if self._kind is UNTOLD else self._kind.name
+        kind = self._kind
+        return None if kind is NO_KIND else kind.name
 
     def _code(self, key: Any) -> int | None:
         """The number of a key, or None if the map can't have it."""
         kind = self._kind
-        if kind is UNTOLD:
+        if kind is NO_KIND:
             of_some((key,))
             return None
         try:
@@ -88,217 +102,361 @@ class RangeMap(Attributes, Generic[V]):
         except OverflowError:
             return None
 
-    def __getitem__(self, key: Element) -> V:
-        found: V = self._found(key, _NOTHING)
+    @overload
+    def __getitem__(self, key: Keys) -> Self:
+        ...
+
+    @overload
+    def __getitem__(self, key: K) -> V:
+        ...
+
+    def __getitem__(self, key: Any) -> Any:
+        if isinstance(key, (slice, range, IPv4Network, AnyRangeSet)):
+            return self._part(key)
+        found = self._found(key, _NOTHING)
         if found is _NOTHING:
             raise KeyError(key)
         return found
 
-    def get(self, key: Element, default: Any = None) -> Any:
-        """The value of a key, or the default if it has none.
+    def _part(self, keys: Keys) -> Self:
+        ranges, kind = self._ranges(keys, self._kind)
+        self._see_kind(kind)
+        return self._with_steps(self._steps.part(ranges))
+
+    @classmethod
+    def _with_steps(cls, steps: Steps) -> Self:
+        made = cls.__new__(cls)
+        made._steps = steps
+        return made
+
+    @overload
+    def get(self, key: Array, default: Any = None) -> Any:
+        ...
+
+    @overload
+    def get(self, key: K) -> V | None:
+        ...
+
+    @overload
+    def get(self, key: K, default: D) -> V | D:
+        ...
+
+    def get(self, key: Any, default: Any = None) -> Any:
+        """The value of a key, or the default if it has none; of a numpy array an array of these.
+
+        Cost: a search for each.
 
         >>> RangeMap([((0, 10), "low")]).get(10, "high")
         'high'
         """
+        if getattr(key, "ndim", 0):
+            return self._found_each(key, default)
         return self._found(key, default)
+
+    def _found_each(self, keys: Any, default: Any) -> Any:
+        import numpy
+
+        codes, gone = asked_of((self._kind.nothing, self._kind), keys)
+        found, some = (numpy.empty(codes.size, dtype=object) for _ in range(2))
+        # Keys in order are found in half the time.
+        order = numpy.argsort(codes, axis=None, kind="stable")
+        self._steps.get_each(codes.reshape(-1)[order], gone.reshape(-1)[order].tobytes(), default, some)
+        found[order] = some
+        return found.reshape(codes.shape)
 
     def _found(self, key: Any, default: Any) -> Any:
         code = self._code(key)
-        return default if code is None else self._values.get(self._steps.get(code), default)
+        return default if code is None else self._steps.get(code, default)
 
     def __contains__(self, key: Element) -> bool:
         return self._found(key, _NOTHING) is not _NOTHING
 
-    def range_at(self, key: Element) -> Item[V] | None:
+    def range_at(self, key: K) -> Item[K, V] | None:
         """The longest range around a key whose keys have its value, and that; None if it has none.
+
+        Cost: a search.
 
         >>> RangeMap([((0, 10), "low"), ((10, 20), "low")]).range_at(5)
         ((0, 20), 'low')
         """
         code = self._code(key)
-        return None if code is None else next(self._items([self._steps.range_at(code)]), None)
+        if code is None:
+            return None
+        start, end, value = self._steps.range_at(code, _NOTHING)
+        return None if value is _NOTHING else (self._pair(start, end), value)
+
+    def _pair(self, start: int, end: int | None) -> tuple[K, K | None]:
+        kind = self._kind
+        return kind.value(start), None if end is None else kind.value(end)
 
     # ---- Changes ----
 
-    def __setitem__(self, keys: slice | range | IPv4Network, value: V) -> None:
+    def __setitem__(self, keys: Keys, value: V) -> None:
         self._change(keys, value)
 
-    def __delitem__(self, keys: slice | range | IPv4Network) -> None:
-        self._change(keys, _NOTHING)
+    def __delitem__(self, keys: Keys) -> None:
+        self._change(keys)
 
-    def _codes(self, keys: Any) -> tuple[int, int | None, Kind]:
-        """The numbers of the ends of some keys, and their kind."""
+    def put(self, start: K | None, end: K | None, value: V) -> None:
+        """Gives the keys from a start up to, not including, an end a value, as `m[start:end] = value` does.
+
+        Cost: a search, and one for each range that gives way.
+
+        >>> m = RangeMap([((0, 10), "low")])
+        >>> m.put(5, 15, "mid")
+        >>> m
+        RangeMap([((0, 5), 'low'), ((5, 15), 'mid')])
+        """
+        self._change(slice(start, end), value)
+
+    def remove(self, start: K | None, end: K | None) -> None:
+        """Takes the values of the keys from a start up to, not including, an end away, as `del m[start:end]` does.
+
+        Cost: a search, and one for each range that gives way.
+
+        >>> m = RangeMap([((0, 10), "low")])
+        >>> m.remove(3, 5)
+        >>> m
+        RangeMap([((0, 3), 'low'), ((5, 10), 'low')])
+        """
+        self._change(slice(start, end))
+
+    def pop(self, key: K, default: D = _NOTHING) -> V | D:
+        """Takes away the longest range around a key whose keys have its value, and returns the value. For a key that has none it is
+        the default, or a KeyError.
+
+        Cost: that of `remove`.
+
+        >>> m = RangeMap([((0, 10), "low"), ((20, 30), "high")])
+        >>> m.pop(5), m.pop(5, None), m
+        ('low', None, RangeMap([((20, 30), 'high')]))
+        """
+        found = self.range_at(key)
+        if found is not None:
+            self._change(slice(*found[0]))
+            return found[1]
+        if default is _NOTHING:
+            raise KeyError(key)
+        return default
+
+    @staticmethod
+    def _ranges(keys: Any, kind: Kind) -> Now:
+        """The boundaries of some keys, and their kind."""
+        if isinstance(keys, AnyRangeSet):
+            if kind is NO_KIND and keys.unsigned:
+                raise TypeError("expected a map of numbers without a sign, which RangeMap(unsigned=True) makes")
+            return agreed((kind.nothing, kind), keys._now)[1:]
         if isinstance(keys, slice) and keys.step is None:
-            first, last, kind = codes_of(keys.start, keys.stop, self._kind)
-        elif isinstance(keys, (range, IPv4Network)):
-            first, last, kind = codes_of(keys, ..., self._kind)
-        else:
-            raise TypeError(f"a slice without a step, a range or a network is wanted, not {keys!r}: m[a:b] has the keys from a to below b")
-        return kind.within(first), None if last is None else kind.within(last), kind
+            return range_of(keys.start, keys.stop, kind)
+        if isinstance(keys, (range, IPv4Network)):
+            return range_of(keys, ..., kind)
+        wanted = "expected a slice without a step, a range, a network or a set"
+        raise TypeError(f"{wanted}, not {keys!r}: m[a:b] has the keys from a to below b")
 
-    def _change(self, keys: Any, value: Any) -> None:
-        """Gives keys a value, or takes theirs away. The uses of values rise before the change and fall after it, so that the map is whole
-        wherever an error or an interrupt comes between."""
-        steps, values = self._steps, self._values
-        while True:
+    def _change(self, keys: Any, *values: V) -> None:
+        """Gives keys a value, or takes theirs away."""
+        done = False
+        # The code of a key or a value may decide the kind meanwhile.
+        while not done:
             known = self._kind
-            first, last, kind = self._codes(keys)
-            if last is not None and last <= first:
-                return
-            number = None if value is _NOTHING else values.number_of(value)
-            seen = self._changes
-            # What isn't changed goes on to just below the range, and from its end on.
-            lowest = least(kind.unsigned)
-            before = [it[2] for it in _stretches(steps, max(first - 1, lowest), last)]
-            after = [it for it, _ in groupby([*before[: first > lowest], number, *(() if last is None else before[-1:])])]
-            values.use(after)
-            # Else the code of a key or a value has decided the kind meanwhile, or the collector ran another change.
-            if self._kind is known and values.has(number) and self._changes == seen:
-                break
-            values.release(after)
-        self._changes += 1
-        if number is None:
-            steps.remove(first, last)
-        else:
-            steps.insert(first, last, number)
-        self._kind = kind
-        try:
-            values.release(before)
-        except MemoryError:
-            # The map has changed, and a value may stay too long.
-            pass
+            ranges, kind = self._ranges(keys, known)
+            done = self._steps.change(ranges, values * ((len(ranges) + 1) // 2) if values else None, known, kind)
 
-    def update(self, items: Items[V]) -> None:
-        """Puts ranges with their values in, one after the other; or those of another map.
+    def update(self, items: Items[K, V]) -> None:
+        """Puts ranges with their values in, one after the other; or those of another map. If one raises an error, none is put in.
+
+        Cost: that of `put` for each.
 
         >>> m = RangeMap([((0, 10), "low")])
         >>> m.update([((5, 7), "mid"), (range(20, 30), "high")])
         >>> list(m.items())
         [((0, 5), 'low'), ((5, 7), 'mid'), ((7, 10), 'low'), ((20, 30), 'high')]
         """
-        pairs: Iterable[tuple[Any, V]] = items.items() if isinstance(items, (RangeMap, Mapping)) else items
-        for keys, value in pairs:
-            self[slice(*keys) if isinstance(keys, (tuple, list)) and len(keys) == 2 else keys] = value
+        # All are read before the first change.
+        given: list[tuple[Any, V]] = list(items.items() if isinstance(items, (RangeMap, Mapping)) else items)
+        done = False
+        while not done:
+            known = self._kind
+            ends, values, kind = self._read(given, known)
+            done = self._steps.change(ends, values, known, kind)
+
+    def _read(self, given: list[tuple[Any, V]], kind: Kind) -> tuple[bytes, tuple[V, ...], Kind]:
+        """The numbers of the ends of ranges, in turn, with their values, and their kind. The least number as an end says that there is
+        none."""
+        found = _core.ends_and_values(given, kind.unsigned) if kind.is_plain or kind is NO_KIND else None
+        if found is not None:
+            return *found, SIGNED if kind is NO_KIND else kind
+        ends: list[int] = []
+        values: list[V] = []
+        for keys, value in given:
+            pair = isinstance(keys, (tuple, list)) and len(keys) == 2
+            ranges, kind = self._ranges(slice(*keys) if pair else keys, kind)
+            ends += [*ranges, *[least(kind.unsigned)] * (len(ranges) % 2)]
+            values += [value] * ((len(ranges) + 1) // 2)
+        return _packed(ends, kind), tuple(values), kind
 
     def clear(self) -> None:
         """Takes all values away.
+
+        Cost: goes over all ranges.
 
         >>> m = RangeMap([((0, 10), "low")])
         >>> m.clear()
         >>> m
         RangeMap()
         """
-        if self._kind is not UNTOLD:
-            self._change(slice(None), _NOTHING)
+        if self._kind is not NO_KIND:
+            self._change(slice(None))
 
     # ---- Ranges ----
 
     def __len__(self) -> int:
         return len(self._steps)
 
-    def __iter__(self) -> Iterator[tuple[Any, Any]]:
-        return (keys for keys, _ in self.items())
+    def __iter__(self) -> Iterator[tuple[K, K | None]]:
+        return self._steps.keys(None, None)
 
-    def items(self) -> Iterator[Item[V]]:
+    def keys(self) -> Iterator[tuple[K, K | None]]:
+        """The ranges, from the lowest on, over which the map iterates too.
+
+        Cost: goes over all ranges.
+
+        >>> list(RangeMap([((20, None), "high"), ((0, 10), "low")]).keys())
+        [(0, 10), (20, None)]
+        """
+        return iter(self)
+
+    def values(self) -> Iterator[V]:
+        """The value of each range, from the lowest on.
+
+        Cost: goes over all ranges.
+
+        >>> list(RangeMap([((20, None), "high"), ((0, 10), "low")]).values())
+        ['low', 'high']
+        """
+        return self._steps.values(None, None)
+
+    def items(self) -> Iterator[Item[K, V]]:
         """The ranges, from the lowest on, each with its value.
+
+        Cost: goes over all ranges.
 
         >>> list(RangeMap([((20, None), "high"), ((0, 10), "low")]).items())
         [((0, 10), 'low'), ((20, None), 'high')]
         """
-        return self._items(_stretches(self._steps, least(self._kind.unsigned), None))
+        return self._steps.items(None, None)
 
-    def overlapping(self, start: Element | None, end: Element | None) -> list[Item[V]]:
-        """The ranges that have a key from a start up to, not including, an end, each with its value. They aren't cut.
+    def span(self) -> tuple[K, K | None] | None:
+        """From the start of the first range to the end of the last one, or None if no key has a value.
 
-        >>> RangeMap([((0, 10), "low"), ((20, 30), "high"), ((40, 50), "top")]).overlapping(5, 25)
-        [((0, 10), 'low'), ((20, 30), 'high')]
+        Cost: two searches.
+
+        >>> RangeMap([((0, 10), "low"), ((20, 30), "high")]).span()
+        (0, 30)
         """
-        first, last, kind = self._codes(slice(start, end))
-        if last is not None and last <= first:
-            return []
+        found = self._span()
+        return None if found is None else self._pair(*found)
+
+    def _span(self) -> tuple[int, int | None] | None:
+        unsigned = self._kind.unsigned
+        first = self._steps.next(least(unsigned))
+        start, _, value = self._steps.range_at(most(unsigned), _NOTHING)
+        return None if first is None else (first[0], start if value is _NOTHING else None)
+
+    @overload
+    def overlapping(self, start: OneRange) -> list[Item[K, V]]:
+        ...
+
+    @overload
+    def overlapping(self, start: K | None, end: K | None) -> list[Item[K, V]]:
+        ...
+
+    def overlapping(self, start: Any, end: Any = ...) -> list[Item[K, V]]:
+        """The ranges that have a key from a start up to, not including, an end, each with its value. They aren't cut, as those of
+        `m[start:end]` are. It takes the two, a pair, a `range` or a key.
+
+        Cost: a search, and one for each of them.
+
+        >>> m = RangeMap([((0, 10), "low"), ((20, 30), "high"), ((40, 50), "top")])
+        >>> m.overlapping(5, 25), m.overlapping((30, 40))
+        ([((0, 10), 'low'), ((20, 30), 'high')], [])
+        """
+        wanted, kind = range_of(start, end, self._kind)
         self._see_kind(kind)
-        return [*self._items(_stretches(self._steps, first, None if last is None else last - 1))]
+        return [*self._steps.items(*_ends(wanted))] if wanted else []
 
     def gaps(self, start: Element | None = None, end: Element | None = None) -> RangeSet:
         """The keys from `start` up to, not including, `end` that have no value.
+
+        Cost: a search, and one for each range there.
 
         >>> RangeMap([((0, 10), "low"), ((20, 30), "high")]).gaps(5, 25)
         RangeSet([(10, 20)])
         """
         wanted, kind = range_of(start, end, self._kind)
         self._see_kind(kind)
-        return RangeSet._over(_core.difference(wanted, self._where(lambda number: True)), kind)
+        if wanted and self._kind is kind:
+            wanted = _core.difference(wanted, self._steps.domain(*_ends(wanted)))
+        return RangeSet._over(wanted, kind)
 
     def domain(self) -> RangeSet:
         """The keys that have a value.
 
+        Cost: goes over all ranges.
+
         >>> RangeMap([((0, 10), "low"), ((10, 30), "high")]).domain()
         RangeSet([(0, 30)])
         """
-        return RangeSet._over(self._where(lambda number: True), self._kind)
+        return RangeSet._over(self._steps.domain(None, None), self._kind)
 
     def find(self, value: V) -> RangeSet:
         """The keys that have this value.
 
+        Cost: goes over all ranges.
+
         >>> RangeMap([((0, 10), "low"), ((10, 30), "high"), ((30, 35), "low")]).find("low")
         RangeSet([(0, 10), (30, 35)])
         """
-        wanted = self._values.found(value)
-        return RangeSet._over(self._where(lambda number: number == wanted), self._kind)
-
-    def _where(self, wanted: Callable[[int], bool]) -> memoryview:
-        """The boundaries of the keys whose value's number is wanted."""
-        boundaries, inside = array(code_of(self._kind.unsigned)), False
-        lowest = least(self._kind.unsigned)
-        for start, _, number in _stretches(self._steps, lowest, None):
-            if (number is not None and wanted(number)) != inside:
-                inside = not inside
-                boundaries.append(lowest if start is None else start)
-        return _core.from_boundaries(boundaries)
-
-    def _items(self, stretches: Iterable[tuple[Any, int | None, int | None]]) -> Iterator[Item[V]]:
-        """Those of some stretches that have a value. One that was released meanwhile is none."""
-        for start, end, number in stretches:
-            value = self._values.get(number, _NOTHING)
-            if value is not _NOTHING:
-                yield (self._kind.value(start), None if end is None else self._kind.value(end)), value
+        return RangeSet._over(self._steps.find(value), self._kind)
 
     def _see_kind(self, kind: Kind) -> None:
-        if kind is not self._kind and self._kind is not UNTOLD:
+        if kind is not self._kind and self._kind is not NO_KIND:
             raise TypeError(mixed(self._kind, kind))
 
     # ---- Many sets, two maps ----
 
     @staticmethod
-    def depth(sets: Iterable[Source], *, unsigned: bool | None = None, kind: Told = None) -> RangeMap[int]:
+    def depth(sets: Iterable[Source], *, unsigned: bool | None = None, kind: KindLike = None) -> RangeMap[Any, int]:
         """How many of some sets have each key; a key that none has gets no value. A set may be a pair, or anything that makes one.
 
-        It takes n log n steps for n boundaries, whereas `combine` goes through both maps each time.
+        Cost: n log n steps for n boundaries, whereas `combine` goes through both maps each time.
 
         >>> RangeMap.depth([(0, 5), (3, 9), RangeSet([(4, 6), (20, None)])])
         RangeMap([((0, 3), 1), ((3, 4), 2), ((4, 5), 3), ((5, 6), 2), ((6, 9), 1), ((20, None), 1)])
         """
-        wanted = told(kind, unsigned)
+        wanted = kind_of(kind, unsigned)
         lists, found = of_one_kind([gather(it, wanted) for it in sets], wanted)
         changes: Counter[int] = Counter()
         for boundaries in lists:
-            changes.update(boundaries[::2])
-            changes.subtract(boundaries[1::2])
-        result: RangeMap[int] = RangeMap(kind=None if found is UNTOLD else found.name)
-        depth, used, places = 0, [], [at for at in sorted(changes) if changes[at]]
-        for start, end in zip(places, [*places[1:], None]):
+            changes.update(memoryview(boundaries)[::2])  # type: ignore[arg-type]
+            changes.subtract(memoryview(boundaries)[1::2])  # type: ignore[arg-type]
+        ends: list[int] = []
+        depths: list[int] = []
+        depth, places = 0, [at for at in sorted(changes) if changes[at]]
+        for start, end in zip(places, [*places[1:], least(found.unsigned)]):
             depth += changes[start]
             if depth:
-                used.append(result._values.number_of(depth))
-                result._steps.insert(start, end, used[-1])
-        result._values.use(used)
-        return result
+                ends += start, end
+                depths.append(depth)
+        return _made(found, _packed(ends, found), depths)
 
-    def combine(self, other: RangeMap[V], how: Callable[[V, V], V], missing: V = _NOTHING) -> RangeMap[V]:
+    def combine(self, other: RangeMap[K, V], how: Callable[[V, V], V], missing: V = _NOTHING) -> RangeMap[K, V]:
         """The map of what `how` makes of the values of both maps. Where one alone has a value, it stays, or with `missing` this stands
         for the other.
 
         `how` runs once for each pair of values that meet. What it raises is raised, and neither map changes.
+
+        Cost: goes over both maps.
 
         >>> nights = RangeMap([((1, 4), 1), ((6, 9), 2)])
         >>> more = RangeMap([((3, 7), 1)])
@@ -306,40 +464,26 @@ class RangeMap(Attributes, Generic[V]):
         RangeMap([((1, 3), 1), ((3, 4), 2), ((4, 6), 1), ((6, 7), 3), ((7, 9), 2)])
         """
         if not isinstance(other, RangeMap):
-            raise TypeError(f"a RangeMap is wanted, not {type(other).__name__}")
-        if self._kind is not other._kind and UNTOLD not in (self._kind, other._kind):
+            raise TypeError(f"expected a RangeMap, not {type(other).__name__}")
+        if self._kind is not other._kind and NO_KIND not in (self._kind, other._kind):
             raise TypeError(mixed(self._kind, other._kind))
-        made: dict[tuple[int | None, int | None], int] = {}
-        result: RangeMap[V] = RangeMap.__new__(RangeMap)
-        result._begin(other._kind if self._kind is UNTOLD else self._kind)
-        for start, end, mine, theirs in _pieces(self, other, least(result._kind.unsigned)):
-            if mine is None and theirs is None:
-                continue
-            number = made.get((mine, theirs))
-            if number is None:
-                number = made[mine, theirs] = result._values.number_of(self._combined(other, mine, theirs, how, missing))
-            result._steps.insert(start, end, number)
-        result._values.use([it[2] for it in _stretches(result._steps, least(result._kind.unsigned), None)])
-        return result
-
-    def _combined(self, other: RangeMap[V], mine: int | None, theirs: int | None, how: Callable[[V, V], V], missing: Any) -> V:
-        left: V = self._values.get(mine, missing)
-        right: V = other._values.get(theirs, missing)
-        if left is _NOTHING:
-            return right
-        return left if right is _NOTHING else how(left, right)
+        kind = other._kind if self._kind is NO_KIND else self._kind
+        left, right = (it._steps if it._kind is kind else Steps(kind, kind.unsigned) for it in (self, other))
+        return RangeMap._with_steps(left.combine(right, how, missing, _NOTHING))
 
     def __eq__(self, other: object) -> bool:
         if not isinstance(other, RangeMap):
             return NotImplemented
         if self._kind is not other._kind:
-            return not self and not other and UNTOLD in (self._kind, other._kind)
-        return len(self) == len(other) and all(a[0] == b[0] and _is_one(a[1], b[1]) for a, b in zip(self.items(), other.items()))
+            return not self and not other and NO_KIND in (self._kind, other._kind)
+        return self._steps.equals(other._steps)
 
     # ---- Other forms ----
 
     def copy(self) -> Self:
         """Another map with the same values.
+
+        Cost: goes over all ranges.
 
         >>> m = RangeMap([((0, 10), "low")])
         >>> other = m.copy()
@@ -347,7 +491,7 @@ class RangeMap(Attributes, Generic[V]):
         >>> other
         RangeMap([((0, 10), 'low')])
         """
-        return _restored(type(self), self, self.kind)._with(self.__getstate__())
+        return self._with_steps(self._steps.copy())._with(self.__getstate__())
 
     __copy__ = copy
 
@@ -360,40 +504,42 @@ class RangeMap(Attributes, Generic[V]):
         return f"{type(self).__name__}({', '.join(parts)})"
 
     def __reduce__(self) -> tuple[Any, ...]:
-        return _restored, (type(self), [*self.items()], self.kind), self.__getstate__()
+        ends, values = self._steps.ends_and_values()
+        return _remade, (type(self), ends, values, self.kind, sys.byteorder), self.__getstate__()
 
 
-def _restored(cls: type[M], items: Any, kind: Told) -> M:
+def _remade(cls: type[M], ends: bytes, values: tuple[Any, ...], name: str | None, order: str) -> M:
+    """The map of a pickle."""
+    made, kind = cls.__new__(cls), kind_of(name) or NO_KIND
+    numbers = array(code_of(kind.unsigned), ends)
+    if order != sys.byteorder:
+        numbers.byteswap()
+    made._begin(kind)
+    made._steps.change(numbers.tobytes(), values, kind, kind)
+    if not all(kind is not NO_KIND and (it is None or kind.least <= it <= kind.most) for it in made._span() or ()):
+        raise ValueError(f"the bytes are no map of the kind {kind.name}")
+    return made
+
+
+def _restored(cls: type[M], items: Any, kind: KindLike) -> M:
+    """The same of a pickle by version 0.3."""
     made = cls.__new__(cls)
-    made._begin(told(kind) or UNTOLD)
+    made._begin(kind_of(kind) or NO_KIND)
     made.update(items)
     return made
 
 
-def _is_one(a: Any, b: Any) -> bool:
-    return a is b or (type(a) is type(b) and bool(a == b))
+def _made(kind: Kind, ends: bytes, values: list[Any]) -> RangeMap[Any, Any]:
+    made: RangeMap[Any, Any] = RangeMap.__new__(RangeMap)
+    made._begin(kind)
+    made._steps.change(ends, tuple(values), kind, kind)
+    return made
 
 
-def _stretches(steps: Steps, low: int, high: int | None) -> Iterator[tuple[int | None, int | None, int | None]]:
-    """The longest ranges of one value or of none, from the one around `low` to the one around `high` or the last one: start, end and
-    the value's number."""
-    start, end, number = steps.range_at(low)
-    while True:
-        yield start, end, number
-        if end is None or (high is not None and end > high):
-            return
-        # Also if a change came between, no key stands in two of them.
-        start = end
-        _, end, number = steps.range_at(start)
+def _ends(one: Boundaries) -> tuple[int, int | None]:
+    """The start and the end of one range."""
+    return one[0], one[1] if len(one) > 1 else None
 
 
-def _pieces(left: RangeMap[V], right: RangeMap[V], at: int) -> Iterator[tuple[int, int | None, int | None, int | None]]:
-    """The longest ranges on which neither map changes: start, end and the numbers of both values."""
-    nothing = (None, None, None)
-    while True:
-        mine, theirs = (nothing if it._kind is UNTOLD else it._steps.range_at(at) for it in (left, right))
-        ends = [end for end in (mine[1], theirs[1]) if end is not None]
-        yield at, min(ends, default=None), mine[2], theirs[2]
-        if not ends:
-            return
-        at = min(ends)
+def _packed(ends: list[int], kind: Kind) -> bytes:
+    return array(code_of(kind.unsigned), ends).tobytes()

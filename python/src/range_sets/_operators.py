@@ -2,11 +2,11 @@
 
 from __future__ import annotations
 
-from typing import TYPE_CHECKING, Self
+from typing import TYPE_CHECKING, Any, Never, Self
 
 from . import _core
 from ._kept import Kept
-from ._kinds import agreed, whole
+from ._kinds import Now, agreed, whole
 
 if TYPE_CHECKING:
     from ._ranges import AnyRangeSet
@@ -16,39 +16,29 @@ class Operators(Kept):
     """What Python writes between two sets or before one."""
 
     __slots__ = ()
-    # Else numpy would answer `set | array` by the bits of the boundaries.
+    # Else numpy would answer `set | array` by the bits of the boundaries, and `numpy.isin(array, set)` by which elements are boundaries.
     __array_ufunc__ = None
 
-    def __or__(self, other: AnyRangeSet) -> Self:
-        if not isinstance(other, Operators):
-            return NotImplemented
-        (left, kind), (right, other_kind) = self._now, other._now
-        if kind is not other_kind:
-            left, right, kind = agreed((left, kind), (right, other_kind))
+    def __array_function__(self, function: Any, types: Any, args: Any, kwargs: Any) -> Never:
+        hint = "s.contains(array) says which elements are members, and numpy.asarray(s) has the boundaries"
+        raise TypeError(f"numpy.{function.__name__} takes no set: {hint}")
+
+    # What `|`, `&`, `-` and `^` do if one of the sets changes, or their kinds differ.
+
+    def _union(self, other: AnyRangeSet) -> Self:
+        left, right, kind = agreed(self._now, other._now)
         return self._over(_core.union(left, right), kind)
 
-    def __and__(self, other: AnyRangeSet) -> Self:
-        if not isinstance(other, Operators):
-            return NotImplemented
-        (left, kind), (right, other_kind) = self._now, other._now
-        if kind is not other_kind:
-            left, right, kind = agreed((left, kind), (right, other_kind))
+    def _intersection(self, other: AnyRangeSet) -> Self:
+        left, right, kind = self._beside(other._now)
         return self._over(_core.intersection(left, right), kind)
 
-    def __sub__(self, other: AnyRangeSet) -> Self:
-        if not isinstance(other, Operators):
-            return NotImplemented
-        (left, kind), (right, other_kind) = self._now, other._now
-        if kind is not other_kind:
-            left, right, kind = agreed((left, kind), (right, other_kind))
+    def _difference(self, other: AnyRangeSet) -> Self:
+        right, left, kind = other._beside(self._now)
         return self._over(_core.difference(left, right), kind)
 
-    def __xor__(self, other: AnyRangeSet) -> Self:
-        if not isinstance(other, Operators):
-            return NotImplemented
-        (left, kind), (right, other_kind) = self._now, other._now
-        if kind is not other_kind:
-            left, right, kind = agreed((left, kind), (right, other_kind))
+    def _symmetric_difference(self, other: AnyRangeSet) -> Self:
+        left, right, kind = agreed(self._now, other._now)
         return self._over(_core.symmetric_difference(left, right), kind)
 
     def __invert__(self) -> Self:
@@ -66,10 +56,7 @@ class Operators(Kept):
     def __le__(self, other: AnyRangeSet) -> bool:
         if not isinstance(other, Operators):
             return NotImplemented
-        (left, kind), (right, other_kind) = self._now, other._now
-        if kind is not other_kind:
-            left, right, _ = agreed((left, kind), (right, other_kind))
-        return _core.is_subset(left, right)
+        return other._has(self._now)
 
     def __lt__(self, other: AnyRangeSet) -> bool:
         if not isinstance(other, Operators):
@@ -80,13 +67,19 @@ class Operators(Kept):
     def __ge__(self, other: AnyRangeSet) -> bool:
         if not isinstance(other, Operators):
             return NotImplemented
-        (left, kind), (right, other_kind) = self._now, other._now
-        if kind is not other_kind:
-            left, right, _ = agreed((left, kind), (right, other_kind))
-        return _core.is_subset(right, left)
+        return self._has(other._now)
 
     def __gt__(self, other: AnyRangeSet) -> bool:
         if not isinstance(other, Operators):
             return NotImplemented
         left, right, _ = agreed(self._now, other._now)
         return _core.is_subset(right, left) and not _core.equal(left, right)
+
+    def _has(self, other: Now) -> bool:
+        """Whether each element of another set is in this one."""
+        left, right, _ = self._beside(other)
+        return _core.is_subset(right, left)
+
+    def _is_within(self, other: Now) -> bool:
+        left, right, _ = agreed(self._now, other)
+        return _core.is_subset(left, right)

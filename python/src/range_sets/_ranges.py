@@ -3,17 +3,18 @@
 from __future__ import annotations
 
 from array import array
+from ipaddress import IPv4Address, IPv4Network, summarize_address_range
 from itertools import chain, zip_longest
 from operator import index
 from typing import Any, Iterable, Iterator, Never, Self, SupportsIndex, overload
 
-from . import _core, _text
-from ._arrays import codes_of_each, contains_each, none_of_each
+from . import _core, _postgres, _text
+from ._arrays import contains_each, covered_within_each, overlaps_each, range_at_each, rank_each
 from ._kept import _restored, _unpacked
-from ._kinds import FLOAT, UNTOLD, Element, Kind, Now, Told, agreed, of, of_some, told, whole
+from ._kinds import ADDRESS, FLOAT, NO_KIND, UNCOUNTED, Array, Element, Kind, KindLike, Now, agreed, kind_of, of, of_some, whole
 from ._numbers import code_of
 from ._operators import Operators
-from ._sources import OneRange, Source, boundaries_of, codes_of, gather, intersection_of, range_of, ranges_of, union_of, values_of
+from ._sources import OneRange, Source, boundaries_of, codes_of, from_on, gather, intersection_of, range_of, ranges_of, union_of, values_of
 
 # Pickles name them here.
 __all__ = ["AnyRangeSet", "_restored", "_unpacked"]
@@ -30,43 +31,51 @@ class AnyRangeSet(Operators):
     __slots__ = ()
     __module__ = "range_sets"
 
-    def __new__(cls, source: Source = (), *, unsigned: bool | None = None, kind: Told = None, **attributes: Never) -> Self:
+    def __new__(cls, source: Source = (), *more: Never, unsigned: bool | None = None, kind: KindLike = None, **attributes: Never) -> Self:
+        if more:
+            raise TypeError(f"{cls.__name__} is made of one argument, not {1 + len(more)}: a list of pairs, as [(3, 5), (7, 9)]")
         # The `__init__` of a subclass takes them.
         if attributes and cls.__init__ is object.__init__:
             raise TypeError(f"{cls.__name__}() got an unexpected keyword argument {next(iter(attributes))!r}")
-        return cls._over(*gather(source, told(kind, unsigned)))
+        return cls._over(*gather(source, kind_of(kind, unsigned)))
 
     # ---- Made of other things ----
 
     @classmethod
-    def from_boundaries(cls, items: Any, *, unsigned: bool | None = None, kind: Told = None) -> Self:
+    def from_boundaries(cls, items: Any, *, unsigned: bool | None = None, kind: KindLike = None) -> Self:
         """The set with these boundaries, from a buffer, such as a numpy array, or an iterable: at each the set begins or ends.
 
         They have to be strictly sorted, which is checked. With its kind they may be what `boundaries` has of a set.
 
+        Cost: goes over them.
+
         >>> RangeSet.from_boundaries([0, 10, 20])
         RangeSet([(0, 10), (20, None)])
         """
-        return cls._over(*boundaries_of(items, told(kind, unsigned)))
+        return cls._over(*boundaries_of(items, kind_of(kind, unsigned)))
 
     @classmethod
-    def from_ranges(cls, numbers: Any, *, kind: Told = None) -> Self:
+    def from_ranges(cls, numbers: Any, *, kind: KindLike = None) -> Self:
         """The elements in some range of a buffer: a start and an end in turn, or a table with a row for each, in any order.
+
+        Cost: that of sorting them.
 
         >>> from array import array
         >>> RangeSet.from_ranges(array("q", [20, 30, 0, 5, 3, 8]))
         RangeSet([(0, 8), (20, 30)])
         """
-        return cls._over(*ranges_of(numbers, told(kind)))
+        return cls._over(*ranges_of(numbers, kind_of(kind)))
 
     @classmethod
-    def from_values(cls, values: Any, *, unsigned: bool | None = None, kind: Told = None) -> Self:
+    def from_values(cls, values: Any, *, unsigned: bool | None = None, kind: KindLike = None) -> Self:
         """The set of these elements, from an array or an iterable, in any order.
+
+        Cost: that of sorting them.
 
         >>> RangeSet.from_values([7, 3, 5, 4, 3])
         RangeSet([(3, 6), (7, 8)])
         """
-        return cls._over(*values_of(values, told(kind, unsigned)))
+        return cls._over(*values_of(values, kind_of(kind, unsigned)))
 
     @classmethod
     def parse(cls, text: str, *, unsigned: bool = False) -> Self:
@@ -75,28 +84,59 @@ class AnyRangeSet(Operators):
         A text that isn't one of ranges, or has a number that is out of range, raises ParseError with the `position` of the fault
         in characters from 0.
 
+        Cost: that of sorting the ranges.
+
         >>> RangeSet.parse("20.., 0..10")
         RangeSet([(0, 10), (20, None)])
         """
         return cls._over(_text.read(text, unsigned), whole(unsigned))
 
     @classmethod
-    def union_all(cls, sets: Iterable[Source], *, unsigned: bool | None = None, kind: Told = None) -> Self:
+    def from_multirange(cls, text: str, *, kind: KindLike = None) -> Self:
+        """The set of a text of a multirange of PostgreSQL's, or of a range, of whole numbers, dates or times. Closed ends and open starts
+        are those of the next number or date; of times they raise a ValueError.
+
+        Without a kind the first element says which it is. A text that isn't one, and an element that Python hasn't, as infinity, raise
+        ParseError with its `position` in characters from 0. What psycopg makes of a multirange or a range is a source of a set.
+
+        Cost: that of sorting the ranges.
+
+        >>> RangeSet.from_multirange("{[0,10),(19,20],[30,)}")
+        RangeSet([(0, 10), (20, 21), (30, None)])
+        """
+        return cls._over(*gather(*_postgres.read(text, kind_of(kind))))
+
+    def to_multirange(self) -> str:
+        """The text of the set as a multirange of PostgreSQL's: int8multirange, datemultirange, tsmultirange or tstzmultirange.
+
+        Cost: goes over all ranges.
+
+        >>> RangeSet([(0, 10), (20, None)]).to_multirange()
+        '{[0,10),[20,)}'
+        """
+        return _postgres.written(self._now)
+
+    @classmethod
+    def union_all(cls, sets: Iterable[Source], *, unsigned: bool | None = None, kind: KindLike = None) -> Self:
         """The elements in some set of many. If there are none, `unsigned` or `kind` says of which kind the empty set is.
+
+        Cost: for n boundaries in k sets n log k steps.
 
         >>> RangeSet.union_all(RangeSet([(n, n + 2)]) for n in range(5))
         RangeSet([(0, 6)])
         """
-        return cls._joined(union_of, sets, told(kind, unsigned))
+        return cls._joined(union_of, sets, kind_of(kind, unsigned))
 
     @classmethod
-    def intersection_all(cls, sets: Iterable[Source], *, unsigned: bool | None = None, kind: Told = None) -> Self:
+    def intersection_all(cls, sets: Iterable[Source], *, unsigned: bool | None = None, kind: KindLike = None) -> Self:
         """The elements in each set of many. If there are none, these are all, and `unsigned` or `kind` says of which kind.
+
+        Cost: for n boundaries in k sets at most n log k steps.
 
         >>> RangeSet.intersection_all([RangeSet([(n, n + 9)]) for n in range(5)])
         RangeSet([(4, 9)])
         """
-        return cls._joined(intersection_of, sets, told(kind, unsigned))
+        return cls._joined(intersection_of, sets, kind_of(kind, unsigned))
 
     @classmethod
     def _joined(cls, join: Any, sets: Iterable[Source], kind: Kind | None) -> Self:
@@ -125,41 +165,63 @@ class AnyRangeSet(Operators):
         ('date', 'float')
         """
         kind = self._kind
-        return None if kind is UNTOLD else kind.name
+        return None if kind is NO_KIND else kind.name
 
     @property
     def boundaries(self) -> memoryview:
         """The boundaries as a buffer that can't be written to. They are whole numbers even if the elements aren't.
 
-        Nothing is copied, but for a `MutableRangeSet` that has changed: it is gone over.
+        Cost: none, or of a `MutableRangeSet` that has changed goes over all.
 
         >>> RangeSet([(0, 10), (20, None)]).boundaries.tolist()
         [0, 10, 20]
         """
-        # One of its own, since whoever has a memoryview may release it.
-        return self._now[0][:]
+        return memoryview(self._now[0])  # type: ignore[arg-type]
 
-    def __contains__(self, value: Element) -> bool:
-        boundaries, kind = self._now
+    def __contains__(self, value: Element | IPv4Network) -> bool:
+        asked, kind = self._seen
         try:
-            return _core.contains(boundaries, value if kind.is_whole else kind.number(value))  # type: ignore[arg-type]
+            return _core.contains(asked, value if kind.is_whole else kind.number(value))  # type: ignore[arg-type]
         except OverflowError:
             return False
         except TypeError:
-            if kind is UNTOLD and of(value):
+            if kind is NO_KIND and of(value):
                 return False
+            if isinstance(value, IPv4Network):
+                return self.covers(value)
             raise
 
     def contains(self, values: Any) -> Any:
-        """For each element of an array whether it is a member, as a numpy array of bools.
+        """For each element of an array whether it is a member, as a numpy array of bools. NaT and NaN are none.
+
+        Cost: a search for each, and a short one if they are in order.
 
         >>> RangeSet([(0, 10)]).contains([5, 10, 9]).tolist()
         [True, False, True]
         """
-        boundaries, kind = self._now
-        if kind is UNTOLD:
-            return none_of_each(values)
-        return contains_each(boundaries, values if kind.is_whole else codes_of_each(kind, values))
+        return contains_each(self._now, values)
+
+    def overlaps(self, starts: Any, ends: Any) -> Any:
+        """For each start and end in two arrays whether an element from the one up to below the other is a member, as an array of bools.
+
+        Cost: goes over all ranges once, and a search for each.
+
+        >>> import numpy
+        >>> RangeSet([(0, 10), (20, 30)]).overlaps(numpy.array([5, 10]), numpy.array([7, 20])).tolist()
+        [True, False]
+        """
+        return overlaps_each(self._now, starts, ends)
+
+    def covered_within(self, starts: Any, ends: Any) -> Any:
+        """How many members each range of two arrays has, as an array; of times lengths of numpy's. Floats can't be counted.
+
+        Cost: goes over all ranges once, and a search for each.
+
+        >>> import numpy
+        >>> RangeSet([(0, 10), (20, 30)]).covered_within(numpy.array([5, 10]), numpy.array([25, 20])).tolist()
+        [10, 0]
+        """
+        return covered_within_each(self._now, starts, ends)
 
     @overload
     def covers(self, start: OneRange) -> bool:
@@ -172,6 +234,8 @@ class AnyRangeSet(Operators):
     def covers(self, start: Any, end: Any = ...) -> bool:
         """Whether each element from a start up to, not including, an end is a member. It takes the two, a pair, a `range` or an element.
 
+        Cost: a search.
+
         >>> s = RangeSet([(0, 10), (20, None)])
         >>> s.covers(3, 10), s.covers((3, 11)), s.covers(25, None)
         (True, False, True)
@@ -182,30 +246,41 @@ class AnyRangeSet(Operators):
             return True
         if first < low or first > high or (last is not None and last > high + 1):
             return False
-        return self._covers(first, None if last is None or last > high else last, kind)
+        asked, known = self._seen
+        if known is not kind:
+            # A set of no kind has nothing.
+            return False
+        if last is not None and last <= high:
+            return _core.contains_range(asked, first, last)
+        found = _core.range_at(asked, first)
+        return found is not None and found[1] is None
 
-    def _covers(self, first: int, last: int | None, kind: Kind) -> bool:
-        """Whether each number of a range with numbers is a member. A set of another kind has none."""
-        boundaries = self._now[0]
-        if last is None:
-            return _core.is_subset(kind.listed(first, None), boundaries)
-        return _core.contains_range(boundaries, first, last)
+    @overload
+    def range_at(self, value: Array) -> tuple[Any, Any]:
+        ...
 
+    @overload
     def range_at(self, value: Element) -> tuple[Any, Any] | None:
-        """The range that has the element, or None if it is no member.
+        ...
+
+    def range_at(self, value: Any) -> Any:
+        """The range that has the element, or None if it is no member. Of an array it is two of numpy's, masked where there is no end or none.
+
+        Cost: a search for each.
 
         >>> s = RangeSet([(0, 10), (20, None)])
         >>> s.range_at(5), s.range_at(15), s.range_at(20)
         ((0, 10), None, (20, None))
         """
-        boundaries, kind = self._now
-        if kind is UNTOLD:
+        if getattr(value, "ndim", 0):
+            return range_at_each(self._now, value)
+        asked, kind = self._seen
+        if kind is NO_KIND:
             kind = of_some((value,)) or kind
         try:
-            found = _core.range_at(boundaries, kind.number(value))
+            return kind.pair(_core.range_at(asked, kind.number(value)))
         except OverflowError:
             return None
-        return found and (kind.value(found[0]), None if found[1] is None else kind.value(found[1]))
 
     @overload
     def overlapping(self, start: OneRange) -> Self:
@@ -216,88 +291,108 @@ class AnyRangeSet(Operators):
         ...
 
     def overlapping(self, start: Any, end: Any = ...) -> Self:
-        """The ranges that have an element from a start up to, not including, an end. They aren't cut, and nothing is copied.
+        """The ranges that have an element from a start up to, not including, an end. They aren't cut.
+
+        Cost: two searches, and a copy of the ranges.
 
         >>> RangeSet([(0, 10), (20, 30), (40, 50)]).overlapping(5, 25)
         RangeSet([(0, 10), (20, 30)])
         """
-        items, kind = self._now
-        first, last, kind = codes_of(start, end, kind)
+        first, last, kind = codes_of(start, end, self._kind)
         first = max(first, kind.least)
         if first > kind.most or (last is not None and last <= first):
-            return self._over(items[:0], kind)
-        begins = _core.split(items, first)[1]
-        ends = len(items) if last is None or last > kind.most else _core.split(items, last)[0]
-        return self._over(items[begins : ends + ends % 2], kind)
+            return self._over(kind.nothing, kind)
+        last = None if last is None or last > kind.most else last
+        return self._over(self._beside((kind.listed(first, last), kind))[0].overlapping(first, last), kind)
 
     def covered(self) -> Any:
         """How many numbers or addresses are members. Of times and dates it is a `timedelta`, and of floats the sum of the lengths of
         the ranges. It is None if the last range has no end, as has one up to the greatest number or time. Addresses always have one.
 
+        Cost: goes over all ranges.
+
         >>> RangeSet([(0, 10), (20, 25)]).covered()
         15
         """
-        boundaries, kind = self._now
-        return kind.covered(boundaries)
+        asked, kind = self._seen
+        return kind.covered(self._now[0] if kind is FLOAT else asked)
 
+    @overload
+    def rank(self, value: Array) -> Any:
+        ...
+
+    @overload
     def rank(self, value: Element) -> int:
-        """How many members are below an element. Floats can't be counted.
+        ...
+
+    def rank(self, value: Any) -> Any:
+        """How many members are below an element, or of an array below each. Floats can't be counted.
+
+        Cost: goes over the ranges below.
 
         >>> s = RangeSet([(0, 10), (20, None)])
         >>> s.rank(5), s.rank(15), s.rank(22)
         (5, 10, 12)
         """
-        boundaries, kind = self._now
-        upper, kind = range_of(value, None, kind)
+        if getattr(value, "ndim", 0):
+            return rank_each(self._now, value)[..., 0]
+        asked, kind = self._seen
+        upper, kind = from_on(value, kind)
         if kind is FLOAT:
-            kind.one(value)
-        return _core.rank(boundaries, upper[0])
+            raise TypeError(UNCOUNTED)
+        return _core.rank(asked, upper[0])
 
     def select(self, k: SupportsIndex) -> Any:
-        """The member that so many others are below, or None if no more than `k` are members. Floats can't be counted.
+        """The member with `k` others below it, or None if no more than `k` are members. Floats can't be counted.
+
+        Cost: goes over the ranges up to the answer.
 
         >>> s = RangeSet([(0, 10), (20, None)])
         >>> s.select(0), s.select(12), RangeSet([(0, 10)]).select(10)
         (0, 22, None)
         """
-        boundaries, kind = self._now
+        asked, kind = self._seen
         if kind is FLOAT:
-            kind.one(k)
+            raise TypeError(UNCOUNTED)
         at = index(k)
         if at < 0:
-            raise ValueError("a number from 0 on is wanted: so many members are below")
-        found = _core.select(boundaries, at) if at < 2**64 else None
+            raise ValueError("expected a number of members from 0 on")
+        found = _core.select(asked, at) if at < 2**64 else None
         return None if found is None or found > kind.most else kind.value(found)
 
     def span(self) -> tuple[Any, Any] | None:
         """From the start of the first range to the end of the last one, or None if the set is empty.
 
+        Cost: none.
+
         >>> RangeSet([(0, 10), (20, 25)]).span()
         (0, 25)
         """
-        items, kind = self._now
-        return (kind.value(items[0]), None if len(items) % 2 else kind.value(items[-1])) if items else None
+        asked, kind = self._seen
+        return kind.pair(_core.span(asked))
 
     def first_fit(self, length: Any, start: Element | None = None, end: Element | None = None) -> Any:
-        """The first element from `start` on where so many before `end` are no members, or None if there is none. For times and dates
-        the length is a `timedelta`.
+        """The first element from `start` on where `length` elements before `end` are no members, or None if there is none. For times
+        and dates the length is a `timedelta`.
+
+        Cost: goes over the ranges up to the answer; a `MutableRangeSet` remembers which gaps are short.
 
         >>> RangeSet([(0, 10), (12, 20)]).first_fit(3, 0)
         20
         """
-        items, kind = self._now
-        if kind is UNTOLD:
+        asked, kind = self._seen
+        if kind is NO_KIND:
             kind = of_some((start, end)) or kind
         count = kind.count(length)
         if count < 0:
-            raise ValueError("a length from 0 on is wanted")
+            raise ValueError("expected a length from 0 on")
         first, last = kind.within(kind.start(start)), kind.end(end)
         before = kind.most if last is None else kind.within(last)
-        found = _core.first_fit(items, first, before, count) if count < 2**64 else None
+        found = _core.first_fit(asked, first, before, count) if count < 2**64 else None
         if found is None and last is None:
             # Elements up to the greatest one, which no end is above.
             at = before - count + 1
-            found = at if first <= at and _core.split(items, at)[1] == len(items) else None
+            found = at if first <= at and not self._beside((kind.listed(at, None), kind))[0].overlapping(at, None) else None
         return None if found is None else kind.value(found)
 
     # ---- The ranges ----
@@ -316,27 +411,48 @@ class AnyRangeSet(Operators):
     def bounded(self) -> Iterator[tuple[Any, Any]]:
         """The ranges, each with an end. A set without an end raises a ValueError.
 
+        Cost: goes over all ranges.
+
         >>> sum(end - start for start, end in RangeSet([(0, 10), (20, 25)]).bounded())
         15
         """
         boundaries, kind = self._now
         if len(boundaries) % 2:
-            raise ValueError(f"a set with an end is wanted, and this has none from {kind.value(boundaries[-1])} on")
+            raise ValueError(f"expected a set with an end, and this has none from {kind.value(boundaries[-1])} on")
         items = kind.values(boundaries)
         return zip(items, items)
 
     def members(self) -> Iterator[Any]:
         """The elements in order, one by one, up to the greatest if the set has no end. Floats can't be listed.
 
+        Cost: goes over all members.
+
         >>> list(RangeSet([(0, 3), (7, 9)]).members())
         [0, 1, 2, 7, 8]
         """
         boundaries, kind = self._now
         if kind is FLOAT:
-            kind.one(None)
+            raise TypeError(f"{UNCOUNTED}, so they can't be listed")
         items = iter(boundaries)
         runs = (range(start, kind.most + 1 if end is None else end) for start, end in zip_longest(items, items))
         return kind.values(chain.from_iterable(runs))
+
+    def networks(self) -> Iterator[IPv4Network]:
+        """The fewest networks that have the addresses of the set between them, from the lowest on.
+
+        Cost: goes over all ranges.
+
+        >>> from ipaddress import IPv4Network
+        >>> made = RangeSet([IPv4Network("10.0.0.0/24"), IPv4Network("10.0.1.0/25")])
+        >>> [str(it) for it in made.networks()], IPv4Network("10.0.0.128/25") in made
+        (['10.0.0.0/24', '10.0.1.0/25'], True)
+        """
+        boundaries, kind = self._now
+        if kind not in (ADDRESS, NO_KIND):
+            raise TypeError(f"expected a set of addresses, not of the kind {kind.name}")
+        items = iter(boundaries)
+        pairs = zip_longest(items, items, fillvalue=ADDRESS.most + 1)
+        return chain.from_iterable(summarize_address_range(IPv4Address(start), IPv4Address(end - 1)) for start, end in pairs)
 
     def __reversed__(self) -> Iterator[tuple[Any, Any]]:
         kept = self._over(*self._now)
@@ -357,7 +473,7 @@ class AnyRangeSet(Operators):
         if isinstance(at, slice):
             start, stop, step = at.indices(count)
             if step == 1:
-                return self._over(items[2 * start : 2 * max(start, stop)], kind)
+                return self._over(items.part(2 * start, 2 * max(start, stop)), kind)
             places = range(start, stop, step)
             chosen = chain.from_iterable(items[2 * i : 2 * i + 2] for i in (places if step > 0 else places[::-1]))
             return self._over(_core.from_boundaries(array(code_of(kind.unsigned), chosen)), kind)
@@ -372,34 +488,39 @@ class AnyRangeSet(Operators):
     def gaps(self, start: Element | None = None, end: Element | None = None) -> Self:
         """The elements from `start` up to, not including, `end` that are no members.
 
+        Cost: two searches, and the gaps.
+
         >>> RangeSet([(0, 10), (20, 30)]).gaps(5, 25)
         RangeSet([(10, 20)])
         """
-        boundaries, kind = self._now
-        wanted, kind = range_of(start, end, kind)
-        return self._over(_core.difference(wanted, boundaries), kind)
+        left, right, kind = self._beside(range_of(start, end, self._kind))
+        return self._over(_core.difference(right, left), kind)
 
     def split(self, at: Element) -> tuple[Self, Self]:
-        """The members below an element, and those from it on. Nothing is copied unless a range goes over the element.
+        """The members below an element, and those from it on.
+
+        Cost: a search, and a copy of the parts.
 
         >>> RangeSet([(0, 10), (20, 30)]).split(25)
         (RangeSet([(0, 10), (20, 25)]), RangeSet([(25, 30)]))
         """
         items, kind = self._now
-        upper, kind = range_of(at, None, kind)
+        upper, kind = from_on(at, kind)
         left_len, right_start = _core.split(items, upper[0])
-        above = items[right_start:]
+        above = items.part(right_start, len(items))
         if left_len <= right_start:
-            return self._over(items[:right_start], kind), self._over(above, kind)
+            return self._over(items.part(0, right_start), kind), self._over(above, kind)
         below = _core.difference(items[:left_len], upper)
         return self._over(below, kind), self._over(_core.intersection(above, upper), kind)
 
     def _of(self, source: Source) -> Now:
         kind = self._kind
-        return gather(source, None if kind is UNTOLD or isinstance(source, AnyRangeSet) else kind)
+        return gather(source, None if kind is NO_KIND or isinstance(source, AnyRangeSet) else kind)
 
     def union(self, *others: Source) -> Self:
         """The elements in this set or in another; `|` takes sets alone.
+
+        Cost: a copy of all.
 
         >>> RangeSet([(0, 5)]).union([(8, 9)], range(5, 7))
         RangeSet([(0, 7), (8, 9)])
@@ -408,6 +529,8 @@ class AnyRangeSet(Operators):
 
     def intersection(self, *others: Source) -> Self:
         """The elements in this set and in each other; `&` takes sets alone.
+
+        Cost: searches for the ranges of the smaller set, and the result.
 
         >>> RangeSet([(0, 5)]).intersection([(3, 9)])
         RangeSet([(3, 5)])
@@ -421,6 +544,8 @@ class AnyRangeSet(Operators):
     def difference(self, *others: Source) -> Self:
         """The elements in this set and in no other; `-` takes sets alone.
 
+        Cost: searches for the ranges of the smaller set, and the result.
+
         >>> RangeSet([(0, 5)]).difference([(3, 9)])
         RangeSet([(0, 3)])
         """
@@ -433,6 +558,8 @@ class AnyRangeSet(Operators):
     def symmetric_difference(self, other: Source) -> Self:
         """The elements in exactly one of the two sets; `^` takes sets alone.
 
+        Cost: a copy of both.
+
         >>> RangeSet([(0, 5)]).symmetric_difference([(3, 9)])
         RangeSet([(0, 3), (5, 9)])
         """
@@ -444,26 +571,30 @@ class AnyRangeSet(Operators):
     def isdisjoint(self, other: Source) -> bool:
         """Whether no element is in both sets.
 
+        Cost: searches for the ranges of the smaller set.
+
         >>> RangeSet([(0, 5)]).isdisjoint([(5, 9)])
         True
         """
-        left, right, _ = agreed(self._now, self._of(other))
+        left, right, _ = self._beside(self._of(other))
         return _core.is_disjoint(left, right)
 
     def issubset(self, other: Source) -> bool:
         """Whether each member is one of the other set; `<=` takes sets alone.
 
+        Cost: searches for the ranges of the smaller set.
+
         >>> RangeSet([(0, 5)]).issubset(range(10))
         True
         """
-        left, right, _ = agreed(self._now, self._of(other))
-        return _core.is_subset(left, right)
+        return self._is_within(self._of(other))
 
     def issuperset(self, other: Source) -> bool:
         """Whether each member of the other set is one of this; `>=` takes sets alone.
 
+        Cost: searches for the ranges of the smaller set.
+
         >>> RangeSet([(0, 5)]).issuperset(range(3))
         True
         """
-        left, right, _ = agreed(self._now, self._of(other))
-        return _core.is_subset(right, left)
+        return self._has(self._of(other))

@@ -5,10 +5,14 @@ from __future__ import annotations
 from typing import Any, Callable, Self, overload
 
 from . import _core
-from ._core import Chunks
+from ._core import Boundaries, Chunks
 from ._ranges import AnyRangeSet
-from ._kinds import UNTOLD, Element, Kind, Now, agreed, of
+from ._kinds import NO_KIND, Element, Kind, Now, agreed
 from ._sources import OneRange, Source, bounds_of, intersection_of, range_of, union_of
+
+
+# Beside a list of so few boundaries a set that changes is asked in chunks.
+_FEW = 64
 
 
 class RangeSet(AnyRangeSet):
@@ -34,7 +38,7 @@ class RangeSet(AnyRangeSet):
     or `kind=` decides the kind of a set. Two kinds don't mix, and are never equal.
 
     In the signatures below `Source` is what a set is made of, `Element` an element, `OneRange` a pair, a `range`, a network or one
-    element, and `Told` what `kind` takes: the name of a kind as the attribute `kind` has it, or a type of Python's.
+    element, and `KindLike` what `kind` takes: the name of a kind as the attribute `kind` has it, or a type of Python's.
 
     >>> list(RangeSet([(0, 10), (20, None)], unsigned=True))
     [(0, 10), (20, None)]
@@ -62,6 +66,8 @@ class RangeSet(AnyRangeSet):
     def copy(self) -> Self:
         """The set itself, which never changes; of a subclass with attributes, another set that has them.
 
+        Cost: none.
+
         >>> s = RangeSet([(0, 10)])
         >>> s.copy() is s
         True
@@ -79,6 +85,8 @@ class RangeSet(AnyRangeSet):
     def insert(self, start: Any, end: Any = ...) -> Self:
         """The set with the elements from a start up to, not including, an end. It takes the two, a pair, a `range` or an element.
 
+        Cost: a copy of the set.
+
         >>> RangeSet([(0, 10)]).insert(5, 15)
         RangeSet([(0, 15)])
         """
@@ -95,6 +103,8 @@ class RangeSet(AnyRangeSet):
 
     def remove(self, start: Any, end: Any = ...) -> Self:
         """The set without the elements from a start up to, not including, an end. It takes the two, a pair, a `range` or an element.
+
+        Cost: a copy of the set.
 
         >>> RangeSet([(0, 10)]).remove(3, 5)
         RangeSet([(0, 3), (5, 10)])
@@ -116,9 +126,9 @@ class MutableRangeSet(AnyRangeSet):
     An operator gives a set of the kind of its left side. `RangeSet(s)` is a set that doesn't change with `s`; neither does an
     array made of it. If a change raises an error, the set is as it was.
 
-    `add`, `discard`, `in`, `covers`, `len` and `bool` take some microseconds also of a million ranges, but for the first
-    on a set that is new, which goes over all. So do each change by another set, unless it puts in or takes out one range,
-    and the first other call after a change, as `boundaries`, `copy` and an index.
+    Changes and questions take some microseconds also of a million ranges, and more for each range that they are given or find.
+    The first change of a set that is new goes over all. So do `covered` and `rank`, `^` and `|`, a call that is given many ranges,
+    and after a change the first of `boundaries`, `copy`, an index or an iteration.
 
     Threads may share a set: each call is whole. Those who read and then write as they read lock for themselves.
     """
@@ -129,13 +139,13 @@ class MutableRangeSet(AnyRangeSet):
     _chunks: Chunks
 
     @classmethod
-    def _over(cls, boundaries: memoryview, kind: Kind) -> Self:
+    def _over(cls, boundaries: Boundaries, kind: Kind) -> Self:
         made = object.__new__(cls)
         made._chunks = Chunks(boundaries, kind)
         return made
 
     @property
-    def _now(self) -> Now:  # type: ignore[override]
+    def _now(self) -> Now:
         return self._chunks.now
 
     @property
@@ -145,20 +155,32 @@ class MutableRangeSet(AnyRangeSet):
     def __sizeof__(self) -> int:
         return object.__sizeof__(self) + self._chunks.__sizeof__()
 
-    def __contains__(self, value: Element) -> bool:
+    @property
+    def _seen(self) -> tuple[Boundaries | Chunks, Kind]:
         chunks = self._chunks
         kind = chunks.kind
-        try:
-            return chunks.contains(value if kind.is_whole else kind.number(value), kind)  # type: ignore[arg-type]
-        except OverflowError:
-            return False
-        except TypeError:
-            if kind is UNTOLD and of(value):
-                return False
-            raise
+        # Its kind may be decided next.
+        return (kind.nothing if kind is NO_KIND else chunks), kind
 
-    def _covers(self, first: int, last: int | None, kind: Kind) -> bool:
-        return self._chunks.contains_range(first, last, kind)
+    def _beside(self, other: Now) -> tuple[Boundaries, Boundaries, Kind]:
+        chunks = self._chunks
+        kind = chunks.kind
+        _, right, kind = agreed((kind.nothing, kind), other)
+        return chunks.near(right, kind), right, kind
+
+    def __le__(self, other: AnyRangeSet) -> bool:
+        if not isinstance(other, AnyRangeSet):
+            return NotImplemented
+        return self._is_within(other._now)
+
+    def _is_within(self, other: Now) -> bool:
+        if len(other[0]) > _FEW:
+            return super()._is_within(other)
+        chunks = self._chunks
+        kind = chunks.kind
+        _, right, kind = agreed((kind.nothing, kind), other)
+        outside = _core.negation(right)
+        return _core.is_disjoint(chunks.near(outside, kind), outside)
 
     def __len__(self) -> int:
         return len(self._chunks)
@@ -166,7 +188,7 @@ class MutableRangeSet(AnyRangeSet):
     def __bool__(self) -> bool:
         return bool(self._chunks)
 
-    def _change(self, call: Callable[[Chunks, memoryview, Kind, Kind], bool], other: Now) -> Self:
+    def _change(self, call: Callable[[Chunks, Boundaries, Kind, Kind], bool], other: Now) -> Self:
         """Makes the set what a call gives of it and another. Tried anew if another thread decided its kind meanwhile."""
         chunks, done = self._chunks, False
         while not done:
@@ -176,7 +198,9 @@ class MutableRangeSet(AnyRangeSet):
         return self
 
     def copy(self) -> Self:
-        """Another set with the same members. It goes over all ranges of a set that has changed.
+        """Another set with the same members.
+
+        Cost: none, or of a set that has changed goes over all ranges.
 
         >>> s = MutableRangeSet([(0, 10)])
         >>> t = s.copy()
@@ -188,6 +212,8 @@ class MutableRangeSet(AnyRangeSet):
 
     def clear(self) -> None:
         """Takes out all elements.
+
+        Cost: that of freeing all.
 
         >>> s = MutableRangeSet([(0, 10)])
         >>> s.clear()
@@ -207,6 +233,8 @@ class MutableRangeSet(AnyRangeSet):
     def add(self, start: Any, end: Any = ...) -> None:
         """Puts in the elements from a start up to, not including, an end. It takes the two, a pair, a `range` or an element.
 
+        Cost: a search.
+
         >>> s = MutableRangeSet([(0, 10)])
         >>> s.add(5, 15)
         >>> s.add(20)
@@ -214,8 +242,8 @@ class MutableRangeSet(AnyRangeSet):
         MutableRangeSet([(0, 15), (20, 21)])
         """
         chunks = self._chunks
-        # Else another thread has decided the kind meanwhile.
-        while not chunks.insert(*bounds_of(start, end, chunks.kind)):
+        # Else it takes no numbers, or another thread has decided the kind meanwhile.
+        while not (chunks.insert(start, end) or chunks.insert(*bounds_of(start, end, chunks.kind))):
             pass
 
     @overload
@@ -229,17 +257,21 @@ class MutableRangeSet(AnyRangeSet):
     def discard(self, start: Any, end: Any = ...) -> None:
         """Takes out the elements from a start up to, not including, an end. It takes the two, a pair, a `range` or an element.
 
+        Cost: a search.
+
         >>> s = MutableRangeSet([(0, 10)])
         >>> s.discard(3, 5)
         >>> s
         MutableRangeSet([(0, 3), (5, 10)])
         """
         chunks = self._chunks
-        while not chunks.remove(*bounds_of(start, end, chunks.kind)):
+        while not (chunks.remove(start, end) or chunks.remove(*bounds_of(start, end, chunks.kind))):
             pass
 
     def update(self, *others: Source) -> None:
-        """Puts in the elements of other sets; `|=` takes sets alone. It goes over all ranges unless it is given one range.
+        """Puts in the elements of other sets; `|=` takes sets alone.
+
+        Cost: a search for each range that it is given; if these are many, goes over all.
 
         >>> s = MutableRangeSet([(0, 10)])
         >>> s.update([(20, 30)], range(10, 12))
@@ -249,7 +281,9 @@ class MutableRangeSet(AnyRangeSet):
         self._change(Chunks.union, union_of([*map(self._of, others)]))
 
     def intersection_update(self, *others: Source) -> None:
-        """Keeps the elements that are in each other set; `&=` takes sets alone. It goes over all ranges.
+        """Keeps the elements that are in each other set; `&=` takes sets alone.
+
+        Cost: a search for each range that it is given; if these are many, goes over all.
 
         >>> s = MutableRangeSet([(0, 10)])
         >>> s.intersection_update([(5, 20)])
@@ -261,7 +295,9 @@ class MutableRangeSet(AnyRangeSet):
             self._change(Chunks.intersection, intersection_of(sets))
 
     def difference_update(self, *others: Source) -> None:
-        """Takes out the elements of other sets; `-=` takes sets alone. It goes over all ranges unless it is given one range.
+        """Takes out the elements of other sets; `-=` takes sets alone.
+
+        Cost: a search for each range that it is given; if these are many, goes over all.
 
         >>> s = MutableRangeSet([(0, 10)])
         >>> s.difference_update([(5, 20)])
@@ -271,7 +307,9 @@ class MutableRangeSet(AnyRangeSet):
         self._change(Chunks.difference, union_of([*map(self._of, others)]))
 
     def symmetric_difference_update(self, other: Source) -> None:
-        """Keeps the elements that are in exactly one of the two sets; `^=` takes sets alone. It goes over all ranges.
+        """Keeps the elements that are in exactly one of the two sets; `^=` takes sets alone.
+
+        Cost: a search for each range that it is given; if these are many, goes over all.
 
         >>> s = MutableRangeSet([(0, 10)])
         >>> s.symmetric_difference_update([(5, 20)])

@@ -3,26 +3,36 @@
 from __future__ import annotations
 
 import reprlib
-import struct
 from array import array
 from ipaddress import IPv4Network, IPv6Network
 from itertools import chain
-from typing import Any, Callable, Iterable, Union
+from typing import TYPE_CHECKING, Any, Callable, Iterable, Union
 
-from . import _core, _ranges
-from ._arrays import see_no_nat, times_in_utc
-from ._kinds import AWARE, DELTA, FLOAT, SIGNED, UNSIGNED, UNTOLD, Element, Kind, Now, mixed, of, of_dtype, of_some, whole
-from ._numbers import code_of, range_list
+from . import _core
+from ._arrays import codes_of_floats, see_no_nat, times_in_utc
+from ._core import Boundaries
+from ._kept import Kept
+from ._kinds import AWARE, DELTA, FLOAT, NAN, NO_KIND, SIGNED, UNSIGNED, Element, Kind, Now, mirrored, mixed, of, of_dtype, of_some, whole
+from ._numbers import code_of
+from ._postgres import Bounds, half_open
+
+if TYPE_CHECKING:
+    from ._ranges import AnyRangeSet
 
 # The start and the end of a range. None as a start is the least element, and as an end says that there is none.
 Pair = tuple["Element | None", "Element | None"]
 # What a set is made of. A table is a buffer with two columns, as a numpy array of starts and ends. Among others a pair may be a list.
 Source = Union[
-    "_ranges.AnyRangeSet", range, IPv4Network, Pair, "Iterable[_ranges.AnyRangeSet | range | IPv4Network | Pair | Iterable[Element | None]]"
+    "AnyRangeSet",
+    range,
+    IPv4Network,
+    Bounds,
+    Pair,
+    "Iterable[AnyRangeSet | range | IPv4Network | Bounds | Pair | Iterable[Element | None]]",
 ]
 
 # What a range is given as without a second argument for its end.
-OneRange = Union[Element, range, IPv4Network, Pair]
+OneRange = Union[Element, range, IPv4Network, Bounds, Pair]
 
 
 def codes_of(start: Any, end: Any, kind: Kind) -> tuple[int, int | None, Kind]:
@@ -31,26 +41,31 @@ def codes_of(start: Any, end: Any, kind: Kind) -> tuple[int, int | None, Kind]:
     if end is ...:
         found = of(start)
         if found is not None:
-            kind = found if kind is UNTOLD else kind
+            kind = found if kind is NO_KIND else kind
             return *kind.one(start), kind
         start, end = ends_of(start, "a number, a start and an end, a pair or a range")
-    if kind is UNTOLD:
+    if kind is NO_KIND:
         kind = of_some((start, end)) or SIGNED
     return kind.start(start), kind.end(end), kind
 
 
 def range_of(start: Any, end: Any, kind: Kind) -> Now:
     """The set of a range that is given as `codes_of` takes it."""
-    if end is not ... and kind.is_whole and kind is not UNTOLD:
-        return range_list(start, end, kind.unsigned), kind
+    if kind.is_plain and (end is not ... or type(start) is int):
+        return _core.range_list(start, end, kind.unsigned), kind
     first, last, kind = codes_of(start, end, kind)
     return kind.listed(first, last), kind
 
 
+def from_on(element: Any, kind: Kind) -> Now:
+    """The set of an element and of all above it."""
+    if element is None:
+        raise TypeError("expected an element, not None")
+    return range_of(element, None, kind)
+
+
 def bounds_of(start: Any, end: Any, kind: Kind) -> tuple[Any, Any, Kind, Kind]:
-    """What a set in chunks is given of a range: its ends, the kind that was seen, and its kind. It reads numbers itself."""
-    if end is not ... and kind.is_whole and kind is not UNTOLD:
-        return start, end, kind, kind
+    """What a set in chunks is given of a range: its ends, the kind that was seen, and its kind."""
     first, last, found = codes_of(start, end, kind)
     return found.within(first), None if last is None else found.within(last), kind, found
 
@@ -62,7 +77,7 @@ def ends_of(item: Any, wanted: str) -> tuple[Any, Any]:
         return start, end
     if isinstance(item, range):
         if item.step != 1:
-            raise ValueError(f"a range with step 1 is wanted, not {item!r}")
+            raise ValueError(f"expected a range with step 1, not {item!r}")
         return item.start, item.stop
     if isinstance(item, (IPv4Network, IPv6Network)):
         # Of the latter the ends are no elements, as the error says.
@@ -70,20 +85,29 @@ def ends_of(item: Any, wanted: str) -> tuple[Any, Any]:
         return item.network_address, None if int(last) + 1 == 2**item.max_prefixlen else last + 1
     if _has_intervals(item):
         return item.left, item.right
+    if hasattr(item, "lower_inc"):
+        if item.isempty:
+            raise ValueError("expected a range that isn't empty")
+        return half_open(item.lower, item.lower_inc, item.upper, item.upper_inc)
     if not isinstance(item, (str, bytes, bytearray, dict, set, frozenset)):
         try:
             start, end = item
             return start, end
         except (TypeError, ValueError):
             pass
-    raise TypeError(f"{wanted} is wanted, not {reprlib.repr(item)}")
+    raise TypeError(f"expected {wanted}, not {reprlib.repr(item)}")
 
 
 def gather(source: Any, kind: Kind | None) -> Now:
     """The union of what a set is made of."""
-    if isinstance(source, _ranges.AnyRangeSet):
+    if kind is None or kind.is_whole:
+        # No loop in Python looks at these.
+        plain = _core.from_pairs(source, kind is UNSIGNED)
+        if plain is not None:
+            return plain, kind or (SIGNED if source else NO_KIND)
+    if isinstance(source, Kept):
         return _of_kind(source._now, kind)
-    if isinstance(source, (range, IPv4Network, IPv6Network)) or _is_pair(source):
+    if isinstance(source, (range, IPv4Network, IPv6Network)) or hasattr(source, "lower_inc") or _is_pair(source):
         source = (source,)
     elif not isinstance(source, (list, tuple)):
         table, kind = _table_of(source, kind)
@@ -91,10 +115,9 @@ def gather(source: Any, kind: Kind | None) -> Now:
             table = table.tolist()
         if _is_buffer(table):
             return _ranges_of_table(table, kind)
-        source = _items_of(table)
-    plain = _plain_pairs(source, kind)
-    if plain is not None:
-        return _core.from_ranges(plain), kind or (SIGNED if source else UNTOLD)
+        return gather(_items_of(table), kind)
+    elif isinstance(source, tuple) and len(source) == 2 and all(map(_is_column, source)):
+        raise TypeError("a list of starts and one of ends are no ranges: zip(starts, ends) has the pairs")
     return _gather_each(source, kind)
 
 
@@ -108,19 +131,19 @@ def intersection_of(sets: list[Now], kind: Kind | None = None) -> Now:
     """The intersection of many sets. Without one it is the set of all elements."""
     lists, found = of_one_kind(sets, kind)
     if not lists:
-        found = SIGNED if found is UNTOLD else found
+        found = SIGNED if found is NO_KIND else found
         return found.all(), found
     return _two_by_two(_core.intersection, lists), found
 
 
-def of_one_kind(sets: list[Now], kind: Kind | None) -> tuple[list[memoryview], Kind]:
+def of_one_kind(sets: list[Now], kind: Kind | None) -> tuple[list[Boundaries], Kind]:
     """The lists of sets of one kind, which a set of nothing takes if its own isn't known."""
     if kind is None:
-        kind = next((it for _, it in sets if it is not UNTOLD), UNTOLD)
+        kind = next((it for _, it in sets if it is not NO_KIND), NO_KIND)
     return [_of_kind(it, kind)[0] for it in sets], kind
 
 
-def _two_by_two(call: Callable[[memoryview, memoryview], memoryview], lists: list[memoryview]) -> memoryview:
+def _two_by_two(call: Callable[[Boundaries, Boundaries], Boundaries], lists: list[Boundaries]) -> Boundaries:
     """Joins many lists so that no number is copied more often than there are doublings."""
     while len(lists) > 1:
         last = lists[-1:] if len(lists) % 2 else []
@@ -134,7 +157,7 @@ def boundaries_of(items: Any, kind: Kind | None) -> Now:
         # What `boundaries` gives of a set of the kind.
         boundaries = _core.from_boundaries(items)
         if not kind.has(boundaries):
-            raise OverflowError(f"the boundaries of a set of the kind {kind.name} are wanted, and these lie beyond")
+            raise OverflowError(f"expected the boundaries of a set of the kind {kind.name}, and these lie beyond")
         return boundaries, kind
     numbers, kind = _numbers_of(items, kind)
     return _core.from_boundaries(numbers), kind
@@ -156,7 +179,7 @@ def ranges_of(items: Any, kind: Kind | None) -> Now:
 def _ranges_of_buffer(items: Any, kind: Kind | None) -> Now:
     shape = tuple(items.shape if hasattr(items, "shape") else memoryview(items).shape or ())
     if len(shape) != 1 and shape[1:] != (2,):
-        raise TypeError("a list of starts and ends in turn is wanted, or a table with two columns")
+        raise TypeError("expected a list of starts and ends in turn, or a table with two columns")
     numbers, kind = _side_by_side(items, kind)
     return _core.from_ranges(numbers), kind
 
@@ -168,10 +191,10 @@ def _numbers_of(items: Any, kind: Kind | None) -> tuple[Any, Kind]:
         if times is not None:
             return _numbers_of_times(times, AWARE)
         values = list(items)
-        kind = kind or of_some(values) or UNTOLD
-        return _array_of(values, kind), kind
+        found = kind or of_some(values) or NO_KIND
+        return _array_of(values, found, kind is not None), found
     if (items.ndim if hasattr(items, "ndim") else memoryview(items).ndim) != 1:
-        raise TypeError("a list is wanted, with one dimension")
+        raise TypeError("expected a list, with one dimension")
     return _side_by_side(items, kind)
 
 
@@ -179,34 +202,43 @@ def _side_by_side(items: Any, kind: Kind | None) -> tuple[Any, Kind]:
     """The numbers of a buffer one after the other and of 64 bits, and the kind of its elements. Smaller whole numbers stay signed or
     unsigned unless a kind is given."""
     if _has_mask(items):
-        raise TypeError("an array without a mask is wanted, as its compressed() gives one")
+        raise TypeError("expected an array without a mask, as its compressed() gives one")
     if _has_times(items):
         return _numbers_of_times(items, kind)
     buffer = memoryview(items)
     code = (buffer.format or "B").removeprefix("@")
     if code not in tuple("bBhHiIlLqQdf"):
-        wanted = "whole numbers of at most 64 bits or floats in this machine's order of bytes are wanted"
+        wanted = "expected whole numbers of at most 64 bits or floats in this machine's order of bytes"
         raise TypeError(f"{wanted}, not those of the format '{buffer.format}'")
     if code in "df":
-        return _numbers_of_floats(memoryview(buffer.tobytes()).cast(code), kind)
+        return _numbers_of_floats(items if hasattr(items, "astype") else memoryview(buffer.tobytes()).cast(code), kind)
     found = whole(code.isupper())
     if kind is not None and not kind.is_whole:
         raise TypeError(mixed(kind, found))
     if buffer.itemsize == 8:
-        if kind not in (None, UNTOLD, found):
-            raise TypeError(f"signed and unsigned numbers don't mix: a set of {'un' * (found is SIGNED)}signed ones is wanted")
+        if kind not in (None, NO_KIND, found):
+            raise TypeError(f"signed and unsigned numbers don't mix: expected a set of {'un' * (found is SIGNED)}signed ones")
         return buffer if buffer.c_contiguous else memoryview(buffer.tobytes()).cast(code), found
-    kind = found if kind is None else kind
+    kind = found if kind is None or kind is NO_KIND else kind
+    if hasattr(items, "astype") and kind is found:
+        return memoryview(items.astype(code_of(found.unsigned), order="C")), found
     return _array_of(memoryview(buffer.tobytes()).cast(code).tolist(), kind), kind
 
 
 def _numbers_of_floats(floats: Any, kind: Kind | None) -> tuple[Any, Kind]:
     """The numbers of floats. Without a float they have no kind: numpy has an empty list as an array of floats."""
-    if not floats:
-        return array(code_of(kind is UNSIGNED)), kind or UNTOLD
-    if not (kind is None or kind is UNTOLD or kind is FLOAT):
+    if not floats.nbytes:
+        return array(code_of(kind is UNSIGNED)), kind or NO_KIND
+    if not (kind is None or kind is NO_KIND or kind is FLOAT):
         raise TypeError(mixed(kind, FLOAT))
-    return array("q", map(FLOAT.code, floats)), FLOAT
+    if hasattr(floats, "astype"):
+        if (floats != floats).any():
+            raise ValueError(NAN)
+        return memoryview(codes_of_floats(floats.reshape(-1))), FLOAT
+    numbers = mirrored(memoryview(array("d", floats)).cast("B").cast("q"))
+    if max(numbers) > FLOAT.most or min(numbers) < FLOAT.least:
+        raise ValueError(NAN)
+    return numbers, FLOAT
 
 
 def _has_mask(items: Any) -> bool:
@@ -226,7 +258,7 @@ def _numbers_of_times(items: Any, kind: Kind | None) -> tuple[Any, Kind]:
 
     found = numpy.asarray(items)
     found = numpy.ascontiguousarray(found, dtype=found.dtype.newbyteorder("="))
-    if kind is None or kind is UNTOLD:
+    if kind is None or kind is NO_KIND:
         kind = DELTA if found.dtype == numpy.dtype(DELTA.dtype) else of_dtype(found.dtype)
     elif kind.dtype is None or numpy.dtype(kind.dtype) != found.dtype:
         raise kind.wrong_array(found.dtype)
@@ -242,7 +274,7 @@ def _has_intervals(item: Any) -> bool:
     if not (hasattr(item, "closed") and hasattr(item, "left")):
         return False
     if item.closed != "left":
-        raise ValueError(f"intervals with their start and without their end are wanted, closed='left' and not {item.closed!r}")
+        raise ValueError(f"expected intervals with their start and without their end, closed='left' and not {item.closed!r}")
     return True
 
 
@@ -252,7 +284,7 @@ def _table_of(source: Any, kind: Kind | None) -> tuple[Any, Kind | None]:
     in_utc = [it for it in (times_in_utc(it, kind) for it in columns) if it is not None]
     if len(in_utc) == 2:
         columns, kind = tuple(in_utc), AWARE
-    elif not _has_intervals(source):
+    elif not columns or getattr(source, "ndim", 1) == 2:
         return source.to_numpy() if hasattr(source, "to_numpy") else source, kind
     import numpy
 
@@ -273,6 +305,11 @@ def _is_pair(source: Any) -> bool:
     return isinstance(source, tuple) and len(source) == 2 and all(end is None or of(end) is not None for end in source)
 
 
+def _is_column(source: Any) -> bool:
+    """Whether it is a list or an array. A tuple of two may be meant as starts and ends, and not as two pairs."""
+    return isinstance(source, (list, array, memoryview)) or getattr(source, "ndim", 0) == 1
+
+
 def _is_buffer(items: Any) -> bool:
     if _has_times(items):
         return True
@@ -282,14 +319,14 @@ def _is_buffer(items: Any) -> bool:
         return False
 
 
-def _array_of(items: list[Any], kind: Kind) -> array[int]:
+def _array_of(items: list[Any], kind: Kind, is_given: bool = True) -> array[int]:
     if kind.is_whole:
         try:
             return array(code_of(kind.unsigned), items)
         except (TypeError, OverflowError):
             # One of them isn't a number of the type: it is found, and the error says what is wanted.
             pass
-    return array(code_of(kind.unsigned), [kind.number(item) for item in items])
+    return array(code_of(kind.unsigned), map(kind.within, _codes_of(items, kind, is_given)))
 
 
 def _of_kind(now: Now, kind: Kind | None) -> Now:
@@ -297,51 +334,52 @@ def _of_kind(now: Now, kind: Kind | None) -> Now:
     boundaries, found = now
     if kind is None or found is kind:
         return now
-    if found is UNTOLD and not boundaries:
+    if found is NO_KIND and not boundaries:
         return kind.nothing, kind
     if kind.is_whole and found.is_whole:
-        raise TypeError(f"signed and unsigned numbers don't mix: a set of {'unsigned' if kind.unsigned else 'signed'} ones is wanted")
+        raise TypeError(f"signed and unsigned numbers don't mix: expected a set of {'unsigned' if kind.unsigned else 'signed'} ones")
     raise TypeError(mixed(kind, found))
 
 
 def _ranges_of_table(table: Any, kind: Kind | None) -> Now:
     if (table.ndim if hasattr(table, "ndim") else memoryview(table).ndim) != 2:
-        raise TypeError("a table with two columns is wanted; RangeSet.from_boundaries reads a list of boundaries")
+        raise TypeError("expected a table with two columns; RangeSet.from_boundaries reads a list of boundaries")
     return _ranges_of_buffer(table, kind)
 
 
 def _items_of(source: Any) -> list[Any]:
     if isinstance(source, str):
-        raise TypeError("pairs, ranges or sets are wanted, not a text; RangeSet.parse reads one")
+        raise TypeError("expected pairs, ranges or sets, not a text; RangeSet.parse reads one")
     try:
         return list(source)
     except TypeError:
-        raise TypeError(f"pairs, ranges or sets are wanted, not {reprlib.repr(source)}") from None
+        raise TypeError(f"expected pairs, ranges or sets, not {reprlib.repr(source)}") from None
 
 
-def _plain_pairs(items: list[Any] | tuple[Any, ...], kind: Kind | None) -> memoryview | None:
-    """The numbers of pairs, if all are pairs of whole numbers of the kind. No loop in Python looks at them."""
-    if not (kind is None or kind.is_whole) or not (set(map(type, items)) <= {tuple, list} and set(map(len, items)) <= {2}):
-        return None
-    code = code_of(kind is UNSIGNED)
+def _codes_of(values: Iterable[Any], kind: Kind, is_given: bool) -> list[int]:
+    """The numbers of elements of the kind. Of whole numbers and floats the error says how both are taken, unless the kind is given."""
     try:
-        return memoryview(struct.pack(f"{2 * len(items)}{code}", *chain.from_iterable(items))).cast(code)
-    except struct.error:
-        return None
+        return [*map(kind.code, values)]
+    except TypeError as error:
+        if kind is SIGNED and not is_given and str(error).startswith("'float'"):
+            raise TypeError(f"{error}: kind='float' makes a set of floats") from None
+        raise
 
 
 def _gather_each(items: list[Any] | tuple[Any, ...], kind: Kind | None) -> Now:
-    sets = [it._now for it in items if isinstance(it, _ranges.AnyRangeSet)]
-    pairs = [ends_of(it, "a pair (start, end), a range or a set") for it in items if not isinstance(it, _ranges.AnyRangeSet)]
+    sets = [it._now for it in items if isinstance(it, Kept)]
+    others = (it for it in items if not isinstance(it, Kept) and not getattr(it, "isempty", False))
+    pairs = [ends_of(it, "a pair (start, end), a range or a set") for it in others]
+    is_given = kind is not None
     if kind is None:
-        told = (found for _, found in sets if found is not UNTOLD)
-        kind = next(told, None) or of_some(chain.from_iterable(pairs)) or (SIGNED if pairs else UNTOLD)
-    codes = [*map(kind.code, chain.from_iterable(it for it in pairs if it[0] is not None and it[1] is not None))]
-    others = [it for it in pairs if it[0] is None or it[1] is None]
+        known = (found for _, found in sets if found is not NO_KIND)
+        kind = next(known, None) or of_some(chain.from_iterable(pairs)) or (SIGNED if pairs else NO_KIND)
+    codes = _codes_of(chain.from_iterable(it for it in pairs if it[0] is not None and it[1] is not None), kind, is_given)
+    open_pairs = [it for it in pairs if it[0] is None or it[1] is None]
     if codes and (min(codes) < kind.least or max(codes) > kind.most):
         # One of them is an error, or an end past the greatest.
-        codes, others = [], pairs
-    for start, end in others:
+        codes, open_pairs = [], pairs
+    for start, end in open_pairs:
         first, last = kind.start(start), kind.end(end)
         if last is None:
             sets.append((kind.listed(first, None), kind))

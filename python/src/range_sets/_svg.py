@@ -25,7 +25,7 @@ _MANY_IN_TITLE = 8
 def draw(ranges: Kept) -> str:
     boundaries, kind = ranges._now
     count = (len(boundaries) + 1) // 2
-    shown = boundaries[: 2 * _MANY].tolist()
+    shown = list(boundaries[: 2 * _MANY])
     lowest = kind.least or None
     numbers = [it for it in shown if it != lowest]
     first, last = (kind.place(numbers[0]), kind.place(numbers[-1])) if numbers else (0, 0)

@@ -5,24 +5,25 @@ from __future__ import annotations
 import re
 
 from . import _core
+from ._core import Boundaries
 from ._errors import ParseError
 from ._numbers import wanted
 
 
-def read(text: str, unsigned: bool) -> memoryview:
+def read(text: str, unsigned: bool) -> Boundaries:
     """The boundaries of the set of a text."""
     found = _read(text, unsigned)
-    if isinstance(found, memoryview):
+    if isinstance(found, Boundaries):
         return found
     if found is None:
         raise ParseError(wanted(unsigned), _first_out_of_range(text, unsigned))
     raise ParseError(_expected_after(text[:found], unsigned), found)
 
 
-def _read(text: str, unsigned: bool) -> memoryview | int | None:
+def _read(text: str, unsigned: bool) -> Boundaries | int | None:
     """The boundaries; or the position at which the text stops being one of ranges; or None if only a number is out of range."""
     if not isinstance(text, str):
-        raise TypeError(f"a text is wanted, not {type(text).__name__}")
+        raise TypeError(f"expected a text, not {type(text).__name__}")
     # A lone surrogate has no bytes. A question mark is wrong in the same places.
     data = text.encode("utf-8", "replace")
     found = _core.parse(data, unsigned)

@@ -70,12 +70,12 @@ def _trees(
     cut: Callable[[Any, list[Any]], list[Any]],
     combine: Callable[[list[Any]], Any],
 ) -> list[Delayed]:
-    """Cuts each part by key ranges, and combines the pieces of each range, so many at a time, to one. Parts that aren't cut are
+    """Cuts each part by key ranges, and combines the pieces of each range, `split_every` at a time, to one. Parts that aren't cut are
     combined as they are: each task takes a scheduler about as long as a union of thousands of ranges."""
     if split_every < 2:
         raise ValueError(f"split_every says how many parts are reduced at a time: 2 or more, not {split_every}")
     if not all(a < b for a, b in pairwise(cuts)):
-        raise ValueError("cuts in ascending order are wanted")
+        raise ValueError("expected cuts in ascending order")
     if not cuts:
         return [_tree(_tasks(parts), split_every, combine)]
     made = [delayed(cut, nout=len(cuts) + 1)(part, cuts) for part in _tasks(parts)]

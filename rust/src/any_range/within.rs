@@ -1,28 +1,41 @@
 //! The parts of a range that are in a set or not, for ranges of any kind.
 
+use super::by_value::{Parted, PartsOf};
 use super::sealed::Sealed;
+use super::NextValue;
+use crate::chunked::ChunkedRangeSet;
 use crate::entry::RangeSetEntry;
+use crate::generated::range_chunks as chunks;
 use crate::generated::range_collections::{Comparisons, RangesWithin};
 use crate::generated::range_merge::{count_up_to, search};
+use crate::iter::{owned_ranges, shown};
+use crate::map::{self, Map as RangeMapBy};
 use crate::range::RangeSetRange;
+use crate::tracker::ChunkedTracker;
 use crate::view::RangeSetRef;
 use core::fmt;
-use core::iter::FusedIterator;
+use core::iter::{FusedIterator, Map};
 use core::ops::{Bound, Range, RangeFrom, RangeFull, RangeInclusive, RangeTo, RangeToInclusive};
 
-/// A range between borrowed values, of any kind that std has, within which a set is looked at.
+/// A range, of any kind that std has, within which a set or a map is looked at. `S` is the set, if it isn't a view.
 ///
-/// What lies in it is told in ranges of the same kind: `&a..&b` in `Range<&T>`, `&a..` in [`RangeSetRange<&T>`]. The
-/// others may lack a borrowed start or have their last value within, so they are told in pairs of [`Bound`]s.
+/// Its ends are values, or references to values. What lies in it is returned as ranges of the same kind, if they can say it:
 ///
 /// | Range | Asks of the element | A part is |
 /// |---|---|---|
-/// | `&a..&b` | nothing more | `Range<&T>` |
+/// | `a..b` | [`Clone`] | `Range<T>` |
+/// | `a..`, `a..=b`, `..b`, `..=b`, a [`RangeSetRange`] | [`Clone`], and what [`AnyRange`](super::AnyRange) asks | [`RangeSetRange<T>`](RangeSetRange) |
+/// | `&a..&b`, `&(a..b)` | nothing more | `Range<&T>` |
+///
+/// Of a `RangeSet` or a view also these, where a part may have its last value within:
+///
+/// | Range | Asks of the element | A part is |
+/// |---|---|---|
 /// | `&a..` | nothing more | [`RangeSetRange<&T>`](RangeSetRange) |
 /// | `&a..=&b` | nothing more | `(Bound<&T>, Bound<&T>)` |
 /// | `..&b`, `..=&b`, `..` | [`RangeSetEntry`], a least value | `(Bound<&T>, Bound<&T>)` |
 ///
-/// It is implemented for these, and for nothing else.
+/// For others `..` is as `a..` with the least value. It is implemented for these, and for nothing else.
 ///
 /// # Examples
 ///
@@ -31,31 +44,147 @@ use core::ops::{Bound, Range, RangeFrom, RangeFull, RangeInclusive, RangeTo, Ran
 /// use std::ops::Bound::{Excluded, Included, Unbounded};
 ///
 /// let busy = RangeSetRef::new(&[9u8, 11, 15, 18]).unwrap();
+/// assert!(busy.gaps(10..17).eq([11..15]));
+/// assert!(busy.gaps(10..).eq([(11..15).into(), (18..).into()]));
+///
 /// let from: Vec<RangeSetRange<&u8>> = busy.gaps(&10..).collect();
 /// assert_eq!(from, [(&11..&15).into(), (&18..).into()]);
 ///
 /// let up_to: Vec<_> = busy.gaps(..=&12).collect();
 /// assert_eq!(up_to, [(Unbounded, Excluded(&9)), (Included(&11), Included(&12))]);
 /// ```
-pub trait Within<'a, T: 'a>: Sealed {
+pub trait Within<'a, T: 'a, S: ?Sized = RangeSetRef<T>>: Sealed {
     /// The iterator over the parts.
     type Parts: Iterator;
 
     /// The parts whose values are members where `inside` is true, or else no members.
     #[doc(hidden)]
-    fn parts_of(self, set: &'a RangeSetRef<T>, inside: bool) -> Self::Parts;
+    fn parts_of(self, set: &'a S, inside: bool) -> Self::Parts;
 }
 
-impl<'a, T: Ord + 'a> Within<'a, T> for Range<&'a T> {
-    type Parts = RangesWithin<'a, T>;
+owned_ranges! {
+    PartsFrom<'a, T> { RangeSetRange: |range| range.cloned() }
+}
+
+shown! {
+    [T: fmt::Debug] PartsFrom<'_, T>;
+    [T: fmt::Debug] PartsWithin<'_, T>;
+}
+
+impl<'a, T: 'a, S: ?Sized, P: Iterator> Within<'a, T, S> for &'a Range<T>
+where
+    Range<&'a T>: Within<'a, T, S, Parts = P>,
+{
+    type Parts = P;
+
+    fn parts_of(self, set: &'a S, inside: bool) -> P {
+        (&self.start..&self.end).parts_of(set, inside)
+    }
+}
+
+/// What [`start`](RangeSetRange::start) and [`end`](RangeSetRange::end) of a range between references give.
+impl<'a: 'b, 'b, T: 'a, S: ?Sized, P: Iterator> Within<'a, T, S> for Range<&'b &'a T>
+where
+    Range<&'a T>: Within<'a, T, S, Parts = P>,
+{
+    type Parts = P;
+
+    fn parts_of(self, set: &'a S, inside: bool) -> P {
+        (*self.start..*self.end).parts_of(set, inside)
+    }
+}
+
+impl<'a, T: Ord + Clone + 'a, S: Parted<T> + ?Sized + 'a> Within<'a, T, S> for Range<T> {
+    type Parts = Map<PartsOf<'a, T, S>, fn(RangeSetRange<T>) -> Range<T>>;
+
+    fn parts_of(self, set: &'a S, inside: bool) -> Self::Parts {
+        PartsOf::new(set, self.into(), inside).map(|part| match part {
+            RangeSetRange::Range(part) => part,
+            RangeSetRange::RangeFrom(_) => unreachable!("a part of a range with an end has one"),
+        })
+    }
+}
+
+macro_rules! by_value {
+    ($($range:ty $(: $($bound:ident)+)? $(, of $set:ty $(, with $V:ident $C:ident)?)?;)*) => {$(
+        by_value!(@ $range, [$($($bound)+)?] $($set $(, $V $C)?)?);
+    )*};
+    (@ $range:ty, [$($bound:ident)*]) => {
+        impl<'a, T: Ord + Clone $(+ $bound)* + 'a, S: Parted<T> + ?Sized + 'a> Within<'a, T, S> for $range {
+            by_value!(% S);
+        }
+    };
+    (@ $range:ty, [$($bound:ident)*] $set:ty $(, $V:ident $C:ident)?) => {
+        impl<'a, T: Ord + Clone $(+ $bound)* + 'a $(, $V: Eq + 'a, $C: 'a)?> Within<'a, T, $set> for $range {
+            by_value!(% $set);
+        }
+    };
+    (% $set:ty) => {
+        type Parts = PartsOf<'a, T, $set>;
+
+        fn parts_of(self, set: &'a $set, inside: bool) -> Self::Parts {
+            PartsOf::new(set, self.into(), inside)
+        }
+    };
+}
+
+by_value! {
+    RangeFrom<T>;
+    RangeTo<T>: RangeSetEntry;
+    RangeInclusive<T>: NextValue;
+    RangeToInclusive<T>: RangeSetEntry NextValue;
+    RangeSetRange<T>;
+    RangeFull: RangeSetEntry, of ChunkedRangeSet<T>;
+    RangeFull: RangeSetEntry, of RangeMapBy<T, V, C>, with V C;
+}
+
+macro_rules! between_references {
+    ($($set:ident in $parts:ty;)*) => {$(
+        impl<'a, T: Ord + 'a> Within<'a, T, $set<T>> for Range<&'a T> {
+            type Parts = $parts;
+
+            #[inline]
+            fn parts_of(self, set: &'a $set<T>, inside: bool) -> Self::Parts {
+                if inside {
+                    set.proved().ranges_within(self)
+                } else {
+                    set.proved().gaps(self)
+                }
+            }
+        }
+    )*};
+}
+
+between_references! {
+    RangeSetRef in RangesWithin<'a, T>;
+    ChunkedRangeSet in chunks::RangesWithin<'a, T>;
+}
+
+/// A tracker has gaps alone.
+impl<'a> Within<'a, u64, ChunkedTracker> for Range<&'a u64> {
+    type Parts = chunks::Gaps<'a, u64>;
 
     #[inline]
-    fn parts_of(self, set: &'a RangeSetRef<T>, inside: bool) -> RangesWithin<'a, T> {
-        if inside {
-            set.proved().ranges_within(self)
-        } else {
-            set.proved().gaps(self)
-        }
+    fn parts_of(self, tracker: &'a ChunkedTracker, _: bool) -> Self::Parts {
+        tracker.gaps_between(self)
+    }
+}
+
+impl<'a> Within<'a, u64, ChunkedTracker> for RangeFull {
+    type Parts = PartsOf<'a, u64, ChunkedTracker>;
+
+    fn parts_of(self, tracker: &'a ChunkedTracker, inside: bool) -> Self::Parts {
+        PartsOf::new(tracker, self.into(), inside)
+    }
+}
+
+/// A map has gaps alone.
+impl<'a, K: Ord + 'a, V: Eq + 'a, C: 'a> Within<'a, K, RangeMapBy<K, V, C>> for Range<&'a K> {
+    type Parts = map::Gaps<'a, K, V, C>;
+
+    #[inline]
+    fn parts_of(self, map: &'a RangeMapBy<K, V, C>, _: bool) -> Self::Parts {
+        map.gaps_between(self)
     }
 }
 
@@ -123,7 +252,7 @@ fn up_to<T: Ord>(set: &RangeSetRef<T>, value: &T) -> usize {
     count_up_to(set.boundaries(), value, &mut Comparisons::new())
 }
 
-/// Whether a value is a member that has so many boundaries at or below it.
+/// Whether a value with `n` boundaries at or below it is a member.
 fn is_odd(n: usize) -> bool {
     n % 2 == 1
 }
@@ -170,13 +299,6 @@ impl<T> Clone for PartsFrom<'_, T> {
     }
 }
 
-/// The parts that are left.
-impl<T: fmt::Debug> fmt::Debug for PartsFrom<'_, T> {
-    fn fmt(&self, f: &mut fmt::Formatter<'_>) -> fmt::Result {
-        f.debug_list().entries(self.clone()).finish()
-    }
-}
-
 /// The parts of `..&b`, `..`, `&a..=&b` or `..=&b` that are in a set or not, from the lowest on.
 ///
 /// [`RangeSetRef::gaps`] and [`RangeSetRef::ranges_within`] make it.
@@ -208,7 +330,7 @@ impl<'a, T> PartsWithin<'a, T> {
         }
     }
 
-    /// The parts from the least value up to an end that has so many boundaries before it.
+    /// The parts from the least value up to an end with `to` boundaries before it.
     fn from_least(set: &'a RangeSetRef<T>, to: usize, end: Bound<&'a T>, inside: bool) -> Self
     where
         T: RangeSetEntry,
@@ -245,13 +367,6 @@ impl<T> FusedIterator for PartsWithin<'_, T> {}
 impl<T> Clone for PartsWithin<'_, T> {
     fn clone(&self) -> Self {
         PartsWithin { ..*self }
-    }
-}
-
-/// The parts that are left.
-impl<T: fmt::Debug> fmt::Debug for PartsWithin<'_, T> {
-    fn fmt(&self, f: &mut fmt::Formatter<'_>) -> fmt::Result {
-        f.debug_list().entries(self.clone()).finish()
     }
 }
 

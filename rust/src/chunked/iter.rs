@@ -1,11 +1,26 @@
 //! The ranges of a set in chunks, one by one.
 
 use crate::generated::range_chunks as proved;
-use crate::generated::range_chunks::chunk::Chunk;
+use crate::generated::range_list::chunk::Chunk;
+use crate::iter::{owned_ranges, ranges_by_value, shown, wraps};
 use crate::range::RangeSetRange;
 use alloc::vec;
 use core::fmt;
-use core::iter::FusedIterator;
+use core::ops::Range;
+
+owned_ranges! {
+    Iter<'a, T> { RangeSetRange: |range| range.cloned() }
+    RangesWithin<'a, T> { Range: |range| range.start.clone()..range.end.clone() }
+}
+
+wraps! {
+    ['a, T] Iter<'a, T>: RangeSetRange<&'a T> = RangeSetRange::from_proved;
+}
+
+shown! {
+    [T: fmt::Debug] Iter<'_, T>;
+    [T: fmt::Debug] RangesWithin<'_, T>;
+}
 
 /// An iterator over the ranges of a set in chunks, from the lowest on and from the highest down.
 /// [`ChunkedRangeSet::iter`] makes it.
@@ -28,39 +43,8 @@ pub struct Iter<'a, T>(proved::Iter<'a, T>);
 
 impl<'a, T> Iter<'a, T> {
     #[inline(always)]
-    pub(crate) fn new(ranges: proved::Iter<'a, T>) -> Self {
+    pub(crate) fn of_proved(ranges: proved::Iter<'a, T>) -> Self {
         Iter(ranges)
-    }
-}
-
-impl<'a, T> Iterator for Iter<'a, T> {
-    type Item = RangeSetRange<&'a T>;
-
-    #[inline]
-    fn next(&mut self) -> Option<Self::Item> {
-        self.0.next().map(RangeSetRange::from_proved)
-    }
-}
-
-impl<T> DoubleEndedIterator for Iter<'_, T> {
-    #[inline]
-    fn next_back(&mut self) -> Option<Self::Item> {
-        self.0.next_back().map(RangeSetRange::from_proved)
-    }
-}
-
-impl<T> FusedIterator for Iter<'_, T> {}
-
-impl<T> Clone for Iter<'_, T> {
-    fn clone(&self) -> Self {
-        Iter(self.0.clone())
-    }
-}
-
-/// The ranges that are left.
-impl<T: fmt::Debug> fmt::Debug for Iter<'_, T> {
-    fn fmt(&self, f: &mut fmt::Formatter<'_>) -> fmt::Result {
-        f.debug_list().entries(self.clone()).finish()
     }
 }
 
@@ -96,14 +80,8 @@ pub use crate::generated::range_chunks::Gaps;
 /// ```
 pub use crate::generated::range_chunks::RangesWithin;
 
-/// The parts that are left.
-impl<T: fmt::Debug> fmt::Debug for RangesWithin<'_, T> {
-    fn fmt(&self, f: &mut fmt::Formatter<'_>) -> fmt::Result {
-        f.debug_list().entries(self.clone()).finish()
-    }
-}
-
-/// An iterator over the ranges of a set in chunks that was taken by value. `into_iter` makes it.
+/// An iterator over the ranges of a set in chunks that was taken by value. `into_iter` makes it. It knows how many are
+/// left.
 ///
 /// # Examples
 ///
@@ -119,49 +97,58 @@ impl<T: fmt::Debug> fmt::Debug for RangesWithin<'_, T> {
 pub struct IntoIter<T>(IntoBoundaries<T>);
 
 impl<T> IntoIter<T> {
-    pub(super) fn new(boundaries: IntoBoundaries<T>) -> Self {
-        IntoIter(boundaries)
-    }
-}
-
-impl<T> Iterator for IntoIter<T> {
-    type Item = RangeSetRange<T>;
-
-    fn next(&mut self) -> Option<Self::Item> {
-        let start = self.0.next()?;
-        Some(match self.0.next() {
-            Some(end) => RangeSetRange::Range(start..end),
-            None => RangeSetRange::RangeFrom(start..),
+    pub(super) fn new(set: proved::ChunkedRangeSet<T>) -> Self
+    where
+        T: Ord,
+    {
+        IntoIter(IntoBoundaries {
+            left: set.boundaries_len(),
+            rest: vec::Vec::new().into_iter(),
+            chunks: set.list.chunks.into_inner().into_iter(),
+            last_first: None,
+            last_rest: vec::Vec::new().into_iter(),
         })
     }
 }
 
-impl<T> FusedIterator for IntoIter<T> {}
+ranges_by_value!([T] IntoIter<T>);
 
-/// The boundaries of a set that was taken by value.
-pub(crate) struct IntoBoundaries<T> {
+/// The boundaries of a set that was taken by value: of the lowest chunk, of those between, and of the highest one.
+struct IntoBoundaries<T> {
+    left: usize,
     rest: vec::IntoIter<T>,
-    chunks: vec::IntoIter<Chunk<T>>,
+    chunks: vec::IntoIter<Chunk<T, bool>>,
+    last_first: Option<T>,
+    last_rest: vec::IntoIter<T>,
 }
 
 impl<T> IntoBoundaries<T> {
-    pub(super) fn new(chunks: vec::Vec<Chunk<T>>) -> Self {
-        IntoBoundaries {
-            rest: vec::Vec::new().into_iter(),
-            chunks: chunks.into_iter(),
-        }
+    fn len(&self) -> usize {
+        self.left
     }
-}
-
-impl<T> Iterator for IntoBoundaries<T> {
-    type Item = T;
 
     fn next(&mut self) -> Option<T> {
+        self.left = self.left.checked_sub(1)?;
         if let Some(boundary) = self.rest.next() {
             return Some(boundary);
         }
-        let Chunk { first, rest, .. } = self.chunks.next()?;
-        self.rest = rest.into_inner().into_iter();
-        Some(first)
+        if let Some(Chunk { first, rest, .. }) = self.chunks.next() {
+            self.rest = rest.into_inner().into_iter();
+            return Some(first);
+        }
+        self.last_first.take().or_else(|| self.last_rest.next())
+    }
+
+    fn next_back(&mut self) -> Option<T> {
+        self.left = self.left.checked_sub(1)?;
+        if self.last_rest.len() == 0 && self.last_first.is_none() {
+            if let Some(Chunk { first, rest, .. }) = self.chunks.next_back() {
+                self.last_first = Some(first);
+                self.last_rest = rest.into_inner().into_iter();
+            }
+        }
+        let last = self.last_rest.next_back();
+        last.or_else(|| self.last_first.take())
+            .or_else(|| self.rest.next_back())
     }
 }

@@ -1,58 +1,32 @@
-//! Changes that tell whether they did something, whole ranges taken out, and whole ranges that meet another.
+//! Whole ranges taken out, or moved between two sets, and whole ranges that meet another.
 
 use super::{ChunkedRangeSet, Iter};
-use crate::any_range::AnyRange;
-use crate::memory::{expect_memory, AllocError};
+use crate::any_range::{ends_by, from_first, Overlaps};
 use crate::range::RangeSetRange;
-use core::ops::Range;
+use crate::range_set::RangeSetRef;
+use core::mem;
 
 impl<T: Ord> ChunkedRangeSet<T> {
-    /// Adds the values of a range, as [`insert`](Self::insert) does. Returns `true` if one of them wasn't a member.
+    /// Keeps the ranges that `keep` returns `true` for, and removes the others. It is called once for each range, from the
+    /// lowest on.
+    ///
+    /// It makes the set anew by `collect`. If `keep` panics, the set is empty.
     ///
     /// # Examples
     ///
     /// ```
     /// use range_sets::ChunkedRangeSet;
     ///
-    /// let mut seen = ChunkedRangeSet::from_iter([0..10]);
-    /// assert!(seen.insert_changed(5..12));
-    /// assert!(!seen.insert_changed(3..=11));
+    /// let mut free = ChunkedRangeSet::from_iter([9..11, 12..15, 20..30]);
+    /// free.retain(|range| range.len() != Some(3));
+    /// assert_eq!(free.to_string(), "9..11, 20..30");
     /// ```
-    pub fn insert_changed(&mut self, range: impl AnyRange<T>) -> bool {
-        expect_memory::<T, _, _>(self.try_insert_changed(range.into()))
+    pub fn retain(&mut self, mut keep: impl FnMut(RangeSetRange<&T>) -> bool) {
+        let kept = mem::take(self).into_iter();
+        *self = kept.filter(|range| keep(range.as_ref())).collect();
     }
 
-    /// Removes the values of a range, as [`remove`](Self::remove) does. Returns `true` if one of them was a member.
-    ///
-    /// # Examples
-    ///
-    /// ```
-    /// use range_sets::ChunkedRangeSet;
-    ///
-    /// let mut free = ChunkedRangeSet::from_iter([0..10]);
-    /// assert!(free.remove_changed(8..));
-    /// assert!(!free.remove_changed(8..10));
-    /// ```
-    pub fn remove_changed(&mut self, range: impl AnyRange<T>) -> bool {
-        expect_memory::<T, _, _>(self.try_remove_changed(range.into()))
-    }
-
-    /// Removes the first range and returns it, or `None` if the set is empty. It takes no memory.
-    ///
-    /// # Examples
-    ///
-    /// ```
-    /// use range_sets::ChunkedRangeSet;
-    ///
-    /// let mut busy = ChunkedRangeSet::from_iter([9..11, 15..18]);
-    /// assert_eq!(busy.pop_first(), Some((9..11).into()));
-    /// assert_eq!(busy.to_string(), "15..18");
-    /// ```
-    pub fn pop_first(&mut self) -> Option<RangeSetRange<T>> {
-        self.0.pop_first().map(RangeSetRange::from_proved)
-    }
-
-    /// Removes the last range and returns it, or `None` if the set is empty. It takes no memory.
+    /// Adds the members of `that`, which is empty then. It inserts range after range.
     ///
     /// # Examples
     ///
@@ -60,16 +34,44 @@ impl<T: Ord> ChunkedRangeSet<T> {
     /// use range_sets::ChunkedRangeSet;
     ///
     /// let mut busy = ChunkedRangeSet::from_iter([9..11]);
-    /// busy.insert(15..);
-    /// assert_eq!(busy.pop_last(), Some((15..).into()));
-    /// assert_eq!(busy.to_string(), "9..11");
+    /// let mut more = ChunkedRangeSet::from_iter([10..12, 15..18]);
+    /// busy.append(&mut more);
+    /// assert_eq!(busy.to_string(), "9..12, 15..18");
+    /// assert!(more.is_empty());
     /// ```
-    pub fn pop_last(&mut self) -> Option<RangeSetRange<T>> {
-        self.0.pop_last().map(RangeSetRange::from_proved)
+    pub fn append(&mut self, that: &mut Self) {
+        self.extend(mem::take(that));
     }
 
-    /// Returns an iterator over the ranges of the set that share a value with a range, from the lowest on. They aren't
-    /// cut. A step is a search.
+    /// Removes the members at and above `at`, and returns the set of them.
+    ///
+    /// It is a clone without the members below, by [`intersection_with`](Self::intersection_with), and a
+    /// [`remove`](Self::remove).
+    ///
+    /// # Examples
+    ///
+    /// ```
+    /// use range_sets::ChunkedRangeSet;
+    ///
+    /// let mut busy = ChunkedRangeSet::from_iter([9..11, 15..18]);
+    /// let late = busy.split_off(&16);
+    /// assert_eq!((busy.to_string(), late.to_string()), ("9..11, 15..16".into(), "16..18".into()));
+    /// ```
+    #[must_use = "`remove` takes the values out and returns none"]
+    pub fn split_off(&mut self, at: &T) -> Self
+    where
+        T: Clone,
+    {
+        let mut above = self.clone();
+        above.intersection_with(RangeSetRef::single(at));
+        self.remove(at.clone()..);
+        above
+    }
+
+    /// Returns an iterator over the ranges of the set that share a value with a range [of any kind](Overlaps), from the
+    /// lowest on. They aren't cut. A step is a search.
+    ///
+    /// If neither the range nor the set has an end, it takes a step for each range before.
     ///
     /// # Examples
     ///
@@ -77,40 +79,18 @@ impl<T: Ord> ChunkedRangeSet<T> {
     /// use range_sets::ChunkedRangeSet;
     ///
     /// let busy = ChunkedRangeSet::from_iter([9..11, 12..15, 20..30]);
-    /// let met: Vec<_> = busy.overlapping(&10..&13).collect();
+    /// let met: Vec<_> = busy.overlapping(10..13).collect();
     /// assert_eq!(met, [(&9..&11).into(), (&12..&15).into()]);
     /// ```
-    pub fn overlapping(&self, range: Range<&T>) -> Iter<'_, T> {
-        Iter::new(self.0.overlapping(range))
-    }
-
-    /// [`insert_changed`](Self::insert_changed), or an error if memory runs out.
-    pub(crate) fn try_insert_changed(
-        &mut self,
-        range: RangeSetRange<T>,
-    ) -> Result<bool, AllocError> {
-        match range {
-            RangeSetRange::Range(range) => self.0.insert_changed(range),
-            RangeSetRange::RangeFrom(range) => {
-                let changes = self.next_gap(&range.start).is_some();
-                self.0.insert_from(range)?;
-                Ok(changes)
+    pub fn overlapping(&self, range: impl Overlaps<T>) -> Iter<'_, T> {
+        range.found(|range| match (range, self.span()) {
+            (RangeSetRange::Range(range), _) => Iter::of_proved(self.0.overlapping(range)),
+            (RangeSetRange::RangeFrom(range), Some(RangeSetRange::Range(all))) => {
+                Iter::of_proved(self.0.overlapping(range.start..all.end))
             }
-        }
-    }
-
-    /// [`remove_changed`](Self::remove_changed), or an error if memory runs out.
-    pub(crate) fn try_remove_changed(
-        &mut self,
-        range: RangeSetRange<T>,
-    ) -> Result<bool, AllocError> {
-        match range {
-            RangeSetRange::Range(range) => self.0.remove_changed(range),
-            RangeSetRange::RangeFrom(range) => {
-                let changes = self.next_member(&range.start).is_some();
-                self.0.remove_from(range)?;
-                Ok(changes)
+            (RangeSetRange::RangeFrom(range), _) => {
+                from_first(self.iter(), |it| ends_by(it, range.start))
             }
-        }
+        })
     }
 }

@@ -1,26 +1,137 @@
 //! What a set in chunks is by std's traits: a collection, a value, something that is compared, a text.
 
 use super::{ChunkedRangeSet, IntoIter, Iter};
-use crate::array::Array;
+use crate::any_range::{IntoRange, NextValue};
+use crate::array::{Array, List};
+use crate::chunks;
+use crate::entry::RangeSetEntry;
+use crate::fallible::EntryClone;
+use crate::forms::{ends, fails};
+use crate::generated::range_chunks as proved;
 use crate::memory::expect_memory;
 use crate::range::RangeSetRange;
 use crate::range_set::{RangeSet, RangeSet2, RangeSetRef};
-use crate::text::padded;
-use crate::WholeNumber;
+use crate::text::{padded, ParseError, Ranges, TextEntry};
 use core::cmp::Ordering;
 use core::fmt;
 use core::hash::{Hash, Hasher};
+use core::ops::{
+    BitAnd, BitAndAssign, BitOr, BitOrAssign, BitXor, BitXorAssign, Not, Range, RangeFrom,
+    RangeFull, RangeInclusive, RangeTo, RangeToInclusive, Sub, SubAssign,
+};
+use core::str::FromStr;
 
-/// The empty set.
-impl<T: Ord> Default for ChunkedRangeSet<T> {
-    fn default() -> Self {
-        Self::new()
-    }
+macro_rules! traits {
+    (
+        $form:ident, $Clone:ident, $must_use:meta, $errors:ident,
+        $at:literal, $from:literal, $ok:literal, $end:literal
+    ) => {
+        /// The empty set.
+        impl<T: Ord> Default for $form::ChunkedRangeSet<T> {
+            fn default() -> Self {
+                Self::new()
+            }
+        }
+
+        /// Reads the union of the ranges of a text, as a `RangeSet` does.
+        ///
+        /// # Errors
+        ///
+        /// Those of a `RangeSet`.
+        ///
+        /// # Examples
+        ///
+        /// ```
+        #[doc = concat!("use ", $at, "::ChunkedRangeSet;")]
+        ///
+        /// let set: ChunkedRangeSet<u64> = "20.., 0..10".parse()?;
+        /// assert_eq!(set.to_string(), "0..10, 20..");
+        /// # Ok::<(), range_sets::ParseError>(())
+        /// ```
+        impl<T: EntryClone + TextEntry> FromStr for $form::ChunkedRangeSet<T> {
+            type Err = ParseError;
+
+            fn from_str(text: &str) -> Result<Self, ParseError> {
+                let set = T::read_list::<[T; 2]>(text).and_then(|list| Ok(list.into_chunks()?));
+                $form::parsed::<T, _>(set).map(Self::of_proved)
+            }
+        }
+
+        impl<'a, T: Ord> IntoIterator for &'a $form::ChunkedRangeSet<T> {
+            type Item = RangeSetRange<&'a T>;
+            type IntoIter = Iter<'a, T>;
+
+            fn into_iter(self) -> Iter<'a, T> {
+                self.iter()
+            }
+        }
+
+        impl<T: Ord> IntoIterator for $form::ChunkedRangeSet<T> {
+            type Item = RangeSetRange<T>;
+            type IntoIter = IntoIter<T>;
+
+            fn into_iter(self) -> IntoIter<T> {
+                IntoIter::new(self.into_proved())
+            }
+        }
+
+        /// Two sets are equal if they have the same members.
+        impl<T: Ord> PartialEq for $form::ChunkedRangeSet<T> {
+            fn eq(&self, that: &Self) -> bool {
+                self.proved() == that.proved()
+            }
+        }
+
+        impl<T: Ord> Eq for $form::ChunkedRangeSet<T> {}
+
+        /// The first boundaries that differ decide, as of a `RangeSet`.
+        impl<T: Ord> PartialOrd for $form::ChunkedRangeSet<T> {
+            fn partial_cmp(&self, that: &Self) -> Option<Ordering> {
+                Some(self.cmp(that))
+            }
+        }
+
+        impl<T: Ord> Ord for $form::ChunkedRangeSet<T> {
+            fn cmp(&self, that: &Self) -> Ordering {
+                self.boundaries().cmp(that.boundaries())
+            }
+        }
+
+        impl<T: Ord + Hash> Hash for $form::ChunkedRangeSet<T> {
+            fn hash<H: Hasher>(&self, state: &mut H) {
+                let mut len = 0;
+                for boundary in self.boundaries() {
+                    boundary.hash(state);
+                    len += 1;
+                }
+                state.write_usize(len);
+            }
+        }
+
+        /// As `ChunkedRangeSet{0..10, 20..}`, by the elements' own `Debug`. Flags as those of `{:#?}` hold as
+        /// for std's sets.
+        impl<T: Ord + fmt::Debug> fmt::Debug for $form::ChunkedRangeSet<T> {
+            fn fmt(&self, f: &mut fmt::Formatter<'_>) -> fmt::Result {
+                f.write_str("ChunkedRangeSet")?;
+                f.debug_set().entries(self.iter()).finish()
+            }
+        }
+
+        /// As `0..10, 20..`. A width is that of the whole text, as for a `RangeSet`.
+        impl<T: TextEntry> fmt::Display for $form::ChunkedRangeSet<T> {
+            fn fmt(&self, f: &mut fmt::Formatter<'_>) -> fmt::Result {
+                padded(f, &Ranges(self))
+            }
+        }
+    };
 }
+
+both_forms!(traits);
 
 impl<T: Ord + Clone> Clone for ChunkedRangeSet<T> {
     fn clone(&self) -> Self {
-        RangeSet2::of_inner(self.boundaries().cloned().collect()).into()
+        let list = chunks::of_refs(&self.proved().list, T::clone);
+        Self::of_proved(proved::ChunkedRangeSet { list })
     }
 }
 
@@ -36,7 +147,7 @@ impl<T: Ord + Clone> Clone for ChunkedRangeSet<T> {
 /// ```
 impl<T: Ord, A: Array<Item = T>> From<RangeSet<A>> for ChunkedRangeSet<T> {
     fn from(set: RangeSet<A>) -> Self {
-        expect_memory::<T, _, _>(Self::try_from_set(set))
+        Self::of_proved(expect_memory::<T, _, _>(set.list.into_chunks()))
     }
 }
 
@@ -69,103 +180,166 @@ impl<T: Ord + Clone> From<&RangeSetRef<T>> for ChunkedRangeSet<T> {
 /// ```
 impl<T: Ord, A: Array<Item = T>> From<ChunkedRangeSet<T>> for RangeSet<A> {
     fn from(set: ChunkedRangeSet<T>) -> Self {
-        expect_memory::<T, _, _>(set.try_into_set())
-    }
-}
-
-/// The union of the ranges, which stand in any order. It is made as a `RangeSet` first.
-impl<T: Ord, R: Into<RangeSetRange<T>>> FromIterator<R> for ChunkedRangeSet<T> {
-    fn from_iter<I: IntoIterator<Item = R>>(ranges: I) -> Self {
-        RangeSet2::from_ranges(ranges).into()
-    }
-}
-
-/// Adds the values of the ranges one after the other, which stand in any order.
-impl<T: Ord, R: Into<RangeSetRange<T>>> Extend<R> for ChunkedRangeSet<T> {
-    fn extend<I: IntoIterator<Item = R>>(&mut self, ranges: I) {
-        for range in ranges {
-            self.insert(range.into());
-        }
-    }
-}
-
-impl<'a, T: Ord> IntoIterator for &'a ChunkedRangeSet<T> {
-    type Item = RangeSetRange<&'a T>;
-    type IntoIter = Iter<'a, T>;
-
-    fn into_iter(self) -> Iter<'a, T> {
-        self.iter()
-    }
-}
-
-impl<T: Ord> IntoIterator for ChunkedRangeSet<T> {
-    type Item = RangeSetRange<T>;
-    type IntoIter = IntoIter<T>;
-
-    fn into_iter(self) -> IntoIter<T> {
-        IntoIter::new(self.into_boundaries())
+        Self::of_list(expect_memory::<T, _, _>(A::List::of_chunks(
+            set.into_proved(),
+        )))
     }
 }
 
 /// Two sets are equal if they have the same members.
-impl<T: Ord> PartialEq for ChunkedRangeSet<T> {
-    fn eq(&self, that: &Self) -> bool {
-        self.0 == that.0
+///
+/// A set in chunks stands at the right: at the left it is compared with its own type alone, so that the compiler finds the
+/// type of `collect` beside it.
+///
+/// # Examples
+///
+/// ```
+/// use range_sets::{ChunkedRangeSet, RangeSet2};
+///
+/// let busy: RangeSet2<i32> = [9..11, 15..18].into();
+/// assert!(busy == ChunkedRangeSet::from_iter([15..18, 9..11]));
+/// ```
+impl<T: Ord, A: Array<Item = T>> PartialEq<ChunkedRangeSet<T>> for RangeSet<A> {
+    fn eq(&self, that: &ChunkedRangeSet<T>) -> bool {
+        self.iter().eq(that.iter())
     }
 }
 
-impl<T: Ord> Eq for ChunkedRangeSet<T> {}
-
-/// The first boundaries that differ decide, as of a `RangeSet`.
-impl<T: Ord> PartialOrd for ChunkedRangeSet<T> {
-    fn partial_cmp(&self, that: &Self) -> Option<Ordering> {
-        Some(self.cmp(that))
+/// The set of clones of a set's boundaries.
+///
+/// # Examples
+///
+/// ```
+/// use range_sets::{ChunkedRangeSet, RangeSet2};
+///
+/// let busy = ChunkedRangeSet::from(9..11);
+/// assert_eq!(RangeSet2::from(&busy) | RangeSet2::from(15..18), [9..11, 15..18].into_iter().collect::<RangeSet2<_>>());
+/// ```
+impl<T: Ord + Clone, A: Array<Item = T>> From<&ChunkedRangeSet<T>> for RangeSet<A> {
+    fn from(set: &ChunkedRangeSet<T>) -> Self {
+        Self::of_list(A::list(chunks::clones(&set.proved().list).into()))
     }
 }
 
-impl<T: Ord> Ord for ChunkedRangeSet<T> {
-    fn cmp(&self, that: &Self) -> Ordering {
-        self.boundaries().cmp(that.boundaries())
-    }
-}
-
-impl<T: Ord + Hash> Hash for ChunkedRangeSet<T> {
-    fn hash<H: Hasher>(&self, state: &mut H) {
-        let mut len = 0;
-        for boundary in self.boundaries() {
-            boundary.hash(state);
-            len += 1;
-        }
-        state.write_usize(len);
-    }
-}
-
-/// As `ChunkedRangeSet{0..10, 20..}`, by the elements' own `Debug`. Flags as those of `{:#?}` hold as for std's sets.
-impl<T: Ord + fmt::Debug> fmt::Debug for ChunkedRangeSet<T> {
-    fn fmt(&self, f: &mut fmt::Formatter<'_>) -> fmt::Result {
-        f.write_str("ChunkedRangeSet")?;
-        f.debug_set().entries(self.iter()).finish()
-    }
-}
-
-/// As `0..10, 20..`. A width is that of the whole text, as for a `RangeSet`.
-impl<T: Ord + WholeNumber> fmt::Display for ChunkedRangeSet<T> {
-    fn fmt(&self, f: &mut fmt::Formatter<'_>) -> fmt::Result {
-        padded(f, &Ranges(self))
-    }
-}
-
-/// The ranges of a set, with a comma and a space between them.
-struct Ranges<'a, T: Ord>(&'a ChunkedRangeSet<T>);
-
-impl<T: Ord + WholeNumber> fmt::Display for Ranges<'_, T> {
-    fn fmt(&self, f: &mut fmt::Formatter<'_>) -> fmt::Result {
-        for (i, range) in self.0.iter().enumerate() {
-            if i > 0 {
-                f.write_str(", ")?;
+macro_rules! from_ranges {
+    ($($range:ty $(, $bound:ident)* $(; $N:ident)?)*) => {$(
+        impl<T: Ord $(+ $bound)* $(, const $N: usize)?> From<$range> for ChunkedRangeSet<T> {
+            fn from(ranges: $range) -> Self {
+                RangeSet2::from(ranges).into()
             }
-            write!(f, "{range:?}")?;
         }
-        Ok(())
+    )*};
+}
+
+from_ranges! {
+    Range<T>
+    RangeFrom<T>
+    RangeTo<T>, RangeSetEntry
+    RangeFull, RangeSetEntry
+    RangeInclusive<T>, NextValue
+    RangeToInclusive<T>, RangeSetEntry, NextValue
+    RangeSetRange<T>
+    [Range<T>; N]; N
+}
+
+macro_rules! operators {
+    ($($operator:ident $call:ident, $assigning:ident $assign:ident = $with:ident;)*) => {$(
+        impl<T: Ord + Clone> $assigning<&RangeSetRef<T>> for ChunkedRangeSet<T> {
+            fn $assign(&mut self, that: &RangeSetRef<T>) {
+                self.$with(that);
+            }
+        }
+
+        impl<T: Ord + Clone, A: Array<Item = T>> $assigning<&RangeSet<A>> for ChunkedRangeSet<T> {
+            fn $assign(&mut self, that: &RangeSet<A>) {
+                self.$with(that);
+            }
+        }
+
+        /// The right set is copied into one list.
+        impl<T: Ord + Clone> $assigning<&Self> for ChunkedRangeSet<T> {
+            fn $assign(&mut self, that: &Self) {
+                self.$with(&RangeSet2::from(that));
+            }
+        }
+
+        /// The right set is moved into one list.
+        impl<T: Ord + Clone> $assigning for ChunkedRangeSet<T> {
+            fn $assign(&mut self, that: Self) {
+                self.$with(&RangeSet2::from(that));
+            }
+        }
+
+        impl<T: Ord + Clone, R> $operator<R> for ChunkedRangeSet<T>
+        where
+            Self: $assigning<R>,
+        {
+            type Output = Self;
+
+            fn $call(mut self, that: R) -> Self {
+                self.$assign(that);
+                self
+            }
+        }
+
+        impl<T: Ord + Clone, R> $operator<R> for &ChunkedRangeSet<T>
+        where
+            ChunkedRangeSet<T>: $assigning<R>,
+        {
+            type Output = ChunkedRangeSet<T>;
+
+            fn $call(self, that: R) -> ChunkedRangeSet<T> {
+                self.clone().$call(that)
+            }
+        }
+    )*};
+}
+
+operators! {
+    BitOr bitor, BitOrAssign bitor_assign = union_with;
+    BitAnd bitand, BitAndAssign bitand_assign = intersection_with;
+    BitXor bitxor, BitXorAssign bitxor_assign = symmetric_difference_with;
+    Sub sub, SubAssign sub_assign = difference_with;
+}
+
+/// The values that are no members.
+///
+/// # Examples
+///
+/// ```
+/// use range_sets::ChunkedRangeSet;
+///
+/// let open = ChunkedRangeSet::from(9u8..17);
+/// assert_eq!((!open - ChunkedRangeSet::from(20..)).to_string(), "0..9, 17..20");
+/// ```
+impl<T: RangeSetEntry + Clone> Not for ChunkedRangeSet<T> {
+    type Output = Self;
+
+    fn not(self) -> Self {
+        (!RangeSet2::from(self)).into()
+    }
+}
+
+impl<T: RangeSetEntry + Clone> Not for &ChunkedRangeSet<T> {
+    type Output = ChunkedRangeSet<T>;
+
+    fn not(self) -> ChunkedRangeSet<T> {
+        !self.clone()
+    }
+}
+
+/// The union of the ranges, which stand in any order.
+impl<T: Ord, R: IntoRange<T>> FromIterator<R> for ChunkedRangeSet<T> {
+    fn from_iter<I: IntoIterator<Item = R>>(ranges: I) -> Self {
+        Self::from_ranges(ranges)
+    }
+}
+
+/// Adds the values of the ranges one after the other, which stand in any order.
+impl<T: Ord, R: IntoRange<T>> Extend<R> for ChunkedRangeSet<T> {
+    fn extend<I: IntoIterator<Item = R>>(&mut self, ranges: I) {
+        for range in ranges {
+            self.insert(range.into());
+        }
     }
 }

@@ -15,6 +15,8 @@
 
 use crate::array::Array;
 use crate::fallible::RangeSet;
+use crate::forms::fails;
+use crate::pairs::read;
 pub use crate::pairs::serialize;
 use serde::de::{Deserialize, Deserializer, Error};
 
@@ -22,14 +24,13 @@ use serde::de::{Deserialize, Deserializer, Error};
 ///
 /// # Errors
 ///
-/// Those of the format, one if an end is below its start, and one if memory runs out.
+/// Those of the format, and one if memory runs out.
 pub fn deserialize<'de, T, A, D>(deserializer: D) -> Result<RangeSet<A>, D::Error>
 where
     T: Deserialize<'de> + Ord,
     A: Array<Item = T>,
     D: Deserializer<'de>,
 {
-    crate::pairs::read(deserializer)?
-        .map(RangeSet::from)
-        .map_err(D::Error::custom)
+    let list = read::<A, D>(deserializer, fails::SORTING)?;
+    fails::or_error::<T, _, _>(list, D::Error::custom).map(RangeSet::of_list)
 }

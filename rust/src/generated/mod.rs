@@ -2,7 +2,6 @@
 //! The proved crates as plain Rust: their code, with their contracts as documentation.
 //!
 //! The contracts are proved of the sources in Rattle, for lawful orders and 64-bit sizes. Here they are text.
-#![forbid(unsafe_code)]
 // The library for C calls some of it alone. Some names are read by clauses alone.
 #![cfg_attr(not(feature = "c"), allow(dead_code))]
 #![allow(unused_imports, unused_variables)]
@@ -10,10 +9,21 @@
 #![allow(clippy::complexity, clippy::style)]
 
 #[cfg(feature = "c")]
+#[allow(unsafe_code)]
 pub mod range_c;
+#[forbid(unsafe_code)]
+pub mod range_chunked_tracker;
+#[forbid(unsafe_code)]
 pub mod range_chunks;
+#[forbid(unsafe_code)]
 pub mod range_collections;
+#[forbid(unsafe_code)]
 pub mod range_entry;
+#[forbid(unsafe_code)]
+pub mod range_list;
+#[forbid(unsafe_code)]
 pub mod range_map;
+#[forbid(unsafe_code)]
 pub mod range_merge;
+#[forbid(unsafe_code)]
 pub mod range_tracker;

@@ -1,12 +1,27 @@
 //! The ranges of a map with their values, one by one.
 
+use super::steps::Steps;
 use super::{Kept, Map};
 use crate::generated::{range_collections, range_map as proved};
+use crate::iter::{owned_ranges, shown, wraps};
 use crate::range::RangeSetRange;
-use alloc::vec;
 use core::fmt;
 use core::iter::{FusedIterator, Peekable};
 use core::ops::Range;
+
+owned_ranges! {
+    Gaps<'a, K, V, C> { Range: |range| range.start.clone()..range.end.clone() }
+}
+
+wraps! {
+    ['a, K, V, C] Iter<'a, K, V, C>: (RangeSetRange<&'a K>, &'a V) = with_value;
+    ['a, K, V, C] Gaps<'a, K, V, C>: Range<&'a K>;
+}
+
+shown! {
+    [K: fmt::Debug, V: fmt::Debug, C] Iter<'_, K, V, C>;
+    [K: fmt::Debug, V, C] Gaps<'_, K, V, C>;
+}
 
 /// An iterator over the ranges of a map that have a value, each with it, from the lowest on and from the highest down.
 /// [`Map::iter`] makes it.
@@ -31,43 +46,12 @@ impl<'a, K, V, C> Iter<'a, K, V, C> {
     }
 }
 
-impl<'a, K, V, C> Iterator for Iter<'a, K, V, C> {
-    type Item = (RangeSetRange<&'a K>, &'a V);
-
-    #[inline]
-    fn next(&mut self) -> Option<Self::Item> {
-        self.0.next().map(shown)
-    }
-}
-
-impl<K, V, C> DoubleEndedIterator for Iter<'_, K, V, C> {
-    #[inline]
-    fn next_back(&mut self) -> Option<Self::Item> {
-        self.0.next_back().map(shown)
-    }
-}
-
 /// A range with its value, as callers see it.
 #[inline(always)]
-fn shown<'a, K, V, C>(
+fn with_value<'a, K, V, C>(
     (range, kept): (range_collections::RangeSetRange<&'a K>, &'a Kept<V, C>),
 ) -> (RangeSetRange<&'a K>, &'a V) {
     (RangeSetRange::from_proved(range), &kept.value)
-}
-
-impl<K, V, C> FusedIterator for Iter<'_, K, V, C> {}
-
-impl<K, V, C> Clone for Iter<'_, K, V, C> {
-    fn clone(&self) -> Self {
-        Iter(self.0.clone())
-    }
-}
-
-/// The ranges that are left.
-impl<K: fmt::Debug, V: fmt::Debug, C> fmt::Debug for Iter<'_, K, V, C> {
-    fn fmt(&self, f: &mut fmt::Formatter<'_>) -> fmt::Result {
-        f.debug_list().entries(self.clone()).finish()
-    }
 }
 
 /// An iterator over the parts of a range whose keys have no value, from both ends. [`Map::gaps`] makes it.
@@ -91,37 +75,6 @@ impl<'a, K, V, C> Gaps<'a, K, V, C> {
     }
 }
 
-impl<'a, K, V, C> Iterator for Gaps<'a, K, V, C> {
-    type Item = Range<&'a K>;
-
-    #[inline]
-    fn next(&mut self) -> Option<Self::Item> {
-        self.0.next()
-    }
-}
-
-impl<K, V, C> DoubleEndedIterator for Gaps<'_, K, V, C> {
-    #[inline]
-    fn next_back(&mut self) -> Option<Self::Item> {
-        self.0.next_back()
-    }
-}
-
-impl<K, V, C> FusedIterator for Gaps<'_, K, V, C> {}
-
-impl<K, V, C> Clone for Gaps<'_, K, V, C> {
-    fn clone(&self) -> Self {
-        Gaps(self.0.clone())
-    }
-}
-
-/// The parts that are left.
-impl<K: fmt::Debug, V, C> fmt::Debug for Gaps<'_, K, V, C> {
-    fn fmt(&self, f: &mut fmt::Formatter<'_>) -> fmt::Result {
-        f.debug_list().entries(self.clone()).finish()
-    }
-}
-
 /// An iterator over the ranges of a map that was taken by value, each with its value. `into_iter` makes it.
 ///
 /// A key at which one range ends and another one starts is cloned.
@@ -137,15 +90,13 @@ impl<K: fmt::Debug, V, C> fmt::Debug for Gaps<'_, K, V, C> {
 /// ```
 #[must_use = "iterators are lazy and do nothing unless consumed"]
 pub struct IntoIter<K, V, C> {
-    keys: Peekable<vec::IntoIter<K>>,
-    options: vec::IntoIter<Option<Kept<V, C>>>,
+    steps: Peekable<Steps<K, Kept<V, C>>>,
 }
 
 impl<K: Ord, V: Eq, C> IntoIter<K, V, C> {
     pub(super) fn new(map: Map<K, V, C>) -> Self {
         IntoIter {
-            keys: map.0.keys.into_iter().peekable(),
-            options: map.0.options.into_iter(),
+            steps: Steps::new(map.0.steps).peekable(),
         }
     }
 }
@@ -155,10 +106,10 @@ impl<K: Clone, V, C> Iterator for IntoIter<K, V, C> {
 
     fn next(&mut self) -> Option<Self::Item> {
         loop {
-            let start = self.keys.next()?;
-            if let Some(kept) = self.options.next()? {
-                let end = self.keys.peek().cloned();
-                return Some((RangeSetRange::of_ends(start, end), kept.value));
+            let step = self.steps.next()?;
+            if let Some(kept) = step.option {
+                let end = self.steps.peek().map(|next| next.key.clone());
+                return Some((RangeSetRange::of_ends(step.key, end), kept.value));
             }
         }
     }

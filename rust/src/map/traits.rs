@@ -1,6 +1,6 @@
 //! What a map is by std's traits: a collection, a value, something that is compared, a text.
 
-use super::{IntoIter, Iter, Kept, Map, RangeMap};
+use super::{steps, IntoIter, Iter, Kept, Map, RangeMap};
 use crate::any_range::AnyRange;
 use crate::generated::range_map as proved;
 use crate::range::RangeSetRange;
@@ -17,13 +17,10 @@ impl<K: Ord, V: Eq, C> Default for Map<K, V, C> {
 
 impl<K: Ord + Clone, V: Eq + Clone> Clone for RangeMap<K, V> {
     fn clone(&self) -> Self {
-        let options = self.0.options.iter();
-        let options =
-            options.map(|option| option.as_ref().map(|kept| Kept::new(kept.value.clone())));
-        Map(proved::RangeMap {
-            keys: self.0.keys.to_vec().into(),
-            options: options.collect::<alloc::vec::Vec<_>>().into(),
-        })
+        let steps = steps::of_refs(&self.0.steps, K::clone, |kept| {
+            Kept::new(kept.value.clone())
+        });
+        Map(proved::RangeMap { steps })
     }
 }
 

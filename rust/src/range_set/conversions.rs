@@ -1,65 +1,52 @@
 //! Sets from ranges, and ranges from sets.
 
-use crate::any_range::NextValue;
+use crate::any_range::{IntoRange, NextValue};
 use crate::array::{Array, List};
 use crate::entry::RangeSetEntry;
-use crate::iter::{IntoIter, Iter};
+use crate::fallible::{self, AllocError};
 use crate::memory::expect_memory;
 use crate::range::RangeSetRange;
 use crate::range_set::RangeSet;
 use core::ops::{Range, RangeFrom, RangeFull, RangeInclusive, RangeTo, RangeToInclusive};
 
-/// All values for `true`, none for `false`.
-impl<T: RangeSetEntry, A: Array<Item = T>> From<bool> for RangeSet<A> {
-    fn from(everything: bool) -> Self {
-        if everything {
-            Self::all()
-        } else {
-            Self::empty()
+/// A set of each kind of range: by `from`, and for a set of `fallible` by `try_from`.
+macro_rules! from_ranges {
+    ($($(#[$doc:meta])* $range:ty $(: $($bound:ident)+)? => |$it:ident| $list:expr;)*) => {$(
+        $(#[$doc])*
+        impl<T: Ord $($(+ $bound)+)?, A: Array<Item = T>> From<$range> for RangeSet<A> {
+            fn from($it: $range) -> Self {
+                Self::of_list(expect_memory::<T, _, _>($list))
+            }
         }
-    }
+
+        $(#[$doc])*
+        impl<T: Ord $($(+ $bound)+)?, A: Array<Item = T>> TryFrom<$range> for fallible::RangeSet<A> {
+            type Error = AllocError;
+
+            fn try_from($it: $range) -> Result<Self, AllocError> {
+                $list.map(Self::of_list)
+            }
+        }
+    )*};
 }
 
-/// The values of the range: none if it is empty or reversed.
-impl<T: Ord, A: Array<Item = T>> From<Range<T>> for RangeSet<A> {
-    fn from(range: Range<T>) -> Self {
-        RangeSetRange::Range(range).into()
-    }
-}
-
-/// The values from the start on.
-impl<T: Ord, A: Array<Item = T>> From<RangeFrom<T>> for RangeSet<A> {
-    fn from(range: RangeFrom<T>) -> Self {
-        RangeSetRange::RangeFrom(range).into()
-    }
-}
-
-/// The values below the end.
-impl<T: RangeSetEntry, A: Array<Item = T>> From<RangeTo<T>> for RangeSet<A> {
-    fn from(range: RangeTo<T>) -> Self {
-        Self::of_list(expect_memory::<T, _, _>(A::List::of_range_to(range)))
-    }
-}
-
-/// All values.
-impl<T: RangeSetEntry, A: Array<Item = T>> From<RangeFull> for RangeSet<A> {
-    fn from(_: RangeFull) -> Self {
-        Self::all()
-    }
-}
-
-/// The values of the range: none if it is empty or reversed.
-impl<T: NextValue, A: Array<Item = T>> From<RangeInclusive<T>> for RangeSet<A> {
-    fn from(range: RangeInclusive<T>) -> Self {
-        RangeSetRange::from(range).into()
-    }
-}
-
-/// The values up to the last one.
-impl<T: RangeSetEntry + NextValue, A: Array<Item = T>> From<RangeToInclusive<T>> for RangeSet<A> {
-    fn from(range: RangeToInclusive<T>) -> Self {
-        RangeSetRange::from(range).into()
-    }
+from_ranges! {
+    /// The values of the range: none if it is empty or reversed.
+    Range<T> => |range| A::List::of_range(range.into());
+    /// The values from the start on.
+    RangeFrom<T> => |range| A::List::of_range(range.into());
+    /// The values below the end.
+    RangeTo<T>: RangeSetEntry => |range| A::List::of_range_to(range);
+    /// All values.
+    RangeFull: RangeSetEntry => |_all| A::List::of_all();
+    /// The values of the range: none if it is empty or reversed.
+    RangeInclusive<T>: NextValue => |range| A::List::of_range(range.into());
+    /// The values up to the last one.
+    RangeToInclusive<T>: RangeSetEntry NextValue => |range| A::List::of_range(range.into());
+    /// The values of the range: none if it is empty or reversed.
+    RangeSetRange<T> => |range| A::List::of_range(range);
+    /// All values for `true`, none for `false`.
+    bool: RangeSetEntry => |all| all.then(A::List::of_all).unwrap_or(Ok(A::List::EMPTY));
 }
 
 /// The union of the ranges, which stand in any order.
@@ -77,41 +64,42 @@ impl<T: Ord, A: Array<Item = T>, const N: usize> From<[Range<T>; N]> for RangeSe
     }
 }
 
-/// The values of the range: none if it is empty or reversed.
-impl<T: Ord, A: Array<Item = T>> From<RangeSetRange<T>> for RangeSet<A> {
-    fn from(range: RangeSetRange<T>) -> Self {
-        Self::of_list(expect_memory::<T, _, _>(A::List::of_range(range)))
+/// The union of the ranges, which stand in any order.
+impl<T: Ord, A: Array<Item = T>, const N: usize> TryFrom<[Range<T>; N]> for fallible::RangeSet<A> {
+    type Error = AllocError;
+
+    fn try_from(ranges: [Range<T>; N]) -> Result<Self, AllocError> {
+        Self::from_ranges(ranges)
     }
 }
 
 /// The union of the ranges, which stand in any order.
-impl<T: Ord, A: Array<Item = T>, R: Into<RangeSetRange<T>>> FromIterator<R> for RangeSet<A> {
+impl<T: Ord, A: Array<Item = T>, R: IntoRange<T>> FromIterator<R> for RangeSet<A> {
     fn from_iter<I: IntoIterator<Item = R>>(ranges: I) -> Self {
         Self::from_ranges(ranges)
     }
 }
 
 /// Adds the values of the ranges, which stand in any order.
-impl<T: Ord, A: Array<Item = T>, R: Into<RangeSetRange<T>>> Extend<R> for RangeSet<A> {
+impl<T: Ord, A: Array<Item = T>, R: IntoRange<T>> Extend<R> for RangeSet<A> {
     fn extend<I: IntoIterator<Item = R>>(&mut self, ranges: I) {
-        *self |= Self::from_ranges(ranges);
+        let that = Self::from_ranges(ranges);
+        if self.is_empty() && self.capacity() <= that.capacity() {
+            *self = that;
+        } else {
+            *self |= that;
+        }
     }
 }
 
-impl<'a, T: 'a, A: Array<Item = T>> IntoIterator for &'a RangeSet<A> {
-    type Item = RangeSetRange<&'a T>;
-    type IntoIter = Iter<'a, T>;
-
-    fn into_iter(self) -> Iter<'a, T> {
-        self.iter()
+impl<A: Array> From<RangeSet<A>> for fallible::RangeSet<A> {
+    fn from(set: RangeSet<A>) -> Self {
+        Self::of_list(set.list)
     }
 }
 
-impl<T, A: Array<Item = T>> IntoIterator for RangeSet<A> {
-    type Item = RangeSetRange<T>;
-    type IntoIter = IntoIter<A>;
-
-    fn into_iter(self) -> IntoIter<A> {
-        IntoIter::new(self.into_inner())
+impl<A: Array> From<fallible::RangeSet<A>> for RangeSet<A> {
+    fn from(set: fallible::RangeSet<A>) -> Self {
+        Self::of_list(set.list)
     }
 }

@@ -3,7 +3,7 @@
 use crate::array::{Array, List};
 use crate::entry::RangeSetEntry;
 use crate::generated::range_merge::{DiffOp, IntersectionOp, UnionOp, XorOp};
-use crate::memory::{expect_memory, ByClone};
+use crate::memory::expect_memory;
 use crate::operation::Connective;
 use crate::range_set::RangeSet;
 use crate::view::RangeSetRef;
@@ -13,39 +13,21 @@ use core::ops::{
 
 macro_rules! operators {
     ($($(#[$doc:meta])* $operator:ident $call:ident = $named:ident;)*) => {$(
-        $(#[$doc])*
-        impl<T: Ord + Clone, A: Array<Item = T>> $operator<RangeSet<A>> for RangeSet<A> {
-            type Output = RangeSet<A>;
-
-            fn $call(self, that: RangeSet<A>) -> RangeSet<A> {
-                self.$named(&that)
-            }
-        }
-
-        impl<T: Ord + Clone, A: Array<Item = T>> $operator<&RangeSet<A>> for RangeSet<A> {
-            type Output = RangeSet<A>;
-
-            fn $call(self, that: &RangeSet<A>) -> RangeSet<A> {
-                self.$named(that)
-            }
-        }
-
-        impl<T: Ord + Clone, A: Array<Item = T>> $operator<RangeSet<A>> for &RangeSet<A> {
-            type Output = RangeSet<A>;
-
-            fn $call(self, that: RangeSet<A>) -> RangeSet<A> {
-                self.$named(&that)
-            }
-        }
-
-        impl<T: Ord + Clone, A: Array<Item = T>> $operator<&RangeSet<A>> for &RangeSet<A> {
-            type Output = RangeSet<A>;
-
-            fn $call(self, that: &RangeSet<A>) -> RangeSet<A> {
-                self.$named(that)
-            }
-        }
+        operators!(@ $(#[$doc])* $operator $call = $named: RangeSet<A>, RangeSet<A>);
+        operators!(@ $operator $call = $named: RangeSet<A>, &RangeSet<A>);
+        operators!(@ $operator $call = $named: &RangeSet<A>, RangeSet<A>);
+        operators!(@ $operator $call = $named: &RangeSet<A>, &RangeSet<A>);
     )*};
+    (@ $(#[$doc:meta])* $operator:ident $call:ident = $named:ident: $left:ty, $right:ty) => {
+        $(#[$doc])*
+        impl<T: Ord + Clone, A: Array<Item = T>> $operator<$right> for $left {
+            type Output = RangeSet<A>;
+
+            fn $call(self, that: $right) -> RangeSet<A> {
+                RangeSetRef::$named(&self, &that)
+            }
+        }
+    };
 }
 
 operators! {
@@ -66,7 +48,7 @@ macro_rules! assigning_operators {
         /// It moves the right set's boundaries, and clones none.
         impl<T: Ord, A: Array<Item = T>> $operator for RangeSet<A> {
             fn $call(&mut self, that: Self) {
-                expect_memory::<T, _, _>(self.list_mut().merge_owned(that.into_list(), &$op));
+                expect_memory::<T, _, _>(self.list.merge_owned(that.list, &$op));
             }
         }
 
@@ -106,7 +88,7 @@ impl<T: RangeSetEntry, A: Array<Item = T>> Not for RangeSet<A> {
     type Output = RangeSet<A>;
 
     fn not(self) -> RangeSet<A> {
-        RangeSet::of_list(expect_memory::<T, _, _>(self.into_list().negated()))
+        RangeSet::of_list(expect_memory::<T, _, _>(self.list.negated()))
     }
 }
 
@@ -115,8 +97,6 @@ impl<T: RangeSetEntry + Clone, A: Array<Item = T>> Not for &RangeSet<A> {
     type Output = RangeSet<A>;
 
     fn not(self) -> RangeSet<A> {
-        let negated =
-            RangeSet::combined(self, RangeSetRef::over(&[]), &ByClone, Connective::NOT_LEFT);
-        expect_memory::<T, _, _>(negated)
+        self.combine(RangeSetRef::over(&[]), Connective::NOT_LEFT)
     }
 }

@@ -1,50 +1,169 @@
-//! What a set is by std's traits: a view, a value, something that is compared.
+//! What a set is by std's traits: a view, a value, something that is compared, a text.
 
-use crate::array::Array;
+use crate::array::{Array, List};
+use crate::fallible::EntryClone;
+use crate::forms::{ends, fails};
+use crate::iter::{IntoIter, Iter};
 use crate::memory::{expect_memory, ByClone};
+use crate::range::RangeSetRange;
 use crate::range_set::{RangeSet, RangeSet2};
+use crate::text::{ParseError, TextEntry};
 use crate::view::RangeSetRef;
 use alloc::borrow::ToOwned;
 use core::borrow::Borrow;
 use core::cmp::Ordering;
+use core::fmt;
 use core::hash::{Hash, Hasher};
 use core::ops::Deref;
+use core::str::FromStr;
 
-/// The empty set.
-impl<T, A: Array<Item = T>> Default for RangeSet<A> {
-    fn default() -> Self {
-        Self::empty()
-    }
+macro_rules! traits {
+    (
+        $form:ident, $Clone:ident, $must_use:meta, $errors:ident,
+        $at:literal, $from:literal, $ok:literal, $end:literal
+    ) => {
+        /// The empty set.
+        impl<T, A: Array<Item = T>> Default for $form::RangeSet<A> {
+            fn default() -> Self {
+                Self::empty()
+            }
+        }
+
+        impl<T, A: Array<Item = T>> Deref for $form::RangeSet<A> {
+            type Target = RangeSetRef<T>;
+
+            #[inline(always)]
+            fn deref(&self) -> &RangeSetRef<T> {
+                self.view()
+            }
+        }
+
+        impl<T, A: Array<Item = T>> AsRef<RangeSetRef<T>> for $form::RangeSet<A> {
+            fn as_ref(&self) -> &RangeSetRef<T> {
+                self.view()
+            }
+        }
+
+        /// A set and its view have the same order and the same hash.
+        impl<T, A: Array<Item = T>> Borrow<RangeSetRef<T>> for $form::RangeSet<A> {
+            fn borrow(&self) -> &RangeSetRef<T> {
+                self.view()
+            }
+        }
+
+        impl<'a, T: 'a, A: Array<Item = T>> IntoIterator for &'a $form::RangeSet<A> {
+            type Item = RangeSetRange<&'a T>;
+            type IntoIter = Iter<'a, T>;
+
+            fn into_iter(self) -> Iter<'a, T> {
+                self.iter()
+            }
+        }
+
+        impl<T, A: Array<Item = T>> IntoIterator for $form::RangeSet<A> {
+            type Item = RangeSetRange<T>;
+            type IntoIter = IntoIter<A>;
+
+            fn into_iter(self) -> IntoIter<A> {
+                IntoIter::new(self.into_inner())
+            }
+        }
+
+        /// Two sets are equal if they have the same members. The other one may be any set or a view.
+        impl<T: PartialEq, A: Array<Item = T>, R: AsRef<RangeSetRef<T>>> PartialEq<R>
+            for $form::RangeSet<A>
+        {
+            fn eq(&self, that: &R) -> bool {
+                self.view() == that.as_ref()
+            }
+        }
+
+        impl<T: Eq, A: Array<Item = T>> Eq for $form::RangeSet<A> {}
+
+        /// The first boundaries that differ decide.
+        impl<T: PartialOrd, A: Array<Item = T>> PartialOrd for $form::RangeSet<A> {
+            fn partial_cmp(&self, that: &Self) -> Option<Ordering> {
+                self.view().partial_cmp(that.view())
+            }
+        }
+
+        impl<T: Ord, A: Array<Item = T>> Ord for $form::RangeSet<A> {
+            fn cmp(&self, that: &Self) -> Ordering {
+                self.view().cmp(that.view())
+            }
+        }
+
+        impl<T: Hash, A: Array<Item = T>> Hash for $form::RangeSet<A> {
+            fn hash<H: Hasher>(&self, state: &mut H) {
+                self.view().hash(state);
+            }
+        }
+
+        /// As `RangeSet{0..10, 20..}`, by the elements' own `Debug`. Flags as those of `{:#?}` and `{:x?}`
+        /// hold as for std's sets.
+        impl<T: fmt::Debug, A: Array<Item = T>> fmt::Debug for $form::RangeSet<A> {
+            fn fmt(&self, f: &mut fmt::Formatter<'_>) -> fmt::Result {
+                f.write_str("RangeSet")?;
+                f.debug_set().entries(self.iter()).finish()
+            }
+        }
+
+        /// As `0..10, 20..`, which is what `parse` reads.
+        impl<T: TextEntry, A: Array<Item = T>> fmt::Display for $form::RangeSet<A> {
+            fn fmt(&self, f: &mut fmt::Formatter<'_>) -> fmt::Result {
+                self.view().fmt(f)
+            }
+        }
+
+        /// Reads the union of the ranges of a text: in any order, with commas between them, and with white
+        /// space around each.
+        ///
+        /// # Errors
+        ///
+        /// The error has the byte where the text stops being one of ranges, and what was expected there; or
+        /// it says that a number is past those of its type. In [`fallible`](crate::fallible) it may be
+        /// [`ParseError::OutOfMemory`].
+        ///
+        /// # Examples
+        ///
+        /// ```
+        #[doc = concat!("use ", $at, "::RangeSet2;")]
+        /// use range_sets::{Expected, ParseError};
+        ///
+        /// let set: RangeSet2<u8> = " 20.., 0..10 ".parse()?;
+        /// assert_eq!(set.to_string(), "0..10, 20..");
+        ///
+        /// let error = "0..10; 20..".parse::<RangeSet2<u8>>().unwrap_err();
+        /// assert_eq!(error, ParseError::Malformed { at: 5, expected: Expected::Comma });
+        /// assert_eq!(error.to_string(), "a comma or the end was expected at byte 5");
+        /// # Ok::<(), ParseError>(())
+        /// ```
+        ///
+        /// A set is compared with sets of all sizes and with views, so beside `==` the type is named:
+        ///
+        /// ```
+        #[doc = concat!("use ", $at, "::RangeSet2;")]
+        ///
+        #[doc = concat!("let set = RangeSet2::", $from, "(1..2)", $ok)]
+        /// assert_eq!(set, "1..2".parse::<RangeSet2<i32>>().unwrap());
+        /// assert_eq!("1..2".parse(), Ok(set));
+        #[doc = $end]
+        /// ```
+        impl<T: EntryClone + TextEntry, A: Array<Item = T>> FromStr for $form::RangeSet<A> {
+            type Err = ParseError;
+
+            fn from_str(text: &str) -> Result<Self, ParseError> {
+                $form::parsed::<T, _>(T::read_list::<A>(text)).map(Self::of_list)
+            }
+        }
+    };
 }
 
-impl<T, A: Array<Item = T>> Deref for RangeSet<A> {
-    type Target = RangeSetRef<T>;
+both_forms!(traits);
 
-    #[inline(always)]
-    fn deref(&self) -> &RangeSetRef<T> {
-        self.view()
-    }
-}
-
-impl<T, A: Array<Item = T>> AsRef<RangeSetRef<T>> for RangeSet<A> {
-    fn as_ref(&self) -> &RangeSetRef<T> {
-        self.view()
-    }
-}
-
-/// A set and its view have the same order and the same hash.
-impl<T, A: Array<Item = T>> Borrow<RangeSetRef<T>> for RangeSet<A> {
-    fn borrow(&self) -> &RangeSetRef<T> {
-        self.view()
-    }
-}
-
-impl<A: Array> Clone for RangeSet<A>
-where
-    A::Item: Clone,
-{
+impl<T: Clone, A: Array<Item = T>> Clone for RangeSet<A> {
     fn clone(&self) -> Self {
-        expect_memory::<A::Item, _, _>(Self::copied(self.view(), &ByClone))
+        self.view().into()
     }
 }
 
@@ -61,7 +180,8 @@ where
 /// ```
 impl<T: Clone, A: Array<Item = T>> From<&RangeSetRef<T>> for RangeSet<A> {
     fn from(view: &RangeSetRef<T>) -> Self {
-        expect_memory::<T, _, _>(Self::copied(view, &ByClone))
+        let list = A::List::copied(view.boundaries(), &ByClone);
+        Self::of_list(expect_memory::<T, _, _>(list))
     }
 }
 
@@ -81,45 +201,5 @@ impl<T: Clone> ToOwned for RangeSetRef<T> {
 
     fn to_owned(&self) -> RangeSet2<T> {
         self.into()
-    }
-}
-
-/// Two sets are equal if they have the same members. The other one may be any set or a view.
-impl<A: Array, R: AsRef<RangeSetRef<A::Item>>> PartialEq<R> for RangeSet<A>
-where
-    A::Item: PartialEq,
-{
-    fn eq(&self, that: &R) -> bool {
-        self.view() == that.as_ref()
-    }
-}
-
-impl<A: Array> Eq for RangeSet<A> where A::Item: Eq {}
-
-/// The first boundaries that differ decide.
-impl<A: Array> PartialOrd for RangeSet<A>
-where
-    A::Item: PartialOrd,
-{
-    fn partial_cmp(&self, that: &Self) -> Option<Ordering> {
-        self.view().partial_cmp(that.view())
-    }
-}
-
-impl<A: Array> Ord for RangeSet<A>
-where
-    A::Item: Ord,
-{
-    fn cmp(&self, that: &Self) -> Ordering {
-        self.view().cmp(that.view())
-    }
-}
-
-impl<A: Array> Hash for RangeSet<A>
-where
-    A::Item: Hash,
-{
-    fn hash<H: Hasher>(&self, state: &mut H) {
-        self.view().hash(state);
     }
 }

@@ -1,6 +1,7 @@
 //! Copies of numbers, for calls that ask for an order alone.
 
 use super::{AllocError, Vec};
+use crate::generated::range_entry::EntryClone;
 use crate::generated::range_merge::Copier;
 use core::any::TypeId;
 use core::marker::PhantomData;
@@ -47,14 +48,28 @@ impl<K> Copier<K> for ByBits<K> {
     }
 }
 
-/// Whether `K` is one of std's types of whole numbers, or `char`: those that are plain by their `EntryClone`.
+/// A key that is copied by its own `Clone`.
+#[derive(Clone, PartialEq, Eq, PartialOrd, Ord)]
+pub struct ByValue<K>(pub K);
+
+impl<K: Ord + Clone> EntryClone for ByValue<K> {
+    #[inline(always)]
+    fn entry_clone(&self) -> Result<Self, AllocError> {
+        Ok(self.clone())
+    }
+}
+
+/// Whether `K` is one of std's types of whole numbers, or `char`: those that are plain by their `EntryClone`. Or one of
+/// these by value.
 ///
 /// The answer is known when the call is compiled.
 #[inline(always)]
 pub fn is_number<K>() -> bool {
     let id = id::<K>();
     macro_rules! is_one_of {
-        ($($number:ty)*) => { false $(|| id == TypeId::of::<$number>())* };
+        ($($number:ty)*) => {
+            false $(|| id == TypeId::of::<$number>() || id == TypeId::of::<ByValue<$number>>())*
+        };
     }
     is_one_of!(u8 u16 u32 u64 u128 usize i8 i16 i32 i64 i128 isize char)
 }

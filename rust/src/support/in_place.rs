@@ -8,9 +8,8 @@ use super::slot::{BySlots, OfSlots, Slot};
 use super::{AllocError, SmallVec};
 use crate::generated::range_merge::in_place_memory::{prepared, prepared_copies};
 use crate::generated::range_merge::merge_state::in_place::OwnedRight;
-use crate::generated::range_merge::merge_state::in_place_ref::{
-    merged_apart, BorrowedRight, CopiedRight,
-};
+use crate::generated::range_merge::merge_state::in_place_plain::merged_plainly;
+use crate::generated::range_merge::merge_state::in_place_ref::{BorrowedRight, CopiedRight};
 use crate::generated::range_merge::merge_state::placing::PlacingMergeState;
 use crate::generated::range_merge::merge_state::supply::Supply;
 use crate::generated::range_merge::{Compare, Copier, MergeOperation};
@@ -25,20 +24,20 @@ pub struct InPlaceMergeStateRef<K, P, const N: usize>(PhantomData<(K, P)>);
 impl<K, const N: usize> InPlaceMergeState<K, N> {
     /// Leaves in `a` the items at which the connective of `op` changes between two strictly sorted lists. Of two equal items it is the one of `a` that stays.
     ///
-    /// It asks for room in `a` for the items of `b` before it changes anything. Numbers it may merge into a new list. If that fails, `a` is as it was and `b` comes back.
+    /// It asks for room in `a` for the items of `b`, which stays, before it changes anything. Numbers it merges as [`merged_plainly`] does. If that fails, `a` is as it was and `b` comes back.
     pub fn merge<O: MergeOperation, C: Compare<K>>(
         a: &mut SmallVec<K, N>,
         mut b: SmallVec<K, N>,
         op: &O,
         cmp: &mut C,
     ) -> Result<(), (AllocError, SmallVec<K, N>)> {
-        match numbers_apart(a, &b, op, cmp) {
-            Ok(None) => {}
-            Ok(Some(merged)) => {
-                *a = merged;
-                return Ok(());
+        // Numbers are copied, whatever their list is: calls by an owned list ask for `Ord` alone.
+        if let Some(by_bits) = ByBits::of_numbers() {
+            match merged_plainly(a, b.as_slice(), &by_bits, op, cmp) {
+                Ok(false) => {}
+                Ok(true) => return Ok(()),
+                Err(error) => return Err((error, b)),
             }
-            Err(error) => return Err((error, b)),
         }
         let extra = b.len();
         if let Err(error) = prepared(a, extra) {
@@ -53,7 +52,7 @@ impl<K, const N: usize> InPlaceMergeState<K, N> {
 impl<K, P: Copier<K>, const N: usize> InPlaceMergeStateRef<K, P, N> {
     /// Leaves in `a` the items at which the connective of `op` changes between two strictly sorted lists: its own, and copies of those of `b`. Of two equal items it is the one of `a` that stays.
     ///
-    /// It asks for room in `a` for the items of `b`, and, unless copies never fail, for a copy of each item of `b`, before it changes anything. Plain data it may merge into a new list. Where one is refused, `a` is as it was.
+    /// It asks for room in `a` for the items of `b`, which stays, and, unless copies never fail, for a copy of each item of `b`, before it changes anything. Plain data it merges as [`merged_plainly`] does. Where one is refused, `a` is as it was.
     pub fn merge<O: MergeOperation, C: Compare<K>>(
         a: &mut SmallVec<K, N>,
         b: &[K],
@@ -61,8 +60,7 @@ impl<K, P: Copier<K>, const N: usize> InPlaceMergeStateRef<K, P, N> {
         op: &O,
         cmp: &mut C,
     ) -> Result<(), AllocError> {
-        if let Some(merged) = merged_apart(a, b, copier, op, cmp)? {
-            *a = merged;
+        if merged_plainly(a, b, copier, op, cmp)? {
             return Ok(());
         }
         let slots = Slot::slots(b);
@@ -80,27 +78,7 @@ impl<K, P: Copier<K>, const N: usize> InPlaceMergeStateRef<K, P, N> {
     }
 }
 
-/// So many items, or fewer, are moved within room that they have in less time than memory for a new list takes.
-const FEW: usize = 32;
-
-/// Merges numbers into a new list where that is faster, as [`merged_apart`] does, and returns `None` for all other items.
-#[inline(always)]
-fn numbers_apart<K, O: MergeOperation, C: Compare<K>, const N: usize>(
-    a: &SmallVec<K, N>,
-    b: &SmallVec<K, N>,
-    op: &O,
-    cmp: &mut C,
-) -> Result<Option<SmallVec<K, N>>, AllocError> {
-    let both = a.len().saturating_add(b.len());
-    match ByBits::of_numbers() {
-        Some(by_bits) if both <= N || both > FEW.min(a.capacity()) => {
-            merged_apart(a, b.as_slice(), &by_bits, op, cmp)
-        }
-        _ => Ok(None),
-    }
-}
-
-/// Merges into a list that has room for `extra` more items, at most so many of which the right side puts.
+/// Merges into a list that has room for `extra` more items; the right side puts no more.
 #[inline(always)]
 fn merge_opened<K, R: Supply<Slot<K>>, O: MergeOperation, C: Compare<K>, const N: usize>(
     a: &mut SmallVec<K, N>,
@@ -110,7 +88,5 @@ fn merge_opened<K, R: Supply<Slot<K>>, O: MergeOperation, C: Compare<K>, const N
     cmp: &mut C,
 ) {
     let state = PlacingMergeState::<Slot<K>, N, R, _>::over(Opened::over(a), right, extra);
-    let mut by = BySlots(cmp.fresh());
-    state.merged(op, &mut by).close();
-    cmp.add(by.0);
+    state.merged(op, &mut BySlots(cmp)).close();
 }

@@ -2,9 +2,9 @@
 
 use super::slot::Slot;
 use super::SmallVec;
+use crate::generated::range_merge::in_place_list::{Exchanges, GrowsByGap};
 use crate::generated::range_merge::indexed::Indexed;
 use crate::generated::range_merge::merge_state::supply::Supply;
-use crate::generated::range_merge::place::{Exchanges, GrowsByGap};
 use core::marker::PhantomData;
 use core::mem;
 use core::ptr;

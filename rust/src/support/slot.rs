@@ -7,7 +7,7 @@ use core::mem::MaybeUninit;
 
 /// Room for an item. Merges in place run over these, so that a gap needs no items.
 ///
-/// Which of them hold an item is known to the list that lends them: see [`Opened`](super::opened::Opened).
+/// Only the list that they are of knows which hold an item: see [`Opened`](super::opened::Opened).
 #[repr(transparent)]
 pub struct Slot<K>(MaybeUninit<K>);
 
@@ -38,23 +38,13 @@ impl<K> Slot<K> {
 }
 
 /// Compares slots by the items in them. A merge compares those that are unread, each of which has one.
-pub struct BySlots<C>(pub C);
+pub struct BySlots<'c, C>(pub &'c mut C);
 
-impl<K, C: Compare<K>> Compare<Slot<K>> for BySlots<C> {
+impl<K, C: Compare<K>> Compare<Slot<K>> for BySlots<'_, C> {
     #[inline(always)]
     fn compare(&mut self, a: &Slot<K>, b: &Slot<K>) -> Ordering {
         // SAFETY: a merge reads its sides by `Indexed::at`, which gives slots with an item alone.
         unsafe { self.0.compare(a.item(), b.item()) }
-    }
-
-    #[inline(always)]
-    fn fresh(&self) -> Self {
-        BySlots(self.0.fresh())
-    }
-
-    #[inline(always)]
-    fn add(&mut self, other: Self) {
-        self.0.add(other.0);
     }
 }
 

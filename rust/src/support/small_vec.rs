@@ -1,14 +1,19 @@
 //! The list of the crate `smallvec`, with calls that answer where an allocation fails.
 
 use super::opened::Opened;
+use super::vec::list_calls;
 use super::{AllocError, AllocFailed, Global, Vec};
+use crate::generated::range_merge::in_place_list::GrowsByGap;
 use crate::generated::range_merge::indexed::Indexed;
-use crate::generated::range_merge::place::GrowsByGap;
+use crate::generated::range_merge::Copier;
+use core::mem;
 use core::ops::{Deref, DerefMut, Range};
 
 /// A list with room for `N` items in the value itself.
 #[derive(Debug)]
 pub struct SmallVec<T, const N: usize>(smallvec::SmallVec<[T; N]>);
+
+list_calls!([T, const N: usize] SmallVec<T, N>);
 
 impl<T, const N: usize> SmallVec<T, N> {
     /// An empty list. It takes no memory.
@@ -54,67 +59,10 @@ impl<T, const N: usize> SmallVec<T, N> {
         &mut self.0
     }
 
-    /// The allocator.
-    #[inline(always)]
-    pub fn allocator(&self) -> &Global {
-        &Global
-    }
-
     /// How many items there are.
     #[inline(always)]
     pub fn len(&self) -> usize {
         self.0.len()
-    }
-
-    /// How many items have room.
-    #[inline(always)]
-    pub fn capacity(&self) -> usize {
-        self.0.capacity()
-    }
-
-    /// The items.
-    #[inline(always)]
-    pub fn as_slice(&self) -> &[T] {
-        self.0.as_slice()
-    }
-
-    /// The items.
-    #[inline(always)]
-    pub fn as_mut_slice(&mut self) -> &mut [T] {
-        self.0.as_mut_slice()
-    }
-
-    /// Makes room for `n` more items.
-    #[inline]
-    pub fn reserve(&mut self, n: usize) -> Result<(), AllocError> {
-        Ok(self.0.try_reserve(n)?)
-    }
-
-    /// Appends an item where there is room for it.
-    ///
-    /// # Panics
-    ///
-    /// Where there is none.
-    #[inline(always)]
-    pub fn push_reserved(&mut self, value: T) {
-        assert!(self.0.len() < self.0.capacity(), "no room was reserved");
-        self.0.push(value);
-    }
-
-    /// Puts an item at `at`, before those that stand there.
-    #[inline]
-    pub fn insert(&mut self, at: usize, value: T) -> Result<(), AllocFailed<T>> {
-        if self.0.try_reserve(1).is_err() {
-            return Err(AllocFailed { value });
-        }
-        self.0.insert(at, value);
-        Ok(())
-    }
-
-    /// Takes the item at `at` out.
-    #[inline]
-    pub fn remove(&mut self, at: usize) -> T {
-        self.0.remove(at)
     }
 
     /// Takes the items of a range out and drops them. If a drop panics, the list is left empty.
@@ -146,6 +94,53 @@ impl<T, const N: usize> SmallVec<T, N> {
     }
 }
 
+/// Appends copies of plain items, all at once where the list lies on the heap.
+///
+/// # Panics
+///
+/// If there is no room for them, or a copy fails.
+pub fn append_within<T, P: Copier<T>, const N: usize>(
+    list: &mut SmallVec<T, N>,
+    items: &[T],
+    copier: &P,
+) {
+    assert!(
+        items.len() <= list.capacity() - list.len(),
+        "no room was reserved"
+    );
+    let copied = if list.0.spilled() {
+        let mut within = Vec::from(mem::take(&mut list.0).into_vec());
+        let copied = copier.append(&mut within, items);
+        *list = SmallVec::from_vec(within);
+        copied
+    } else {
+        items
+            .iter()
+            .try_for_each(|item| copier.copy(item).map(|copy| list.push_reserved(copy)))
+    };
+    assert!(copied.is_ok(), "no copy fails");
+}
+
+/// Puts two items at the end.
+#[inline(always)]
+pub fn append_both<T, const N: usize>(
+    list: &mut SmallVec<T, N>,
+    start: T,
+    end: T,
+) -> Result<(), AllocError> {
+    list.reserve(2)?;
+    let list = &mut list.0;
+    let len = list.len();
+    // SAFETY: there is room for two more, and both are there before anything else looks at the list.
+    unsafe {
+        let after = list.as_mut_ptr().add(len);
+        list.set_len(len + 2);
+        after.write(start);
+        after.add(1).write(end);
+    }
+    Ok(())
+}
+
 impl<T, const N: usize> From<smallvec::SmallVec<[T; N]>> for SmallVec<T, N> {
     #[inline(always)]
     fn from(list: smallvec::SmallVec<[T; N]>) -> Self {
@@ -157,21 +152,5 @@ impl<T, const N: usize> From<SmallVec<T, N>> for smallvec::SmallVec<[T; N]> {
     #[inline(always)]
     fn from(list: SmallVec<T, N>) -> Self {
         list.0
-    }
-}
-
-impl<T, const N: usize> Deref for SmallVec<T, N> {
-    type Target = [T];
-
-    #[inline(always)]
-    fn deref(&self) -> &[T] {
-        self.0.as_slice()
-    }
-}
-
-impl<T, const N: usize> DerefMut for SmallVec<T, N> {
-    #[inline(always)]
-    fn deref_mut(&mut self) -> &mut [T] {
-        self.0.as_mut_slice()
     }
 }

@@ -1,5 +1,6 @@
 //! A stable sort that answers where an allocation fails. std's ends the process.
 
+use super::by_bits::is_number;
 use super::{AllocError, Global};
 use alloc::vec::Vec;
 use core::cmp::Ordering;
@@ -11,7 +12,8 @@ const FEW: usize = 20;
 pub trait SortIn {
     /// Sorts the items. Equal ones stay in the order in which they stood.
     ///
-    /// Up to 20 items take no memory; more take room for as many indices. If that fails, the items are as they were.
+    /// Numbers, and up to 20 items, take no memory; more items take room for as many indices. If that fails, the items are as
+    /// they were.
     fn sort_in(&mut self, alloc: Global) -> Result<(), AllocError>;
 }
 
@@ -19,6 +21,11 @@ impl<T: Ord> SortIn for [T] {
     fn sort_in(&mut self, _: Global) -> Result<(), AllocError> {
         if self.len() <= FEW {
             insertion_sort(self);
+            return Ok(());
+        }
+        if is_number::<T>() {
+            // Equal numbers are the same, so none can change places.
+            self.sort_unstable();
             return Ok(());
         }
         if self.windows(2).all(|pair| pair[0] <= pair[1]) {

@@ -6,9 +6,9 @@ use super::by_bits::is_number;
 use super::opened::{Given, Opened};
 use super::slot::Slot;
 use super::*;
+use crate::generated::range_merge::in_place_list::{Exchanges, GrowsByGap};
 use crate::generated::range_merge::indexed::Indexed;
 use crate::generated::range_merge::merge_state::in_place::OwnedRight;
-use crate::generated::range_merge::place::{Exchanges, GrowsByGap};
 use crate::generated::range_merge::{
     Compare, Connective, Copier, DiffOp, IntersectionOp, MergeOperation, UnionOp, XorOp,
 };
@@ -18,7 +18,7 @@ use core::cell::Cell;
 use core::cmp::Ordering;
 use core::mem;
 
-/// An item that tells how many of its kind are there, and is ordered by its key.
+/// An item that counts how many of its kind are there, and is ordered by its key.
 #[derive(Debug)]
 struct Item {
     key: u32,
@@ -58,18 +58,6 @@ impl Compare<Item> for ByKey {
         self.made += 1;
         assert!(self.made != self.panics_at, "a comparison panics");
         a.key.cmp(&b.key)
-    }
-
-    /// It panics at the same comparison.
-    fn fresh(&self) -> Self {
-        ByKey {
-            made: 0,
-            panics_at: self.panics_at - self.made,
-        }
-    }
-
-    fn add(&mut self, other: Self) {
-        self.made += other.made;
     }
 }
 
@@ -258,14 +246,6 @@ impl<K: Clone + Into<u32>> Compare<K> for ByNumber {
         assert!(self.0 != self.1, "a comparison panics");
         a.clone().into().cmp(&b.clone().into())
     }
-
-    fn fresh(&self) -> Self {
-        ByNumber(0, self.1 - self.0)
-    }
-
-    fn add(&mut self, other: Self) {
-        self.0 += other.0;
-    }
 }
 
 /// The numbers below `below` that `is_in` has, with room for `room` more.
@@ -340,8 +320,8 @@ where
 #[test]
 fn a_comparison_of_numbers_that_panics_leaves_them_or_none() {
     for (below, room) in [(4, 0), (20, 0), (20, 10), (200, 0), (200, 100)] {
-        let is_apart = below > 20 || room == 0;
-        is_left_by_a_panic::<u32>(below, room, is_apart);
+        // What has room is written over.
+        is_left_by_a_panic::<u32>(below, room, room == 0);
         is_left_by_a_panic::<Wrapped>(below, room, false);
     }
 }
@@ -485,6 +465,20 @@ fn what_was_taken_of_a_list_is_not_read() {
     }
     // SAFETY: what `at` gives has an item.
     assert_eq!(unsafe { *given.at(3).item() }, 3);
+}
+
+#[test]
+fn both_items_are_put_at_the_end() {
+    let there = Rc::new(Cell::new(0));
+    let mut items = SmallVec::<Item, 3>::new(Global);
+    for key in (0..40).step_by(2) {
+        let (start, end) = (Item::new(key, 0, &there), Item::new(key + 1, 1, &there));
+        append_both(&mut items, start, end).expect("there is memory");
+        assert!(items.iter().map(|it| it.key).eq(0..key + 2));
+        assert_eq!(there.get(), key as isize + 2);
+    }
+    drop(items);
+    assert_eq!(there.get(), 0);
 }
 
 #[test]

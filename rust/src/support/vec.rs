@@ -7,6 +7,96 @@ use core::ops::{Deref, DerefMut, RangeBounds};
 #[derive(Debug)]
 pub struct Vec<T>(alloc::vec::Vec<T>);
 
+/// The calls that both lists have, by those of the list within.
+macro_rules! list_calls {
+    ([$($generics:tt)*] $list:ty) => {
+        impl<$($generics)*> $list {
+            /// How many items have room.
+            #[inline(always)]
+            pub fn capacity(&self) -> usize {
+                self.0.capacity()
+            }
+
+            /// The items.
+            #[inline(always)]
+            pub fn as_slice(&self) -> &[T] {
+                self.0.as_slice()
+            }
+
+            /// The items, to change them.
+            #[inline(always)]
+            pub fn as_mut_slice(&mut self) -> &mut [T] {
+                self.0.as_mut_slice()
+            }
+
+            /// Makes room for `n` more items.
+            #[inline]
+            pub fn reserve(&mut self, n: usize) -> Result<(), AllocError> {
+                Ok(self.0.try_reserve(n)?)
+            }
+
+            /// Appends an item where there is room for it.
+            ///
+            /// # Panics
+            ///
+            /// Where there is none.
+            #[inline(always)]
+            pub fn push_reserved(&mut self, value: T) {
+                assert!(self.0.len() < self.0.capacity(), "no room was reserved");
+                self.0.push(value);
+            }
+
+            /// Inserts an item at `at`, or gives it back if there is no memory for it.
+            #[inline]
+            pub fn insert(&mut self, at: usize, value: T) -> Result<(), AllocFailed<T>> {
+                if self.0.try_reserve(1).is_err() {
+                    return Err(AllocFailed { value });
+                }
+                self.0.insert(at, value);
+                Ok(())
+            }
+
+            /// Removes the item at `at`, and moves the later ones down.
+            #[inline(always)]
+            pub fn remove(&mut self, at: usize) -> T {
+                self.0.remove(at)
+            }
+
+            /// Drops the items from `len` on. If a drop panics, the others are dropped too.
+            #[inline(always)]
+            pub fn truncate(&mut self, len: usize) {
+                self.0.truncate(len);
+            }
+
+            /// The allocator.
+            #[inline(always)]
+            pub fn allocator(&self) -> &Global {
+                &Global
+            }
+        }
+
+        impl<$($generics)*> Deref for $list {
+            type Target = [T];
+
+            #[inline(always)]
+            fn deref(&self) -> &[T] {
+                self.0.as_slice()
+            }
+        }
+
+        impl<$($generics)*> DerefMut for $list {
+            #[inline(always)]
+            fn deref_mut(&mut self) -> &mut [T] {
+                self.0.as_mut_slice()
+            }
+        }
+    };
+}
+
+pub(super) use list_calls;
+
+list_calls!([T] Vec<T>);
+
 impl<T> Vec<T> {
     /// An empty list. It takes no memory.
     #[inline]
@@ -20,41 +110,6 @@ impl<T> Vec<T> {
         let mut list = alloc::vec::Vec::new();
         list.try_reserve_exact(n)?;
         Ok(Vec(list))
-    }
-
-    /// How many items have room.
-    #[inline(always)]
-    pub fn capacity(&self) -> usize {
-        self.0.capacity()
-    }
-
-    /// The items.
-    #[inline(always)]
-    pub fn as_slice(&self) -> &[T] {
-        &self.0
-    }
-
-    /// The items, to change them.
-    #[inline(always)]
-    pub fn as_mut_slice(&mut self) -> &mut [T] {
-        &mut self.0
-    }
-
-    /// Makes room for `n` more items.
-    #[inline]
-    pub fn reserve(&mut self, n: usize) -> Result<(), AllocError> {
-        Ok(self.0.try_reserve(n)?)
-    }
-
-    /// Appends an item where there is room for it.
-    ///
-    /// # Panics
-    ///
-    /// Where there is none.
-    #[inline(always)]
-    pub fn push_reserved(&mut self, value: T) {
-        assert!(self.0.len() < self.0.capacity(), "no room was reserved");
-        self.0.push(value);
     }
 
     /// Appends an item, or gives it back if there is no memory for it.
@@ -81,26 +136,10 @@ impl<T> Vec<T> {
         self.0.pop()
     }
 
-    /// Inserts an item at `at`, or gives it back if there is no memory for it.
-    #[inline]
-    pub fn insert(&mut self, at: usize, value: T) -> Result<(), AllocFailed<T>> {
-        if self.0.try_reserve(1).is_err() {
-            return Err(AllocFailed { value });
-        }
-        self.0.insert(at, value);
-        Ok(())
-    }
-
     /// Keeps the items for which `keep` is true.
     #[inline]
     pub fn retain(&mut self, keep: impl FnMut(&T) -> bool) {
         self.0.retain(keep);
-    }
-
-    /// Removes the item at `at`, and moves the later ones down.
-    #[inline(always)]
-    pub fn remove(&mut self, at: usize) -> T {
-        self.0.remove(at)
     }
 
     /// Drops the items of a range, and moves the later ones down. If a drop panics, the others are dropped too, and the
@@ -108,12 +147,6 @@ impl<T> Vec<T> {
     #[inline(always)]
     pub fn drain(&mut self, range: impl RangeBounds<usize>) {
         self.0.drain(range);
-    }
-
-    /// Drops the items from `len` on. If a drop panics, the others are dropped too.
-    #[inline(always)]
-    pub fn truncate(&mut self, len: usize) {
-        self.0.truncate(len);
     }
 
     /// Drops all items, and keeps the room. If a drop panics, the others are dropped too.
@@ -128,12 +161,6 @@ impl<T> Vec<T> {
         let mut moved = Self::with_capacity(Global, self.0.len() - at)?;
         moved.0.extend(self.0.drain(at..));
         Ok(moved)
-    }
-
-    /// The allocator.
-    #[inline(always)]
-    pub fn allocator(&self) -> &Global {
-        &Global
     }
 
     /// Appends copies of the items.
@@ -156,22 +183,6 @@ impl<T> Vec<T> {
     /// std's list within.
     #[inline(always)]
     pub(crate) fn as_inner_mut(&mut self) -> &mut alloc::vec::Vec<T> {
-        &mut self.0
-    }
-}
-
-impl<T> Deref for Vec<T> {
-    type Target = [T];
-
-    #[inline(always)]
-    fn deref(&self) -> &[T] {
-        &self.0
-    }
-}
-
-impl<T> DerefMut for Vec<T> {
-    #[inline(always)]
-    fn deref_mut(&mut self) -> &mut [T] {
         &mut self.0
     }
 }

@@ -1,8 +1,9 @@
 //! Where values in a row are free, that is, no members, or where members are in a row. Nothing here takes memory.
 
-use crate::generated::range_collections::{Countable, FromPlace, Unsigned};
+use crate::any_range::Ended;
+use crate::entry::Length;
+use crate::generated::range_collections::Countable;
 use crate::view::RangeSetRef;
-use core::ops::Range;
 
 impl<T: Ord> RangeSetRef<T> {
     /// Returns the least number of the range from which on `len` numbers of it are free, that is, not members.
@@ -22,11 +23,12 @@ impl<T: Ord> RangeSetRef<T> {
     /// assert_eq!(used.first_fit(0..4096, 20), Some(128));
     /// assert_eq!(used.first_fit(0..140, 20), None);
     /// ```
-    pub fn first_fit(&self, within: Range<T>, len: T) -> Option<T>
+    #[must_use]
+    pub fn first_fit(&self, within: impl Ended<T>, len: T) -> Option<T>
     where
-        T: Unsigned,
+        T: Length,
     {
-        self.proved().first_fit(within, len)
+        self.first_fit_count(within, len.count()?)
     }
 
     /// Returns the least value of the range from which on `count` values of it are free, that is, not members.
@@ -44,52 +46,11 @@ impl<T: Ord> RangeSetRef<T> {
     /// assert_eq!(busy.first_fit_count(-9..10, 6), Some(3));
     /// assert_eq!(busy.first_fit_count(-9..8, 6), None);
     /// ```
-    pub fn first_fit_count(&self, within: Range<T>, count: u128) -> Option<T>
+    #[must_use]
+    pub fn first_fit_count(&self, within: impl Ended<T>, count: u128) -> Option<T>
     where
         T: Countable + Copy,
     {
-        self.proved().first_fit_count(within, count)
-    }
-
-    /// Returns the least value as [`first_fit_count`](Self::first_fit_count) does, of those whose place is a multiple of
-    /// `align`: so many values are below it. It is `None` if `align` is 0.
-    ///
-    /// # Examples
-    ///
-    /// ```
-    /// use range_sets::RangeSetRef;
-    ///
-    /// let used = RangeSetRef::new(&[0u64, 65]).unwrap();
-    /// assert_eq!(used.first_fit_aligned(0..4096, 100, 16), Some(80));
-    /// assert_eq!(used.first_fit_aligned(0..4096, 100, 0), None);
-    /// ```
-    pub fn first_fit_aligned(&self, within: Range<T>, count: u128, align: u128) -> Option<T>
-    where
-        T: FromPlace,
-    {
-        self.proved().first_fit_aligned(within, count, align)
-    }
-
-    /// Returns the least value of the range from which on `count` values of it are members: where so many fit, in a set of
-    /// what is free.
-    ///
-    /// It is `None` if there are no such values, and for a `count` of 0 the start of a range that isn't reversed. It takes
-    /// time for each boundary up to the answer.
-    ///
-    /// # Examples
-    ///
-    /// ```
-    /// use range_sets::RangeSetRef;
-    ///
-    /// let free = RangeSetRef::new(&[3u8, 5, 10]).unwrap();
-    /// assert_eq!(free.first_run(0..100, 2), Some(3));
-    /// assert_eq!(free.first_run(0..100, 90), Some(10));
-    /// assert_eq!(free.first_run(0..100, 91), None);
-    /// ```
-    pub fn first_run(&self, within: Range<T>, count: u128) -> Option<T>
-    where
-        T: Countable + Copy,
-    {
-        self.proved().first_run(within, count)
+        self.proved().first_fit_count(within.ended(), count)
     }
 }

@@ -1,116 +1,165 @@
-//! Operations on two sets, each into a new one.
+//! Operations on two sets, each into a new one: of views, and of sets of `fallible`.
 
-use crate::array::Array;
+use crate::array::{Array, List};
 use crate::entry::RangeSetEntry;
+use crate::fallible::EntryClone;
+use crate::forms::{ends, fails};
 use crate::generated::range_merge::{DiffOp, IntersectionOp, UnionOp, XorOp};
-use crate::memory::{expect_memory, ByClone};
 use crate::operation::Connective;
-use crate::range_set::RangeSet;
 use crate::view::RangeSetRef;
 
-/// The result holds clones of both sides' boundaries: of two that are equal, this set's. Its inline size is that of `A`,
-/// which a caller names or which follows from the use of the result.
-///
-/// An operation makes at most two comparisons for each binary digit of the length of each run, where a run is a longest
-/// stretch of one side's boundaries with none of the other's between. So a range beside 4,096 boundaries takes some
-/// seventy comparisons at most, and two sets with *n* boundaries in all take 2 *n* at most.
-impl<T: Ord + Clone> RangeSetRef<T> {
-    /// Returns the set of the members of one of the two sets, or of both.
-    ///
-    /// # Examples
-    ///
-    /// ```
-    /// use range_sets::RangeSetRef;
-    ///
-    /// let a = RangeSetRef::new(&[0, 10]).unwrap();
-    /// let b = RangeSetRef::new(&[10, 20]).unwrap();
-    /// assert_eq!(a.union::<[i32; 2]>(b).boundaries(), [0, 20]);
-    /// ```
-    #[must_use]
-    pub fn union<A>(&self, that: &RangeSetRef<T>) -> RangeSet<A>
-    where
-        A: Array<Item = T>,
-    {
-        expect_memory::<T, _, _>(RangeSet::merged(self, that, &ByClone, &UnionOp))
-    }
+macro_rules! operations {
+    (ends, $($form:tt)*) => {
+        operations! { @[T: Ord + Clone], RangeSetRef<T>, ends, $($form)* }
+    };
+    (fails, $($form:tt)*) => {
+        operations! { @[T: EntryClone, A: Array<Item = T>], fails::RangeSet<A>, fails, $($form)* }
+    };
+    (
+        @[$($generics:tt)*], $Left:ty, $form:ident, $Clone:ident, $must_use:meta, $errors:ident,
+        $at:literal, $from:literal, $ok:literal, $end:literal
+    ) => {
+        /// The result holds copies of both sides' boundaries: of two that are equal, this set's. Its inline
+        /// size is that of `B`, which a caller names or which follows from the use of the result.
+        ///
+        /// An operation makes at most two comparisons for each binary digit of the length of each run,
+        /// where a run is a longest stretch of one side's boundaries with none of the other's between. So a
+        /// range beside 4,096 boundaries takes some seventy comparisons at most, and two sets with *n*
+        /// boundaries in all take 2 *n* at most.
+        impl<$($generics)*> $Left {
+            /// Returns the set of the members of one of the two sets, or of both.
+            ///
+            #[doc = $errors!("If memory runs out or a copy fails.")]
+            /// # Examples
+            ///
+            /// ```
+            #[doc = concat!("use ", $at, "::RangeSet2;")]
+            ///
+            #[doc = concat!("let a = RangeSet2::", $from, "(0..10)", $ok)]
+            #[doc = concat!("let b = RangeSet2::", $from, "(10..20)", $ok)]
+            #[doc = concat!("let either: RangeSet2<i32> = a.union(&b)", $ok)]
+            /// assert_eq!(either.boundaries(), [0, 20]);
+            #[doc = $end]
+            /// ```
+            #[$must_use]
+            pub fn union<B>(&self, that: &RangeSetRef<T>) -> $form::Given<$form::RangeSet<B>>
+            where
+                B: Array<Item = T>,
+            {
+                let (left, right) = (self.boundaries(), that.boundaries());
+                let list = B::List::merged(left, right, &$form::Copier, &UnionOp);
+                $form::given::<T, _, _>(list.map($form::RangeSet::of_list))
+            }
 
-    /// Returns the set of the members of both.
-    ///
-    /// # Examples
-    ///
-    /// ```
-    /// use range_sets::RangeSetRef;
-    ///
-    /// let a = RangeSetRef::new(&[0, 10]).unwrap();
-    /// let b = RangeSetRef::new(&[5, 20]).unwrap();
-    /// assert_eq!(a.intersection::<[i32; 2]>(b).boundaries(), [5, 10]);
-    /// ```
-    #[must_use]
-    pub fn intersection<A>(&self, that: &RangeSetRef<T>) -> RangeSet<A>
-    where
-        A: Array<Item = T>,
-    {
-        expect_memory::<T, _, _>(RangeSet::merged(self, that, &ByClone, &IntersectionOp))
-    }
+            /// Returns the set of the members of both.
+            ///
+            #[doc = $errors!("If memory runs out or a copy fails.")]
+            /// # Examples
+            ///
+            /// ```
+            #[doc = concat!("use ", $at, "::RangeSet2;")]
+            ///
+            #[doc = concat!("let a = RangeSet2::", $from, "(0..10)", $ok)]
+            #[doc = concat!("let b = RangeSet2::", $from, "(5..20)", $ok)]
+            #[doc = concat!("let both: RangeSet2<i32> = a.intersection(&b)", $ok)]
+            /// assert_eq!(both.boundaries(), [5, 10]);
+            #[doc = $end]
+            /// ```
+            #[$must_use]
+            pub fn intersection<B>(&self, that: &RangeSetRef<T>) -> $form::Given<$form::RangeSet<B>>
+            where
+                B: Array<Item = T>,
+            {
+                let (left, right) = (self.boundaries(), that.boundaries());
+                let list = B::List::merged(left, right, &$form::Copier, &IntersectionOp);
+                $form::given::<T, _, _>(list.map($form::RangeSet::of_list))
+            }
 
-    /// Returns the set of the members of this set that aren't members of `that`.
-    ///
-    /// # Examples
-    ///
-    /// ```
-    /// use range_sets::RangeSetRef;
-    ///
-    /// let a = RangeSetRef::new(&[0, 10]).unwrap();
-    /// let b = RangeSetRef::new(&[5, 20]).unwrap();
-    /// assert_eq!(a.difference::<[i32; 2]>(b).boundaries(), [0, 5]);
-    /// ```
-    #[must_use]
-    pub fn difference<A>(&self, that: &RangeSetRef<T>) -> RangeSet<A>
-    where
-        A: Array<Item = T>,
-    {
-        expect_memory::<T, _, _>(RangeSet::merged(self, that, &ByClone, &DiffOp))
-    }
+            /// Returns the set of the members of this set that aren't members of `that`.
+            ///
+            #[doc = $errors!("If memory runs out or a copy fails.")]
+            /// # Examples
+            ///
+            /// ```
+            #[doc = concat!("use ", $at, "::RangeSet2;")]
+            ///
+            #[doc = concat!("let a = RangeSet2::", $from, "(0..10)", $ok)]
+            #[doc = concat!("let b = RangeSet2::", $from, "(5..20)", $ok)]
+            #[doc = concat!("let rest: RangeSet2<i32> = a.difference(&b)", $ok)]
+            /// assert_eq!(rest.boundaries(), [0, 5]);
+            #[doc = $end]
+            /// ```
+            #[$must_use]
+            pub fn difference<B>(&self, that: &RangeSetRef<T>) -> $form::Given<$form::RangeSet<B>>
+            where
+                B: Array<Item = T>,
+            {
+                let (left, right) = (self.boundaries(), that.boundaries());
+                let list = B::List::merged(left, right, &$form::Copier, &DiffOp);
+                $form::given::<T, _, _>(list.map($form::RangeSet::of_list))
+            }
 
-    /// Returns the set of the members of one of the two sets that aren't members of the other.
-    ///
-    /// # Examples
-    ///
-    /// ```
-    /// use range_sets::RangeSetRef;
-    ///
-    /// let a = RangeSetRef::new(&[0, 10]).unwrap();
-    /// let b = RangeSetRef::new(&[5, 20]).unwrap();
-    /// assert_eq!(a.symmetric_difference::<[i32; 4]>(b).boundaries(), [0, 5, 10, 20]);
-    /// ```
-    #[must_use]
-    pub fn symmetric_difference<A>(&self, that: &RangeSetRef<T>) -> RangeSet<A>
-    where
-        A: Array<Item = T>,
-    {
-        expect_memory::<T, _, _>(RangeSet::merged(self, that, &ByClone, &XorOp))
-    }
+            /// Returns the set of the members of one of the two sets that aren't members of the other.
+            ///
+            #[doc = $errors!("If memory runs out or a copy fails.")]
+            /// # Examples
+            ///
+            /// ```
+            #[doc = concat!("use ", $at, "::RangeSet2;")]
+            ///
+            #[doc = concat!("let a = RangeSet2::", $from, "(0..10)", $ok)]
+            #[doc = concat!("let b = RangeSet2::", $from, "(5..20)", $ok)]
+            #[doc = concat!("let one: RangeSet2<i32> = a.symmetric_difference(&b)", $ok)]
+            /// assert_eq!(one.boundaries(), [0, 5, 10, 20]);
+            #[doc = $end]
+            /// ```
+            #[$must_use]
+            pub fn symmetric_difference<B>(
+                &self,
+                that: &RangeSetRef<T>,
+            ) -> $form::Given<$form::RangeSet<B>>
+            where
+                B: Array<Item = T>,
+            {
+                let (left, right) = (self.boundaries(), that.boundaries());
+                let list = B::List::merged(left, right, &$form::Copier, &XorOp);
+                $form::given::<T, _, _>(list.map($form::RangeSet::of_list))
+            }
 
-    /// Returns the result of any of the sixteen operations on two sets.
-    ///
-    /// The operation may have members where both sets have none, as [`Connective::NOT_LEFT`] does. Those are told among
-    /// values, from the least one on.
-    ///
-    /// # Examples
-    ///
-    /// ```
-    /// use range_sets::{Connective, RangeSetRef};
-    ///
-    /// let a = RangeSetRef::new(&[0u8, 10]).unwrap();
-    /// let b = RangeSetRef::new(&[5, 20]).unwrap();
-    /// assert_eq!(a.combine::<[u8; 2]>(b, Connective::NEITHER).boundaries(), [20]);
-    /// ```
-    #[must_use]
-    pub fn combine<A>(&self, that: &RangeSetRef<T>, op: Connective) -> RangeSet<A>
-    where
-        A: Array<Item = T>,
-        T: RangeSetEntry,
-    {
-        expect_memory::<T, _, _>(RangeSet::combined(self, that, &ByClone, op))
-    }
+            /// Returns the result of any of the sixteen operations on two sets.
+            ///
+            /// The operation may have members where both sets have none, as [`Connective::NOT_LEFT`] does.
+            /// Those are values from the least one on.
+            ///
+            #[doc = $errors!("If memory runs out or a copy fails.")]
+            /// # Examples
+            ///
+            /// ```
+            #[doc = concat!("use ", $at, "::RangeSet2;")]
+            /// use range_sets::Connective;
+            ///
+            #[doc = concat!("let a = RangeSet2::<u8>::", $from, "(0..10)", $ok)]
+            #[doc = concat!("let b = RangeSet2::", $from, "(5..20)", $ok)]
+            #[doc = concat!("let rest: RangeSet2<u8> = a.combine(&b, Connective::NEITHER)", $ok)]
+            /// assert_eq!(rest.boundaries(), [20]);
+            #[doc = $end]
+            /// ```
+            #[$must_use]
+            pub fn combine<B>(
+                &self,
+                that: &RangeSetRef<T>,
+                op: Connective,
+            ) -> $form::Given<$form::RangeSet<B>>
+            where
+                B: Array<Item = T>,
+                T: RangeSetEntry,
+            {
+                let (left, right) = (self.boundaries(), that.boundaries());
+                let list = B::List::combined(left, right, &$form::Copier, op);
+                $form::given::<T, _, _>(list.map($form::RangeSet::of_list))
+            }
+        }
+    };
 }
+
+both_forms!(operations);

@@ -1,8 +1,6 @@
 //! What is asked of one set, or of two. Nothing here takes memory.
 
-use crate::any_range::AnyRange;
-use crate::entry::RangeSetEntry;
-use crate::generated::range_collections::{Comparisons, Countable, FromPlace};
+use crate::generated::range_collections::{Comparisons, FromPlace};
 use crate::generated::range_merge::NoRoom;
 use crate::iter::Members;
 use crate::operation::Connective;
@@ -19,47 +17,13 @@ impl<T> RangeSetRef<T> {
     ///
     /// assert!(RangeSetRef::<u8>::empty().is_empty());
     /// ```
+    #[must_use]
     pub const fn is_empty(&self) -> bool {
         self.boundaries().is_empty()
     }
 }
 
 impl<T: Ord> RangeSetRef<T> {
-    /// Returns `true` if `value` is a member.
-    ///
-    /// It makes *O*(log *n*) comparisons, where *n* is the number of boundaries.
-    ///
-    /// # Examples
-    ///
-    /// ```
-    /// use range_sets::RangeSet2;
-    ///
-    /// let set: RangeSet2<i32> = (0..10).into();
-    /// assert!(set.contains(&0));
-    /// assert!(!set.contains(&10));
-    /// ```
-    #[inline]
-    pub fn contains(&self, value: &T) -> bool {
-        self.proved().contains(value)
-    }
-
-    /// Returns `true` if all values are members.
-    ///
-    /// # Examples
-    ///
-    /// ```
-    /// use range_sets::RangeSetRef;
-    ///
-    /// assert!(RangeSetRef::new(&[0u8]).unwrap().is_all());
-    /// assert!(!RangeSetRef::new(&[1u8]).unwrap().is_all());
-    /// ```
-    pub fn is_all(&self) -> bool
-    where
-        T: RangeSetEntry,
-    {
-        self.proved().is_all()
-    }
-
     /// Returns `true` if the sets have a member in common.
     ///
     /// # Examples
@@ -71,6 +35,7 @@ impl<T: Ord> RangeSetRef<T> {
     /// assert!(day.intersects(RangeSetRef::single(&16)));
     /// assert!(!day.intersects(RangeSetRef::single(&17)));
     /// ```
+    #[must_use]
     pub fn intersects(&self, that: &RangeSetRef<T>) -> bool {
         self.proved().intersects(that.proved())
     }
@@ -85,6 +50,7 @@ impl<T: Ord> RangeSetRef<T> {
     /// let day = RangeSetRef::new(&[9, 17]).unwrap();
     /// assert!(day.is_disjoint(RangeSetRef::single(&17)));
     /// ```
+    #[must_use]
     pub fn is_disjoint(&self, that: &RangeSetRef<T>) -> bool {
         self.proved().is_disjoint(that.proved())
     }
@@ -101,6 +67,7 @@ impl<T: Ord> RangeSetRef<T> {
     /// assert!(noon.is_subset(day));
     /// assert!(!day.is_subset(noon));
     /// ```
+    #[must_use]
     pub fn is_subset(&self, that: &RangeSetRef<T>) -> bool {
         self.proved().is_subset(that.proved())
     }
@@ -116,60 +83,20 @@ impl<T: Ord> RangeSetRef<T> {
     /// let noon = RangeSetRef::new(&[12, 13]).unwrap();
     /// assert!(day.is_superset(noon));
     /// ```
+    #[must_use]
     pub fn is_superset(&self, that: &RangeSetRef<T>) -> bool {
         self.proved().is_superset(that.proved())
-    }
-
-    /// Returns `true` if every value of a range [of any kind](AnyRange) is a member. It is so for an empty or a
-    /// reversed range.
-    ///
-    /// It makes *O*(log *n*) comparisons.
-    ///
-    /// # Examples
-    ///
-    /// ```
-    /// use range_sets::RangeSetRef;
-    ///
-    /// let day = RangeSetRef::new(&[9, 17]).unwrap();
-    /// assert!(day.contains_range(10..17));
-    /// assert!(!day.contains_range(10..=17));
-    /// assert!(!day.contains_range(16..));
-    /// ```
-    #[inline]
-    pub fn contains_range(&self, range: impl AnyRange<T>) -> bool {
-        match range.into() {
-            RangeSetRange::Range(range) => self.proved().contains_range(range),
-            RangeSetRange::RangeFrom(range) => self.next_gap(&range.start).is_none(),
-        }
-    }
-
-    /// Returns `true` if some value of a range [of any kind](AnyRange) is a member. An empty or a reversed range has
-    /// none.
-    ///
-    /// It makes *O*(log *n*) comparisons.
-    ///
-    /// # Examples
-    ///
-    /// ```
-    /// use range_sets::RangeSetRef;
-    ///
-    /// let day = RangeSetRef::new(&[9, 17]).unwrap();
-    /// assert!(day.intersects_range(16..18));
-    /// assert!(!day.intersects_range(17..));
-    /// assert!(day.intersects_range(..=9));
-    /// ```
-    #[inline]
-    pub fn intersects_range(&self, range: impl AnyRange<T>) -> bool {
-        match range.into() {
-            RangeSetRange::Range(range) => self.proved().intersects_range(range),
-            RangeSetRange::RangeFrom(range) => self.next_member(&range.start).is_some(),
-        }
     }
 
     /// Whether some value of the range is no member.
     pub(crate) fn lacks_some(&self, range: &RangeSetRange<T>) -> bool {
         match range {
-            RangeSetRange::Range(range) => self.gaps(&range.start..&range.end).next().is_some(),
+            RangeSetRange::Range(range) => {
+                let mut count = Comparisons::new();
+                !self
+                    .proved()
+                    .has_all_within(&range.start, &range.end, &mut count)
+            }
             RangeSetRange::RangeFrom(range) => self.next_gap(&range.start).is_some(),
         }
     }
@@ -177,74 +104,11 @@ impl<T: Ord> RangeSetRef<T> {
     /// Whether some value of the range is a member.
     pub(crate) fn has_some(&self, range: &RangeSetRange<T>) -> bool {
         match range {
-            RangeSetRange::Range(range) => self
-                .ranges_within(&range.start..&range.end)
-                .next()
-                .is_some(),
+            RangeSetRange::Range(range) => {
+                self.proved().has_member_within(&range.start, &range.end)
+            }
             RangeSetRange::RangeFrom(range) => self.next_member(&range.start).is_some(),
         }
-    }
-
-    /// Returns how many values are members, or `None` if the set has no end. A set without an end has [`rank`](Self::rank)
-    /// of the greatest value members, and that value.
-    ///
-    /// # Examples
-    ///
-    /// ```
-    /// use range_sets::RangeSetRef;
-    ///
-    /// assert_eq!(RangeSetRef::new(&['a', 'd', 'x', 'z']).unwrap().covered(), Some(5));
-    /// let open = RangeSetRef::single(&7u8);
-    /// assert_eq!(open.covered(), None);
-    /// assert_eq!(open.rank(&u8::MAX) + 1, 249);
-    /// ```
-    pub fn covered(&self) -> Option<u128>
-    where
-        T: Countable,
-    {
-        self.proved().covered()
-    }
-
-    /// Returns how many members are below `value`. The set may have no end.
-    ///
-    /// It takes time for each boundary below `value`.
-    ///
-    /// # Examples
-    ///
-    /// ```
-    /// use range_sets::RangeSetRef;
-    ///
-    /// let set = RangeSetRef::new(&[3, 5, 9]).unwrap();
-    /// assert_eq!(set.rank(&4), 1);
-    /// assert_eq!(set.rank(&7), 2);
-    /// assert_eq!(set.rank(&12), 5);
-    /// ```
-    pub fn rank(&self, value: &T) -> u128
-    where
-        T: Countable,
-    {
-        self.proved().rank(value)
-    }
-
-    /// Returns the member with `k` members below it, or `None` if there are no more than `k`.
-    ///
-    /// It takes time for each boundary up to the answer.
-    ///
-    /// # Examples
-    ///
-    /// ```
-    /// use range_sets::RangeSetRef;
-    ///
-    /// let set = RangeSetRef::new(&[3u8, 5, 254]).unwrap();
-    /// assert_eq!(set.select(1), Some(4));
-    /// assert_eq!(set.select(3), Some(255));
-    /// assert_eq!(set.select(4), None);
-    /// ```
-    pub fn select(&self, k: u128) -> Option<T>
-    where
-        T: FromPlace,
-    {
-        self.proved().select(k)
     }
 
     /// Returns the members one by one, from the lowest on or from the highest down.
@@ -280,6 +144,7 @@ impl<T: Ord> RangeSetRef<T> {
     /// assert!(a.merge_test(RangeSetRef::empty(), Connective::DIFFERENCE));
     /// assert!(!a.merge_test(a, Connective::SYMMETRIC_DIFFERENCE));
     /// ```
+    #[must_use]
     pub fn merge_test(&self, that: &RangeSetRef<T>, op: Connective) -> bool {
         self.check_merge(that, op);
         self.proved()
@@ -303,6 +168,7 @@ impl<T: Ord> RangeSetRef<T> {
     /// assert_eq!(a.merge_len(b, Connective::UNION), 2);
     /// assert_eq!(a.merge_len(b, Connective::SYMMETRIC_DIFFERENCE), 4);
     /// ```
+    #[must_use]
     pub fn merge_len(&self, that: &RangeSetRef<T>, op: Connective) -> usize {
         self.check_merge(that, op);
         self.proved()

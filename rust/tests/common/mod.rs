@@ -1,6 +1,8 @@
 //! What the tests share: sets as bitmaps, and made-up numbers.
 #![allow(dead_code)]
 
+pub mod counting;
+
 use range_sets::{Array, RangeSet, RangeSetRef};
 
 /// A set as its members among 0 to 63, bit by bit. The highest bit also stands for all values above.

@@ -4,7 +4,7 @@
 use crate::common::one_in;
 use crate::element::{Hostile, Plan, LIVE, PLAN};
 use crate::without_messages;
-use range_sets::{fallible, ChunkedRangeSet, RangeSet2, RangeSetRange};
+use range_sets::{fallible, ChunkedRangeSet, RangeSet2, RangeSetRange, RangeSetRef};
 use std::cell::Cell;
 use std::ops::Range;
 use std::panic::{catch_unwind, AssertUnwindSafe};
@@ -22,7 +22,7 @@ type Call = (
     fn(&mut ChunkedRangeSet<Hostile>, Range<Hostile>),
 );
 
-const CHANGES: [Change; 13] = [
+const CHANGES: [Change; 19] = [
     ("insert", |set, range| set.insert(range), inserted),
     ("remove", |set, range| set.remove(range), removed),
     (
@@ -76,7 +76,52 @@ const CHANGES: [Change; 13] = [
         |set, range| fallibly(set, |set| set.remove(range)),
         removed,
     ),
+    (
+        "union_with",
+        |set, range| with_view(range, |view| set.union_with(view)),
+        inserted,
+    ),
+    (
+        "difference_with",
+        |set, range| with_view(range, |view| set.difference_with(view)),
+        removed,
+    ),
+    (
+        "symmetric_difference_with twice",
+        |set, range| {
+            with_view(range, |view| {
+                let mut changed = set.clone();
+                changed.symmetric_difference_with(view);
+                changed.symmetric_difference_with(view);
+                *set = changed;
+            })
+        },
+        |boundaries, _| boundaries.to_vec(),
+    ),
+    (
+        "union_with without an end",
+        |set, range| set.union_with(RangeSetRef::single(&range.start)),
+        |boundaries, range| spliced_from(boundaries, range.start, true),
+    ),
+    (
+        "fallible union_with",
+        |set, range| with_view(range, |view| fallibly(set, |set| set.union_with(view))),
+        inserted,
+    ),
+    (
+        "fallible difference_with",
+        |set, range| with_view(range, |view| fallibly(set, |set| set.difference_with(view))),
+        removed,
+    ),
 ];
+
+/// Hands on the view of a range.
+fn with_view(range: Range<Hostile>, call: impl FnOnce(&RangeSetRef<Hostile>)) {
+    let ends = [range.start, range.end];
+    if let Some(view) = RangeSetRef::new(&ends) {
+        call(view);
+    }
+}
 
 /// What only compares or reads.
 const QUESTIONS: [Call; 6] = [
@@ -150,16 +195,17 @@ fn removed(boundaries: &[u16], range: Range<u16>) -> Vec<u16> {
     spliced(boundaries, range, false)
 }
 
-/// The set of so many ranges, of which each takes half of ten numbers.
+/// The set of `ranges` ranges, of which each takes half of ten numbers.
 fn set(ranges: u16) -> ChunkedRangeSet<Hostile> {
     (0..ranges)
         .map(|i| Hostile::of(10 * i + 10)..Hostile::of(10 * i + 15))
         .collect()
 }
 
-/// The boundaries of a set.
+/// The boundaries of a set, which counts its ranges rightly also after a panic.
 fn read(set: &ChunkedRangeSet<Hostile>) -> Vec<u16> {
     let mut boundaries = Vec::new();
+    assert_eq!(set.ranges_len(), set.iter().count());
     for range in set {
         match range {
             RangeSetRange::Range(range) => boundaries.extend([*range.start.0, *range.end.0]),
@@ -167,6 +213,18 @@ fn read(set: &ChunkedRangeSet<Hostile>) -> Vec<u16> {
         }
     }
     boundaries
+}
+
+/// Looks that the set's answers are those of its boundaries, in each chunk.
+fn asks(set: &ChunkedRangeSet<Hostile>) {
+    let found = read(set);
+    for i in (0..found.len()).step_by(if found.len() > 100 { 61 } else { 1 }) {
+        let (at, is_start) = (found[i], i % 2 == 0);
+        assert_eq!(set.contains(&Hostile::of(at)), is_start, "{at}");
+        if let Some(below) = at.checked_sub(1) {
+            assert_eq!(set.contains(&Hostile::of(below)), !is_start, "below {at}");
+        }
+    }
 }
 
 /// Makes a call by a plan. Whether it returned, and the set's boundaries then.
@@ -182,13 +240,16 @@ fn call_by(
         PLAN.with(|it| it.set(plan));
         let returned = catch_unwind(AssertUnwindSafe(|| call(&mut set, range))).is_ok();
         PLAN.with(|it| it.set(Plan::Honest));
+        if !matches!(plan, Plan::Lie(_)) {
+            asks(&set);
+        }
         (returned, read(&set))
     };
     assert_eq!(LIVE.with(Cell::get), 0, "of {ranges} ranges and {range:?}");
     found
 }
 
-/// So many ranges, and a range that is put in or taken out: within one chunk, from one into another, across whole ones, of
+/// How many ranges the set has, and a range that is put in or taken out: within one chunk, from one into another, across whole ones, of
 /// all chunks, from a boundary, up to one, in no range, reversed. A set that grows in order has chunks of 256 boundaries.
 #[allow(clippy::reversed_empty_ranges)]
 const CASES: [(u16, Range<u16>); 16] = [
@@ -291,6 +352,30 @@ fn a_comparison_that_panics_changes_nothing() {
     });
 }
 
+/// The boundaries of a set without an end, an odd number, give way to fewer or more, within a chunk.
+#[test]
+fn drops_that_panic_up_to_the_end_of_a_set() {
+    without_messages(|| {
+        for (len, start) in [(3, 5), (3, 25), (7, 1), (7, 20), (301, 5), (301, 2_000)] {
+            // First clones of the boundaries are dropped, and then these.
+            for turn in (0..2 * len + 2).step_by(1 + len / 20) {
+                let before: Vec<u16> = (1..=len as u16).map(|i| 10 * i).collect();
+                let list = before.iter().map(|&it| Hostile::of(it)).collect();
+                let mut set = ChunkedRangeSet::from(RangeSet2::new(list).expect("it is sorted"));
+                let view = Hostile::of(start);
+                PLAN.with(|plan| plan.set(Plan::PanicAtDrop(turn)));
+                let change = AssertUnwindSafe(|| set.union_with(RangeSetRef::single(&view)));
+                let _ = catch_unwind(change);
+                PLAN.with(|plan| plan.set(Plan::Honest));
+                let (found, asked) = (read(&set), spliced_from(&before, start, true));
+                assert!(found == before || found == asked || found.is_empty());
+                asks(&set);
+            }
+        }
+        assert_eq!(LIVE.with(Cell::get), 0);
+    });
+}
+
 #[test]
 fn orders_that_lie() {
     without_messages(|| {
@@ -320,5 +405,31 @@ fn a_set_whose_change_panicked_is_of_use() {
         set.clear();
         set.insert(Hostile::of(4)..Hostile::of(6));
         assert_eq!(read(&set), [4, 6]);
+    });
+}
+
+/// Two ranges far apart change two windows: a drop that panics leaves none of both changes, all, or nothing.
+#[test]
+fn drops_that_panic_between_windows_far_apart() {
+    without_messages(|| {
+        for turn in 0..12 {
+            let before: Vec<u16> = (1..=6_000).map(|i| 10 * i).collect();
+            let list = before.iter().map(|&it| Hostile::of(it)).collect();
+            let mut set = ChunkedRangeSet::from(RangeSet2::new(list).expect("it is sorted"));
+            let ends = [5, 25, 59_985, 60_005].map(Hostile::of);
+            let view = RangeSetRef::new(&ends).expect("it is sorted");
+            PLAN.with(|plan| plan.set(Plan::PanicAtDrop(turn)));
+            let _ = catch_unwind(AssertUnwindSafe(|| set.union_with(view)));
+            PLAN.with(|plan| plan.set(Plan::Honest));
+            let once = spliced(&before, 5..25, true);
+            let asked = spliced(&once, 59_985..60_005, true);
+            let found = read(&set);
+            assert!(
+                found == before || found == asked || found.is_empty(),
+                "turn {turn}"
+            );
+            asks(&set);
+        }
+        assert_eq!(LIVE.with(Cell::get), 0);
     });
 }

@@ -8,11 +8,11 @@ use std::cmp::Ordering;
 pub enum Plan {
     /// Comparisons go by the number, and clones succeed.
     Honest,
-    /// The comparison panics before which so many were made.
+    /// The comparison after this many panics.
     PanicAtComparison(usize),
-    /// The clone panics before which so many were made.
+    /// The clone after this many panics.
     PanicAtClone(usize),
-    /// The drop panics before which so many were made.
+    /// The drop after this many panics.
     PanicAtDrop(usize),
     /// What was to panic has: a second panic would end the process.
     Panicked,

@@ -31,7 +31,7 @@ fn numbers(set: &RangeSetRef<Hostile>) -> Vec<u8> {
     set.boundaries().iter().map(|it| *it.0 as u8).collect()
 }
 
-/// Changes a set so many times. Answers how many of the calls panicked.
+/// Changes a set again and again. Returns how many of the calls panicked.
 fn changed<S, A>(changes: &Changes<S, A>, random: &mut Random) -> usize
 where
     S: From<RangeSet<A>> + AsRef<RangeSetRef<Hostile>>,

@@ -171,7 +171,7 @@ fn inserted(cells: &mut Cells, range: Range<u16>, value: u16) {
     put(cells, range, Some(value));
 }
 
-/// So many ranges, of which each takes half of ten numbers, and each second one touches the next with another value.
+/// The keys of `ranges` ranges, each of which takes half of ten numbers, and each second one touches the next with another value.
 fn cells(ranges: u16) -> Cells {
     let mut cells = [None; 100];
     for i in 0..ranges {
@@ -221,7 +221,7 @@ fn call_by(
     found
 }
 
-/// So many ranges, and a range that is put in or taken out with its value: the first one, within a range, with the value
+/// How many ranges the map has, and a range that is put in or taken out with its value: the first one, within a range, with the value
 /// that is there, over one, over some, over all, between two, from a start, up to an end, in no range, reversed.
 #[allow(clippy::reversed_empty_ranges)]
 const CASES: [(u16, (Range<u16>, u16)); 13] = [

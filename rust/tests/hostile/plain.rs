@@ -1,5 +1,5 @@
 //! Elements without a drop, which a merge may hold copies of: in long lists short runs of them are read item by item, and
-//! a change in place is made in a list of its own.
+//! a change in place is made in a list of its own or, where the set has room, over the set's by a copy of it.
 
 use crate::common::one_in;
 use crate::element::{before_clone, compare, Plan, PLAN};
@@ -133,15 +133,28 @@ fn short_runs_give_what_is_wanted() {
             assert_eq!(found, wanted(name, &left, &right), "{name} {runs:?}");
         }
         for (name, change) in CHANGES {
-            let mut changed = a.clone();
-            change(&mut changed, &b);
-            let found = numbers(&changed);
-            assert_eq!(found, wanted(name, &left, &right), "{name} {runs:?}");
+            for room in ROOMS {
+                let mut changed = with_room(&a, room);
+                change(&mut changed, &b);
+                let found = numbers(&changed);
+                let wanted = wanted(name, &left, &right);
+                assert_eq!(found, wanted, "{name} {runs:?}, room for {room}");
+            }
         }
     }
 }
 
-/// Makes each call with each panic in turn. A change in place leaves such a set as it was.
+/// Room for no more boundaries, and for those of the other side.
+const ROOMS: [usize; 2] = [0, 200];
+
+fn with_room(set: &Set, room: usize) -> Set {
+    let mut set = set.clone();
+    set.reserve(room);
+    set
+}
+
+/// Makes each call with each panic in turn. A change in place leaves such a set as it was; one that has room, and so is
+/// written over, may be empty.
 fn panic_in_turn(plan: fn(usize) -> Plan, at_least: usize) {
     let mut panicked = 0;
     let mut attempt = |turn, name: &str, call: &mut dyn FnMut()| {
@@ -168,6 +181,17 @@ fn panic_in_turn(plan: fn(usize) -> Plan, at_least: usize) {
                 assert_eq!(numbers(&changed), left, "{name} {runs:?}, panic {turn}");
                 turn += one_in();
             }
+            for turn in (0..).step_by(one_in()) {
+                let mut changed = with_room(&a, 200);
+                if attempt(turn, name, &mut || change(&mut changed, &b)) {
+                    break;
+                }
+                let found = numbers(&changed);
+                assert!(
+                    found.is_empty() || found == left,
+                    "{name} {runs:?}, panic {turn} with room"
+                );
+            }
         }
     }
     assert!(panicked >= at_least, "{panicked} calls panicked");
@@ -190,7 +214,8 @@ fn short_runs_of_orders_that_lie() {
             let (left, right) = sides(runs);
             for seed in (1..200u64).step_by(one_in()) {
                 for ((_, call), (_, change)) in NEW.iter().zip(CHANGES) {
-                    let (mut a, b) = (set(&left), set(&right));
+                    let room = ROOMS[seed as usize / one_in() % 2];
+                    let (mut a, b) = (with_room(&set(&left), room), set(&right));
                     let plan = Plan::Lie(seed.wrapping_mul(0x9e37_79b9_7f4a_7c15));
                     PLAN.with(|it| it.set(plan));
                     let made = catch_unwind(AssertUnwindSafe(|| call(&a, &b)));

@@ -1,10 +1,10 @@
 //! Memory refused at each request in turn: a change of a set in chunks answers an error, and leaves the set as it was.
 
-use crate::refusing::{each_refusal, refusing, unrefused, Refusal};
+use crate::refusing::{each_refusal, refusing, unrefused, Refusal, LARGEST};
 use range_sets::fallible::{AllocError, ChunkedRangeSet, RangeSet2};
 use std::ops::Range;
 
-/// So many ranges, each of which takes half of ten numbers.
+/// The set of `ranges` ranges, each of which takes half of ten numbers.
 fn set(ranges: u32) -> ChunkedRangeSet<u32> {
     let mut set = ChunkedRangeSet::new();
     set.extend((0..ranges).map(|i| 10 * i + 10..10 * i + 15))
@@ -32,7 +32,7 @@ const REMOVE_CHANGED: Change = |set, range| set.remove_changed(range).map(drop);
 const UNION: Change = |set, range| set.union_with(&range_sets::RangeSet2::from(range));
 const DIFFERENCE: Change = |set, range| set.difference_with(&range_sets::RangeSet2::from(range));
 
-/// A change of a set of so many ranges, and whether it asks for memory: where the set grows, and its list of chunks or the
+/// How many ranges a set has, a change, and whether it asks for memory: where the set grows, and its list of chunks or the
 /// chunk has no room, or the chunk is full. A chunk has at most 512 boundaries, and room for a power of two.
 struct Row {
     name: &'static str,
@@ -50,7 +50,7 @@ const ROWS: [Row; 19] = [
     Row { name: "a range where there is none", change: INSERT, ranges: 128, range: 17..18, asks: true },
     Row { name: "a range before a full chunk", change: INSERT, ranges: 256, range: 2..4, asks: true },
     Row { name: "a range behind a full chunk", change: INSERT, ranges: 256, range: 9000..9001, asks: true },
-    Row { name: "a chunk where there is no room", change: INSERT, ranges: 640, range: 9000..9001, asks: true },
+    Row { name: "a chunk where there is no room", change: INSERT, ranges: 639, range: 9000..9001, asks: true },
     Row { name: "a longer range", change: INSERT, ranges: 3000, range: 20_010..20_017, asks: false },
     Row { name: "one range of many", change: INSERT, ranges: 3000, range: 12..20_017, asks: false },
     Row { name: "no range", change: INSERT, ranges: 128, range: 9..9, asks: false },
@@ -64,6 +64,18 @@ const ROWS: [Row; 19] = [
     Row { name: "a set of one range", change: UNION, ranges: 300, range: 12..17, asks: true },
     Row { name: "a set out of many ranges", change: DIFFERENCE, ranges: 300, range: 12..1_017, asks: true },
 ];
+
+#[test]
+fn a_clone_asks_for_no_more_than_its_boundaries_take() {
+    for ranges in [1, 20, 300] {
+        let set = set(ranges);
+        LARGEST.with(|largest| largest.set(0));
+        let clone = set.try_clone().expect("no memory is refused");
+        let largest = LARGEST.with(|largest| largest.get());
+        assert!(largest <= 8 * ranges as usize + 64, "{ranges}: {largest}");
+        assert_eq!(listed(&clone), listed(&set));
+    }
+}
 
 #[test]
 fn changes_are_refused_and_leave_the_set_as_it_was() {
@@ -149,7 +161,7 @@ fn ranges_without_an_end_are_refused_and_leave_the_set_as_it_was() {
     for (ranges, start, asks) in [
         (0, 5, true),
         (128, 12, false),
-        (640, 9000, true),
+        (639, 9000, true),
         (256, 9000, false),
         (3, 2, false),
     ] {

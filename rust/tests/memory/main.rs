@@ -11,9 +11,12 @@ mod space;
 
 use range_sets::fallible::{AllocError, EntryClone, RangeSet, RangeSet2};
 use range_sets::tracker::{ChunkedTracker, TrackError, Tracker};
-use range_sets::{Array, Connective, ParseError, RangeSetEntry, RangeSetRange, RangeSetRef};
+use range_sets::{
+    Array, Connective, MultirangeError, ParseError, RangeSetEntry, RangeSetRange, RangeSetRef,
+};
 use refusing::{each_refusal, refusals, refusing, unrefused, Refusal, LARGEST};
 use std::cell::Cell;
+use std::cmp::Reverse;
 use std::fmt::Debug;
 use std::io::Write;
 
@@ -311,6 +314,15 @@ fn sets_from_texts() {
 }
 
 #[test]
+fn sets_from_multiranges() {
+    let text = "{[0,3),[90,95),[5,9),[20,30),[40,50),[60,)}";
+    let read = |_: &mut ()| RangeSet2::<u8>::from_multirange(text).map(|set| list(&set));
+    assert!(each_refusal("from_multirange", || (), read, |_, _| true) > 1);
+    let (refused, _) = refusing(Refusal::From(0), || RangeSet2::<u8>::from_multirange(text));
+    assert_eq!(refused, Err(MultirangeError::OutOfMemory));
+}
+
+#[test]
 fn sets_of_values() {
     fn made<const N: usize>(room: usize)
     where
@@ -524,7 +536,7 @@ fn a_number_needs_no_copy_before_a_change() {
     no_copy_before_a_change::<u128>();
 }
 
-/// The other side is owned. Where both are a few and the set has room, a new list isn't asked for.
+/// The other side is owned. Where both are a few and the set has room, no memory is asked for.
 #[test]
 fn a_few_numbers_move_in_room_that_is_there() {
     let ranges = |first: u64| (0..5).map(move |i| 10 * i + first..10 * i + first + 2);
@@ -542,12 +554,61 @@ fn a_few_numbers_move_in_room_that_is_there() {
         (set.boundaries().len(), set.capacity(), refused),
         (16, room, 0)
     );
-    // Without memory for a new list, many move too.
+    // Without memory for copies, many move too.
     let mut many: range_sets::RangeSet2<u64> = (0..50).flat_map(|i| ranges(100 * i)).collect();
     let other: range_sets::RangeSet2<u64> = (0..50).flat_map(|i| ranges(100 * i + 5)).collect();
     many.reserve(500);
     let ((), refused) = refusing(Refusal::From(0), || many |= other);
     assert_eq!((many.boundaries().len(), refused), (1000, 1));
+}
+
+/// What was reserved stays, whatever changes the set before it is used.
+#[test]
+fn room_that_was_reserved_is_there_after_a_change() {
+    type Call = fn(&mut RangeSet2<u64>, &RangeSet2<u64>) -> Result<(), AllocError>;
+    type OwnedCall =
+        fn(&mut RangeSet2<u64>, RangeSet2<u64>) -> Result<(), (AllocError, RangeSet2<u64>)>;
+    let owned = |call: OwnedCall, set: &mut RangeSet2<u64>, that: &RangeSet2<u64>| {
+        let that = unrefused(|| that.try_clone()).unwrap();
+        call(set, that).map_err(|(refused, _)| refused)
+    };
+    let borrowed: [(&str, Call); 4] = [
+        ("union_with", |a, b| a.union_with(b)),
+        ("intersection_with", |a, b| a.intersection_with(b)),
+        ("difference_with", |a, b| a.difference_with(b)),
+        ("symmetric_difference_with", |a, b| {
+            a.symmetric_difference_with(b)
+        }),
+    ];
+    let by_owned: [(&str, OwnedCall); 4] = [
+        ("bitor_assign", RangeSet::bitor_assign),
+        ("bitand_assign", RangeSet::bitand_assign),
+        ("sub_assign", RangeSet::sub_assign),
+        ("bitxor_assign", RangeSet::bitxor_assign),
+    ];
+    // The change finds memory, or none.
+    for memory in [Refusal::Nothing, Refusal::From(0)] {
+        let inserts = |name: &str, change: &dyn Fn(&mut RangeSet2<u64>, &RangeSet2<u64>)| {
+            let (mut set, that) = sides::<u64>(40, 40);
+            set.reserve(1000).unwrap();
+            let room = set.capacity();
+            refusing(memory, || change(&mut set, &that));
+            assert_eq!(set.capacity(), room, "{name} {memory:?}");
+            let (inserted, refused) = refusing(Refusal::From(0), || {
+                (0..200).try_for_each(|i| set.insert(1000 + 3 * i..1001 + 3 * i))
+            });
+            assert_eq!((inserted, refused), (Ok(()), 0), "{name} {memory:?}");
+            assert!(set.boundaries().len() >= 400, "{name}");
+        };
+        for (name, call) in borrowed {
+            inserts(name, &|set, that| assert_eq!(call(set, that), Ok(())));
+        }
+        for (name, call) in by_owned {
+            inserts(name, &|set, that| {
+                assert_eq!(owned(call, set, that), Ok(()))
+            });
+        }
+    }
 }
 
 /// A list that grows by one boundary at a time doubles its room.
@@ -563,18 +624,21 @@ fn a_list_that_grows_asks_seldom() {
 #[test]
 fn unsorted_boundaries_are_sorted_where_they_lie() {
     const BYTES: usize = 10_000;
-    let largest = |make: &dyn Fn() -> range_sets::RangeSet2<u8>| {
+    fn largest<T: Ord + Clone>(make: impl Fn() -> range_sets::RangeSet2<T>) -> usize {
         LARGEST.with(|largest| largest.set(0));
         let set = make();
-        assert_eq!(set.boundaries(), (0..=255).collect::<Vec<u8>>());
+        assert_eq!(set.boundaries().len(), 256);
         LARGEST.with(Cell::get)
-    };
+    }
     let numbers = || (0..BYTES).map(|i| (7 * i % 256) as u8);
-    assert!(largest(&|| range_sets::RangeSet::from_unsorted(numbers())) <= 2 * BYTES);
+    assert!(largest(|| range_sets::RangeSet::from_unsorted(numbers())) <= 2 * BYTES);
+    // Numbers are sorted so in any case, and other elements by std.
+    let others = || range_sets::RangeSet::from_unsorted(numbers().map(Reverse));
+    assert!(largest(others) <= 2 * BYTES);
     #[cfg(feature = "serde")]
     {
         let text = serde_json::to_string(&numbers().collect::<Vec<_>>()).unwrap();
-        assert!(largest(&|| serde_json::from_str(&text).unwrap()) <= 2 * BYTES);
+        assert!(largest::<u8>(|| serde_json::from_str(&text).unwrap()) <= 2 * BYTES);
     }
 }
 
@@ -585,23 +649,36 @@ fn other_sets_end_the_process() {
     use std::os::unix::process::ExitStatusExt;
 
     const CHILD: &str = "RANGE_SETS_TEST_ENDS_THE_PROCESS";
-    let calls: [(&str, fn()); 2] = [
-        ("|=", || {
+    // A name, what is said, and the call.
+    let calls: [(&str, &str, fn()); 4] = [
+        ("|=", "memory allocation of", || {
             let mut set: range_sets::RangeSet2<u64> = (0..10).into();
             let that: range_sets::RangeSet2<u64> = (20..30).into();
             refusing(Refusal::One(0), || set |= that);
         }),
-        ("parse", || {
+        ("parse", "memory allocation of", || {
             let text = "1..2, 3..4, 5..6";
             let parse = || text.parse::<range_sets::RangeSet2<u64>>();
             let _ = refusing(Refusal::From(0), parse);
         }),
+        (
+            "with_capacity",
+            "memory allocation of 800 bytes failed",
+            || {
+                let make = || range_sets::RangeSet2::<u64>::with_capacity(100);
+                drop(refusing(Refusal::From(0), make));
+            },
+        ),
+        ("reserve", "memory allocation of 816 bytes failed", || {
+            let mut set: range_sets::RangeSet2<u64> = (0..10).into();
+            refusing(Refusal::From(0), || set.reserve(100));
+        }),
     ];
     if let Some(wanted) = std::env::var_os(CHILD) {
-        calls.iter().find(|call| call.0 == wanted).unwrap().1();
+        calls.iter().find(|call| call.0 == wanted).unwrap().2();
         return;
     }
-    for (name, _) in calls {
+    for (name, message, _) in calls {
         let this = std::env::current_exe().unwrap();
         let child = std::process::Command::new(this)
             .args(["--exact", "other_sets_end_the_process", "--nocapture"])
@@ -610,6 +687,6 @@ fn other_sets_end_the_process() {
             .unwrap();
         assert_eq!(child.status.signal(), Some(6), "{name}");
         let said = String::from_utf8_lossy(&child.stderr);
-        assert!(said.contains("memory allocation of"), "{name}: {said}");
+        assert!(said.contains(message), "{name}: {said}");
     }
 }

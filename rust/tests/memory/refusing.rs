@@ -12,7 +12,7 @@ pub struct Refusing;
 #[derive(Clone, Copy, Debug)]
 pub enum Refusal {
     Nothing,
-    /// The one before which so many are answered.
+    /// The one after this many.
     One(usize),
     /// That one and all after it.
     From(usize),

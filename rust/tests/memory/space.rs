@@ -5,7 +5,7 @@ use crate::refusing::{each_refusal, refusing, unrefused, Refusal};
 use range_sets::fallible::{AllocError, ChunkedSpace};
 use range_sets::RangeSetRange;
 
-/// A space with so many ranges, each of which takes half of ten numbers.
+/// A space with `ranges` ranges, each of which takes half of ten numbers.
 fn space(ranges: u64) -> ChunkedSpace<u64> {
     let mut space = ChunkedSpace::new();
     for i in 0..ranges {
@@ -22,7 +22,7 @@ fn listed(space: &ChunkedSpace<u64>) -> Vec<RangeSetRange<u64>> {
 
 type Change = fn(&mut ChunkedSpace<u64>) -> Result<(), AllocError>;
 
-/// A change, of a space of so many ranges, and whether it asks for memory.
+/// A change, how many ranges the space has, and whether it asks for memory.
 struct Row {
     name: &'static str,
     ranges: u64,
@@ -31,12 +31,14 @@ struct Row {
 }
 
 #[rustfmt::skip]
-const ROWS: [Row; 6] = [
+const ROWS: [Row; 8] = [
     Row { name: "the first range", ranges: 0, change: |space| space.insert(5..8), asks: true },
     Row { name: "a full chunk is split", ranges: 256, change: |space| space.insert(17..18), asks: true },
     Row { name: "all gaps at once", ranges: 3000, change: |space| space.insert(0..40_000), asks: false },
     Row { name: "all from a start on", ranges: 3000, change: |space| space.insert(12..), asks: false },
     Row { name: "the middle of a range", ranges: 256, change: |space| space.remove(12..13), asks: true },
+    Row { name: "a first range that is new", ranges: 0, change: |space| space.insert_changed(5..8).map(|is_new| assert!(is_new)), asks: true },
+    Row { name: "a middle that was there", ranges: 256, change: |space| space.remove_changed(12..13).map(|was_there| assert!(was_there)), asks: true },
     Row { name: "many ranges", ranges: 3000, change: |space| space.remove(13..20_012), asks: false },
 ];
 

@@ -3,7 +3,7 @@
 use crate::page::{with_page, Page, Set};
 use range_sets::tracker::{TrackError, Tracker};
 
-/// Begins anew, with at most so many boundaries.
+/// Begins a new tracker of at most `limit` boundaries.
 #[no_mangle]
 pub extern "C" fn track(limit: usize) {
     with_page(|page| page.tracker = Tracker::new(limit));

@@ -180,7 +180,7 @@ macro_rules! exports {
             places
         }
 
-        /// Writes the front of the boundaries, and tells how many there are.
+        /// Writes the front of the boundaries, and returns how many there are.
         #[no_mangle]
         pub unsafe extern "C" fn $boundaries(set: *const $kind, out: *mut i64, out_len: usize) -> usize {
             let (out, mut len) = (room(out, out_len), 0);

@@ -7,12 +7,15 @@
 //! Each pointer is that of as many numbers as the length beside it says, which the driver leaves alone during the call.
 #![allow(clippy::missing_safety_doc)]
 
+mod by_hand;
 mod growing;
 mod maps;
 mod tree;
 mod tree_map;
 
 use range_sets::{Connective, RangeSet2, RangeSetRange, RangeSetRef};
+use smallvec::SmallVec;
+use std::mem::size_of;
 use std::slice::{from_raw_parts as list, from_raw_parts_mut as room};
 
 fn view(items: &[i64]) -> &RangeSetRef<i64> {
@@ -20,10 +23,10 @@ fn view(items: &[i64]) -> &RangeSetRef<i64> {
 }
 
 fn set(items: &[i64]) -> RangeSet2<i64> {
-    RangeSet2::new_unchecked(items.into())
+    RangeSet2::new_unchecked(SmallVec::from_slice(items))
 }
 
-/// Writes the front of the set's boundaries, and tells how many there are.
+/// Writes the front of the set's boundaries, and returns how many there are.
 fn give(set: RangeSet2<i64>, out: &mut [i64]) -> usize {
     for (place, boundary) in out.iter_mut().zip(set.boundaries()) {
         *place = *boundary;
@@ -126,6 +129,23 @@ questions! {
     plain_rust_union_len = |a, b| view(a).merge_len(view(b), Connective::UNION) => usize;
     plain_rust_contains = |a, values| values.iter().filter(|value| view(a).contains(value)).count() => usize;
     plain_rust_split = |a, values| values.iter().map(|value| view(a).split(*value).0.boundaries().len()).sum() => usize;
+}
+
+// A text, as the driver has them: one right after the other.
+type Text = [u8; 32];
+
+unsafe fn texts<'a>(bytes: *const u8, len: usize) -> &'a RangeSetRef<Text> {
+    RangeSetRef::new_unchecked(list(bytes.cast::<Text>(), len / size_of::<Text>()))
+}
+
+#[no_mangle]
+pub unsafe extern "C" fn plain_rust_union_len_text(
+    left: *const u8,
+    left_len: usize,
+    right: *const u8,
+    right_len: usize,
+) -> usize {
+    texts(left, left_len).merge_len(texts(right, right_len), Connective::UNION)
 }
 
 #[no_mangle]

@@ -96,7 +96,7 @@ macro_rules! exports {
             Box::into_raw(Box::new(Mapping::sum(&*map, &*that)))
         }
 
-        /// Writes the front of the starts, ends and values, and tells how many there are.
+        /// Writes the front of the starts, ends and values, and returns how many there are.
         #[no_mangle]
         pub unsafe extern "C" fn $entries(
             map: *const $kind,

@@ -1,15 +1,15 @@
 //! Where a stretch of numbers fits beside the members of a set in chunks, from a multiple on, and
 //! where members are in a row.
-ghost use Rattle.std.specs.Prelude.{◌≡◌, ◌<◌, ◌≤◌, ◌%◌, ℕ, true, false, IsTrue};
-ghost use Rattle.range_collections.specs.Fits.{IsRow};
+ghost use Rattle.std.specs.Prelude.{◌≡◌, ◌<◌, ◌≤◌, ℕ, true, false, IsTrue};
+ghost use Rattle.range_collections.specs.Fits.{IsMultiple, IsRow};
 
 use crate::parts::put;
 use range_chunks::{ChunkedRangeSet, ChunkedSpace};
 use range_collections::{Countable, FromPlace};
 use std::ops::Range;
 
-// Tells the least number whose place is a multiple of `align` and from which on `count` numbers lie
-// in the range and none is a member, where there is one. The set remembers what it learns of its
+// Writes the least multiple of `align` from which `count` numbers lie in the range and none is a
+// member, if there is one. The set remembers what it learns of its
 // gaps.
 pub(crate) fn first_fit_aligned<T: FromPlace>(
     set: &mut ChunkedSpace<T>,
@@ -20,10 +20,10 @@ pub(crate) fn first_fit_aligned<T: FromPlace>(
 ) -> bool
     ensures fits { IsTrue result → IsRow T.cmp T.value false set.old
         (T.place within.start) (T.place within.end) count (T.place at.new) }
-    ensures aligned { IsTrue result → T.place at.new % align ≡ 0 }
-    ensures least { IsTrue result → (n : ℕ) → n % align ≡ 0 → IsRow T.cmp T.value false set.old
+    ensures aligned { IsTrue result → IsMultiple T.zero align (T.place at.new) }
+    ensures least { IsTrue result → (n : ℕ) → IsMultiple T.zero align n → IsRow T.cmp T.value false set.old
         (T.place within.start) (T.place within.end) count n → T.place at.new ≤ n }
-    ensures none { result ≡ false → 0 < align → (n : ℕ) → n % align ≡ 0 →
+    ensures none { result ≡ false → 0 < align → (n : ℕ) → IsMultiple T.zero align n →
         ¬ (IsRow T.cmp T.value false set.old
         (T.place within.start) (T.place within.end) count n) }
     ensures no_answer { result ≡ false → at.new ≡ at.old }

@@ -16,7 +16,7 @@ use std::ops::Range;
 
 impl<T: Ord + Drop> ChunkedRangeSet<T> {
     /// Adds the elements of the range, as `insert` does, and returns `true` if one of them wasn't a
-    /// member before. It makes at most two searches more.
+    /// member before. It makes one search more.
     ///
     /// ```text
     /// let mut seen = ChunkedRangeSet::new(alloc);
@@ -31,8 +31,12 @@ impl<T: Ord + Drop> ChunkedRangeSet<T> {
         ensures members { OnOk result ((x : T) → member T.cmp self.new x ≡
             (member T.cmp self.old x || (is_le (T.cmp range.start x) && is_lt (T.cmp x range.end)))) }
     {
-        let chunks = self.chunks.as_slice();
-        let all = has_all(chunks, &range.start, &range.end, &mut Comparisons::new());
+        let all = has_all(
+            &self.list,
+            &range.start,
+            &range.end,
+            &mut Comparisons::new(),
+        );
         self.insert(range)?;
         Ok(!all)
     }
@@ -52,7 +56,7 @@ impl<T: Ord + Drop> ChunkedRangeSet<T> {
         ensures members { OnOk result ((x : T) → member T.cmp self.new x ≡
             (member T.cmp self.old x && not (is_le (T.cmp range.start x) && is_lt (T.cmp x range.end)))) }
     {
-        let some = has_some(self.chunks.as_slice(), &range.start, &range.end);
+        let some = has_some(&self.list, &range.start, &range.end);
         self.remove(range)?;
         Ok(some)
     }

@@ -27,7 +27,7 @@ impl<T: Ord> ChunkedRangeSet<T> {
         ensures comparisons { AddsAtMost count.old count.new
             (digits (length self.now) + digits 512) }
     {
-        is_member(self.chunks.as_slice(), value, count)
+        is_member(&self.list, value, count)
     }
 }
 
@@ -38,9 +38,9 @@ impl<T: Ord + Drop> ChunkedRangeSet<T> {
         requires made { count.old < 2 ^ 64 }
         ensures members { IsTrue result ↔ HasAllWithin T.cmp self.now range.start range.end }
         ensures comparisons { AddsAtMost count.old count.new
-            (2 * (digits (length self.now) + digits 512) + 1) }
+            (digits (length self.now) + digits 512 + 2) }
     {
-        has_all(self.chunks.as_slice(), &range.start, &range.end, count)
+        has_all(&self.list, &range.start, &range.end, count)
     }
 
     /// `insert`, with a counter.
@@ -57,7 +57,7 @@ impl<T: Ord + Drop> ChunkedRangeSet<T> {
         ensures comparisons { AddsAtMost count.old count.new
             (2 * (digits (length self.old) + digits 512) + 1) }
     {
-        set_range(&mut self.chunks, range, true, count)
+        set_range(&mut self.list, range, true, count)
     }
 
     /// `remove`, with a counter.
@@ -74,7 +74,7 @@ impl<T: Ord + Drop> ChunkedRangeSet<T> {
         ensures comparisons { AddsAtMost count.old count.new
             (2 * (digits (length self.old) + digits 512) + 1) }
     {
-        set_range(&mut self.chunks, range, false, count)
+        set_range(&mut self.list, range, false, count)
     }
 
     /// `insert_from`, with a counter.
@@ -91,7 +91,7 @@ impl<T: Ord + Drop> ChunkedRangeSet<T> {
         ensures comparisons { AddsAtMost count.old count.new
             (digits (length self.old) + digits 512) }
     {
-        set_from(&mut self.chunks, range.start, true, count)
+        set_from(&mut self.list, range.start, true, count)
     }
 
     /// `remove_from`, with a counter.
@@ -108,6 +108,6 @@ impl<T: Ord + Drop> ChunkedRangeSet<T> {
         ensures comparisons { AddsAtMost count.old count.new
             (digits (length self.old) + digits 512) }
     {
-        set_from(&mut self.chunks, range.start, false, count)
+        set_from(&mut self.list, range.start, false, count)
     }
 }

@@ -1,12 +1,12 @@
 //! Where a stretch of values fits beside the members, or in them.
-ghost use Rattle.std.specs.Prelude.{◌≡◌, ◌<◌, ◌≤◌, ◌+◌, ◌%◌, ℕ, true, false, cond, Some, None, IfSome, IfNone};
+ghost use Rattle.std.specs.Prelude.{◌≡◌, ◌<◌, ◌≤◌, ◌+◌, ℕ, true, false, cond, Some, None, IfSome, IfNone};
 ghost use Rattle.std.specs.Ordering.{is_le};
 ghost use Rattle.range_merge.specs.Boundaries.{member};
-ghost use Rattle.range_collections.specs.Fits.{Fits, IsRow};
+ghost use Rattle.range_collections.specs.Fits.{Fits, IsMultiple, IsRow};
 
 use crate::reading::first_fit;
 use crate::set::ChunkedRangeSet;
-use range_collections::{Countable, FromPlace, Unsigned, place_in};
+use range_collections::{Countable, FromPlace, Multiples, Unsigned, place_in};
 use std::ops::Range;
 
 impl<T: Unsigned> ChunkedRangeSet<T> {
@@ -34,7 +34,7 @@ impl<T: Unsigned> ChunkedRangeSet<T> {
 impl<T: Ord> ChunkedRangeSet<T> {
     // How many chunks there are.
     pub(crate) fn chunks_len(&self) -> usize {
-        self.chunks.len()
+        self.list.chunks_len()
     }
 }
 
@@ -59,7 +59,7 @@ impl<T: Countable + Copy> ChunkedRangeSet<T> {
         if count == 0 {
             return start.cmp(&end).is_le().then_some(start);
         }
-        let row = first_fit(self.gaps(&start..&end), count, 1)?;
+        let row = first_fit(self.gaps(&start..&end), count, Multiples::of_one())?;
         Some(row.start)
     }
 
@@ -81,23 +81,23 @@ impl<T: Countable + Copy> ChunkedRangeSet<T> {
         if count == 0 {
             return start.cmp(&end).is_le().then_some(start);
         }
-        let row = first_fit(self.ranges_within(&start..&end), count, 1)?;
+        let row = first_fit(self.ranges_within(&start..&end), count, Multiples::of_one())?;
         Some(row.start)
     }
 }
 
 impl<T: FromPlace> ChunkedRangeSet<T> {
-    /// The least value whose place is a multiple of `align` and from which `count` values lie in
-    /// the range, none of them a member. `None` if there is none, or if `align` is 0.
+    /// The least multiple of `align` from which `count` values lie in the range, none of them a
+    /// member. `None` if there is none, or if `align` is 0. The number of a `char` is its place.
     ///
     /// It looks at each gap from the start up to the answer, and takes no memory.
     pub fn first_fit_aligned(&self, within: Range<T>, count: u128, align: u128) -> Option<T>
         ensures fits { IfSome result (λ at. IsRow T.cmp T.value false self.now
             (T.place within.start) (T.place within.end) count (T.place at)) }
-        ensures aligned { IfSome result (λ at. T.place at % align ≡ 0) }
-        ensures least { IfSome result (λ at. (n : ℕ) → n % align ≡ 0 → IsRow T.cmp T.value false
+        ensures aligned { IfSome result (λ at. IsMultiple T.zero align (T.place at)) }
+        ensures least { IfSome result (λ at. (n : ℕ) → IsMultiple T.zero align n → IsRow T.cmp T.value false
             self.now (T.place within.start) (T.place within.end) count n → T.place at ≤ n) }
-        ensures none { 0 < align → IfNone result ((n : ℕ) → n % align ≡ 0 →
+        ensures none { 0 < align → IfNone result ((n : ℕ) → IsMultiple T.zero align n →
             ¬ (IsRow T.cmp T.value false self.now
             (T.place within.start) (T.place within.end) count n)) }
         ensures no_align { align ≡ 0 → result ≡ None }
@@ -114,21 +114,22 @@ impl<T: FromPlace> ChunkedRangeSet<T> {
         ensures fits { IfSome result (IsRow T.cmp T.value false self.now
             (T.place start.now) (T.place end.now) count) }
         ensures below { IfSome result (λ at. at < T.count) }
-        ensures aligned { IfSome result (λ at. at % align ≡ 0) }
-        ensures least { IfSome result (λ at. (n : ℕ) → n % align ≡ 0 → IsRow T.cmp T.value false
+        ensures aligned { IfSome result (λ at. IsMultiple T.zero align at) }
+        ensures least { IfSome result (λ at. (n : ℕ) → IsMultiple T.zero align n → IsRow T.cmp T.value false
             self.now (T.place start.now) (T.place end.now) count n → at ≤ n) }
-        ensures none { IfNone result ((n : ℕ) → n % align ≡ 0 → ¬ (IsRow T.cmp T.value false
+        ensures none { IfNone result ((n : ℕ) → IsMultiple T.zero align n → ¬ (IsRow T.cmp T.value false
             self.now (T.place start.now) (T.place end.now) count n)) }
     {
+        let multiples = Multiples::among::<T>(align);
         start.known();
         end.known();
         if count == 0 {
             if !start.cmp(end).is_le() {
                 return None;
             }
-            return place_in(&(start..end), 0, align);
+            return place_in(&(start..end), 0, multiples);
         }
-        let row = first_fit(self.gaps(start..end), count, align)?;
-        Some(row.at)
+        let row = first_fit(self.gaps(start..end), count, multiples)?;
+        Some(row.place)
     }
 }

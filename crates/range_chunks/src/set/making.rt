@@ -2,16 +2,15 @@
 ghost use Rattle.std.specs.Prelude.{◌≡◌, ◌↔◌, [], IsTrue, IsOk, IfOk, IfErr};
 ghost use Rattle.std.specs.Cmp.Lexicographic.{pointwise, lists_per, lists_equiv};
 ghost use Rattle.std.specs.List.{AllZip};
+ghost use Rattle.std.specs.Ordering.{nat_cmp};
 ghost use Rattle.range_merge.specs.Boundaries.{IsAscending, IsSameSet};
 ghost use Rattle.range_collections.specs.Sets.{AreEqual};
-ghost use Rattle.range_chunks.specs.Chunks.{flat, AreChunks};
 
-use crate::chunk::Chunk;
-use crate::copying::{clones, clones_of};
 use crate::iter::are_equal;
-use crate::moving::{cut_up, join_up, room_for};
 use crate::set::ChunkedRangeSet;
+use crate::within::{RangesWithin, copies_of};
 use range_collections::{EntryClone, RangeSet, RangeSetRef};
+use range_list::{Chunks, Itself};
 use smallvec::SmallVec;
 use std::alloc::{AllocError, Global};
 use std::default::MadeWith;
@@ -23,7 +22,7 @@ impl<T: EntryClone + Drop> ChunkedRangeSet<T> {
         ensures equal { IfOk result (λ set. AreEqual T.cmp view.entry.boundaries.now set) }
     {
         Ok(ChunkedRangeSet {
-            chunks: clones_of(alloc, view.boundaries())?,
+            list: Chunks::from_clones(alloc, view.boundaries())?,
         })
     }
 
@@ -34,20 +33,20 @@ impl<T: EntryClone + Drop> ChunkedRangeSet<T> {
         ensures succeeds { self.now ≡ [] → IsOk result }
     {
         Ok(ChunkedRangeSet {
-            chunks: clones(*self.chunks.allocator(), self.chunks.as_slice())?,
+            list: self.list.cloned()?,
         })
     }
 }
 
-impl<T: Ord> ChunkedRangeSet<T> {
-    // The set of the boundaries in these chunks.
-    #[inline]
-    pub(crate) fn of_chunks(chunks: Vec<Chunk<T>>) -> Self
-        requires sorted { IsAscending T.cmp (flat chunks.items) }
-        requires chunks { AreChunks chunks.items }
-        ensures { result ≡ flat chunks.items }
+impl ChunkedRangeSet<u64> {
+    /// The set of these parts of a range, with copies of their boundaries.
+    pub fn from_parts(alloc: Global, parts: RangesWithin<'_, u64>) -> Result<Self, AllocError>
+        requires { IsAscending nat_cmp parts }
+        ensures { IfOk result (λ set. set ≡ parts.entry) }
     {
-        ChunkedRangeSet { chunks }
+        Ok(ChunkedRangeSet {
+            list: copies_of(alloc, parts)?,
+        })
     }
 }
 
@@ -58,7 +57,7 @@ impl<T: Ord + MadeWith<Global> + Drop> ChunkedRangeSet<T> {
         ensures { IfOk result (λ made. made ≡ set) }
     {
         Ok(ChunkedRangeSet {
-            chunks: cut_up(set.into_inner().into_vec()?)?,
+            list: Chunks::from_list(set.into_inner().into_vec()?)?,
         })
     }
 
@@ -68,12 +67,10 @@ impl<T: Ord + MadeWith<Global> + Drop> ChunkedRangeSet<T> {
         ensures boundaries { IfOk result (λ set. set ≡ self) }
         ensures handed_back { IfErr result (λ refused. refused.1 ≡ self) }
     {
-        match room_for(*self.chunks.allocator(), self.chunks.as_slice()) {
-            Ok(room) => {
-                let ChunkedRangeSet { chunks } = self;
-                Ok(RangeSet::new_unchecked(inline(join_up(chunks, room))))
-            }
-            Err(error) => Err((error, self)),
+        let ChunkedRangeSet { list } = self;
+        match list.into_list(&Itself) {
+            Ok(boundaries) => Ok(RangeSet::new_unchecked(inline(boundaries))),
+            Err((error, list)) => Err((error, ChunkedRangeSet { list })),
         }
     }
 }
@@ -107,7 +104,7 @@ impl<T: Ord> PartialEq for ChunkedRangeSet<T> {
         ensures value { result ≡ pointwise T.eq self.now other.now }
         ensures members { IsTrue result ↔ IsSameSet T.cmp self.now other.now }
     {
-        are_equal(self.chunks.as_slice(), other.chunks.as_slice())
+        are_equal(&self.list, &other.list)
     }
 }
 

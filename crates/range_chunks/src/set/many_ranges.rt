@@ -45,7 +45,7 @@ impl<T: EntryClone + Drop> ChunkedRangeSet<T> {
     {
         if !range.start.cmp(&range.end).is_lt() {
             // Brings that the boundaries are sorted.
-            let _sorted = &self.chunks;
+            let _sorted = &self.list;
             return Ok(());
         }
         let start = range.start.entry_clone()?;

@@ -17,7 +17,7 @@ impl<T: Countable> ChunkedRangeSet<T> {
         ensures fits { result < T.count }
         ensures value { result ≡ members_below T.cmp T.value self.now (T.place at.now) }
     {
-        rank(self.chunks.as_slice(), at)
+        rank(&self.list, at)
     }
 }
 
@@ -31,7 +31,7 @@ impl<T: FromPlace> ChunkedRangeSet<T> {
         ensures none { IfNone result ((x : T) → T.is_value x → is_le (T.cmp x from.now) ≡ true →
             member T.cmp self.now x ≡ false) }
     {
-        prev_at(self.chunks.as_slice(), from, true)
+        prev_at(&self.list, from, true)
     }
 
     /// The greatest value at or below `from` that isn't a member, or `None` if there is none. It is
@@ -43,7 +43,7 @@ impl<T: FromPlace> ChunkedRangeSet<T> {
         ensures none { IfNone result ((x : T) → T.is_value x → is_le (T.cmp x from.now) ≡ true →
             member T.cmp self.now x ≡ true) }
     {
-        prev_at(self.chunks.as_slice(), from, false)
+        prev_at(&self.list, from, false)
     }
 
     /// The member with `k` members below it, or `None` if there are no more than `k`.
@@ -56,6 +56,6 @@ impl<T: FromPlace> ChunkedRangeSet<T> {
             members_below T.cmp T.value self.now (T.place at) ≡ k) }
         ensures none { IfNone result (members_below T.cmp T.value self.now T.count ≤ k) }
     {
-        select(self.chunks.as_slice(), k)
+        select(&self.list, k)
     }
 }

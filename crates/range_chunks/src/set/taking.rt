@@ -13,7 +13,7 @@ impl<T: Ord + Drop> ChunkedRangeSet<T> {
         ensures range { MatchOption result ((self.old ≡ []) × (self.new ≡ []))
             (λ range. ranges_of self.old ≡ range ∷ ranges_of self.new) }
     {
-        pop_first(&mut self.chunks)
+        pop_first(&mut self.list)
     }
 
     /// Removes the last range and returns it, or `None` if the set is empty. It makes no comparison
@@ -22,6 +22,6 @@ impl<T: Ord + Drop> ChunkedRangeSet<T> {
         ensures range { MatchOption result ((self.old ≡ []) × (self.new ≡ []))
             (λ range. ranges_of self.old ≡ ranges_of self.new ++ range ∷ []) }
     {
-        pop_last(&mut self.chunks)
+        pop_last(&mut self.list)
     }
 }

@@ -1,14 +1,14 @@
 //! The search for the first fit, which passes over gaps that are known to be too short.
-ghost use Rattle.std.specs.Prelude.{◌≡◌, ◌<◌, ◌≤◌, ◌+◌, ◌%◌, ℕ, false, cond, Some, None, IfSome, IfNone};
+ghost use Rattle.std.specs.Prelude.{◌≡◌, ◌<◌, ◌≤◌, ◌+◌, ℕ, false, cond, Some, None, IfSome, IfNone};
 ghost use Rattle.std.specs.Ordering.{is_le};
 ghost use Rattle.range_merge.specs.Boundaries.{member};
-ghost use Rattle.range_collections.specs.Fits.{Fits, IsRow};
+ghost use Rattle.range_collections.specs.Fits.{Fits, IsMultiple, IsOneOf, IsRow};
 ghost use Rattle.range_chunks.specs.Bounds.{IsBound, IsFirstFree, IsPast, IsStep};
 
-use crate::gap_bound::{GapBound, first_above, stop_of};
-use crate::reading::{Reading, Row, Step, Until, first_row};
+use crate::gap_bound::{GapBound, first_above, forget_wasted, stop_of};
+use crate::reading::{Reading, Step, Until, first_row};
 use crate::space::ChunkedSpace;
-use range_collections::{Countable, FromPlace, Unsigned};
+use range_collections::{Countable, FromPlace, Multiples, Row, Unsigned};
 use std::ops::Range;
 
 // How many gaps a bound is for at most.
@@ -57,18 +57,18 @@ impl<T: Countable + Copy> ChunkedSpace<T> {
             return self.taken.first_fit_count_unchanged(within, 0);
         }
         let Range { start, end } = within;
-        let row = self.first_row(start, end, count, 1)?;
+        let row = self.first_row(start, end, count, Multiples::of_one())?;
         Some(row.start)
     }
 
-    // The first `count` values in a row that are free from a multiple of `align` on.
-    fn first_row(&mut self, start: T, end: T, count: u128, align: u128) -> Option<Row<T>>
+    // The first `count` values in a row that are free from one of the multiples on.
+    fn first_row(&mut self, start: T, end: T, count: u128, multiples: Multiples) -> Option<Row<T>>
         requires some { 0 < count }
-        requires aligned { 0 < align }
+        requires aligned { 0 < multiples.of }
         ensures unchanged { self.new ≡ self.old }
         ensures first { IfSome result
-            (IsFirstFree T.cmp T.value T.place self.old start end count align) }
-        ensures none { IfNone result ((n : ℕ) → n % align ≡ 0 → ¬ (IsRow T.cmp T.value false self.old
+            (IsFirstFree T.cmp T.value T.place self.old start end count multiples) }
+        ensures none { IfNone result ((n : ℕ) → IsOneOf multiples n → ¬ (IsRow T.cmp T.value false self.old
             (T.place start) (T.place end) count n)) }
     {
         self.forget_wasted();
@@ -76,7 +76,7 @@ impl<T: Countable + Copy> ChunkedSpace<T> {
         let mut at = 0;
         while from.place() < end.place() {
             at = first_above(self.bounds.as_slice(), at, from.place());
-            match self.step(at, from, end, count, align) {
+            match self.step(at, from, end, count, multiples) {
                 Step::At(row) => return Some(row),
                 Step::From(next) => from = next,
                 Step::Nowhere => return None,
@@ -89,19 +89,17 @@ impl<T: Countable + Copy> ChunkedSpace<T> {
     fn forget_wasted(&mut self)
         ensures { self.new ≡ self.old }
     {
-        if self.bounds.len() > self.taken.chunks_len() {
-            self.bounds.clear();
-        }
+        forget_wasted(&mut self.bounds, self.taken.chunks_len());
     }
 
     // Looks from one value on, which lies before the bound at an index or in what it speaks of.
-    fn step(&mut self, at: usize, from: T, end: T, count: u128, align: u128) -> Step<T>
+    fn step(&mut self, at: usize, from: T, end: T, count: u128, multiples: Multiples) -> Step<T>
         requires some { 0 < count }
-        requires aligned { 0 < align }
+        requires aligned { 0 < multiples.of }
         ensures unchanged { self.new ≡ self.old }
-        ensures step { IsStep T.cmp T.value T.place self.old from end count align result }
+        ensures step { IsStep T.cmp T.value T.place self.old from end count multiples result }
     {
-        if let Some(past) = self.known_past(at, &from, count, align) {
+        if let Some(past) = self.known_past(at, &from, count, multiples) {
             return Step::From(past);
         }
         from.known();
@@ -110,7 +108,7 @@ impl<T: Countable + Copy> ChunkedSpace<T> {
             ranges: GAPS,
             place: stop_of(self.bounds.as_slice(), at, from.place()),
         };
-        match first_row(self.taken.gaps(&from..&end), count, align, Some(until)) {
+        match first_row(self.taken.gaps(&from..&end), count, multiples, Some(until)) {
             Reading::Found(row) => Step::At(row),
             Reading::Stopped { end: next, most } => {
                 let bound = GapBound {
@@ -118,7 +116,7 @@ impl<T: Countable + Copy> ChunkedSpace<T> {
                     end: next,
                     most,
                     count,
-                    align,
+                    multiples,
                 };
                 self.note(at, bound);
                 Step::From(next)
@@ -128,12 +126,12 @@ impl<T: Countable + Copy> ChunkedSpace<T> {
     }
 
     // The end of the bound at an index, if that speaks of the value and is too low.
-    fn known_past(&self, at: usize, from: &T, count: u128, align: u128) -> Option<T>
+    fn known_past(&self, at: usize, from: &T, count: u128, multiples: Multiples) -> Option<T>
         ensures { IfSome result (λ past. (end : T) →
-            IsPast T.cmp T.value T.place self.now from.now end count align past) }
+            IsPast T.cmp T.value T.place self.now from.now end count multiples past) }
     {
         let bound = self.bounds.get(at)?;
-        if bound.excludes(count, align) && bound.is_around(from.place()) {
+        if bound.excludes(count, multiples) && bound.is_around(from.place()) {
             Some(bound.end)
         } else {
             None
@@ -145,7 +143,7 @@ impl<T: Countable + Copy> ChunkedSpace<T> {
         requires ordered { T.place bound.start ≤ T.place bound.end }
         requires most { (n k : ℕ) → IsRow T.cmp T.value false self.old
             (T.place bound.start) (T.place bound.end) n k → n ≤ bound.most }
-        requires aligned { (k : ℕ) → k % bound.align ≡ 0 → ¬ (IsRow T.cmp T.value false self.old
+        requires aligned { (k : ℕ) → IsOneOf bound.multiples k → ¬ (IsRow T.cmp T.value false self.old
             (T.place bound.start) (T.place bound.end) bound.count k) }
         ensures { self.new ≡ self.old }
     {
@@ -176,18 +174,18 @@ impl<T: Countable + Copy> ChunkedSpace<T> {
 }
 
 impl<T: FromPlace> ChunkedSpace<T> {
-    /// The least value whose place is a multiple of `align` and from which `count` values lie in
-    /// the range and are free. `None` if there is none, or if `align` is 0. Else it is as
+    /// The least multiple of `align` from which `count` values lie in the range and are free. `None`
+    /// if there is none, or if `align` is 0. The number of a `char` is its place. Else it is as
     /// `first_fit`, but of gaps that are long enough it remembers only for the last `align` that
     /// none has such a value.
     pub fn first_fit_aligned(&mut self, within: Range<T>, count: u128, align: u128) -> Option<T>
         ensures unchanged { self.new ≡ self.old }
         ensures fits { IfSome result (λ at. IsRow T.cmp T.value false self.old
             (T.place within.start) (T.place within.end) count (T.place at)) }
-        ensures aligned { IfSome result (λ at. T.place at % align ≡ 0) }
-        ensures least { IfSome result (λ at. (n : ℕ) → n % align ≡ 0 → IsRow T.cmp T.value false
+        ensures aligned { IfSome result (λ at. IsMultiple T.zero align (T.place at)) }
+        ensures least { IfSome result (λ at. (n : ℕ) → IsMultiple T.zero align n → IsRow T.cmp T.value false
             self.old (T.place within.start) (T.place within.end) count n → T.place at ≤ n) }
-        ensures none { 0 < align → IfNone result ((n : ℕ) → n % align ≡ 0 →
+        ensures none { 0 < align → IfNone result ((n : ℕ) → IsMultiple T.zero align n →
             ¬ (IsRow T.cmp T.value false self.old
             (T.place within.start) (T.place within.end) count n)) }
         ensures no_align { align ≡ 0 → result ≡ None }
@@ -209,15 +207,15 @@ impl<T: FromPlace> ChunkedSpace<T> {
         ensures fits { IfSome result (IsRow T.cmp T.value false self.old
             (T.place within.start) (T.place within.end) count) }
         ensures below { IfSome result (λ at. at < T.count) }
-        ensures aligned { IfSome result (λ at. at % align ≡ 0) }
-        ensures least { IfSome result (λ at. (n : ℕ) → n % align ≡ 0 → IsRow T.cmp T.value false
+        ensures aligned { IfSome result (λ at. IsMultiple T.zero align at) }
+        ensures least { IfSome result (λ at. (n : ℕ) → IsMultiple T.zero align n → IsRow T.cmp T.value false
             self.old (T.place within.start) (T.place within.end) count n → at ≤ n) }
-        ensures none { IfNone result ((n : ℕ) → n % align ≡ 0 → ¬ (IsRow T.cmp T.value false
+        ensures none { IfNone result ((n : ℕ) → IsMultiple T.zero align n → ¬ (IsRow T.cmp T.value false
             self.old (T.place within.start) (T.place within.end) count n)) }
     {
         let Range { start, end } = within;
         end.known();
-        let row = self.first_row(start, end, count, align)?;
-        Some(row.at)
+        let row = self.first_row(start, end, count, Multiples::among::<T>(align))?;
+        Some(row.place)
     }
 }

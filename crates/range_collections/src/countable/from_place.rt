@@ -1,12 +1,19 @@
 //! Values made from their places: whole numbers and characters.
-ghost use Rattle.std.specs.Prelude.{◌≡◌, ◌+◌, ◌<◌, SomeIff};
+ghost use Rattle.std.specs.Prelude.{◌≡◌, ◌+◌, ◌<◌, ◌^◌, ℕ, SomeIff};
 
 use crate::countable::Countable;
 
 /// A value that can be made from its place. This is a trait of its own, so that `Countable` asks no
 /// more of a caller's type than before.
 pub trait FromPlace: Countable + Copy {
-    /// The value with `place` values below it, or `None` if there aren't so many.
+    // The place of the number 0, from which multiples are counted: 0 if no number is below it.
+    ghost zero: { ℕ };
+
+    /// The place of the number 0, from which multiples are counted: 0 if no number is below it.
+    fn zero() -> u128
+        ensures { result ≡ zero };
+
+    /// The value with `place` values below it, or `None` if there are too few values.
     fn from_place(place: u128) -> Option<Self>
         ensures { SomeIff result (place < Self.count) (Self.value place) };
 
@@ -17,6 +24,12 @@ pub trait FromPlace: Countable + Copy {
 }
 
 impl FromPlace for u8 {
+    ghost zero = { 0 };
+
+    fn zero() -> u128 {
+        0
+    }
+
     fn from_place(place: u128) -> Option<u8> {
         u8::try_from(place).ok()
     }
@@ -27,6 +40,12 @@ impl FromPlace for u8 {
 }
 
 impl FromPlace for u16 {
+    ghost zero = { 0 };
+
+    fn zero() -> u128 {
+        0
+    }
+
     fn from_place(place: u128) -> Option<u16> {
         u16::try_from(place).ok()
     }
@@ -37,6 +56,12 @@ impl FromPlace for u16 {
 }
 
 impl FromPlace for u32 {
+    ghost zero = { 0 };
+
+    fn zero() -> u128 {
+        0
+    }
+
     fn from_place(place: u128) -> Option<u32> {
         u32::try_from(place).ok()
     }
@@ -47,6 +72,12 @@ impl FromPlace for u32 {
 }
 
 impl FromPlace for u64 {
+    ghost zero = { 0 };
+
+    fn zero() -> u128 {
+        0
+    }
+
     fn from_place(place: u128) -> Option<u64> {
         u64::try_from(place).ok()
     }
@@ -57,6 +88,12 @@ impl FromPlace for u64 {
 }
 
 impl FromPlace for u128 {
+    ghost zero = { 0 };
+
+    fn zero() -> u128 {
+        0
+    }
+
     fn from_place(place: u128) -> Option<u128> {
         Some(place)
     }
@@ -67,6 +104,12 @@ impl FromPlace for u128 {
 }
 
 impl FromPlace for usize {
+    ghost zero = { 0 };
+
+    fn zero() -> u128 {
+        0
+    }
+
     fn from_place(place: u128) -> Option<usize> {
         usize::try_from(place).ok()
     }
@@ -77,6 +120,12 @@ impl FromPlace for usize {
 }
 
 impl FromPlace for i8 {
+    ghost zero = { 2 ^ 7 };
+
+    fn zero() -> u128 {
+        1 << 7
+    }
+
     fn from_place(place: u128) -> Option<i8> {
         i8::try_from(i128::try_from(place).ok()? + i8::MIN as i128).ok()
     }
@@ -87,6 +136,12 @@ impl FromPlace for i8 {
 }
 
 impl FromPlace for i16 {
+    ghost zero = { 2 ^ 15 };
+
+    fn zero() -> u128 {
+        1 << 15
+    }
+
     fn from_place(place: u128) -> Option<i16> {
         i16::try_from(i128::try_from(place).ok()? + i16::MIN as i128).ok()
     }
@@ -97,6 +152,12 @@ impl FromPlace for i16 {
 }
 
 impl FromPlace for i32 {
+    ghost zero = { 2 ^ 31 };
+
+    fn zero() -> u128 {
+        1 << 31
+    }
+
     fn from_place(place: u128) -> Option<i32> {
         i32::try_from(i128::try_from(place).ok()? + i32::MIN as i128).ok()
     }
@@ -107,6 +168,12 @@ impl FromPlace for i32 {
 }
 
 impl FromPlace for i64 {
+    ghost zero = { 2 ^ 63 };
+
+    fn zero() -> u128 {
+        1 << 63
+    }
+
     fn from_place(place: u128) -> Option<i64> {
         i64::try_from(i128::try_from(place).ok()? + i64::MIN as i128).ok()
     }
@@ -117,6 +184,12 @@ impl FromPlace for i64 {
 }
 
 impl FromPlace for i128 {
+    ghost zero = { 2 ^ 127 };
+
+    fn zero() -> u128 {
+        1 << 127
+    }
+
     fn from_place(place: u128) -> Option<i128> {
         match i128::try_from(place) {
             Ok(above) => Some(i128::MIN + above),
@@ -130,6 +203,12 @@ impl FromPlace for i128 {
 }
 
 impl FromPlace for isize {
+    ghost zero = { 2 ^ 63 };
+
+    fn zero() -> u128 {
+        isize::MAX as u128 + 1
+    }
+
     fn from_place(place: u128) -> Option<isize> {
         isize::try_from(i128::try_from(place).ok()? + isize::MIN as i128).ok()
     }
@@ -140,6 +219,12 @@ impl FromPlace for isize {
 }
 
 impl FromPlace for char {
+    ghost zero = { 0 };
+
+    fn zero() -> u128 {
+        0
+    }
+
     fn from_place(place: u128) -> Option<char> {
         let code = u32::try_from(place).ok()?;
         if code < 0xD800 {

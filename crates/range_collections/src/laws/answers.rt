@@ -103,7 +103,7 @@ pub fn a_union_keeps_the_first_of_equal_boundaries<T: EntryClone>()
 {}
 
 /// An operation writes the same boundaries into each slice that has room for them, and a slice of
-/// the length that an error tells has room.
+/// the length that an error has gives room.
 pub fn what_is_written_is_pinned<T: Ord>()
     ensures length { (f : Table) (a b old new old2 new2 : List T) (n m : ℕ) →
         WritesOperation T.cmp f a b old new (Ok n) → WritesOperation T.cmp f a b old2 new2 (Ok m) →

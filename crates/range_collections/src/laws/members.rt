@@ -1,10 +1,12 @@
 //! The members of a set one by one, and values in a row.
-ghost use Rattle.std.specs.Prelude.{◌≡◌, ◌<◌, ◌≤◌, ℕ, Bool, true, false, All, List, Some, length};
+ghost use Rattle.std.specs.Prelude.{◌≡◌, ◌↔◌, ◌<◌, ◌≤◌, ℕ, ℤ, pos, negsuc, Bool, true, false, All, List, Some, length};
+ghost use Rattle.std.specs.Int.{int_rem_euclid};
 ghost use Rattle.std.specs.Ordering.{is_le};
 ghost use Rattle.std.specs.declared.cmp.Ordering.TheVariants.{Less, Equal};
 ghost use Rattle.range_merge.specs.Boundaries.{member};
 ghost use Rattle.range_collections.specs.Covered.{members_below};
-ghost use Rattle.range_collections.specs.Fits.{IsRow, IsFirstFit};
+ghost use Rattle.range_collections.specs.Countable.{signed_place};
+ghost use Rattle.range_collections.specs.Fits.{IsRow, IsFirstFit, IsMultiple};
 ghost use Rattle.range_collections.specs.Members.{IsPrevious, members_of};
 
 use crate::countable::Countable;
@@ -32,9 +34,20 @@ pub fn values_in_a_row_lie_between_the_ends<T: Countable>()
         (start ≤ at) × (at < end) × (member T.cmp items (T.value at) ≡ inside) }
 {}
 
-/// The first gap with room for so many values lies between the ends, and its start is no member.
+/// The first gap with room for `count` values lies between the ends, and its start is no member.
 pub fn what_fits_starts_in_a_gap<T: Countable>()
     ensures { (items : List T) (start end x : T) (count : ℕ) →
         IsFirstFit T.cmp T.place items start end count (Some x) →
         (is_le (T.cmp start x) ≡ true) × (T.cmp x end ≡ Less) × (member T.cmp items x ≡ false) }
+{}
+
+/// A number with a sign stands at the place of a multiple exactly if a division that rounds down
+/// leaves nothing of it.
+pub fn aligned_numbers_are_multiples()
+    ensures from_0 { (half align a : ℕ) → 0 < align →
+        IsMultiple half align (signed_place half (pos a)) ↔
+        (int_rem_euclid (pos a) (pos align) ≡ pos 0) }
+    ensures below_0 { (half align a : ℕ) → 0 < align → a < half →
+        IsMultiple half align (signed_place half (negsuc a)) ↔
+        (int_rem_euclid (negsuc a) (pos align) ≡ pos 0) }
 {}

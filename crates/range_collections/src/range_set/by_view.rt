@@ -1,5 +1,5 @@
 //! What the set's view answers, in the order of the view's calls.
-ghost use Rattle.std.specs.Prelude.{◌≡◌, ◌↔◌, ◌+◌, ◌*◌, ◌<◌, ◌^◌, List, length, false, IsTrue, [], None, Some, MatchOption, slice_get, true, Contains, IsSome, IfSome, ◌≤◌, IfNone, ◌&&◌, not, filter};
+ghost use Rattle.std.specs.Prelude.{◌≡◌, ◌↔◌, ◌+◌, ◌*◌, ◌<◌, ◌^◌, List, length, min, false, IsTrue, [], None, Some, MatchOption, slice_get, true, Contains, IsSome, IfSome, ◌≤◌, IfNone, ◌&&◌, not, filter};
 ghost use Rattle.std.specs.List.{last_or};
 ghost use Rattle.range_merge.specs.Boundaries.{member};
 ghost use Rattle.range_merge.specs.Changes.{changes};
@@ -234,15 +234,16 @@ impl<T: Ord, const N: usize> RangeSet<T, N> {
         self.as_ref().contains_range(range)
     }
 
-    /// The same, counted: at most `2 * d + 1` comparisons, where `d` is the number of binary digits
-    /// of the number of boundaries.
+    /// The same, counted: at most `d + 2` comparisons, where `d` is the number of binary digits of
+    /// the number of boundaries; one if there are none.
     #[inline]
     pub fn contains_range_counted(&self, range: Range<T>, count: &mut Comparisons) -> bool
     where
         T: Drop,
         requires { count.old < 2 ^ 64 }
         ensures members { IsTrue result ↔ HasAllWithin T.cmp self.now range.start range.end }
-        ensures comparisons { AddsAtMost count.old count.new (2 * digits (length self.now) + 1) }
+        ensures comparisons { AddsAtMost count.old count.new
+            (digits (length self.now) + min 1 (length self.now) + 1) }
     {
         self.as_ref().contains_range_counted(range, count)
     }

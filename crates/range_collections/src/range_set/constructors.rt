@@ -199,9 +199,10 @@ impl<T: EntryClone + MadeWith<Global> + Drop, const N: usize> RangeSet<T, N> {
     /// The elements that lie in at least one of the ranges. The ranges may come in any order, and
     /// may overlap, touch or be empty.
     ///
-    /// It copies the ends of each range that isn't empty. If the ranges come in the order of their
-    /// starts, each is added at the set's end. Else a few at a time make a set, and halves of these
-    /// are joined as `union_all` does.
+    /// It copies the ends of each range that isn't empty. Ranges that come in the order of their
+    /// starts are added at the set's end. Of those from the first on that doesn't, starts and ends
+    /// are sorted, which takes memory; but a set that still lies in the value itself takes them in
+    /// place.
     pub fn from_ranges(alloc: Global, ranges: &[RangeSetRange<T>]) -> Result<Self, AllocError>
         ensures gives { GivesUnion T.cmp T.is_copy T.is_infallible (range_boundaries T.cmp) N
             ranges.now result }

@@ -2,9 +2,10 @@
 //!
 //! Each asks for all its memory before it changes a boundary: room in this set for the boundaries
 //! of the other, and with a borrowed set a copy of each of these, even of those that aren't kept,
-//! unless copies of the element type never fail. Beside a borrowed set it asks first for a list for
-//! both, if they are long and hold numbers or characters. If an allocation or a copy fails, this
-//! set is as it was, and an owned right side comes back as it was.
+//! unless copies of the element type never fail. Beside a borrowed set of numbers or characters, if
+//! they are many, it asks first for copies of its own, or without room for a list for both. If an
+//! allocation or a copy fails, this set is as it was, and an owned right side comes back as it was.
+//! The set's room stays.
 ghost use Rattle.std.specs.Prelude.{◌≡◌, ◌*◌, ◌^◌, ◌<◌, false};
 ghost use Rattle.range_merge.specs.Connective.{union_table, intersection_table, difference_table, symmetric_difference_table};
 ghost use Rattle.range_merge.specs.Counting.{AddsAtMost};

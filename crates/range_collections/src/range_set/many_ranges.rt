@@ -1,34 +1,35 @@
-//! The set of many ranges. Those that come in the order of their starts are added one by one, each
-//! at the set's end; else the ranges are halved, down to a few, and the sets of the halves are
-//! joined.
+//! The set of many ranges, in any order.
 //!
-//! What is added may come in any order: where it doesn't belong at the end, its place is searched
-//! for.
-ghost use Rattle.std.specs.Prelude.{◌≡◌, ◌+◌, ◌≤◌, true, List, ◌∷◌, [], length, IsOk, OnOk, Ok};
-ghost use Rattle.std.specs.Ordering.{is_lt};
+//! Ranges that come in the order of their starts go to the end of one list. From the first that
+//! doesn't on they are put aside, unless the list still lies in the set itself. The starts and the
+//! ends of these are sorted apart: the ranges from the first start to the first end, from the
+//! second to the second, and so on, have the same elements, and come in order.
+ghost use Rattle.std.specs.Prelude.{◌≡◌, ◌+◌, ◌≤◌, ◌<◌, true, false, List, ◌∷◌, ◌++◌, [], length, take, drop, All, IsTrue, IsOk, IfOk, OnOk, Ok, ◌↔◌};
+ghost use Rattle.std.specs.List.{flat_map};
+ghost use Rattle.std.specs.List.Sorted.{IsPermutation, IsSorted, IsStable};
+ghost use Rattle.std.specs.Option.{option_to_list};
 ghost use Rattle.std.specs.declared.cmp.Ordering.TheVariants.{Less};
-ghost use Rattle.range_merge.specs.Boundaries.{IsAscending};
+ghost use Rattle.range_merge.specs.Boundaries.{IsAscending, is_odd as odd};
 ghost use Rattle.range_merge.specs.Connective.{Means, union_table};
 ghost use Rattle.range_collections.specs.InPlace.{AreOwnElseOf};
-ghost use Rattle.range_collections.specs.Ranges.{range_boundaries, range_items};
+ghost use Rattle.range_collections.specs.ManyRanges.{GivesOwn, IsAddedOwn, NoneStartsAbove, IsUnderway, IsUnderwayByCopies, pairs_of, starts_of, ends_of};
+ghost use Rattle.range_collections.specs.Ranges.{range_boundaries, range_items, range_start};
 ghost use Rattle.range_collections.specs.Splicing.{IsCut};
-ghost use Rattle.range_collections.specs.Unions.{GivesUnion, IsAdded};
+ghost use Rattle.range_collections.specs.Unions.{GivesUnion};
+ghost use Rattle.range_collections.specs.declared.range_set_range.RangeSetRange.{RangeSetRange as Ranged};
 
 use crate::comparisons::Comparisons;
-use crate::lists::is_odd;
+use crate::lists::{append_both, is_odd};
 use crate::range_set::RangeSet;
-use crate::range_set::joining::{copied, joined};
+use crate::range_set::joining::joined;
 use crate::range_set::splicing::{cut_at, splice};
 use crate::range_set_range::{RangeSetRange, has_elements};
 use range_entry::EntryClone;
-use range_merge::UnionOp;
+use range_merge::{Indexed, UnionOp};
 use smallvec::SmallVec;
 use std::alloc::{AllocError, Global};
 use std::default::MadeWith;
-use std::ops::Range;
-
-// So many ranges are added one by one in any order.
-const FEW: usize = 16;
+use std::ops::{Range, RangeFrom};
 
 // The elements that lie in at least one of the ranges.
 pub(super) fn set_of_ranges<T: EntryClone + MadeWith<Global> + Drop, const N: usize>(
@@ -38,76 +39,269 @@ pub(super) fn set_of_ranges<T: EntryClone + MadeWith<Global> + Drop, const N: us
     ensures { GivesUnion T.cmp T.is_copy T.is_infallible (range_boundaries T.cmp) N
         ranges.now result }
 {
-    if are_in_order(ranges) {
-        one_by_one(alloc, ranges)
-    } else {
-        by_halves(alloc, ranges)
+    let mut set = RangeSet::empty(alloc);
+    let mut aside = Aside::new(alloc);
+    for i in 0..ranges.len() {
+        add_copy(&mut set, &mut aside, &ranges[i])?;
+    }
+    finished(alloc, set, aside)
+}
+
+// Adds a copy of the range, if it has elements.
+fn add_copy<T: EntryClone + MadeWith<Global> + Drop, const N: usize>(
+    set: &mut RangeSet<T, N>,
+    aside: &mut Aside<T>,
+    range: &RangeSetRange<T>,
+) -> Result<(), AllocError>
+    ensures underway { (ranges : List (Ranged T)) →
+        IsUnderwayByCopies T.cmp T.is_copy N ranges set.old aside.old.starts.items aside.old.ends.items →
+        OnOk result (IsUnderwayByCopies T.cmp T.is_copy N (ranges ++ range.now ∷ []) set.new
+        aside.new.starts.items aside.new.ends.items) }
+    ensures succeeds { (ranges : List (Ranged T)) →
+        IsUnderwayByCopies T.cmp T.is_copy N ranges set.old aside.old.starts.items aside.old.ends.items →
+        length (flat_map (range_boundaries T.cmp) (ranges ++ range.now ∷ [])) ≤ N →
+        All T.is_infallible (range_boundaries T.cmp range.now) → IsOk result }
+{
+    if range.len() == 0 {
+        return Ok(());
+    }
+    add(set, aside, range.as_ref().cloned()?)
+}
+
+// Ranges that were put aside: where they start, and where those of them end that have an end.
+#[derive(Drop)]
+pub(crate) struct Aside<T> {
+    pub(crate) starts: Vec<T>,
+    pub(crate) ends: Vec<T>,
+}
+
+impl<T: Ord + Drop> Aside<T> {
+    // None was put aside.
+    pub(crate) fn new(alloc: Global) -> Self
+        ensures starts { result.starts.items ≡ [] }
+        ensures ends { result.ends.items ≡ [] }
+    {
+        Aside {
+            starts: Vec::new(alloc),
+            ends: Vec::new(alloc),
+        }
+    }
+
+    // Whether no range that has elements was put aside.
+    fn is_empty(&self) -> bool
+        ensures { IsTrue result ↔ (length self.now.starts.items ≡ 0) }
+    {
+        self.starts.is_empty()
+    }
+
+    // Puts a range aside, if it has elements.
+    fn push(&mut self, range: RangeSetRange<T>) -> Result<(), AllocError>
+        ensures starts { OnOk result (self.new.starts.items ≡
+            self.old.starts.items ++ take 1 (range_boundaries T.cmp range)) }
+        ensures ends { OnOk result (self.new.ends.items ≡
+            self.old.ends.items ++ drop 1 (range_boundaries T.cmp range)) }
+        ensures succeeds { length (range_boundaries T.cmp range) ≡ 0 → IsOk result }
+    {
+        match range {
+            RangeSetRange::Range(range) => self.push_range(range),
+            RangeSetRange::RangeFrom(range) => {
+                self.starts.push(range.start)?;
+                Ok(())
+            }
+        }
+    }
+
+    // The same for a range with an end.
+    fn push_range(&mut self, range: Range<T>) -> Result<(), AllocError>
+        ensures starts { OnOk result (self.new.starts.items ≡
+            self.old.starts.items ++ take 1 (range_items T.cmp range.start range.end)) }
+        ensures ends { OnOk result (self.new.ends.items ≡
+            self.old.ends.items ++ drop 1 (range_items T.cmp range.start range.end)) }
+        ensures succeeds { length (range_items T.cmp range.start range.end) ≡ 0 → IsOk result }
+    {
+        let Range { start, end } = range;
+        if has_elements(&start, &end, &mut Comparisons::new()) {
+            self.starts.push(start)?;
+            self.ends.push(end)?;
+        }
+        Ok(())
     }
 }
 
-// Whether no range starts below the one before it.
-fn are_in_order<T: Ord>(ranges: &[RangeSetRange<T>]) -> bool {
-    for i in 1..ranges.len() {
-        if start_of(&ranges[i]).cmp(start_of(&ranges[i - 1])).is_lt() {
-            return false;
-        }
+// Adds the elements of the range to the set, or puts it aside.
+#[inline(always)]
+pub(crate) fn add<T: Ord + MadeWith<Global> + Drop, const N: usize>(
+    set: &mut RangeSet<T, N>,
+    aside: &mut Aside<T>,
+    range: RangeSetRange<T>,
+) -> Result<(), AllocError>
+    ensures underway { (ranges : List (Ranged T)) →
+        IsUnderway T.cmp N ranges set.old aside.old.starts.items aside.old.ends.items →
+        OnOk result (IsUnderway T.cmp N (ranges ++ range ∷ []) set.new
+        aside.new.starts.items aside.new.ends.items) }
+    ensures succeeds { (ranges : List (Ranged T)) →
+        IsUnderway T.cmp N ranges set.old aside.old.starts.items aside.old.ends.items →
+        length (flat_map (range_boundaries T.cmp) (ranges ++ range ∷ [])) ≤ N → IsOk result }
+    ensures in_order { length aside.old.starts.items ≡ 0 →
+        NoneStartsAbove T.cmp set.old (range_start range) → aside.new ≡ aside.old }
+{
+    if aside.is_empty() && takes(set, &range) {
+        put_range(set, range)
+    } else {
+        aside.push(range)
     }
-    true
+}
+
+// Whether the range goes to the set: this lies in the value itself, or the range comes in order.
+#[inline(always)]
+fn takes<T: Ord, const N: usize>(set: &RangeSet<T, N>, range: &RangeSetRange<T>) -> bool
+    ensures room { length set.now < N → result ≡ true }
+    ensures in_order { N ≤ length set.now →
+        IsTrue result ↔ NoneStartsAbove T.cmp set.now (range_start range.now) }
+{
+    let items = set.boundaries();
+    if items.len() < N {
+        return true;
+    }
+    none_starts_above(items, start_of(range))
+}
+
+// Whether no range of the set with these boundaries starts above the element.
+#[inline(always)]
+fn none_starts_above<T: Ord>(items: &[T], at: &T) -> bool
+    requires { IsAscending T.cmp items.now }
+    ensures { IsTrue result ↔ NoneStartsAbove T.cmp items.now at.now }
+{
+    let len = items.len();
+    if len == 0 {
+        return true;
+    }
+    let last = (len - 1) / 2 * 2;
+    items[last].cmp(at).is_le()
 }
 
 // Where the range starts.
-fn start_of<T>(range: &RangeSetRange<T>) -> &T {
+#[inline(always)]
+fn start_of<T>(range: &RangeSetRange<T>) -> &T
+    ensures { result.now ≡ range_start range.now }
+{
     match range {
         RangeSetRange::Range(range) => &range.start,
         RangeSetRange::RangeFrom(range) => &range.start,
     }
 }
 
-// The same, of the set of the first half and that of the second.
-fn by_halves<T: EntryClone + MadeWith<Global> + Drop, const N: usize>(
+// The union of the set and the ranges that were put aside.
+pub(crate) fn finished<T: Ord + MadeWith<Global> + Drop, const N: usize>(
     alloc: Global,
-    ranges: &[RangeSetRange<T>],
+    set: RangeSet<T, N>,
+    aside: Aside<T>,
 ) -> Result<RangeSet<T, N>, AllocError>
-    ensures { GivesUnion T.cmp T.is_copy T.is_infallible (range_boundaries T.cmp) N
-        ranges.now result }
+    ensures { (ranges : List (Ranged T)) →
+        IsUnderway T.cmp N ranges set aside.starts.items aside.ends.items →
+        GivesOwn T.cmp N ranges result }
 {
-    if ranges.len() <= FEW {
-        return one_by_one(alloc, ranges);
+    if aside.is_empty() {
+        return Ok(set);
     }
-    let (front, back) = ranges.split_at(ranges.len() / 2);
-    let set = by_halves(alloc, front)?;
-    let that = by_halves(alloc, back)?;
+    let that = of_aside(alloc, aside)?;
     joined(set, that, &mut Comparisons::new())
 }
 
-// The same, with one range added after the other.
-fn one_by_one<T: EntryClone + MadeWith<Global> + Drop, const N: usize>(
+// The union of the ranges that were put aside.
+fn of_aside<T: Ord + MadeWith<Global> + Drop, const N: usize>(
     alloc: Global,
-    ranges: &[RangeSetRange<T>],
+    aside: Aside<T>,
 ) -> Result<RangeSet<T, N>, AllocError>
-    ensures { GivesUnion T.cmp T.is_copy T.is_infallible (range_boundaries T.cmp) N
-        ranges.now result }
+    ensures { (ranges : List (Ranged T)) → aside.starts.items ≡ starts_of T.cmp ranges →
+        aside.ends.items ≡ ends_of T.cmp ranges →
+        IfOk result (λ set. GivesOwn T.cmp N ranges (Ok set)) }
+{
+    let Aside { starts, ends } = aside;
+    let starts = sorted(alloc, starts)?;
+    let ends = sorted(alloc, ends)?;
+    of_pairs(alloc, starts, ends)
+}
+
+// The items in order. Equal ones stay in the order in which they stood.
+fn sorted<T: Ord + Drop>(alloc: Global, items: Vec<T>) -> Result<Vec<T>, AllocError>
+    ensures permutation { IfOk result (λ sorted. IsPermutation items.items sorted.items) }
+    ensures sorted { IfOk result (λ sorted. IsSorted T.cmp sorted.items) }
+    ensures stable { IfOk result (λ sorted. IsStable T.cmp items.items sorted.items) }
+{
+    let mut items = items;
+    items.as_mut_slice().sort(alloc)?;
+    Ok(items)
+}
+
+// The union of the ranges from the first start to the first end, from the second to the second, and
+// so on. A start for which no end is left has a range without one.
+fn of_pairs<T: Ord + MadeWith<Global> + Drop, const N: usize>(
+    alloc: Global,
+    starts: Vec<T>,
+    ends: Vec<T>,
+) -> Result<RangeSet<T, N>, AllocError>
+    ensures { IfOk result (λ set. GivesOwn T.cmp N (pairs_of starts.items ends.items) (Ok set)) }
 {
     let mut set = RangeSet::empty(alloc);
-    for i in 0..ranges.len() {
-        add(&mut set, alloc, &ranges[i])?;
+    let mut left = ends.into_iter();
+    for start in starts {
+        put_range(&mut set, from_to(start, left.next()))?;
     }
     Ok(set)
 }
 
-// Adds the elements of the range, with copies of its ends.
-fn add<T: EntryClone + MadeWith<Global> + Drop, const N: usize>(
+// The range from the start on, up to the end if there is one.
+fn from_to<T>(start: T, end: Option<T>) -> RangeSetRange<T>
+    ensures { result ∷ [] ≡ pairs_of (start ∷ []) (option_to_list end) }
+{
+    match end {
+        Some(end) => RangeSetRange::Range(Range { start, end }),
+        None => RangeSetRange::RangeFrom(RangeFrom { start }),
+    }
+}
+
+// Adds the elements of the range.
+#[inline(always)]
+fn put_range<T: Ord + MadeWith<Global> + Drop, const N: usize>(
     set: &mut RangeSet<T, N>,
-    alloc: Global,
-    range: &RangeSetRange<T>,
+    range: RangeSetRange<T>,
 ) -> Result<(), AllocError>
-    ensures { IsAdded T.cmp T.is_copy T.is_infallible N set.old
-        (range_boundaries T.cmp range.now) set.new result }
+    ensures { IsAddedOwn T.cmp N set.old (range_boundaries T.cmp range) set.new result }
 {
     match range {
-        RangeSetRange::Range(ends) => add_range(&mut set.list, ends),
-        RangeSetRange::RangeFrom(_) => add_all(set, copied(alloc, range)?),
+        RangeSetRange::Range(range) => put_ends(&mut set.list, range),
+        RangeSetRange::RangeFrom(range) => put_from(set, range),
     }
+}
+
+// The same for a range with an end.
+#[inline(always)]
+fn put_ends<T: Ord + MadeWith<Global> + Drop, const N: usize>(
+    list: &mut SmallVec<T, N>,
+    range: Range<T>,
+) -> Result<(), AllocError>
+    requires { IsAscending T.cmp list.old.items }
+    ensures sorted { IsAscending T.cmp list.new.items }
+    ensures added { IsAddedOwn T.cmp N list.old.items (range_items T.cmp range.start range.end)
+        list.new.items result }
+{
+    let Range { start, end } = range;
+    if !has_elements(&start, &end, &mut Comparisons::new()) {
+        return Ok(());
+    }
+    put(list, start, end)
+}
+
+// The same for a range without an end.
+fn put_from<T: Ord + MadeWith<Global> + Drop, const N: usize>(
+    set: &mut RangeSet<T, N>,
+    range: RangeFrom<T>,
+) -> Result<(), AllocError>
+    ensures { IsAddedOwn T.cmp N set.old (range.start ∷ []) set.new result }
+{
+    let that = RangeSet::from_range_from(*set.list.allocator(), range)?;
+    add_all(set, that)
 }
 
 // Adds the members of the other set.
@@ -125,27 +319,48 @@ fn add_all<T: Ord + MadeWith<Global> + Drop, const N: usize>(
     }
 }
 
-// Adds the elements of the range to the set with these boundaries, with copies of its ends if it
-// has elements.
-fn add_range<T: EntryClone + MadeWith<Global> + Drop, const N: usize>(
+// Adds the elements from the start up to the end to the set with these boundaries.
+#[inline(always)]
+fn put<T: Ord + MadeWith<Global> + Drop, const N: usize>(
     list: &mut SmallVec<T, N>,
-    range: &Range<T>,
+    start: T,
+    end: T,
 ) -> Result<(), AllocError>
-    requires { IsAscending T.cmp list.old.items }
+    requires sorted { IsAscending T.cmp list.old.items }
+    requires less { T.cmp start end ≡ Less }
     ensures sorted { IsAscending T.cmp list.new.items }
-    ensures added { IsAdded T.cmp T.is_copy T.is_infallible N list.old.items
-        (range_items T.cmp range.now.start range.now.end) list.new.items result }
+    ensures means { OnOk result (Means T.cmp union_table list.new.items list.old.items
+        (start ∷ end ∷ [])) }
+    ensures left_own_item { OnOk result (AreOwnElseOf T.cmp list.old.items
+        (start ∷ end ∷ []) list.new.items) }
+    ensures succeeds { length list.old.items + 2 ≤ N → IsOk result }
 {
-    if !has_elements(&range.start, &range.end, &mut Comparisons::new()) {
-        return Ok(());
+    if is_after(list.as_slice(), &start) {
+        append_both(list, start, end)
+    } else {
+        put_within(list, start, end)
     }
-    let start = range.start.entry_clone()?;
-    let end = range.end.entry_clone()?;
-    put(list, start, end)
 }
 
-// Adds the elements from the start up to the end to the set with these boundaries.
-fn put<T: Ord + MadeWith<Global> + Drop, const N: usize>(
+// Whether the set with these boundaries has an end, and that lies below the element.
+#[inline(always)]
+fn is_after<T: Ord>(items: &[T], at: &T) -> bool
+    requires { IsAscending T.cmp items.now }
+    ensures even { IsTrue result → odd (length items.now) ≡ false }
+    ensures below { IsTrue result → All (λ y. T.cmp y at.now ≡ Less) items.now }
+{
+    let len = items.len();
+    if is_odd(len) {
+        return false;
+    }
+    if len == 0 {
+        return true;
+    }
+    items[len - 1].cmp(at).is_lt()
+}
+
+// The same as `put`, wherever the range belongs.
+fn put_within<T: Ord + MadeWith<Global> + Drop, const N: usize>(
     list: &mut SmallVec<T, N>,
     start: T,
     end: T,

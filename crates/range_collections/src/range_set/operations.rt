@@ -5,7 +5,7 @@ ghost use Rattle.range_merge.specs.Connective.{intersection_table, difference_ta
 ghost use Rattle.range_merge.specs.Counting.{AddsAtMost};
 ghost use Rattle.range_merge.specs.Runs.{weight};
 ghost use Rattle.range_merge.specs.Copies.{AreCopies};
-ghost use Rattle.range_collections.specs.Values.{MeansAmong, AreFlipped};
+ghost use Rattle.range_collections.specs.Values.{MeansAmong, AreFlipped, EqualsAreValues};
 ghost use Rattle.range_collections.specs.Headline.{GivesTheResult, IsTheResult, IsCounted};
 ghost use Rattle.range_collections.specs.Operators.{GivesOperation};
 
@@ -128,6 +128,10 @@ impl<T: RangeSetEntry + EntryClone + MadeWith<Global> + Drop, const N: usize> Ra
         ensures flipped { O.connective op.now false false ≡ true → IfOk result (λ set.
             AreFlipped T.cmp T.least (AreCopies T.is_copy (changes T.cmp (O.connective op.now)
             self.now that.entry.boundaries.now)) set) }
+
+        // Of lists of values it has values alone.
+        ensures values { EqualsAreValues T.cmp T.is_value → All T.is_value self.now →
+            All T.is_value that.entry.boundaries.now → IfOk result (λ set. All T.is_value set) }
         ensures succeeds { O.connective op.now false false ≡ false →
             length self.now + length that.entry.boundaries.now ≤ M →
             All T.is_infallible self.now → All T.is_infallible that.entry.boundaries.now →

@@ -2,6 +2,8 @@
 //!
 //! The form with two references does the work, and the others call it; what was owned is dropped,
 //! also where memory is refused.
+//!
+//! `bitor_gives` and the like have both clauses, for a caller with a bound in place of a set.
 ghost use Rattle.std.specs.Prelude.{◌<◌, ◌⊎◌, All, IfOk, length};
 ghost use Rattle.range_merge.specs.Connective.{intersection_table, union_table, symmetric_difference_table, difference_table};
 ghost use Rattle.range_collections.specs.Headline.{GivesTheResult, IsTheNegation};
@@ -28,7 +30,12 @@ impl<T: EntryClone + MadeWith<Global> + Drop, const N: usize> BitAnd<&RangeSet<T
         × GivesTheResult T.cmp T.is_copy intersection_table a.now b.now r };
 
     /// The intersection, as `intersection` gives it. It fails only if an allocation or a copy does.
-    fn bitand(self, that: &RangeSet<T, N>) -> Result<RangeSet<T, N>, AllocError> {
+    fn bitand(self, that: &RangeSet<T, N>) -> Result<RangeSet<T, N>, AllocError>
+        ensures headline { GivesTheResult T.cmp T.is_copy intersection_table
+            self.now that.now result }
+        ensures gives { GivesOperation T.cmp T.is_copy T.is_infallible intersection_table N
+            self.now that.now result }
+    {
         self.intersection(that.as_ref())
     }
 }
@@ -42,7 +49,12 @@ impl<T: EntryClone + MadeWith<Global> + Drop, const N: usize> BitAnd<RangeSet<T,
         × GivesTheResult T.cmp T.is_copy intersection_table a.now b r };
 
     /// The same of a reference and a set, which is dropped even if it fails.
-    fn bitand(self, that: RangeSet<T, N>) -> Result<RangeSet<T, N>, AllocError> {
+    fn bitand(self, that: RangeSet<T, N>) -> Result<RangeSet<T, N>, AllocError>
+        ensures headline { GivesTheResult T.cmp T.is_copy intersection_table
+            self.now that result }
+        ensures gives { GivesOperation T.cmp T.is_copy T.is_infallible intersection_table N
+            self.now that result }
+    {
         self & &that
     }
 }
@@ -56,7 +68,12 @@ impl<T: EntryClone + MadeWith<Global> + Drop, const N: usize> BitAnd<&RangeSet<T
         × GivesTheResult T.cmp T.is_copy intersection_table a b.now r };
 
     /// The same of a set, which is dropped even if it fails, and a reference.
-    fn bitand(self, that: &RangeSet<T, N>) -> Result<RangeSet<T, N>, AllocError> {
+    fn bitand(self, that: &RangeSet<T, N>) -> Result<RangeSet<T, N>, AllocError>
+        ensures headline { GivesTheResult T.cmp T.is_copy intersection_table
+            self that.now result }
+        ensures gives { GivesOperation T.cmp T.is_copy T.is_infallible intersection_table N
+            self that.now result }
+    {
         &self & that
     }
 }
@@ -69,7 +86,12 @@ impl<T: EntryClone + MadeWith<Global> + Drop, const N: usize> BitAnd for RangeSe
         × GivesTheResult T.cmp T.is_copy intersection_table a b r };
 
     /// The same of two sets, which are dropped even if it fails.
-    fn bitand(self, that: RangeSet<T, N>) -> Result<RangeSet<T, N>, AllocError> {
+    fn bitand(self, that: RangeSet<T, N>) -> Result<RangeSet<T, N>, AllocError>
+        ensures headline { GivesTheResult T.cmp T.is_copy intersection_table
+            self that result }
+        ensures gives { GivesOperation T.cmp T.is_copy T.is_infallible intersection_table N
+            self that result }
+    {
         &self & &that
     }
 }
@@ -83,7 +105,12 @@ impl<T: EntryClone + MadeWith<Global> + Drop, const N: usize> BitOr<&RangeSet<T,
         × GivesTheResult T.cmp T.is_copy union_table a.now b.now r };
 
     /// The union, as `union` gives it. It fails only if an allocation or a copy does.
-    fn bitor(self, that: &RangeSet<T, N>) -> Result<RangeSet<T, N>, AllocError> {
+    fn bitor(self, that: &RangeSet<T, N>) -> Result<RangeSet<T, N>, AllocError>
+        ensures headline { GivesTheResult T.cmp T.is_copy union_table
+            self.now that.now result }
+        ensures gives { GivesOperation T.cmp T.is_copy T.is_infallible union_table N
+            self.now that.now result }
+    {
         self.union(that.as_ref())
     }
 }
@@ -97,7 +124,12 @@ impl<T: EntryClone + MadeWith<Global> + Drop, const N: usize> BitOr<RangeSet<T, 
         × GivesTheResult T.cmp T.is_copy union_table a.now b r };
 
     /// The same of a reference and a set, which is dropped even if it fails.
-    fn bitor(self, that: RangeSet<T, N>) -> Result<RangeSet<T, N>, AllocError> {
+    fn bitor(self, that: RangeSet<T, N>) -> Result<RangeSet<T, N>, AllocError>
+        ensures headline { GivesTheResult T.cmp T.is_copy union_table
+            self.now that result }
+        ensures gives { GivesOperation T.cmp T.is_copy T.is_infallible union_table N
+            self.now that result }
+    {
         self | &that
     }
 }
@@ -111,7 +143,12 @@ impl<T: EntryClone + MadeWith<Global> + Drop, const N: usize> BitOr<&RangeSet<T,
         × GivesTheResult T.cmp T.is_copy union_table a b.now r };
 
     /// The same of a set, which is dropped even if it fails, and a reference.
-    fn bitor(self, that: &RangeSet<T, N>) -> Result<RangeSet<T, N>, AllocError> {
+    fn bitor(self, that: &RangeSet<T, N>) -> Result<RangeSet<T, N>, AllocError>
+        ensures headline { GivesTheResult T.cmp T.is_copy union_table
+            self that.now result }
+        ensures gives { GivesOperation T.cmp T.is_copy T.is_infallible union_table N
+            self that.now result }
+    {
         &self | that
     }
 }
@@ -124,7 +161,12 @@ impl<T: EntryClone + MadeWith<Global> + Drop, const N: usize> BitOr for RangeSet
         × GivesTheResult T.cmp T.is_copy union_table a b r };
 
     /// The same of two sets, which are dropped even if it fails.
-    fn bitor(self, that: RangeSet<T, N>) -> Result<RangeSet<T, N>, AllocError> {
+    fn bitor(self, that: RangeSet<T, N>) -> Result<RangeSet<T, N>, AllocError>
+        ensures headline { GivesTheResult T.cmp T.is_copy union_table
+            self that result }
+        ensures gives { GivesOperation T.cmp T.is_copy T.is_infallible union_table N
+            self that result }
+    {
         &self | &that
     }
 }
@@ -139,7 +181,12 @@ impl<T: EntryClone + MadeWith<Global> + Drop, const N: usize> BitXor<&RangeSet<T
 
     /// The symmetric difference, as `symmetric_difference` gives it. It fails only if an allocation
     /// or a copy does.
-    fn bitxor(self, that: &RangeSet<T, N>) -> Result<RangeSet<T, N>, AllocError> {
+    fn bitxor(self, that: &RangeSet<T, N>) -> Result<RangeSet<T, N>, AllocError>
+        ensures headline { GivesTheResult T.cmp T.is_copy symmetric_difference_table
+            self.now that.now result }
+        ensures gives { GivesOperation T.cmp T.is_copy T.is_infallible symmetric_difference_table N
+            self.now that.now result }
+    {
         self.symmetric_difference(that.as_ref())
     }
 }
@@ -153,7 +200,12 @@ impl<T: EntryClone + MadeWith<Global> + Drop, const N: usize> BitXor<RangeSet<T,
         × GivesTheResult T.cmp T.is_copy symmetric_difference_table a.now b r };
 
     /// The same of a reference and a set, which is dropped even if it fails.
-    fn bitxor(self, that: RangeSet<T, N>) -> Result<RangeSet<T, N>, AllocError> {
+    fn bitxor(self, that: RangeSet<T, N>) -> Result<RangeSet<T, N>, AllocError>
+        ensures headline { GivesTheResult T.cmp T.is_copy symmetric_difference_table
+            self.now that result }
+        ensures gives { GivesOperation T.cmp T.is_copy T.is_infallible symmetric_difference_table N
+            self.now that result }
+    {
         self ^ &that
     }
 }
@@ -167,7 +219,12 @@ impl<T: EntryClone + MadeWith<Global> + Drop, const N: usize> BitXor<&RangeSet<T
         × GivesTheResult T.cmp T.is_copy symmetric_difference_table a b.now r };
 
     /// The same of a set, which is dropped even if it fails, and a reference.
-    fn bitxor(self, that: &RangeSet<T, N>) -> Result<RangeSet<T, N>, AllocError> {
+    fn bitxor(self, that: &RangeSet<T, N>) -> Result<RangeSet<T, N>, AllocError>
+        ensures headline { GivesTheResult T.cmp T.is_copy symmetric_difference_table
+            self that.now result }
+        ensures gives { GivesOperation T.cmp T.is_copy T.is_infallible symmetric_difference_table N
+            self that.now result }
+    {
         &self ^ that
     }
 }
@@ -180,7 +237,12 @@ impl<T: EntryClone + MadeWith<Global> + Drop, const N: usize> BitXor for RangeSe
         × GivesTheResult T.cmp T.is_copy symmetric_difference_table a b r };
 
     /// The same of two sets, which are dropped even if it fails.
-    fn bitxor(self, that: RangeSet<T, N>) -> Result<RangeSet<T, N>, AllocError> {
+    fn bitxor(self, that: RangeSet<T, N>) -> Result<RangeSet<T, N>, AllocError>
+        ensures headline { GivesTheResult T.cmp T.is_copy symmetric_difference_table
+            self that result }
+        ensures gives { GivesOperation T.cmp T.is_copy T.is_infallible symmetric_difference_table N
+            self that result }
+    {
         &self ^ &that
     }
 }
@@ -194,7 +256,12 @@ impl<T: EntryClone + MadeWith<Global> + Drop, const N: usize> Sub<&RangeSet<T, N
         × GivesTheResult T.cmp T.is_copy difference_table a.now b.now r };
 
     /// The difference, as `difference` gives it. It fails only if an allocation or a copy does.
-    fn sub(self, that: &RangeSet<T, N>) -> Result<RangeSet<T, N>, AllocError> {
+    fn sub(self, that: &RangeSet<T, N>) -> Result<RangeSet<T, N>, AllocError>
+        ensures headline { GivesTheResult T.cmp T.is_copy difference_table
+            self.now that.now result }
+        ensures gives { GivesOperation T.cmp T.is_copy T.is_infallible difference_table N
+            self.now that.now result }
+    {
         self.difference(that.as_ref())
     }
 }
@@ -208,7 +275,12 @@ impl<T: EntryClone + MadeWith<Global> + Drop, const N: usize> Sub<RangeSet<T, N>
         × GivesTheResult T.cmp T.is_copy difference_table a.now b r };
 
     /// The same of a reference and a set, which is dropped even if it fails.
-    fn sub(self, that: RangeSet<T, N>) -> Result<RangeSet<T, N>, AllocError> {
+    fn sub(self, that: RangeSet<T, N>) -> Result<RangeSet<T, N>, AllocError>
+        ensures headline { GivesTheResult T.cmp T.is_copy difference_table
+            self.now that result }
+        ensures gives { GivesOperation T.cmp T.is_copy T.is_infallible difference_table N
+            self.now that result }
+    {
         self - &that
     }
 }
@@ -222,7 +294,12 @@ impl<T: EntryClone + MadeWith<Global> + Drop, const N: usize> Sub<&RangeSet<T, N
         × GivesTheResult T.cmp T.is_copy difference_table a b.now r };
 
     /// The same of a set, which is dropped even if it fails, and a reference.
-    fn sub(self, that: &RangeSet<T, N>) -> Result<RangeSet<T, N>, AllocError> {
+    fn sub(self, that: &RangeSet<T, N>) -> Result<RangeSet<T, N>, AllocError>
+        ensures headline { GivesTheResult T.cmp T.is_copy difference_table
+            self that.now result }
+        ensures gives { GivesOperation T.cmp T.is_copy T.is_infallible difference_table N
+            self that.now result }
+    {
         &self - that
     }
 }
@@ -235,7 +312,12 @@ impl<T: EntryClone + MadeWith<Global> + Drop, const N: usize> Sub for RangeSet<T
         × GivesTheResult T.cmp T.is_copy difference_table a b r };
 
     /// The same of two sets, which are dropped even if it fails.
-    fn sub(self, that: RangeSet<T, N>) -> Result<RangeSet<T, N>, AllocError> {
+    fn sub(self, that: RangeSet<T, N>) -> Result<RangeSet<T, N>, AllocError>
+        ensures headline { GivesTheResult T.cmp T.is_copy difference_table
+            self that result }
+        ensures gives { GivesOperation T.cmp T.is_copy T.is_infallible difference_table N
+            self that result }
+    {
         &self - &that
     }
 }
@@ -251,7 +333,12 @@ impl<T: RangeSetEntry + MadeWith<Global> + Drop, const N: usize> Not for RangeSe
     /// The complement. It removes a first boundary that is the least value, or else puts the least
     /// value before the others, which are the set's own. The clause says the members among values,
     /// and the list, item by item.
-    fn not(self) -> Result<RangeSet<T, N>, AllocError> {
+    fn not(self) -> Result<RangeSet<T, N>, AllocError>
+        ensures headline { IfOk result (IsTheNegation T.cmp T.is_value self) }
+        ensures gives { GivesOwnNegation T.cmp T.is_value T.least
+            (BeginsAt T.cmp T.least self ⊎ ((length self < N) × T.is_min_infallible))
+            self result }
+    {
         let alloc = self.allocator();
         let mut list = self.into_inner();
         if begins_at_least(list.as_slice()) {
@@ -279,7 +366,12 @@ impl<T: RangeSetEntry + EntryClone + MadeWith<Global> + Drop, const N: usize> No
     /// The complement, as the connective "not left" of this set and the empty one. It copies the
     /// boundaries, and removes a first one that is the least value, or else puts the least value
     /// before the others. It makes at most twice the weight of the two lists in comparisons.
-    fn not(self) -> Result<RangeSet<T, N>, AllocError> {
+    fn not(self) -> Result<RangeSet<T, N>, AllocError>
+        ensures headline { IfOk result (IsTheNegation T.cmp T.is_value self.now) }
+        ensures gives { GivesNegation T.cmp T.is_value T.is_copy T.least
+            ((length self.now < N) × All T.is_infallible self.now × T.is_min_infallible)
+            self.now result }
+    {
         changes_are_marked_truly::<T, Comparisons>();
         changes_mean_the_opposite::<T, Comparisons>();
         let not_left = Connective {

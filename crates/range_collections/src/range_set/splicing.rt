@@ -1,6 +1,6 @@
 //! One range set in a list of boundaries: the list is cut around the start and around the end, and
 //! what lies between the cuts gives way to those of the two that are put.
-ghost use Rattle.std.specs.Prelude.{◌≡◌, ◌+◌, ◌*◌, ◌≤◌, ◌<◌, ◌^◌, ◌⊎◌, ◌∷◌, ◌++◌, false, [], List, length, take, drop, IsOk, OnOk, OnErr};
+ghost use Rattle.std.specs.Prelude.{◌≡◌, ◌+◌, ◌*◌, ◌≤◌, ◌<◌, ◌^◌, ◌⊎◌, ◌∷◌, ◌++◌, false, List, length, take, drop, IsOk, OnOk, OnErr};
 ghost use Rattle.std.specs.Option.{option_to_list};
 ghost use Rattle.std.specs.Ordering.{is_lt};
 ghost use Rattle.range_merge.specs.Boundaries.{IsAscending, is_odd as odd};
@@ -12,7 +12,7 @@ ghost use Rattle.range_collections.specs.Splicing.{IsCut, range_table, spliced};
 ghost use Rattle.range_collections.specs.Ranges.{range_items};
 
 use crate::comparisons::Comparisons;
-use crate::lists::is_odd;
+use crate::lists::{append_both, is_odd};
 use crate::range_set_range::has_elements;
 use range_merge::{move_last_two, search};
 use smallvec::SmallVec;
@@ -55,11 +55,12 @@ pub(crate) fn set_range<T: Ord + MadeWith<Global> + Drop, const N: usize>(
     splice(list, from, to, start, end)
 }
 
-// Where the items are cut around an element, so that an odd number stands before exactly if
-// `inside`, and the element where it has to be put there for that. An item that is equal to it
-// stands before the cut or after it, as the number asks.
+/// Where a strictly sorted list is cut around an element, so that the number of items before the
+/// cut is odd exactly if `inside` is true. Returns the index of the cut, and the element if it has
+/// to be put there for that. An item equal to the element stands before the cut or after it, by
+/// that number.
 #[inline]
-pub(super) fn cut_at<T: Ord + Drop>(
+pub fn cut_at<T: Ord + Drop>(
     items: &[T],
     at: T,
     inside: bool,
@@ -171,11 +172,7 @@ fn insert_both<T: MadeWith<Global> + Drop, const N: usize>(
     ensures unchanged { OnErr result (list.new.items ≡ list.old.items) }
     ensures succeeds { length list.old.items + 2 ≤ N → IsOk result }
 {
-    // `capacity` is called for its clause that it is at least N, which the proof cites.
-    let _inline = list.capacity();
-    list.reserve(2)?;
-    list.push_reserved(start);
-    list.push_reserved(end);
+    append_both(list, start, end)?;
     move_last_two(list.as_mut_slice(), at);
     Ok(())
 }

@@ -30,6 +30,7 @@ impl<T: FromPlace + EntryClone + MadeWith<Global>, const N: usize> RangeSet<T, N
 }
 
 // The range that has this value alone.
+#[inline(always)]
 fn range_of<T: FromPlace>(value: &T) -> RangeSetRange<T>
     ensures { (x : T) → T.is_value x → IsInRange T.cmp result x ↔ (T.cmp value.now x ≡ Equal) }
 {
@@ -41,6 +42,7 @@ fn range_of<T: FromPlace>(value: &T) -> RangeSetRange<T>
 }
 
 // The least value above this one, if there is one.
+#[inline(always)]
 fn next_value<T: FromPlace>(value: &T) -> Option<T>
     ensures next { IfSome result (λ next.
         T.is_value next × (T.place next ≡ T.place value.now + 1)) }

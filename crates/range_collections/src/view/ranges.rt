@@ -1,6 +1,6 @@
 //! The ranges of a view: all of them, the first and the last, the one at an element; and one range
 //! of elements against the view.
-ghost use Rattle.std.specs.Prelude.{◌≡◌, ◌↔◌, IsTrue, [], length, None, Some, MatchOption, slice_get, ◌+◌, ◌*◌, ◌<◌, ◌≤◌, ◌^◌, true, Contains, IsSome, IfSome, false, not, IfNone};
+ghost use Rattle.std.specs.Prelude.{◌≡◌, ◌↔◌, IsTrue, [], length, min, None, Some, MatchOption, slice_get, ◌+◌, ◌*◌, ◌<◌, ◌≤◌, ◌^◌, true, Contains, IsSome, IfSome, false, not, IfNone};
 ghost use Rattle.std.specs.List.{last_or, AllWithin};
 ghost use Rattle.std.specs.Ordering.{is_le};
 ghost use Rattle.std.specs.declared.cmp.Ordering.TheVariants.{Less};
@@ -16,7 +16,7 @@ use crate::iter::Iter;
 use crate::lists::is_odd;
 use crate::range_set_range::{RangeSetRange, has_elements};
 use crate::view::RangeSetRef;
-use range_merge::{count_up_to, search};
+use range_merge::{Compare, count_up_to, search};
 use std::ops::{Range, RangeFrom};
 
 impl<'a, T: Ord> RangeSetRef<'a, T> {
@@ -146,8 +146,8 @@ impl<'a, T: Ord> RangeSetRef<'a, T> {
         self.contains_range_counted(range, &mut Comparisons::new())
     }
 
-    /// The same, counted: at most `2 * d + 1` comparisons, where `d` is the number of binary digits
-    /// of the number of boundaries.
+    /// The same, counted: at most `d + 2` comparisons, where `d` is the number of binary digits of
+    /// the number of boundaries; one if there are none.
     #[inline]
     pub fn contains_range_counted(&self, range: Range<T>, count: &mut Comparisons) -> bool
     where
@@ -156,7 +156,7 @@ impl<'a, T: Ord> RangeSetRef<'a, T> {
         ensures members { IsTrue result ↔
             HasAllWithin T.cmp self.now.boundaries.now range.start range.end }
         ensures comparisons { AddsAtMost count.old count.new
-            (2 * digits (length self.now.boundaries.now) + 1) }
+            (digits (length self.now.boundaries.now) + min 1 (length self.now.boundaries.now) + 1) }
     {
         self.has_all_within(&range.start, &range.end, count)
     }
@@ -179,7 +179,7 @@ impl<'a, T: Ord> RangeSetRef<'a, T> {
         ensures members { IsTrue result ↔
             HasAllWithin T.cmp self.now.boundaries.now start.now end.now }
         ensures comparisons { AddsAtMost count.old count.new
-            (2 * digits (length self.now.boundaries.now) + 1) }
+            (digits (length self.now.boundaries.now) + min 1 (length self.now.boundaries.now) + 1) }
     {
         if !has_elements(start, end, count) {
             return true;
@@ -188,7 +188,7 @@ impl<'a, T: Ord> RangeSetRef<'a, T> {
         if !is_odd(before) {
             return false;
         }
-        before == self.count_below(end, count)
+        !self.is_next_below(before, end, count)
     }
 
     // Whether some element from `start` on and below `end` is a member.
@@ -204,7 +204,7 @@ impl<'a, T: Ord> RangeSetRef<'a, T> {
         if is_odd(count) {
             return true;
         }
-        self.is_next_below(count, end)
+        self.is_next_below(count, end, &mut Comparisons::new())
     }
 
     // The least element at or above `from` that is a member, where `inside` is true, or else that
@@ -225,11 +225,13 @@ impl<'a, T: Ord> RangeSetRef<'a, T> {
 
     // Whether there is a boundary at place `i`, and it is below `end`.
     #[inline(always)]
-    fn is_next_below(&self, i: usize, end: &T) -> bool
-        ensures { IsTrue result ↔ IsItemBelow T.cmp self.now.boundaries.now i end.now }
+    fn is_next_below(&self, i: usize, end: &T, count: &mut Comparisons) -> bool
+        requires { count.old < 2 ^ 127 }
+        ensures answer { IsTrue result ↔ IsItemBelow T.cmp self.now.boundaries.now i end.now }
+        ensures comparisons { AddsAtMost count.old count.new 1 }
     {
         match self.boundaries.get(i) {
-            Some(next) => next.cmp(end).is_lt(),
+            Some(next) => count.compare(next, end).is_lt(),
             None => false,
         }
     }

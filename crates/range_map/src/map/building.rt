@@ -1,5 +1,5 @@
 //! A map made of many ranges.
-ghost use Rattle.std.specs.Prelude.{IfOk, None};
+ghost use Rattle.std.specs.Prelude.{◌≡◌, length, IsOk, IfOk, None};
 ghost use Rattle.range_map.specs.Steps.{AreAlike, value_at};
 ghost use Rattle.range_map.specs.Pairs.{last_at};
 
@@ -14,12 +14,11 @@ impl<K: Ord + Drop, V: MapValue> RangeMap<K, V> {
     /// The ranges may come in any order, and may overlap, touch or be empty; it inserts them one by
     /// one. If memory runs out, they are dropped.
     ///
-    /// If no range ends below an earlier one, each is put at the end and no keys move, so that the
-    /// time grows as n log n. Else a range moves all keys above it, and the time may grow as the
-    /// square of n.
+    /// If no range ends below an earlier one, each is put at the end.
     pub fn from_ranges(alloc: Global, ranges: Vec<(Range<K>, V)>) -> Result<Self, AllocError>
-        ensures { IfOk result (λ map. (x : K) →
+        ensures values { IfOk result (λ map. (x : K) →
             AreAlike V.eq (value_at K.cmp map x) (last_at K.cmp ranges.items None x)) }
+        ensures succeeds { length ranges.items ≡ 0 → IsOk result }
     {
         let mut map = RangeMap::new(alloc);
         for (range, value) in ranges {

@@ -1,48 +1,56 @@
 //! What an operation makes of two maps: run by run, each step is put at the end of the result if
 //! its option differs from the last one.
-ghost use Rattle.std.specs.Prelude.{◌≡◌, ◌+◌, ◌*◌, ◌^◌, ◌<◌, ◌≤◌, None, length, All, IfOk, OnOk};
+ghost use Rattle.std.specs.Prelude.{◌≡◌, ◌+◌, ◌*◌, ◌^◌, ◌<◌, ◌≤◌, None, length, All, IsOk, IfOk, OnOk};
 ghost use Rattle.std.specs.List.{AllWithin};
 ghost use Rattle.std.specs.declared.cmp.Ordering.TheVariants.{Less};
+ghost use Rattle.range_merge.specs.Boundaries.{IsAscending};
 ghost use Rattle.range_merge.specs.Counting.{AddsAtMost};
 ghost use Rattle.range_merge.specs.Runs.{weight};
+ghost use Rattle.range_map.specs.Steps.{IsCanonical};
+ghost use Rattle.range_map.specs.Listed.{steps_in};
 ghost use Rattle.range_map.specs.Changed.{IsCombined};
 ghost use Rattle.range_map.specs.Combining.{IsRun, IsBelowFrom, IsPut, IsMadeUpTo, left_len, right_len};
 
+use crate::borrowed_steps::BorrowedSteps;
 use crate::map::RangeMap;
 use crate::operation::MapOperation;
-use crate::places::{is_before, option_before};
+use crate::places::is_before;
 use crate::runs::{left_len, next_run, right_len};
-use crate::side::Side;
+use crate::step::Step;
 use range_collections::{Comparisons, EntryClone, Run};
+use range_list::Chunks;
 use std::alloc::{AllocError, Global};
 
 // What the operation makes of both.
 pub(super) fn combined<K: EntryClone + Drop, V, W, O: MapOperation<V, W>>(
     alloc: Global,
-    a: &Side<K, V>,
-    b: &Side<K, W>,
+    a: &BorrowedSteps<K, V>,
+    b: &BorrowedSteps<K, W>,
     op: &O,
     count: &mut Comparisons,
 ) -> Result<RangeMap<K, O::Output>, AllocError>
     requires off { O.gives op.now None None ≡ None }
+    requires a_ascends { IsAscending K.cmp a.now.keys }
+    requires b_ascends { IsAscending K.cmp b.now.keys }
     requires made { count.old < 2 ^ 64 }
-    ensures values { IfOk result (λ map. IsCombined K.cmp O.Output.eq (O.gives op.now)
-        (record { keys = a.now.keys.now; options = a.now.options.now })
-        (record { keys = b.now.keys.now; options = b.now.options.now }) map) }
+    ensures values { IfOk result (λ map. IsCombined K.cmp O.Output.eq (O.gives op.now) a.now b.now map) }
     ensures comparisons { AddsAtMost count.old count.new
-        (2 * weight K.cmp a.now.keys.now b.now.keys.now) }
+        (2 * weight K.cmp a.now.keys b.now.keys) }
+    ensures succeeds { length a.now.keys ≡ 0 → length b.now.keys ≡ 0 → IsOk result }
 {
     let mut made = RangeMap::new(alloc);
+    let a_len = a.len();
+    let b_len = b.len();
     let mut i = 0;
     let mut j = 0;
-    while i < a.keys.len() && j < b.keys.len() {
-        let run = next_run(a.keys, i, b.keys, j, count);
+    while i < a_len && j < b_len {
+        let run = next_run(a, i, b, j, count);
         put_run(&mut made, a, i, b, j, run, op)?;
         i += left_len(run);
         j += right_len(run);
     }
-    put_left(&mut made, a, i, a.keys.len(), b, j, op)?;
-    put_right(&mut made, a, a.keys.len(), b, j, b.keys.len(), op)?;
+    put_left(&mut made, a, i, a_len, b, j, op)?;
+    put_right(&mut made, a, a_len, b, j, b_len, op)?;
     Ok(made)
 }
 
@@ -50,22 +58,22 @@ pub(super) fn combined<K: EntryClone + Drop, V, W, O: MapOperation<V, W>>(
 #[inline]
 fn put_run<K: EntryClone + Drop, V, W, O: MapOperation<V, W>>(
     made: &mut RangeMap<K, O::Output>,
-    a: &Side<K, V>,
+    a: &BorrowedSteps<K, V>,
     i: usize,
-    b: &Side<K, W>,
+    b: &BorrowedSteps<K, W>,
     j: usize,
     run: Run,
     op: &O,
 ) -> Result<(), AllocError>
-    requires run { IsRun K.cmp a.now.keys.now i b.now.keys.now j run }
-    requires left_within { i ≤ length a.now.keys.now }
-    requires right_within { j ≤ length b.now.keys.now }
-    requires made { IsMadeUpTo K.cmp O.Output.eq (O.gives op.now)
-        (record { keys = a.now.keys.now; options = a.now.options.now })
-        (record { keys = b.now.keys.now; options = b.now.options.now }) i j made.old }
-    ensures { OnOk result (IsMadeUpTo K.cmp O.Output.eq (O.gives op.now)
-        (record { keys = a.now.keys.now; options = a.now.options.now })
-        (record { keys = b.now.keys.now; options = b.now.options.now })
+    requires run { IsRun K.cmp a.now.keys i b.now.keys j run }
+    requires left_within { i ≤ length a.now.keys }
+    requires right_within { j ≤ length b.now.keys }
+    requires a_few { length a.now.keys < 2 ^ 64 }
+    requires b_few { length b.now.keys < 2 ^ 64 }
+    requires a_ascends { IsAscending K.cmp a.now.keys }
+    requires b_ascends { IsAscending K.cmp b.now.keys }
+    requires made { IsMadeUpTo K.cmp O.Output.eq (O.gives op.now) a.now b.now i j made.old }
+    ensures { OnOk result (IsMadeUpTo K.cmp O.Output.eq (O.gives op.now) a.now b.now
         (i + left_len run) (j + right_len run) made.new) }
 {
     match run {
@@ -79,27 +87,26 @@ fn put_run<K: EntryClone + Drop, V, W, O: MapOperation<V, W>>(
 #[inline]
 fn put_left<K: EntryClone + Drop, V, W, O: MapOperation<V, W>>(
     made: &mut RangeMap<K, O::Output>,
-    a: &Side<K, V>,
+    a: &BorrowedSteps<K, V>,
     i: usize,
     to: usize,
-    b: &Side<K, W>,
+    b: &BorrowedSteps<K, W>,
     j: usize,
     op: &O,
 ) -> Result<(), AllocError>
     requires ordered { i ≤ to }
-    requires left_within { to ≤ length a.now.keys.now }
-    requires right_within { j ≤ length b.now.keys.now }
-    requires below { AllWithin (IsBelowFrom K.cmp b.now.keys.now j) a.now.keys.now i to }
-    requires made { IsMadeUpTo K.cmp O.Output.eq (O.gives op.now)
-        (record { keys = a.now.keys.now; options = a.now.options.now })
-        (record { keys = b.now.keys.now; options = b.now.options.now }) i j made.old }
-    ensures { OnOk result (IsMadeUpTo K.cmp O.Output.eq (O.gives op.now)
-        (record { keys = a.now.keys.now; options = a.now.options.now })
-        (record { keys = b.now.keys.now; options = b.now.options.now }) to j made.new) }
+    requires left_within { to ≤ length a.now.keys }
+    requires right_within { j ≤ length b.now.keys }
+    requires below { AllWithin (IsBelowFrom K.cmp b.now.keys j) a.now.keys i to }
+    requires a_ascends { IsAscending K.cmp a.now.keys }
+    requires b_ascends { IsAscending K.cmp b.now.keys }
+    requires made { IsMadeUpTo K.cmp O.Output.eq (O.gives op.now) a.now b.now i j made.old }
+    ensures made { OnOk result (IsMadeUpTo K.cmp O.Output.eq (O.gives op.now) a.now b.now to j made.new) }
+    ensures none { i ≡ to → IsOk result }
 {
     for n in i..to {
-        let option = op.apply(option_before(a.options, n + 1), option_before(b.options, j))?;
-        put(made, &a.keys[n], option)?;
+        let option = op.apply(a.option_before(n + 1), b.option_before(j))?;
+        put(made, a.key(n), option)?;
     }
     Ok(())
 }
@@ -108,27 +115,26 @@ fn put_left<K: EntryClone + Drop, V, W, O: MapOperation<V, W>>(
 #[inline]
 fn put_right<K: EntryClone + Drop, V, W, O: MapOperation<V, W>>(
     made: &mut RangeMap<K, O::Output>,
-    a: &Side<K, V>,
+    a: &BorrowedSteps<K, V>,
     i: usize,
-    b: &Side<K, W>,
+    b: &BorrowedSteps<K, W>,
     j: usize,
     to: usize,
     op: &O,
 ) -> Result<(), AllocError>
     requires ordered { j ≤ to }
-    requires left_within { i ≤ length a.now.keys.now }
-    requires right_within { to ≤ length b.now.keys.now }
-    requires below { AllWithin (IsBelowFrom K.cmp a.now.keys.now i) b.now.keys.now j to }
-    requires made { IsMadeUpTo K.cmp O.Output.eq (O.gives op.now)
-        (record { keys = a.now.keys.now; options = a.now.options.now })
-        (record { keys = b.now.keys.now; options = b.now.options.now }) i j made.old }
-    ensures { OnOk result (IsMadeUpTo K.cmp O.Output.eq (O.gives op.now)
-        (record { keys = a.now.keys.now; options = a.now.options.now })
-        (record { keys = b.now.keys.now; options = b.now.options.now }) i to made.new) }
+    requires left_within { i ≤ length a.now.keys }
+    requires right_within { to ≤ length b.now.keys }
+    requires below { AllWithin (IsBelowFrom K.cmp a.now.keys i) b.now.keys j to }
+    requires a_ascends { IsAscending K.cmp a.now.keys }
+    requires b_ascends { IsAscending K.cmp b.now.keys }
+    requires made { IsMadeUpTo K.cmp O.Output.eq (O.gives op.now) a.now b.now i j made.old }
+    ensures made { OnOk result (IsMadeUpTo K.cmp O.Output.eq (O.gives op.now) a.now b.now i to made.new) }
+    ensures none { j ≡ to → IsOk result }
 {
     for n in j..to {
-        let option = op.apply(option_before(a.options, i), option_before(b.options, n + 1))?;
-        put(made, &b.keys[n], option)?;
+        let option = op.apply(a.option_before(i), b.option_before(n + 1))?;
+        put(made, b.key(n), option)?;
     }
     Ok(())
 }
@@ -137,30 +143,27 @@ fn put_right<K: EntryClone + Drop, V, W, O: MapOperation<V, W>>(
 #[inline]
 fn put_both<K: EntryClone + Drop, V, W, O: MapOperation<V, W>>(
     made: &mut RangeMap<K, O::Output>,
-    a: &Side<K, V>,
+    a: &BorrowedSteps<K, V>,
     i: usize,
-    b: &Side<K, W>,
+    b: &BorrowedSteps<K, W>,
     j: usize,
     op: &O,
 ) -> Result<(), AllocError>
-    requires run { IsRun K.cmp a.now.keys.now i b.now.keys.now j Run.Both }
-    requires made { IsMadeUpTo K.cmp O.Output.eq (O.gives op.now)
-        (record { keys = a.now.keys.now; options = a.now.options.now })
-        (record { keys = b.now.keys.now; options = b.now.options.now }) i j made.old }
-    ensures { OnOk result (IsMadeUpTo K.cmp O.Output.eq (O.gives op.now)
-        (record { keys = a.now.keys.now; options = a.now.options.now })
-        (record { keys = b.now.keys.now; options = b.now.options.now }) (i + 1) (j + 1) made.new) }
+    requires run { IsRun K.cmp a.now.keys i b.now.keys j Run.Both }
+    requires a_few { length a.now.keys < 2 ^ 64 }
+    requires b_few { length b.now.keys < 2 ^ 64 }
+    requires a_ascends { IsAscending K.cmp a.now.keys }
+    requires b_ascends { IsAscending K.cmp b.now.keys }
+    requires made { IsMadeUpTo K.cmp O.Output.eq (O.gives op.now) a.now b.now i j made.old }
+    ensures { OnOk result (IsMadeUpTo K.cmp O.Output.eq (O.gives op.now) a.now b.now (i + 1) (j + 1) made.new) }
 {
-    let option = op.apply(
-        option_before(a.options, i + 1),
-        option_before(b.options, j + 1),
-    )?;
-    put(made, &a.keys[i], option)
+    let option = op.apply(a.option_before(i + 1), b.option_before(j + 1))?;
+    put(made, a.key(i), option)
 }
 
 // Puts a step at the end, with a copy of the key, if its option differs from the last one.
 #[inline]
-fn put<K: EntryClone + Drop, U: Eq + Drop>(
+pub(super) fn put<K: EntryClone + Drop, U: Eq + Drop>(
     made: &mut RangeMap<K, U>,
     key: &K,
     option: Option<U>,
@@ -168,15 +171,26 @@ fn put<K: EntryClone + Drop, U: Eq + Drop>(
     requires { All (λ k. K.cmp k key.now ≡ Less) made.old.keys }
     ensures { OnOk result (IsPut K.cmp U.eq made.old key.now option made.new) }
 {
-    if is_before(made.options.as_slice(), made.options.len(), &option) {
+    push(&mut made.steps, key, option)
+}
+
+// The same of a list of steps.
+#[inline]
+fn push<K: EntryClone + Drop, U: Eq + Drop>(
+    steps: &mut Chunks<Step<K, U>, ()>,
+    key: &K,
+    option: Option<U>,
+) -> Result<(), AllocError>
+    requires canonical { IsCanonical K.cmp U.eq (steps_in steps.old) }
+    requires below { All (λ k. K.cmp k key.now ≡ Less) (steps_in steps.old).keys }
+    ensures canonical { IsCanonical K.cmp U.eq (steps_in steps.new) }
+    ensures put { OnOk result (IsPut K.cmp U.eq (steps_in steps.old) key.now option (steps_in steps.new)) }
+{
+    if is_before(steps, steps.end(), &option) {
         return Ok(());
     }
     let key = key.entry_clone()?;
-    made.keys.reserve(1)?;
-    made.options.reserve(1)?;
-    made.keys.push_reserved(key);
-    made.options.push_reserved(option);
-    Ok(())
+    steps.push(Step { key, option })
 }
 
 impl<K: EntryClone + Drop, V: Eq> RangeMap<K, V> {
@@ -188,7 +202,7 @@ impl<K: EntryClone + Drop, V: Eq> RangeMap<K, V> {
     ///
     /// The operation is asked once for each step of either map. It must give nothing where both
     /// have nothing. It makes at most twice as many comparisons of keys as the weight of both lists
-    /// of keys, and asks for memory as the result grows.
+    /// of keys. It asks for memory for a reference to each step, and as the result grows.
     pub fn combine<W: Eq, O: MapOperation<V, W>>(
         &self,
         alloc: Global,
@@ -202,21 +216,25 @@ impl<K: EntryClone + Drop, V: Eq> RangeMap<K, V> {
             IsCombined K.cmp O.Output.eq (O.gives op.now) self.now that.now map) }
         ensures comparisons { AddsAtMost count.old count.new
             (2 * weight K.cmp self.now.keys that.now.keys) }
+        ensures succeeds { length self.now.keys ≡ 0 → length that.now.keys ≡ 0 → IsOk result }
     {
-        combined(alloc, &self.side(), &that.side(), op, count)
+        let left = self.borrowed_steps(alloc)?;
+        let right = that.borrowed_steps(alloc)?;
+        combined(alloc, &left, &right, op, count)
     }
 }
 
 impl<K: Ord, V: Eq> RangeMap<K, V> {
-    // The steps.
+    // The steps, by reference.
     #[inline(always)]
-    pub(super) fn side(&self) -> Side<'_, K, V>
-        ensures keys { result.keys.now ≡ self.now.keys }
-        ensures options { result.options.now ≡ self.now.options }
+    pub(super) fn borrowed_steps(
+        &self,
+        alloc: Global,
+    ) -> Result<BorrowedSteps<'_, K, V>, AllocError>
+        ensures steps { IfOk result (λ side. side ≡ self.now) }
+        ensures ascending { IfOk result (λ side. IsAscending K.cmp side.keys) }
+        ensures succeeds { length self.now.keys ≡ 0 → IsOk result }
     {
-        Side {
-            keys: self.keys.as_slice(),
-            options: self.options.as_slice(),
-        }
+        BorrowedSteps::of_steps(alloc, self.steps.items())
     }
 }

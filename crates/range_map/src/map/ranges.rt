@@ -8,10 +8,9 @@ ghost use Rattle.range_map.specs.Stretches.{IsStretch};
 use crate::gaps::Gaps;
 use crate::iter::Iter;
 use crate::map::RangeMap;
-use crate::places::{key_before, option_before};
+use crate::places::{key_at, key_before, option_before, place_up_to};
 use crate::within::{gaps_between, overlapping_steps};
 use range_collections::{Comparisons, RangeSetRange};
-use range_merge::count_up_to;
 use std::ops::Range;
 
 /// The longest range around a key whose keys all have one value, or all have none. It has no start
@@ -30,7 +29,7 @@ impl<K: Ord, V: Eq> RangeMap<K, V> {
     pub fn iter(&self) -> Iter<'_, K, V>
         ensures { result ≡ entries self.now }
     {
-        Iter::new(self.keys.as_slice(), self.options.as_slice(), None)
+        Iter::new(self.steps.items(), None)
     }
 
     /// The ranges that share a key with this one, whole, each with its value. It has none in common
@@ -43,12 +42,7 @@ impl<K: Ord, V: Eq> RangeMap<K, V> {
         ensures { result ≡ filter (overlaps K.cmp range.entry.start.now range.entry.end.now)
             (entries self.now) }
     {
-        overlapping_steps(
-            self.keys.as_slice(),
-            self.options.as_slice(),
-            range.start,
-            range.end,
-        )
+        overlapping_steps(&self.steps, range.start, range.end)
     }
 
     /// The parts of a range whose keys have no value, from the lowest on and from the highest down.
@@ -60,12 +54,7 @@ impl<K: Ord, V: Eq> RangeMap<K, V> {
     pub fn gaps<'a>(&'a self, within: Range<&'a K>) -> Gaps<'a, K, V>
         ensures { AreGaps K.cmp self.now within.entry.start.now within.entry.end.now result }
     {
-        gaps_between(
-            self.keys.as_slice(),
-            self.options.as_slice(),
-            within.start,
-            within.end,
-        )
+        gaps_between(&self.steps, within.start, within.end)
     }
 
     /// The longest range around `key` with its value, or with none.
@@ -79,11 +68,11 @@ impl<K: Ord, V: Eq> RangeMap<K, V> {
         ensures around { IsStretch K.cmp V.eq self.now key.now
             (option_copied result.start) (option_copied result.end) }
     {
-        let n = count_up_to(self.keys.as_slice(), key, &mut Comparisons::new());
+        let place = place_up_to(&self.steps, key, &mut Comparisons::new());
         Stretch {
-            start: key_before(self.keys.as_slice(), n),
-            end: self.keys.as_slice().get(n),
-            value: option_before(self.options.as_slice(), n),
+            start: key_before(&self.steps, place),
+            end: key_at(&self.steps, place),
+            value: option_before(&self.steps, place),
         }
     }
 }

@@ -10,7 +10,7 @@ use crate::map::RangeMap;
 use crate::retaining::retain_values;
 use crate::update::{InRange, MapUpdate};
 use crate::value::MapValue;
-use range_collections::{Comparisons, EntryClone};
+use range_collections::{Comparisons, EntryClone, has_elements};
 use std::alloc::AllocError;
 use std::ops::{Range, RangeFrom};
 
@@ -26,10 +26,10 @@ impl<K: EntryClone + Drop, V: MapValue> RangeMap<K, V> {
         ensures unchanged { OnErr result (self.new ≡ self.old) }
         ensures empty { is_lt (K.cmp range.start range.end) ≡ false → (self.new ≡ self.old) × IsOk result }
     {
-        if !range.start.cmp(&range.end).is_lt() {
+        if !has_elements(&range.start, &range.end, &mut Comparisons::new()) {
             return Ok(());
         }
-        let mut within = RangeMap::new(*self.keys.allocator());
+        let mut within = RangeMap::new(self.steps.allocator());
         within.insert(range, ())?;
         self.update_keys(&within, op)
     }
@@ -46,7 +46,7 @@ impl<K: EntryClone + Drop, V: MapValue> RangeMap<K, V> {
         ensures values { OnOk result (IsUpdated K.cmp V.eq range.start None (O.gives op.now) self.old self.new) }
         ensures unchanged { OnErr result (self.new ≡ self.old) }
     {
-        let mut within = RangeMap::new(*self.keys.allocator());
+        let mut within = RangeMap::new(self.steps.allocator());
         within.insert_from(range, ())?;
         self.update_keys(&within, op)
     }
@@ -62,7 +62,7 @@ impl<K: EntryClone + Drop, V: MapValue> RangeMap<K, V> {
             (O.gives op.now (value_at K.cmp self.old x)) (value_at K.cmp self.old x))) }
         ensures unchanged { OnErr result (self.new ≡ self.old) }
     {
-        let alloc = *self.keys.allocator();
+        let alloc = self.steps.allocator();
         *self = self.combine(alloc, within, &InRange(op), &mut Comparisons::new())?;
         Ok(())
     }
@@ -75,6 +75,6 @@ impl<K: Ord + Drop, V: Eq + Drop> RangeMap<K, V> {
         ensures { (x : K) → AreAlike V.eq (value_at K.cmp self.new x)
             (kept (F.is_kept filter.now) (value_at K.cmp self.old x)) }
     {
-        retain_values(&mut self.keys, &mut self.options, filter);
+        retain_values(&mut self.steps, filter);
     }
 }

@@ -1,4 +1,4 @@
-//! A merge that only tells whether anything is taken.
+//! A merge that only returns whether anything is taken.
 ghost use Rattle.std.specs.Prelude.{◌≡◌, ◌*◌, ◌^◌, ◌<◌, true, false, ⊤};
 ghost use Rattle.range_merge.specs.Boundaries.{IsAscending};
 ghost use Rattle.range_merge.specs.Changes.{changes};

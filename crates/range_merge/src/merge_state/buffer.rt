@@ -1,6 +1,6 @@
 //! A merge that writes what is taken into a borrowed slice.
 //!
-//! The count goes on when the slice is full, so that it tells how long a slice must be. While it is
+//! The count goes on when the slice is full, so that it says how long a slice must be. While it is
 //! within the slice, the slice begins with what was taken, and after that it is as it was.
 ghost use Rattle.std.specs.Prelude.{◌≡◌, ◌↔◌, ◌+◌, ◌*◌, ◌^◌, ◌<◌, ◌≤◌, ◌++◌, false, length, take, drop, map, Some, IsErr, IfOk, IfErr, ⊤};
 ghost use Rattle.range_merge.specs.Boundaries.{IsAscending};
@@ -11,13 +11,13 @@ ghost use Rattle.range_merge.specs.Runs.{weight};
 ghost use Rattle.range_merge.specs.Singly.{table_from, IsRead};
 ghost use Rattle.range_merge.specs.Steps.{FirstsStand};
 
-use crate::compare::{Compare, Copier};
+use crate::compare::{Compare, Copier, Done};
 use crate::merge_state::output::Output;
 use crate::merge_state::over_slices::SliceMergeState;
-use crate::merge_state::reading::{Read, Room, Singly};
+use crate::merge_state::reading::{Room, Singly};
 use crate::merging;
 use crate::operations::MergeOperation;
-use crate::singly::{Relative, read_singly};
+use crate::singly::{Place, Relative, read_singly};
 use std::alloc::AllocError;
 use std::cmp::Ordering;
 use std::mem::size_of_val;
@@ -148,7 +148,7 @@ impl<'o, K: Copy> Output<K, ()> for Buffer<'o, K> {
     #[inline(always)]
     fn append(&mut self, items: &[K], take: bool, _by: &()) -> Result<bool, AllocError> {
         if take {
-            put(self.items, self.given, items);
+            write_at(self.items, self.given, items);
             self.given += items.len();
         }
         Ok(true)
@@ -198,10 +198,10 @@ impl<'o, K: Copy, O: MergeOperation, C: Compare<K>> Room<K, (), ByCopy, O, C> fo
         copier: &ByCopy,
         cmp: C,
         _n: usize,
-    ) -> Read<C> {
+    ) -> Done<C, Place> {
         let at = self.given.min(self.items.len());
         let read = read_behind(a, b, next, op, copier, cmp, &mut self.items[at..]);
-        self.given += read.at.k;
+        self.given += read.answer.k;
         read
     }
 }
@@ -216,7 +216,7 @@ fn read_behind<K: Copy, O: MergeOperation, C: Compare<K>>(
     copier: &ByCopy,
     cmp: C,
     out: &mut [K],
-) -> Read<C>
+) -> Done<C, Place>
     requires left_ascending { IsAscending C.order a.now }
     requires right_ascending { IsAscending C.order b.now }
     requires stands { FirstsStand C.order a.now b.now (Some next) }
@@ -224,24 +224,24 @@ fn read_behind<K: Copy, O: MergeOperation, C: Compare<K>>(
     requires made { C.count cmp < 2 ^ 126 }
     ensures read { IsRead (λ x y. y ≡ x) C.order
         (table_from (O.connective op.now.op.now) op.now.ac op.now.bc) a.now b.now
-        result.at.i result.at.j (take result.at.k out.new) result.at.next }
-    ensures behind { drop result.at.k out.new ≡ drop result.at.k out.old }
-    ensures within { result.at.k ≤ length out.new }
-    ensures at_most { result.at.k ≤ result.at.i + result.at.j }
+        result.answer.i result.answer.j (take result.answer.k out.new) result.answer.next }
+    ensures behind { drop result.answer.k out.new ≡ drop result.answer.k out.old }
+    ensures within { result.answer.k ≤ length out.new }
+    ensures at_most { result.answer.k ≤ result.answer.i + result.answer.j }
     ensures len { length out.new ≡ length out.old }
     ensures comparisons { C.count result.cmp
-        + 2 * weight C.order (drop result.at.i a.now) (drop result.at.j b.now)
+        + 2 * weight C.order (drop result.answer.i a.now) (drop result.answer.j b.now)
         ≤ C.count cmp + 2 * weight C.order a.now b.now + 6 }
     ensures made { C.count cmp ≤ C.count result.cmp }
 {
     let mut cmp = cmp;
-    let at = read_singly(a, b, next, op, copier, &mut cmp, out, true);
-    Read { at, cmp }
+    let answer = read_singly(a, b, next, op, copier, &mut cmp, out, true);
+    Done { cmp, answer }
 }
 
-// Changes nothing. Using the slice ties it to the borrowed one, whose last items it then tells.
+/// Changes nothing. Using the slice ties it to the borrowed one, whose last items are then known.
 #[inline(always)]
-fn take_back<K>(items: &mut [K])
+pub(crate) fn take_back<K>(items: &mut [K])
     ensures { items.new ≡ items.old }
 {
     let _borrowed = items;
@@ -249,18 +249,18 @@ fn take_back<K>(items: &mut [K])
 
 // Writes those of the items that have room into the slice, from the index `at` on.
 #[inline(always)]
-fn put<K: Copy>(out: &mut [K], at: usize, items: &[K])
+fn write_at<K: Copy>(out: &mut [K], at: usize, items: &[K])
     ensures len { length out.new ≡ length out.old }
     ensures written { at + length items.now ≤ length out.old → out.new ≡ take at out.old ++ (items.now ++ drop (at + length items.now) out.old) }
 {
     if at < out.len() {
-        put_front(&mut out[at..], items);
+        write_front(&mut out[at..], items);
     }
 }
 
 // Writes those of the items that have room into the slice, from its front.
 #[inline(always)]
-fn put_front<K: Copy>(out: &mut [K], items: &[K])
+fn write_front<K: Copy>(out: &mut [K], items: &[K])
     ensures len { length out.new ≡ length out.old }
     ensures written { length items.now ≤ length out.old → out.new ≡ items.now ++ drop (length items.now) out.old }
 {

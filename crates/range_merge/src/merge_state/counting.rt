@@ -4,15 +4,15 @@ ghost use Rattle.range_merge.specs.Boundaries.{IsAscending, is_odd};
 ghost use Rattle.range_merge.specs.ByPlace.{IsCounted};
 ghost use Rattle.range_merge.specs.Connective.{differ};
 ghost use Rattle.range_merge.specs.Parts.{Progress};
+ghost use Rattle.range_merge.specs.Reading.{CostsAtMost};
 ghost use Rattle.range_merge.specs.Runs.{weight};
 ghost use Rattle.range_merge.specs.Singly.{table_from};
 ghost use Rattle.range_merge.specs.Steps.{FirstsStand};
 
 use crate::by_place::read_by_place;
-use crate::compare::Compare;
+use crate::compare::{Compare, Done, Work};
 use crate::merge_state::MergeState;
 use crate::merge_state::over_slices::SliceMergeState;
-use crate::merge_state::reading::Read;
 use crate::operations::MergeOperation;
 use crate::pacing::{Rounds, are_few};
 use crate::searching::is_word;
@@ -62,6 +62,9 @@ impl<'a, K, O: MergeOperation, C: Compare<K>> ShortRuns<SliceMergeState<'a, K, u
         if are_few(state) {
             return next;
         }
+        if self.rounds.were_long(state.a_len()) {
+            return next;
+        }
         let at = count_short_runs(state, op, next, cmp);
         self.rounds.learn(at);
         at.next
@@ -102,16 +105,49 @@ fn count_short_runs<K, O: MergeOperation, C: Compare<K>>(
     };
     let a = state.a.as_slice();
     let b = state.b.as_slice();
-    // The counter goes by value, so that the merge can keep its own in registers.
-    let read = read_apart(a, b, next, op, cmp.fresh());
-    cmp.add(read.cmp);
-    let at = read.at;
+    // By value, so that the merge can keep its own counter in registers.
+    let at = cmp.apart(&mut Counting { a, b, next, op });
     state.a.drop_front(at.i);
     state.b.drop_front(at.j);
     state.ac = state.ac != (at.i % 2 == 1);
     state.bc = state.bc != (at.j % 2 == 1);
     state.output += at.k;
     at
+}
+
+// What is to be counted.
+#[derive(Drop)]
+struct Counting<'r, K, O: MergeOperation> {
+    a: &'r [K],
+    b: &'r [K],
+    next: Ordering,
+    op: &'r Relative<'r, O>,
+}
+
+impl<'r, K, O: MergeOperation, C: Compare<K>> Work<K, C> for Counting<'r, K, O> {
+    type Answer = Place;
+
+    ghost is_ready = { λ it.
+        IsAscending C.order it.a.now
+        × IsAscending C.order it.b.now
+        × FirstsStand C.order it.a.now it.b.now (Some it.next)
+        × (length it.a.now + length it.b.now < 2 ^ 64) };
+
+    ghost is_done = { λ it _ n at.
+        IsCounted C.order (table_from (O.connective it.op.now.op.now) it.op.now.ac it.op.now.bc)
+        it.a.now it.b.now at.i at.j at.k at.next
+        × (at.k ≤ at.i + at.j)
+        × CostsAtMost C.order it.a.now it.b.now at.i at.j n };
+
+    #[inline(always)]
+    fn run(&mut self, cmp: C) -> Done<C, Place> {
+        read_apart(self.a, self.b, self.next, self.op, cmp)
+    }
+
+    #[inline(always)]
+    fn undone(&self) -> Place {
+        Place::start(self.next)
+    }
 }
 
 // Counts short runs, and what it compares in a counter of its own.
@@ -122,7 +158,7 @@ fn read_apart<K, O: MergeOperation, C: Compare<K>>(
     next: Ordering,
     op: &Relative<'_, O>,
     cmp: C,
-) -> Read<C>
+) -> Done<C, Place>
     requires left_ascending { IsAscending C.order a.now }
     requires right_ascending { IsAscending C.order b.now }
     requires stands { FirstsStand C.order a.now b.now (Some next) }
@@ -130,14 +166,14 @@ fn read_apart<K, O: MergeOperation, C: Compare<K>>(
     requires made { C.count cmp < 2 ^ 126 }
     ensures read { IsCounted C.order
         (table_from (O.connective op.now.op.now) op.now.ac op.now.bc) a.now b.now
-        result.at.i result.at.j result.at.k result.at.next }
+        result.answer.i result.answer.j result.answer.k result.answer.next }
     ensures comparisons { C.count result.cmp
-        + 2 * weight C.order (drop result.at.i a.now) (drop result.at.j b.now)
+        + 2 * weight C.order (drop result.answer.i a.now) (drop result.answer.j b.now)
         ≤ C.count cmp + 2 * weight C.order a.now b.now + 6 }
     ensures made { C.count cmp ≤ C.count result.cmp }
-    ensures at_most { result.at.k ≤ result.at.i + result.at.j }
+    ensures at_most { result.answer.k ≤ result.answer.i + result.answer.j }
 {
     let mut cmp = cmp;
-    let at = read_by_place(a, b, next, op, &mut cmp);
-    Read { at, cmp }
+    let answer = read_by_place(a, b, next, op, &mut cmp);
+    Done { cmp, answer }
 }

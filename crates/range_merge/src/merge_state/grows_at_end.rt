@@ -1,6 +1,7 @@
 //! Lists that grow at their end.
 ghost use Rattle.std.specs.Prelude.{◌≡◌, ℕ, Bool, true, false, ◌+◌, ◌≤◌, ◌<◌, List, ◌++◌, ◌∷◌, [], length, IsOk, IsErr, OnOk, All};
 ghost use Rattle.std.specs.Vec.{vec_capacity};
+ghost use Rattle.smallvec.specs.SmallVec.{HasRoomFor};
 ghost use Rattle.range_merge.specs.Copies.{IsAppended, items_if};
 
 use crate::compare::Copier;
@@ -84,4 +85,21 @@ pub(crate) fn append_copies<K, P: Copier<K>, L: GrowsAtEnd<K>>(
         list.push(copier.copy(item)?);
     }
     Ok(())
+}
+
+/// Appends copies of items, for which there is room, and none of which fails.
+pub(crate) fn append_within<K: MadeWith<Global> + Drop, P: Copier<K>, const N: usize>(
+    list: &mut SmallVec<K, N>,
+    items: &[K],
+    copier: &P,
+)
+    requires room { HasRoomFor list.old (length items.now) }
+    requires infallible { (x : K) → P.is_infallible x }
+    ensures copied { IsAppended P.alike items.now list.old.items list.new.items }
+    ensures room { list.new.capacity ≡ list.old.capacity }
+{
+    match append_copies(list, items, true, copier) {
+        Ok(()) => {}
+        Err(_) => unreachable!(),
+    }
 }

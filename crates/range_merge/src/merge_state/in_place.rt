@@ -6,12 +6,12 @@ ghost use Rattle.range_merge.specs.Counting.{AddsAtMost};
 ghost use Rattle.range_merge.specs.Runs.{weight};
 
 use crate::compare::Compare;
+use crate::in_place_list::{Exchanges, Slots};
 use crate::in_place_memory::prepared;
 use crate::indexed::Indexed;
 use crate::merge_state::placing::PlacingMergeState;
 use crate::merge_state::supply::Supply;
 use crate::operations::MergeOperation;
-use crate::place::{Exchanges, Slots};
 use smallvec::SmallVec;
 use std::alloc::{AllocError, Global};
 use std::default::MadeWith;
@@ -40,6 +40,7 @@ impl<K: MadeWith<Global> + Drop, const N: usize> InPlaceMergeState<K, N> {
         ensures left_on { IfOk result (λ state. state.left_on ≡ false) }
         ensures right_on { IfOk result (λ state. state.right_on ≡ false) }
         ensures kept { IfOk result (λ state. state.kept ≡ []) }
+        ensures room { IfOk result (λ state. a.capacity ≤ state.room) }
         ensures left_handed_back { IfErr result (λ refused. refused.1.items ≡ a.items) }
         ensures right_handed_back { IfErr result (λ refused. refused.2.items ≡ b.items) }
         ensures succeeds { length a.items + length b.items ≤ N → IsOk result }
@@ -57,9 +58,9 @@ impl<K: MadeWith<Global> + Drop, const N: usize> InPlaceMergeState<K, N> {
     /// Leaves in `a` the items at which the connective of `op` changes between two strictly sorted
     /// lists. Of two equal items it is the one of `a` that stays.
     ///
-    /// It asks for room in `a` for the items of `b` before it changes anything, and succeeds if
-    /// both lengths together are at most `N`. If it fails, the items of `a` are as they were, and
-    /// `b` comes back. It makes at most twice the weight of the two lists in comparisons.
+    /// It asks for room in `a` for the items of `b`, which stays, before it changes anything, and
+    /// succeeds if both lengths together are at most `N`. If it fails, the items of `a` are as they
+    /// were, and `b` comes back. It makes at most twice the weight of the two lists in comparisons.
     pub fn merge<O: MergeOperation, C: Compare<K>>(
         a: &mut SmallVec<K, N>,
         mut b: SmallVec<K, N>,
@@ -71,6 +72,7 @@ impl<K: MadeWith<Global> + Drop, const N: usize> InPlaceMergeState<K, N> {
         requires made { C.count cmp.old < 2 ^ 64 }
         ensures taken { OnOk result (a.new.items ≡ taken_items (changes C.order (O.connective op.now) a.old.items b.items)) }
         ensures unchanged { OnErr result (a.new.items ≡ a.old.items) }
+        ensures room { a.old.capacity ≤ a.new.capacity }
         ensures handed_back { IfErr result (λ refused. refused.1.items ≡ b.items) }
         ensures succeeds { length a.old.items + length b.items ≤ N → IsOk result }
         ensures comparisons { AddsAtMost (C.count cmp.old) (C.count cmp.new) (2 * weight C.order a.old.items b.items) }

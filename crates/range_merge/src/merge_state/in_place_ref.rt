@@ -1,5 +1,5 @@
 //! A merge into its own left list, which takes copies of the items of a right list that it borrows.
-ghost use Rattle.std.specs.Prelude.{◌≡◌, ◌+◌, ◌*◌, ◌^◌, ◌<◌, ◌≤◌, false, [], length, All, IsTrue, IsOk, IfOk, IfErr, IfSome, Ok, None, OnOk, OnErr};
+ghost use Rattle.std.specs.Prelude.{◌≡◌, ◌+◌, ◌*◌, ◌^◌, ◌<◌, ◌≤◌, false, [], length, All, IsOk, IfOk, IfErr, Ok, OnOk, OnErr};
 ghost use Rattle.std.specs.List.{AllZip};
 ghost use Rattle.range_merge.specs.Boundaries.{IsAscending};
 ghost use Rattle.range_merge.specs.Changes.{changes};
@@ -8,14 +8,14 @@ ghost use Rattle.range_merge.specs.Counting.{AddsAtMost};
 ghost use Rattle.range_merge.specs.Runs.{weight};
 
 use crate::compare::{Compare, Copier};
+use crate::in_place_list::{Exchanges, Slots};
 use crate::in_place_memory::{prepared, prepared_copies};
 use crate::indexed::Indexed;
 use crate::merge_state::in_place::OwnedRight;
+use crate::merge_state::in_place_plain::merged_plainly;
 use crate::merge_state::placing::PlacingMergeState;
-use crate::merge_state::small_vec::{SmallVecMergeState, fit_together};
 use crate::merge_state::supply::Supply;
 use crate::operations::MergeOperation;
-use crate::place::{Exchanges, Slots};
 use crate::slice_iterator::SliceIterator;
 use smallvec::SmallVec;
 use std::alloc::{AllocError, Global};
@@ -52,6 +52,7 @@ impl<'a, K: MadeWith<Global> + Drop, P: Copier<K>, const N: usize> InPlaceMergeS
         ensures left_on { IfOk result (λ state. state.left_on ≡ false) }
         ensures right_on { IfOk result (λ state. state.right_on ≡ false) }
         ensures kept { IfOk result (λ state. state.kept ≡ []) }
+        ensures room { IfOk result (λ state. a.capacity ≤ state.room) }
         ensures handed_back { IfErr result (λ refused. refused.1.items ≡ a.items) }
         ensures succeeds { length a.items + length b.now ≤ N → All P.is_infallible b.now → IsOk result }
     {
@@ -68,10 +69,12 @@ impl<'a, K: MadeWith<Global> + Drop, P: Copier<K>, const N: usize> InPlaceMergeS
     /// lists: its own, and copies of those of `b`. Of two equal items it is the one of `a` that
     /// stays.
     ///
-    /// It asks for room in `a` for the items of `b`, and, unless copies never fail, for a copy of
-    /// each item of `b`, before it changes anything. Plain data it may merge into a new list. It
-    /// succeeds if both lengths together are at most `N` and no copy fails. If it fails, the items
-    /// of `a` are as they were. It makes at most twice the weight of the two lists in comparisons.
+    /// It asks for room in `a` for the items of `b`, which stays, and, unless copies never fail,
+    /// for a copy of each item of `b`, before it changes anything. Of plain data it asks first for
+    /// copies of the items of `a`, or for a new list if `a` has no room for both, but it can do
+    /// without. It succeeds if both lengths together are at most `N` and no copy fails. If it
+    /// fails, the items of `a` are as they were. It makes at most twice the weight of the two lists
+    /// in comparisons.
     pub fn merge<O: MergeOperation, C: Compare<K>>(
         a: &mut SmallVec<K, N>,
         b: &'a [K],
@@ -84,12 +87,12 @@ impl<'a, K: MadeWith<Global> + Drop, P: Copier<K>, const N: usize> InPlaceMergeS
         requires made { C.count cmp.old < 2 ^ 64 }
         ensures taken { OnOk result (AreOwnOrCopies P.alike (changes C.order (O.connective op.now) a.old.items b.now) a.new.items) }
         ensures unchanged { OnErr result (a.new.items ≡ a.old.items) }
+        ensures room { a.old.capacity ≤ a.new.capacity }
         ensures succeeds { length a.old.items + length b.now ≤ N → All P.is_infallible b.now → IsOk result }
         ensures comparisons { AddsAtMost (C.count cmp.old) (C.count cmp.new) (2 * weight C.order a.old.items b.now) }
     {
         let alloc = *a.allocator();
-        if let Some(merged) = merged_apart(a, b, copier, op, cmp)? {
-            *a = merged;
+        if merged_plainly(a, b, copier, op, cmp)? {
             return Ok(());
         }
         if copier.all_infallible() {
@@ -108,68 +111,6 @@ impl<'a, K: MadeWith<Global> + Drop, P: Copier<K>, const N: usize> InPlaceMergeS
         *a = kept;
         Ok(())
     }
-}
-
-// Whether both lists fit inline, or need one list on the heap at most, which `a` isn't.
-fn are_few<K, const N: usize>(a: &SmallVec<K, N>, b: usize) -> bool
-    ensures inline { length a.now.items + b ≤ N → IsTrue result }
-{
-    fit_together(a.len(), b, N)
-        || (fit_together(a.len(), b, N.saturating_mul(2))
-            && !fit_together(a.len(), b, a.capacity()))
-}
-
-// So many times as long a list is much longer.
-const MUCH: usize = 8;
-
-// Whether there is a right item, and the left list isn't much longer: else only a few items move in
-// place.
-fn are_alike(a: usize, b: usize) -> bool {
-    b > 0 && a / MUCH <= b
-}
-
-/// Merges plain data into a new list. It returns `None` if that isn't faster than in place, or if
-/// there is no memory for a list of more than a few items: then it has compared nothing.
-pub(crate) fn merged_apart<
-    K: MadeWith<Global> + Drop,
-    P: Copier<K>,
-    O: MergeOperation,
-    C: Compare<K>,
-    const N: usize,
->(
-    a: &SmallVec<K, N>,
-    b: &[K],
-    copier: &P,
-    op: &O,
-    cmp: &mut C,
-) -> Result<Option<SmallVec<K, N>>, AllocError>
-    requires left_ascending { IsAscending C.order a.now.items }
-    requires right_ascending { IsAscending C.order b.now }
-    requires made { C.count cmp.old < 2 ^ 64 }
-    ensures taken { IfOk result (λ merged. IfSome merged (λ list.
-        AreOwnOrCopies P.alike (changes C.order (O.connective op.now) a.now.items b.now) list.items)) }
-    ensures none { IfOk result (λ merged. merged ≡ None → C.count cmp.new ≡ C.count cmp.old) }
-    ensures succeeds { length a.now.items + length b.now ≤ N → IsOk result }
-    ensures comparisons { AddsAtMost (C.count cmp.old) (C.count cmp.new) (2 * weight C.order a.now.items b.now) }
-{
-    if !copier.is_plain() {
-        return Ok(None);
-    }
-    let alloc = *a.allocator();
-    if are_few(a, b.len()) {
-        let list = SmallVec::new(alloc);
-        let merged = SmallVecMergeState::merge(list, a.as_slice(), b, copier, op, cmp)?;
-        return Ok(Some(merged));
-    }
-    if !are_alike(a.len(), b.len()) {
-        return Ok(None);
-    }
-    let mut list = Vec::new(alloc);
-    if list.reserve(a.len().saturating_add(b.len())).is_err() {
-        return Ok(None);
-    }
-    let merged = SmallVecMergeState::merge_into(list, a.as_slice(), b, copier, op, cmp)?;
-    Ok(Some(merged))
 }
 
 /// A right slice that is borrowed: its unread items, and a copy of each.

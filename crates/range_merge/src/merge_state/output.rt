@@ -5,6 +5,10 @@ ghost use Rattle.range_merge.specs.Copies.{items_if};
 
 use std::alloc::AllocError;
 
+/// From this number of items on a run is copied all at once, which costs more than it saves for a
+/// few.
+pub(crate) const COPIED_AT_ONCE: usize = 8;
+
 /// What the items that are taken are appended to, by a means such as a copier. From which side they
 /// come makes no difference.
 pub trait Output<K, By> {
@@ -17,10 +21,10 @@ pub trait Output<K, By> {
     // Whether items that are taken stop the merge.
     ghost can_stop: { Bool };
 
-    // It can take so many more items.
+    // It can take that number of items more.
     ghost fits: { Self → ℕ → Type 0 };
 
-    // So many more items are taken without asking for memory.
+    // It takes that number of items more without asking for memory.
     ghost has_room: { Self → ℕ → Type 0 };
 
     // Copying this item never fails.

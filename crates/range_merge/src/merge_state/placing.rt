@@ -7,11 +7,11 @@ ghost use Rattle.range_merge.specs.Runs.{weight};
 
 use crate::compare::Compare;
 use crate::in_place_builder::InPlaceBuilder;
+use crate::in_place_list::GrowsByGap;
 use crate::merge_state::supply::Supply;
 use crate::merge_state::{MergeState, MergeStateMut};
 use crate::merging;
 use crate::operations::MergeOperation;
-use crate::place::GrowsByGap;
 use std::alloc::AllocError;
 use std::marker::Model;
 
@@ -38,6 +38,7 @@ impl<K, const N: usize, R: Supply<K>, L: GrowsByGap<K>> Model for PlacingMergeSt
       left_on = s.ac;
       right_on = s.bc;
       kept = s.builder.kept;
+      room = s.builder.room;
     } };
 
     ghost invariant = { λ s. length (R.items s.right) ≤ s.builder.puts_left };
@@ -53,6 +54,7 @@ impl<K, const N: usize, R: Supply<K>, L: GrowsByGap<K>> PlacingMergeState<K, N, 
         ensures left_on { result.left_on ≡ false }
         ensures right_on { result.right_on ≡ false }
         ensures kept { result.kept ≡ [] }
+        ensures room { result.room ≡ L.room list }
     {
         PlacingMergeState {
             builder: InPlaceBuilder::over(list, extra),
@@ -74,6 +76,7 @@ impl<K, const N: usize, R: Supply<K>, L: GrowsByGap<K>> PlacingMergeState<K, N, 
         requires made { C.count cmp.old < 2 ^ 64 }
         ensures taken { R.may_be [] self.kept → R.may_be
             (changes C.order (O.connective op.now) self.left self.right) (L.items result) }
+        ensures room { L.room result ≡ self.room }
         ensures comparisons { AddsAtMost (C.count cmp.old) (C.count cmp.new)
             (2 * weight C.order self.left self.right) }
     {
@@ -84,7 +87,8 @@ impl<K, const N: usize, R: Supply<K>, L: GrowsByGap<K>> PlacingMergeState<K, N, 
 
     /// The list, with the items that were taken. What is still unread is dropped.
     pub fn result(self) -> L
-        ensures { L.items result ≡ self.kept }
+        ensures items { L.items result ≡ self.kept }
+        ensures room { L.room result ≡ self.room }
     {
         self.builder.only_kept()
     }
@@ -127,7 +131,7 @@ impl<K, const N: usize, R: Supply<K>, L: GrowsByGap<K>> MergeStateMut
 
     ghost output = { λ s ts. R.may_be ts s.kept };
 
-    ghost fixed = { λ _. 0 };
+    ghost fixed = { λ s. s.room };
 
     ghost can_stop = { false };
 
@@ -144,7 +148,7 @@ impl<K, const N: usize, R: Supply<K>, L: GrowsByGap<K>> MergeStateMut
     #[inline(always)]
     fn advance_b(&mut self, n: usize, take: bool) -> Result<bool, AllocError> {
         self.bc = self.bc != (n % 2 == 1);
-        put_front(&mut self.builder, &mut self.right, n, take);
+        put_or_drop(&mut self.builder, &mut self.right, n, take);
         Ok(true)
     }
 
@@ -172,7 +176,7 @@ impl<K, const N: usize, R: Supply<K>, L: GrowsByGap<K>> MergeStateMut
 // Removes the first `n` unread items of the right side, and puts what stands for them if they are
 // wanted.
 #[inline(always)]
-fn put_front<K, const N: usize, R: Supply<K>, L: GrowsByGap<K>>(
+fn put_or_drop<K, const N: usize, R: Supply<K>, L: GrowsByGap<K>>(
     builder: &mut InPlaceBuilder<K, N, L>,
     right: &mut R,
     n: usize,
@@ -184,6 +188,7 @@ fn put_front<K, const N: usize, R: Supply<K>, L: GrowsByGap<K>>(
     ensures unread { builder.new.unread ≡ builder.old.unread }
     ensures rest { R.items right.new ≡ drop n (R.items right.old) }
     ensures puts { length (R.items right.new) ≤ builder.new.puts_left }
+    ensures room { builder.new.room ≡ builder.old.room }
 {
     if wanted {
         builder.put_from(n, right);

@@ -4,11 +4,13 @@ ghost use Rattle.std.specs.Vec.{vec_capacity};
 ghost use Rattle.range_merge.specs.Boundaries.{IsAscending, is_odd};
 ghost use Rattle.range_merge.specs.Connective.{differ};
 ghost use Rattle.range_merge.specs.Parts.{Progress};
+ghost use Rattle.range_merge.specs.Reading.{CanRead, CostsAtMost, IsReadInto};
 ghost use Rattle.range_merge.specs.Runs.{weight};
 ghost use Rattle.range_merge.specs.Singly.{table_from, IsRead};
 ghost use Rattle.range_merge.specs.Steps.{FirstsStand};
 
-use crate::compare::{Compare, Copier};
+use crate::compare::{Compare, Copier, Done, Work};
+use crate::merge_state::MergeState;
 use crate::merge_state::output::Output;
 use crate::merge_state::over_slices::SliceMergeState;
 use crate::merge_state::small_vec::Copying;
@@ -34,41 +36,58 @@ pub(crate) trait Room<K, By, P: Copier<K>, O: MergeOperation, C: Compare<K>>: Ou
         copier: &P,
         cmp: C,
         n: usize,
-    ) -> Read<C>
-        requires left_ascending { IsAscending C.order a.now }
-        requires right_ascending { IsAscending C.order b.now }
-        requires stands { FirstsStand C.order a.now b.now (Some next) }
-        requires infallible { (x : K) → P.is_infallible x }
-        requires plain { (x y : K) → P.alike x y → y ≡ x }
-        requires short { length a.now + length b.now < 2 ^ 65 }
+    ) -> Done<C, Place>
+        requires can_read { CanRead C.order P.alike P.is_infallible a.now b.now next }
         requires fits { Self.fits self.old (length a.now + length b.now) }
         requires made { C.count cmp < 2 ^ 126 }
-        ensures progress { (first : ℕ) → Progress C.order (O.connective op.now.op.now)
-            Self.can_stop a.now b.now op.now.ac op.now.bc (Self.may_be self.old first)
-            (drop result.at.i a.now) (drop result.at.j b.now)
-            (differ op.now.ac (is_odd result.at.i)) (differ op.now.bc (is_odd result.at.j))
-            (Self.may_be self.new first) }
-        ensures stands { FirstsStand C.order (drop result.at.i a.now) (drop result.at.j b.now)
-            (Some result.at.next) }
-        ensures fixed { (means : By) → Self.fixed self.new means ≡ Self.fixed self.old means }
-        ensures fits { Self.fits self.new
-            (length (drop result.at.i a.now) + length (drop result.at.j b.now)) }
-        ensures has_room { Self.has_room self.old (length a.now + length b.now) →
-            Self.has_room self.new
-            (length (drop result.at.i a.now) + length (drop result.at.j b.now)) }
+        ensures read { IsReadInto C.order a.now b.now result.answer.i result.answer.j
+            (O.connective op.now.op.now) op.now.ac op.now.bc result.answer.next
+            Self.can_stop Self.may_be Self.fixed Self.fits Self.has_room self.old self.new }
 
         // Six more than twice the weight of what was read, if that.
         ensures comparisons { C.count result.cmp
-            + 2 * weight C.order (drop result.at.i a.now) (drop result.at.j b.now)
+            + 2 * weight C.order (drop result.answer.i a.now) (drop result.answer.j b.now)
             ≤ C.count cmp + 2 * weight C.order a.now b.now + 6 }
         ensures made { C.count cmp ≤ C.count result.cmp };
 }
 
-/// How far a read came, with what counted comparisons.
+// What an output is to read.
 #[derive(Drop)]
-pub(crate) struct Read<C> {
-    pub(crate) at: Place,
-    pub(crate) cmp: C,
+struct Reading<'r, K, By, P: Copier<K>, O: MergeOperation, L> {
+    output: &'r mut L,
+    a: &'r [K],
+    b: &'r [K],
+    next: Ordering,
+    op: &'r Relative<'r, O>,
+    copier: &'r P,
+    n: usize,
+    by: PhantomData<By>,
+}
+
+impl<'r, K, By, P: Copier<K>, O: MergeOperation, C: Compare<K>, L: Room<K, By, P, O, C>> Work<K, C>
+    for Reading<'r, K, By, P, O, L> {
+    type Answer = Place;
+
+    ghost is_ready = { λ it.
+        CanRead C.order P.alike P.is_infallible it.a.now it.b.now it.next
+        × L.fits it.output.now (length it.a.now + length it.b.now) };
+
+    ghost is_done = { λ it done n at.
+        (done.output.ghost_name ≡ it.output.ghost_name)
+        × IsReadInto C.order it.a.now it.b.now at.i at.j
+        (O.connective it.op.now.op.now) it.op.now.ac it.op.now.bc at.next
+        L.can_stop L.may_be L.fixed L.fits L.has_room it.output.now done.output.now
+        × CostsAtMost C.order it.a.now it.b.now at.i at.j n };
+
+    #[inline(always)]
+    fn run(&mut self, cmp: C) -> Done<C, Place> {
+        self.output.read(self.a, self.b, self.next, self.op, self.copier, cmp, self.n)
+    }
+
+    #[inline(always)]
+    fn undone(&self) -> Place {
+        Place::start(self.next)
+    }
 }
 
 /// Reads short runs of plain data, item by item.
@@ -91,7 +110,7 @@ impl<'p, K, P: Copier<K>> Model for Singly<'p, K, P> {
     ghost invariant = { λ _. ((x : K) → P.is_infallible x) × ((x y : K) → P.alike x y → y ≡ x) };
 }
 
-// For so many items room is made at first.
+// How many items room is made for at first.
 const ROOM: usize = 128;
 
 impl<'p, K, P: Copier<K>> Singly<'p, K, P> {
@@ -145,6 +164,9 @@ impl<
         cmp: &mut C,
     ) -> Ordering {
         if are_few(state) {
+            return next;
+        }
+        if self.rounds.were_long(state.a_len()) {
             return next;
         }
         let at = read_short_runs(state, self.copier, self.room, op, next, cmp);
@@ -201,10 +223,17 @@ fn read_short_runs<
     };
     let a = state.a.as_slice();
     let b = state.b.as_slice();
-    // The counter goes by value, so that the merge can keep its own in registers.
-    let read = state.output.read(a, b, next, op, copier, cmp.fresh(), n);
-    cmp.add(read.cmp);
-    let at = read.at;
+    // By value, so that the merge can keep its own counter in registers.
+    let at = cmp.apart(&mut Reading {
+        output: &mut state.output,
+        a,
+        b,
+        next,
+        op,
+        copier,
+        n,
+        by: PhantomData,
+    });
     state.a.drop_front(at.i);
     state.b.drop_front(at.j);
     state.ac = state.ac != (at.i % 2 == 1);
@@ -224,15 +253,15 @@ impl<'a, K: Drop, P: Copier<K>, O: MergeOperation, C: Compare<K>> Room<K, Copyin
         copier: &P,
         cmp: C,
         n: usize,
-    ) -> Read<C> {
+    ) -> Done<C, Place> {
         let alloc = *self.allocator();
         // The list goes by value, so that the merge can keep its own in registers.
         let list = mem::replace(self, Vec::new(alloc));
         let read = read_into(list, cmp, a, b, next, op, copier, n);
         *self = read.list;
-        Read {
-            at: read.at,
+        Done {
             cmp: read.cmp,
+            answer: read.at,
         }
     }
 }
@@ -245,7 +274,7 @@ struct ReadInto<K, C> {
     at: Place,
 }
 
-// Reads short runs into the list, as far as it has room, for so many items at most.
+// Reads short runs into the list, as far as it has room and for `room` items at most.
 #[inline(never)]
 fn read_into<K: Drop, P: Copier<K>, O: MergeOperation, C: Compare<K>>(
     list: Vec<K>,
@@ -292,7 +321,7 @@ fn read_into<K: Drop, P: Copier<K>, O: MergeOperation, C: Compare<K>>(
     ReadInto { list, cmp, at }
 }
 
-// Appends so many copies of an item, for which there is room.
+// Appends `n` copies of an item, for which there is room.
 #[inline(always)]
 fn fill<K, P: Copier<K>>(list: &mut Vec<K>, n: usize, item: &K, by: &P)
     requires room { length list.old.items + n ≤ vec_capacity list.old }

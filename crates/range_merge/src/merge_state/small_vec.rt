@@ -1,8 +1,8 @@
 //! A merge that copies what is taken into a list.
-ghost use Rattle.std.specs.Prelude.{◌≡◌, ◌+◌, ◌*◌, ◌^◌, ◌<◌, ◌≤◌, ◌↔◌, false, [], length, map, All, IsTrue, ⊤};
+ghost use Rattle.std.specs.Prelude.{◌≡◌, ◌+◌, ◌*◌, ◌^◌, ◌<◌, ◌≤◌, ◌↔◌, false, [], length, map, All, IsTrue, IfOk, ⊤};
 ghost use Rattle.range_merge.specs.Boundaries.{IsAscending};
-ghost use Rattle.range_merge.specs.Changes.{from_left};
-ghost use Rattle.range_merge.specs.Copies.{AreKeptThenCopies};
+ghost use Rattle.range_merge.specs.Changes.{changes, from_left};
+ghost use Rattle.range_merge.specs.Copies.{AreCopies, AreKeptThenCopies};
 ghost use Rattle.range_merge.specs.Counting.{AddsAtMost};
 ghost use Rattle.range_merge.specs.Filling.{FitInline, GivesCopies};
 ghost use Rattle.range_merge.specs.Runs.{weight};
@@ -135,7 +135,7 @@ impl<'a, K: MadeWith<Global> + Drop, P: Copier<K>, const M: usize> SmallVecMerge
         let mut list = r.into_vec()?;
         // Where there is no room for both at once, the list grows run by run.
         let _asked = list.reserve(a.len().saturating_add(b.len()));
-        Self::merge_into(list, a, b, copier, op, cmp)
+        Ok(inline_if_few(Self::merge_into(list, a, b, copier, op, cmp)?))
     }
 
     /// Appends to the empty list. It asks for no memory where there is room for both lengths (seen
@@ -147,14 +147,14 @@ impl<'a, K: MadeWith<Global> + Drop, P: Copier<K>, const M: usize> SmallVecMerge
         copier: &'a P,
         op: &O,
         cmp: &mut C,
-    ) -> Result<SmallVec<K, M>, AllocError>
+    ) -> Result<Vec<K>, AllocError>
         requires empty { list.items ≡ [] }
         requires left_ascending { IsAscending C.order a.now }
         requires right_ascending { IsAscending C.order b.now }
         requires made { C.count cmp.old < 2 ^ 64 }
 
         // It may need memory, so nothing is said of when it succeeds.
-        ensures gives { GivesCopies P.alike C.order (O.connective op.now) a.now b.now ⊥ result }
+        ensures copied { IfOk result (λ list. AreCopies P.alike (changes C.order (O.connective op.now) a.now b.now) list.items) }
         ensures comparisons { AddsAtMost (C.count cmp.old) (C.count cmp.new) (2 * weight C.order a.now b.now) }
     {
         let mut state = SliceMergeState::over(
@@ -170,15 +170,17 @@ impl<'a, K: MadeWith<Global> + Drop, P: Copier<K>, const M: usize> SmallVecMerge
             Some(mut reader) => merging::merge_with(&mut state, op, cmp, &mut reader)?,
             None => merging::merge(&mut state, op, cmp)?,
         };
-        Ok(inline_if_few(state.result()))
+        Ok(state.result())
     }
 }
 
 // Of so few items together, most merges take no more than fit inline or in a list that grows once.
 const FEW: usize = 8;
 
-// The items inline if they fit there, and else where they lie.
-fn inline_if_few<K: MadeWith<Global> + Drop, const M: usize>(items: Vec<K>) -> SmallVec<K, M>
+/// The items inline if they fit there, and else where they lie.
+pub(crate) fn inline_if_few<K: MadeWith<Global> + Drop, const M: usize>(
+    items: Vec<K>,
+) -> SmallVec<K, M>
     ensures { result.items ≡ items.items }
 {
     let mut list = SmallVec::from_vec(items);
@@ -188,7 +190,7 @@ fn inline_if_few<K: MadeWith<Global> + Drop, const M: usize>(items: Vec<K>) -> S
     list
 }
 
-/// Whether so many items of two lists are together at most `room`.
+/// Whether `a` items and `b` items are together at most `room`.
 pub(crate) fn fit_together(a: usize, b: usize, room: usize) -> bool
     ensures { IsTrue result ↔ (a + b ≤ room) }
 {

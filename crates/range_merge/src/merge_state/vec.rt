@@ -4,12 +4,9 @@ ghost use Rattle.range_merge.specs.Copies.{AreKeptThenCopies};
 
 use crate::compare::Copier;
 use crate::merge_state::grows_at_end::append_copies;
-use crate::merge_state::output::Output;
+use crate::merge_state::output::{COPIED_AT_ONCE, Output};
 use crate::merge_state::small_vec::Copying;
 use std::alloc::AllocError;
-
-// A run of so many items is copied all at once, which costs more than it saves for a few.
-const MANY: usize = 8;
 
 impl<'a, K, P: Copier<K>> Output<K, Copying<'a, P>> for Vec<K> {
     ghost may_be = { λ list at_first ts. AreKeptThenCopies P.alike at_first ts list.items };
@@ -27,7 +24,7 @@ impl<'a, K, P: Copier<K>> Output<K, Copying<'a, P>> for Vec<K> {
 
     #[inline(always)]
     fn append(&mut self, items: &[K], take: bool, by: &Copying<'a, P>) -> Result<bool, AllocError> {
-        if items.len() < MANY {
+        if items.len() < COPIED_AT_ONCE {
             append_copies(self, items, take, by.copier)?;
         } else if take {
             by.copier.append(self, items)?;

@@ -15,14 +15,14 @@ use std::hint::select_unpredictable;
 /// How many items at the front of a list are known to be at or below a key, and whether one of them
 /// is equal to it.
 #[derive(Clone, Copy)]
-pub(super) struct Front {
+pub(super) struct AtOrBelow {
     pub(super) len: usize,
     pub(super) has_equal: bool,
 }
 
 /// The items at or below `key`, of a list that isn't long.
 #[inline(always)]
-pub(super) fn count_branchless<K, C: Compare<K>>(items: &[K], key: &K, cmp: &mut C) -> Front
+pub(super) fn count_branchless<K, C: Compare<K>>(items: &[K], key: &K, cmp: &mut C) -> AtOrBelow
     requires ascending { IsAscending C.order items.now }
     requires short { length items.now < 2 ^ 17 }
     requires made { C.count cmp.old < 2 ^ 127 }
@@ -44,7 +44,7 @@ pub(super) fn count_branchless<K, C: Compare<K>>(items: &[K], key: &K, cmp: &mut
 
 // The same of at most three items, where all steps are known.
 #[inline(always)]
-fn count_few<K, C: Compare<K>>(items: &[K], key: &K, cmp: &mut C) -> Front
+fn count_few<K, C: Compare<K>>(items: &[K], key: &K, cmp: &mut C) -> AtOrBelow
     requires ascending { IsAscending C.order items.now }
     requires few { length items.now < 4 }
     requires made { C.count cmp.old < 2 ^ 127 }
@@ -53,7 +53,7 @@ fn count_few<K, C: Compare<K>>(items: &[K], key: &K, cmp: &mut C) -> Front
     ensures comparisons { AddsAtMost (C.count cmp.old) (C.count cmp.new)
         (digits (length items.now)) }
 {
-    let none = Front {
+    let none = AtOrBelow {
         len: 0,
         has_equal: false,
     };
@@ -70,7 +70,7 @@ fn count_few<K, C: Compare<K>>(items: &[K], key: &K, cmp: &mut C) -> Front
 // Leaves `2 ^ levels - 1` items: those before the item that is compared, or as many at the list's
 // end.
 #[inline(always)]
-fn first_comparison<K, C: Compare<K>>(items: &[K], key: &K, cmp: &mut C, levels: u32) -> Front
+fn first_comparison<K, C: Compare<K>>(items: &[K], key: &K, cmp: &mut C, levels: u32) -> AtOrBelow
     requires ascending { IsAscending C.order items.now }
     requires few { levels < 17 }
     requires at_most { 2 ^ levels ≤ length items.now }
@@ -83,7 +83,7 @@ fn first_comparison<K, C: Compare<K>>(items: &[K], key: &K, cmp: &mut C, levels:
     let power = 1usize << levels;
     let past = items.len() - power + 1;
     let how = cmp.compare(&items[power - 1], key);
-    Front {
+    AtOrBelow {
         // A shift by the answer would make each search wait for the one before.
         len: select_unpredictable(how.is_le(), past, 0),
         has_equal: how.is_eq(),
@@ -96,10 +96,10 @@ fn four_levels<K, C: Compare<K>>(
     items: &[K],
     key: &K,
     cmp: &mut C,
-    front: Front,
+    front: AtOrBelow,
     levels: u32,
     bits: u32,
-) -> Front
+) -> AtOrBelow
     requires ascending { IsAscending C.order items.now }
     requires few { bits < 13 }
     requires made { C.count cmp.old < 2 ^ 128 - 5 }
@@ -125,10 +125,10 @@ fn level<K, C: Compare<K>>(
     items: &[K],
     key: &K,
     cmp: &mut C,
-    front: Front,
+    front: AtOrBelow,
     levels: u32,
     bits: u32,
-) -> Front
+) -> AtOrBelow
     requires ascending { IsAscending C.order items.now }
     requires few { bits < 16 }
     requires made { C.count cmp.old < 2 ^ 128 - 1 }
@@ -147,7 +147,13 @@ fn level<K, C: Compare<K>>(
 
 // Compares the middle one of the items that are left.
 #[inline(always)]
-fn step<K, C: Compare<K>>(items: &[K], key: &K, cmp: &mut C, front: Front, bits: u32) -> Front
+fn step<K, C: Compare<K>>(
+    items: &[K],
+    key: &K,
+    cmp: &mut C,
+    front: AtOrBelow,
+    bits: u32,
+) -> AtOrBelow
     requires ascending { IsAscending C.order items.now }
     requires few { bits < 16 }
     requires made { C.count cmp.old < 2 ^ 128 - 1 }
@@ -159,7 +165,7 @@ fn step<K, C: Compare<K>>(items: &[K], key: &K, cmp: &mut C, front: Front, bits:
     ensures counted { C.count cmp.new ≡ C.count cmp.old + 1 }
 {
     let how = cmp.compare(&items[front.len + ((1usize << bits) - 1)], key);
-    Front {
+    AtOrBelow {
         len: front.len + ((how.is_le() as usize) << bits),
         has_equal: front.has_equal | how.is_eq(),
     }

@@ -1,4 +1,4 @@
-//! A number and a letter, ordered by the number alone, so that equal elements can be told apart.
+//! A number and a letter, ordered by the number alone, so that equal elements can differ.
 ghost use Rattle.std.specs.Prelude.{◌≡◌, Ok};
 ghost use Rattle.std.proofs.Common.{rules};
 ghost use Rattle.std.specs.Cmp.{partial_order_from_own_ties};

@@ -6,13 +6,15 @@ ghost use Rattle.std.specs.Cmp.{partial_order_from_own_ties};
 ghost use Rattle.std.specs.Cmp.Rules.{comparing};
 ghost use Rattle.std.specs.Ordering.{int_cmp, int_eq, on, as_partial_cmp};
 ghost use Rattle.range_entry.specs.Copies.{same-equal};
+ghost use Rattle.range_collections.specs.Countable.{signed_place, signed_value, signed_place-fits, signed_value-fits, signed_place-value, signed_place-order};
 
+use range_collections::{Countable, FromPlace};
 use range_entry::{EntryClone, RangeSetEntry};
 use std::alloc::{AllocError, Global};
 use std::cell::Cell;
 use std::cmp::Ordering;
 
-/// The order looks at the number alone. A blank has no tally.
+/// The order looks at the number alone. A blank has no tally, and adds to that of the other number.
 #[derive(Clone, Copy, Default)]
 pub struct Tallied<'t> {
     number: i64,
@@ -41,9 +43,9 @@ pub fn all_tallied<'t>(
 }
 
 impl<'t> Tallied<'t> {
-    // Adds one to the tally.
-    fn count(&self) {
-        if let Some(tally) = self.tally {
+    // Adds one to the tally of one of the two.
+    fn count(&self, other: &Self) {
+        if let Some(tally) = self.tally.or(other.tally) {
             tally.set(tally.get().saturating_add(1));
         }
     }
@@ -55,7 +57,7 @@ impl<'t> PartialEq for Tallied<'t> {
     ghost laws = { Prim.search (comparing, rules) };
 
     fn eq(&self, other: &Self) -> bool {
-        self.count();
+        self.count(other);
         self.number == other.number
     }
 }
@@ -74,7 +76,7 @@ impl<'t> Ord for Tallied<'t> {
     ghost matches_eq = { Prim.search (comparing, rules) };
 
     fn cmp(&self, other: &Self) -> Ordering {
-        self.count();
+        self.count(other);
         self.number.cmp(&other.number)
     }
 }
@@ -85,7 +87,7 @@ impl<'t> PartialOrd for Tallied<'t> {
     ghost laws = { partial_order_from_own_ties (Prim.search (comparing, rules)) (Prim.search (comparing, rules)) };
 
     fn partial_cmp(&self, other: &Self) -> Option<Ordering> {
-        self.count();
+        self.count(other);
         Some(self.number.cmp(&other.number))
     }
 }
@@ -127,4 +129,51 @@ impl<'t> RangeSetEntry for Tallied<'t> {
     ghost least_is_value = { Prim.search rules };
 
     ghost least_is_least = { Prim.search (comparing, rules) };
+}
+
+impl<'t> Countable for Tallied<'t> {
+    ghost count = { 2 ^ 64 };
+
+    ghost value = { λ n. record { number = signed_value (2 ^ 63) n; tally = None } };
+
+    ghost place = { λ x. signed_place (2 ^ 63) x.number };
+
+    fn place(&self) -> u128 {
+        self.number.place()
+    }
+
+    ghost count_fits = { Prim.search rules };
+
+    ghost place_fits = { λ x h. signed_place-fits (2 ^ 63) x.number h.sfits };
+
+    ghost value_is_value = { λ n h. record { sfits = signed_value-fits (2 ^ 63) n h } };
+
+    ghost place_of_value = { signed_place-value (2 ^ 63) };
+
+    ghost in_order = { λ x y h k. signed_place-order (2 ^ 63) x.number y.number h.sfits k.sfits };
+}
+
+impl<'t> FromPlace for Tallied<'t> {
+    ghost zero = { 2 ^ 63 };
+
+    fn zero() -> u128
+        ensures { result ≡ 2 ^ 63 }
+    {
+        1 << 63
+    }
+
+    fn from_place(place: u128) -> Option<Self> {
+        let number = i64::from_place(place)?;
+        Some(Tallied {
+            number,
+            tally: None,
+        })
+    }
+
+    fn greatest() -> Self {
+        Tallied {
+            number: i64::MAX,
+            tally: None,
+        }
+    }
 }

@@ -2,7 +2,8 @@
 //! What the exports make of two sets, for numbers of any type.
 
 use crate::generated::range_collections::{
-    Comparisons, Connective, DiffOp, IntersectionOp, MergeOperation, RangeSetRef, UnionOp, XorOp,
+    has_elements, Comparisons, Connective, DiffOp, IntersectionOp, MergeOperation, RangeSetRef,
+    UnionOp, XorOp,
 };
 
 /// In the left set alone; what a connective is on for is summed up.
@@ -66,17 +67,10 @@ pub(crate) fn decoded(connective: u32) -> Connective {
     }
 }
 
-// Whether the range has a number: its start is below its end. Every call that takes a range asks
-// this.
-#[inline(always)]
-pub(crate) fn has_numbers<T: Ord>(start: &T, end: &T) -> bool {
-    start.cmp(end).is_lt()
-}
-
 // The boundaries of the range from the first number to below the second.
 pub(crate) fn range_of<'a, T: Ord>(ends: &'a [T; 2]) -> &'a [T] {
     let [start, end] = ends;
-    if has_numbers(start, end) {
+    if has_elements(start, end, &mut Comparisons::new()) {
         ends
     } else {
         &[]

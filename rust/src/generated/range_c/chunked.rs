@@ -83,7 +83,7 @@ pub(crate) fn first_fit<T: Countable + Copy>(
 // are.
 pub(crate) fn copy<T: Ord + Copy>(set: &ChunkedRangeSet<T>, out: &mut [T]) -> usize {
     let len = set.boundaries_len();
-    if len <= out.len() && len < usize::MAX {
+    if len <= out.len() {
         put_all(set.iter(), out, 0);
     }
     len
@@ -110,7 +110,7 @@ pub(crate) fn put_ends<T: Copy>(out: &mut [T], len: usize, range: &RangeSetRange
 }
 
 // Puts a number after the first `len`, where the buffer has room for it.
-fn put_one<T: Copy>(out: &mut [T], len: usize, item: &T) -> usize {
+pub(crate) fn put_one<T: Copy>(out: &mut [T], len: usize, item: &T) -> usize {
     if len < out.len() {
         overwrite(out, len, Some(*item))
     } else {

@@ -5,8 +5,8 @@ use crate::generated::range_c::parts::put;
 use crate::generated::range_collections::{Countable, FromPlace, RangeSetRef};
 use core::ops::Range;
 
-// Tells the least number whose place is a multiple of `align` and from which on `count` numbers lie
-// in the range and none is a member, where there is one.
+// Writes the least multiple of `align` from which `count` numbers lie in the range and none is a
+// member, if there is one.
 pub(crate) fn first_fit_aligned<T: FromPlace>(
     a: &[T],
     within: Range<T>,

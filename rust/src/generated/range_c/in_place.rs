@@ -4,8 +4,7 @@
 //! The start and the end are searched for. What stands between gives way to those of the two at
 //! which the set changes, and what comes after moves once.
 
-use crate::generated::range_c::calls::has_numbers;
-use crate::generated::range_collections::{search, Comparisons};
+use crate::generated::range_collections::{cut_at, has_elements, Comparisons};
 
 // Puts the numbers from `start` to below `end` into the set of the first `len` boundaries, and
 // answers how many it has then. Where the buffer has no room for them it is as it was.
@@ -22,30 +21,13 @@ pub(crate) fn remove<T: Ord + Copy>(buffer: &mut [T], len: usize, start: T, end:
 // `start` to below `end` as members where `inside` is true, and else as no members. It answers how
 // many boundaries that are. Where the buffer has no room for them it is as it was.
 fn set_range<T: Ord + Copy>(buffer: &mut [T], len: usize, start: T, end: T, inside: bool) -> usize {
-    if !has_numbers(&start, &end) {
+    if !has_elements(&start, &end, &mut Comparisons::new()) {
         return len;
     }
     let (set, _room) = buffer.split_at(len);
-    let (from, first) = cut_at(set, start, inside);
-    let (to, last) = cut_at(set, end, inside);
+    let (from, first) = cut_at(set, start, inside, &mut Comparisons::new());
+    let (to, last) = cut_at(set, end, inside, &mut Comparisons::new());
     splice(buffer, len, from, to, first, last)
-}
-
-// Where the items are cut around an element, so that an odd number stands before exactly if
-// `inside`, and the element where it has to be put there for that.
-#[inline(always)]
-fn cut_at<T: Ord + Copy>(items: &[T], at: T, inside: bool) -> (usize, Option<T>) {
-    match search(items, &at, &mut Comparisons::new()) {
-        Ok(i) if is_odd(i) == inside => (i, None),
-        Ok(i) => (i + 1, None),
-        Err(i) if is_odd(i) == inside => (i, None),
-        Err(i) => (i, Some(at)),
-    }
-}
-
-#[inline(always)]
-fn is_odd(n: usize) -> bool {
-    n % 2 == 1
 }
 
 // Replaces those of the first `len` items that stand between `from` and `to` by the start and the

@@ -2,8 +2,8 @@
 //! Sets from ranges in any order, in place. Of those without an end the one that starts first is
 //! given apart.
 
-use crate::generated::range_c::calls::has_numbers;
 use crate::generated::range_c::ends::Ends;
+use crate::generated::range_collections::{has_elements, Comparisons};
 
 // Moves the ranges of the set of all numbers in the ranges to the front, as many as it answers.
 // Empty and reversed ones have no number.
@@ -25,7 +25,7 @@ fn join<E: Ends>(ranges: &mut [E]) -> usize {
 // Puts a range after the first `kept`, none of which starts above it, or joins it to the last of
 // them.
 fn put<E: Ends>(ranges: &mut [E], kept: usize, range: E) -> usize {
-    if !has_numbers(&range.start(), &range.end()) {
+    if !has_elements(&range.start(), &range.end(), &mut Comparisons::new()) {
         return kept;
     }
     if kept == 0 {

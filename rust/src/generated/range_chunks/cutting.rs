@@ -2,16 +2,10 @@
 //! One range set in a list of boundaries in chunks: the list is cut around the start and around the
 //! end, and what lies between the cuts gives way to those of the two that are put.
 
-use crate::generated::range_chunks::chunk::Chunk;
-use crate::generated::range_chunks::inserting::push_first;
-use crate::generated::range_chunks::place::Place;
-use crate::generated::range_chunks::questions::settled;
-use crate::generated::range_chunks::searching::find;
-use crate::generated::range_chunks::splicing::splice;
 use crate::generated::range_collections::Comparisons;
+use crate::generated::range_list::{Chunks, Itself, Place};
 use crate::generated::range_merge::Compare;
-use crate::support::{AllocError, Vec};
-use core::cmp::Ordering;
+use crate::support::AllocError;
 use core::ops::Range;
 
 /// Leaves the boundaries of the same members, but that the elements of the range are members where
@@ -21,18 +15,16 @@ use core::ops::Range;
 /// # Contract
 ///
 /// ```text
-/// requires sorted: IsAscending T.cmp (flat chunks.old.items)
-/// requires chunks: AreChunks chunks.old.items
+/// requires sorted: IsAscending T.cmp (joined list.old)
 /// requires made: count.old < 2 ^ 64
-/// ensures sorted: IsAscending T.cmp (flat chunks.new.items)
-/// ensures chunks: AreChunks chunks.new.items
-/// ensures changed: IsChangedByRange T.cmp (range_table inside) 0 (flat chunks.old.items)
-///     (range_items T.cmp range.start range.end) (flat chunks.new.items) result
-/// ensures comparisons: AddsAtMost count.old count.new (2 * (digits (length chunks.old.items) +
-///     digits 512) + 1)
+/// ensures sorted: IsAscending T.cmp (joined list.new)
+/// ensures changed: IsChangedByRange T.cmp (range_table inside) 0 (joined list.old)
+///     (range_items T.cmp range.start range.end) (joined list.new) result
+/// ensures comparisons: AddsAtMost count.old count.new (2 * (digits (length (joined list.old))
+///     + digits 512) + 1)
 /// ```
 pub(crate) fn set_range<T: Ord>(
-    chunks: &mut Vec<Chunk<T>>,
+    list: &mut Chunks<T, bool>,
     range: Range<T>,
     inside: bool,
     count: &mut Comparisons,
@@ -41,41 +33,52 @@ pub(crate) fn set_range<T: Ord>(
     if !count.compare(&start, &end).is_lt() {
         return Ok(());
     }
-    if chunks.is_empty() {
-        set_first(chunks, start, end, inside)
-    } else {
-        set_between(chunks, start, end, inside, count)
-    }
+    set_between(list, start, end, inside, count)
 }
 
-// The same in a list that has chunks, where the start is below the end.
+// The same where the start is below the end.
 fn set_between<T: Ord>(
-    chunks: &mut Vec<Chunk<T>>,
+    list: &mut Chunks<T, bool>,
     start: T,
     end: T,
     inside: bool,
     count: &mut Comparisons,
 ) -> Result<(), AllocError> {
-    let list = chunks.as_slice();
-    let found = find(list, &start, count);
+    let found = list.find(&Itself, &start, count);
     let above = place_above(list, found);
     let (from, start) = cut(list, found, start, inside);
-    let found = find_from(list, above, &end, count);
+    let found = list.find_from(above, &Itself, &end, count);
     let (to, end) = cut(list, found, end, inside);
-    splice(chunks, from, to, start, end)
+    splice(list, from, to, start, end)
 }
 
-// The same in a list without chunks, where the start is below the end.
-fn set_first<T: Ord>(
-    chunks: &mut Vec<Chunk<T>>,
-    start: T,
-    end: T,
-    inside: bool,
+/// Replaces the boundaries between two places by the start and the end, where they are given. It
+/// asks for memory only if the list grows. If that fails, the list is as it was.
+///
+/// # Contract
+///
+/// ```text
+/// requires from: IsPlaceAt list.old from
+/// requires to: IsPlaceAt list.old to
+/// requires ordered: place_at list.old from ≤ place_at list.old to
+/// requires parity: odd (place_at list.old from + length (option_to_list start)) ≡ odd
+///     (place_at list.old to + length (option_to_list end))
+/// ensures items: OnOk result (joined list.new ≡ spliced (joined list.old) (place_at list.old
+///     from) (place_at list.old to) start end)
+/// ensures unchanged: OnErr result (joined list.new ≡ joined list.old)
+/// ensures succeeds: length (spliced (joined list.old) (place_at list.old from) (place_at
+///     list.old to) start end) ≤ length (joined list.old) → IsOk result
+/// ```
+pub(crate) fn splice<T>(
+    list: &mut Chunks<T, bool>,
+    from: Place,
+    to: Place,
+    start: Option<T>,
+    end: Option<T>,
 ) -> Result<(), AllocError> {
-    if inside {
-        push_first(chunks, start, end)
-    } else {
-        Ok(())
+    match list.splice(from, to, start, end) {
+        Ok(()) => Ok(()),
+        Err(_) => Err(AllocError),
     }
 }
 
@@ -85,96 +88,43 @@ fn set_first<T: Ord>(
 /// # Contract
 ///
 /// ```text
-/// requires some: 0 < length chunks.now
-/// requires sorted: IsAscending T.cmp (flat chunks.now)
-/// requires chunks: AreChunks chunks.now
+/// requires sorted: IsAscending T.cmp (joined list.now)
 /// requires made: count.old < 2 ^ 126
-/// ensures place: IsPlace chunks.now result.0
-/// ensures cut: IsCut T.cmp inside (flat chunks.now) at (place_in chunks.now result.0) result.1
-/// ensures comparisons: AddsAtMost count.old count.new (digits (length chunks.now) + digits
-///     512)
+/// ensures place: IsPlaceAt list.now result.0
+/// ensures cut: IsCut T.cmp inside (joined list.now) at (place_at list.now result.0) result.1
+/// ensures comparisons: AddsAtMost count.old count.new (digits (length (joined list.now)) +
+///     digits 512)
 /// ```
 pub(crate) fn cut_at<T: Ord>(
-    chunks: &[Chunk<T>],
+    list: &Chunks<T, bool>,
     at: T,
     inside: bool,
     count: &mut Comparisons,
 ) -> (Place, Option<T>) {
-    let found = find(chunks, &at, count);
-    cut(chunks, found, at, inside)
+    let found = list.find(&Itself, &at, count);
+    cut(list, found, at, inside)
 }
 
 // The same, where the element was found or would go.
+#[inline(always)]
 fn cut<T: Ord>(
-    chunks: &[Chunk<T>],
+    list: &Chunks<T, bool>,
     found: Result<Place, Place>,
     at: T,
     inside: bool,
 ) -> (Place, Option<T>) {
     match found {
-        Ok(p) if is_inside(chunks, p) == inside => (p, None),
-        Ok(p) => (place_after(chunks, p), None),
-        Err(p) if is_inside(chunks, p) == inside => (p, None),
+        Ok(p) if list.mark_at(p) == inside => (p, None),
+        Ok(p) => (list.place_after(p), None),
+        Err(p) if list.mark_at(p) == inside => (p, None),
         Err(p) => (p, Some(at)),
     }
 }
 
 // The place above an element that was found or would go there.
-fn place_above<T>(chunks: &[Chunk<T>], found: Result<Place, Place>) -> Place {
+fn place_above<T>(list: &Chunks<T, bool>, found: Result<Place, Place>) -> Place {
     match found {
-        Ok(p) => place_after(chunks, p),
+        Ok(p) => list.place_after(p),
         Err(p) => p,
-    }
-}
-
-// `find` for a key above all boundaries that stand before a place. Mostly none lies between the
-// two, and then it searches nothing.
-fn find_from<T, C: Compare<T>>(
-    chunks: &[Chunk<T>],
-    from: Place,
-    key: &T,
-    cmp: &mut C,
-) -> Result<Place, Place> {
-    let next = match settled(chunks, from) {
-        Some(next) => next,
-        _ => return Err(from),
-    };
-    match cmp.compare(chunks[next.chunk].at(next.index), key) {
-        Ordering::Less => find(chunks, key, cmp),
-        Ordering::Equal => Ok(next),
-        Ordering::Greater => Err(from),
-    }
-}
-
-/// Whether an odd number of boundaries stands before a place.
-///
-/// # Contract
-///
-/// ```text
-/// requires chunks: AreChunks chunks.now
-/// requires place: IsPlace chunks.now at
-/// ensures result ≡ odd (place_in chunks.now at)
-/// ```
-#[inline(always)]
-pub(crate) fn is_inside<T>(chunks: &[Chunk<T>], at: Place) -> bool {
-    chunks[at.chunk].is_inside(at.index)
-}
-
-/// The place after a boundary.
-///
-/// # Contract
-///
-/// ```text
-/// requires chunks: AreChunks chunks.now
-/// requires place: IsPlace chunks.now at
-/// requires item: IsItem chunks.now at
-/// ensures place: IsPlace chunks.now result
-/// ensures after: place_in chunks.now result ≡ place_in chunks.now at + 1
-/// ```
-pub(crate) fn place_after<T>(chunks: &[Chunk<T>], at: Place) -> Place {
-    let _len = chunks[at.chunk].len();
-    Place {
-        chunk: at.chunk,
-        index: at.index + 1,
     }
 }

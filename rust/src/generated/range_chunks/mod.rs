@@ -2,37 +2,25 @@
 //! Sets of ranges that are changed one by one and grow to millions. The boundaries lie in chunks,
 //! so a change moves those of one chunk, and now and then the list of chunks.
 
-pub(crate) mod chunk;
-pub(crate) mod copying;
-pub(crate) mod counting;
+pub mod boundaries;
 pub(crate) mod cutting;
 pub(crate) mod gap_bound;
-pub(crate) mod inserting;
 pub(crate) mod iter;
-pub(crate) mod joining;
 pub(crate) mod members;
 pub(crate) mod merging;
-pub(crate) mod moving;
 pub(crate) mod overlapping;
-pub(crate) mod overwriting;
-pub(crate) mod place;
 pub(crate) mod questions;
 pub(crate) mod ranges;
 pub(crate) mod reading;
-pub(crate) mod removing;
-pub(crate) mod searching;
 pub(crate) mod set;
 pub(crate) mod space;
-pub(crate) mod splicing;
 pub(crate) mod taking;
 pub(crate) mod to_the_end;
-pub(crate) mod tracker;
-pub(crate) mod tracking;
 pub(crate) mod values;
+pub(crate) mod window;
 pub(crate) mod within;
 
 pub use iter::Iter;
 pub use set::ChunkedRangeSet;
 pub use space::ChunkedSpace;
-pub use tracker::ChunkedTracker;
 pub use within::{Gaps, RangesWithin};

@@ -2,10 +2,9 @@
 //! The first range and the last one of a list of boundaries in chunks taken out, which takes no
 //! memory.
 
-use crate::generated::range_chunks::chunk::Chunk;
 use crate::generated::range_chunks::iter::is_endless;
 use crate::generated::range_collections::RangeSetRange;
-use crate::support::Vec;
+use crate::generated::range_list::Chunks;
 use core::ops::{Range, RangeFrom};
 
 /// Takes the first range out.
@@ -13,19 +12,15 @@ use core::ops::{Range, RangeFrom};
 /// # Contract
 ///
 /// ```text
-/// requires sorted: IsAscending T.cmp (flat chunks.old.items)
-/// requires chunks: AreChunks chunks.old.items
-/// ensures sorted: IsAscending T.cmp (flat chunks.new.items)
-/// ensures chunks: AreChunks chunks.new.items
-/// ensures range: MatchOption result ((flat chunks.old.items ≡ []) × (flat chunks.new.items ≡
-///     [])) (λ range. ranges_of (flat chunks.old.items) ≡ range ∷ ranges_of (flat
-///     chunks.new.items))
+/// requires sorted: IsAscending T.cmp (joined list.old)
+/// ensures sorted: IsAscending T.cmp (joined list.new)
+/// ensures range: MatchOption result ((joined list.old ≡ []) × (joined list.new ≡ [])) (λ
+///     range. ranges_of (joined list.old) ≡ range ∷ ranges_of (joined list.new))
 /// ```
-pub(crate) fn pop_first<T: Ord>(chunks: &mut Vec<Chunk<T>>) -> Option<RangeSetRange<T>> {
-    let start = take_first(chunks)?;
-    match take_first(chunks) {
-        Some(end) => Some(RangeSetRange::Range(Range { start, end })),
-        None => Some(RangeSetRange::RangeFrom(RangeFrom { start })),
+pub(crate) fn pop_first<T: Ord>(list: &mut Chunks<T, bool>) -> Option<RangeSetRange<T>> {
+    match list.pop_first_two()? {
+        (start, Some(end)) => Some(RangeSetRange::Range(Range { start, end })),
+        (start, None) => Some(RangeSetRange::RangeFrom(RangeFrom { start })),
     }
 }
 
@@ -34,44 +29,17 @@ pub(crate) fn pop_first<T: Ord>(chunks: &mut Vec<Chunk<T>>) -> Option<RangeSetRa
 /// # Contract
 ///
 /// ```text
-/// requires sorted: IsAscending T.cmp (flat chunks.old.items)
-/// requires chunks: AreChunks chunks.old.items
-/// ensures sorted: IsAscending T.cmp (flat chunks.new.items)
-/// ensures chunks: AreChunks chunks.new.items
-/// ensures range: MatchOption result ((flat chunks.old.items ≡ []) × (flat chunks.new.items ≡
-///     [])) (λ range. ranges_of (flat chunks.old.items) ≡ ranges_of (flat chunks.new.items) ++
-///     range ∷ [])
+/// requires sorted: IsAscending T.cmp (joined list.old)
+/// ensures sorted: IsAscending T.cmp (joined list.new)
+/// ensures range: MatchOption result ((joined list.old ≡ []) × (joined list.new ≡ [])) (λ
+///     range. ranges_of (joined list.old) ≡ ranges_of (joined list.new) ++ range ∷ [])
 /// ```
-pub(crate) fn pop_last<T: Ord>(chunks: &mut Vec<Chunk<T>>) -> Option<RangeSetRange<T>> {
-    let endless = is_endless(chunks.as_slice());
-    let last = take_last(chunks)?;
+pub(crate) fn pop_last<T: Ord>(list: &mut Chunks<T, bool>) -> Option<RangeSetRange<T>> {
+    let endless = is_endless(list);
+    let last = list.pop_last()?;
     if endless {
         return Some(RangeSetRange::RangeFrom(RangeFrom { start: last }));
     }
-    let start = take_last(chunks)?;
+    let start = list.pop_last()?;
     Some(RangeSetRange::Range(Range { start, end: last }))
-}
-
-// Takes the first boundary out: one boundary less stands before each other one.
-fn take_first<T>(chunks: &mut Vec<Chunk<T>>) -> Option<T> {
-    if chunks.is_empty() {
-        return None;
-    }
-    if chunks[0].rest.is_empty() {
-        let Chunk { first, .. } = chunks.remove(0);
-        return Some(first);
-    }
-    Some(chunks[0].take_first())
-}
-
-// Takes the last boundary out.
-fn take_last<T>(chunks: &mut Vec<Chunk<T>>) -> Option<T> {
-    let last = chunks.len().checked_sub(1)?;
-    match chunks[last].rest.pop() {
-        Some(item) => Some(item),
-        None => {
-            let Chunk { first, .. } = chunks.remove(last);
-            Some(first)
-        }
-    }
 }

@@ -2,16 +2,10 @@
 //! A range without an end set in a list of boundaries in chunks: the list is cut around the start,
 //! and what lies behind the cut gives way to the start, if that is put.
 
-use crate::generated::range_chunks::chunk::{Chunk, MOST};
 use crate::generated::range_chunks::cutting::cut_at;
-use crate::generated::range_chunks::iter::is_endless;
-use crate::generated::range_chunks::overwriting::overwrite;
-use crate::generated::range_chunks::place::Place;
-use crate::generated::range_chunks::questions::item_at;
-use crate::generated::range_chunks::removing::cut_behind;
 use crate::generated::range_collections::Comparisons;
-use crate::support::{AllocError, Vec};
-use core::mem;
+use crate::generated::range_list::Chunks;
+use crate::support::AllocError;
 
 /// Leaves the boundaries of the same members, but that the elements from the start on are members
 /// where `inside` is true, and else no members. It asks for memory only where the list grows, and
@@ -20,112 +14,20 @@ use core::mem;
 /// # Contract
 ///
 /// ```text
-/// requires sorted: IsAscending T.cmp (flat chunks.old.items)
-/// requires chunks: AreChunks chunks.old.items
+/// requires sorted: IsAscending T.cmp (joined list.old)
 /// requires made: count.old < 2 ^ 64
-/// ensures sorted: IsAscending T.cmp (flat chunks.new.items)
-/// ensures chunks: AreChunks chunks.new.items
-/// ensures changed: IsChangedByRange T.cmp (range_table inside) 0 (flat chunks.old.items)
-///     (start ∷ []) (flat chunks.new.items) result
-/// ensures comparisons: AddsAtMost count.old count.new (digits (length chunks.old.items) +
+/// ensures sorted: IsAscending T.cmp (joined list.new)
+/// ensures changed: IsChangedByRange T.cmp (range_table inside) 0 (joined list.old) (start ∷
+///     []) (joined list.new) result
+/// ensures comparisons: AddsAtMost count.old count.new (digits (length (joined list.old)) +
 ///     digits 512)
 /// ```
 pub(crate) fn set_from<T: Ord>(
-    chunks: &mut Vec<Chunk<T>>,
+    list: &mut Chunks<T, bool>,
     start: T,
     inside: bool,
     count: &mut Comparisons,
 ) -> Result<(), AllocError> {
-    if chunks.is_empty() {
-        return set_all(chunks, start, inside);
-    }
-    let (at, start) = cut_at(chunks.as_slice(), start, inside, count);
-    replace_from(chunks, at, start)
-}
-
-// The same in a list without chunks.
-fn set_all<T: Ord>(chunks: &mut Vec<Chunk<T>>, start: T, inside: bool) -> Result<(), AllocError> {
-    if inside {
-        push(chunks, start)
-    } else {
-        Ok(())
-    }
-}
-
-// Replaces the boundaries from a place on by one or by none. It asks for memory only if one is put
-// and none gives way.
-fn replace_from<T>(
-    chunks: &mut Vec<Chunk<T>>,
-    at: Place,
-    item: Option<T>,
-) -> Result<(), AllocError> {
-    if item_at(chunks.as_slice(), at).is_some() {
-        let (after, _replaced) = overwrite(chunks, at, item);
-        truncate(chunks, after);
-        return Ok(());
-    }
-    match item {
-        Some(item) => push(chunks, item),
-        None => Ok(()),
-    }
-}
-
-/// Removes the boundaries from a place on. In Rust a drop may panic, so the list is empty until what
-/// is left of it is whole.
-///
-/// # Contract
-///
-/// ```text
-/// requires chunks: AreChunks chunks.old.items
-/// requires place: IsPlace chunks.old.items at
-/// ensures items: flat chunks.new.items ≡ take (place_in chunks.old.items at) (flat
-///     chunks.old.items)
-/// ensures chunks: AreChunks chunks.new.items
-/// ```
-pub(crate) fn truncate<T>(chunks: &mut Vec<Chunk<T>>, at: Place) {
-    let empty = Vec::new(*chunks.allocator());
-    let mut taken = mem::replace(chunks, empty);
-    let len = cut_behind(&mut taken, at);
-    taken.truncate(len);
-    *chunks = taken;
-}
-
-/// Puts a boundary behind all others, in a chunk of its own if the last one is full. If memory runs
-/// out, the boundaries are as they were.
-///
-/// # Contract
-///
-/// ```text
-/// requires chunks: AreChunks chunks.old.items
-/// ensures items: OnOk result (flat chunks.new.items ≡ flat chunks.old.items ++ item ∷ [])
-/// ensures unchanged: OnErr result (flat chunks.new.items ≡ flat chunks.old.items)
-/// ensures chunks: AreChunks chunks.new.items
-/// ```
-pub(crate) fn push<T>(chunks: &mut Vec<Chunk<T>>, item: T) -> Result<(), AllocError> {
-    if chunks.is_empty() {
-        return push_chunk(chunks, item);
-    }
-    let last = chunks.len() - 1;
-    if chunks[last].len() < MOST {
-        push_in(chunks, last, item)
-    } else {
-        push_chunk(chunks, item)
-    }
-}
-
-// Puts a boundary behind those of the last chunk, which has room.
-fn push_in<T>(chunks: &mut Vec<Chunk<T>>, last: usize, item: T) -> Result<(), AllocError> {
-    chunks[last].push(item)
-}
-
-// Puts a boundary behind all others, in a chunk of its own.
-fn push_chunk<T>(chunks: &mut Vec<Chunk<T>>, item: T) -> Result<(), AllocError> {
-    let odd = is_endless(chunks.as_slice());
-    let rest = Vec::new(*chunks.allocator());
-    chunks.push(Chunk {
-        first: item,
-        rest,
-        odd,
-    })?;
-    Ok(())
+    let (at, start) = cut_at(list, start, inside, count);
+    list.replace_from(at, start)
 }

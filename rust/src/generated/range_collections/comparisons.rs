@@ -2,7 +2,7 @@
 //! A counter of comparisons by an element type's own order, and copies by its own clones.
 
 use crate::generated::range_entry::EntryClone;
-use crate::generated::range_merge::{Compare, Copier};
+use crate::generated::range_merge::{Compare, Copier, Work};
 use crate::support::{AllocError, Vec};
 use core::cmp::Ordering;
 
@@ -51,13 +51,10 @@ impl<T: Ord> Compare<T> for Comparisons {
     }
 
     #[inline(always)]
-    fn fresh(&self) -> Self {
-        Comparisons::new()
-    }
-
-    #[inline(always)]
-    fn add(&mut self, other: Self) {
-        self.made += other.made;
+    fn apart<W: Work<T, Self>>(&mut self, work: &mut W) -> W::Answer {
+        let done = work.run(Comparisons::new());
+        self.made += done.cmp.made;
+        done.answer
     }
 }
 

@@ -6,9 +6,11 @@
 
 pub(crate) mod chars;
 pub(crate) mod from_place;
+pub(crate) mod multiples;
 pub(crate) mod numbers;
 
 pub use from_place::FromPlace;
+pub use multiples::Multiples;
 
 use crate::generated::range_entry::RangeSetEntry;
 

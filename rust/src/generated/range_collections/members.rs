@@ -48,6 +48,7 @@ impl<'a, T: FromPlace> Members<'a, T> {
 impl<'a, T: FromPlace> Iterator for Members<'a, T> {
     type Item = T;
 
+    #[inline]
     fn next(&mut self) -> Option<T> {
         if self.unread.is_empty() {
             return None;
@@ -65,6 +66,7 @@ impl<'a, T: FromPlace> Iterator for Members<'a, T> {
 }
 
 impl<'a, T: FromPlace> DoubleEndedIterator for Members<'a, T> {
+    #[inline]
     fn next_back(&mut self) -> Option<T> {
         if self.unread.is_empty() {
             return None;
@@ -101,6 +103,7 @@ fn last_place<T: FromPlace>(before: &[T], end: &T) -> u128 {
 }
 
 // What is left above the lowest member: the boundaries from the next one's range on, and its place.
+#[inline(always)]
 fn above<T: Countable>(items: &[T], first: u128, last: u128) -> Option<(&[T], u128)> {
     if first >= last {
         return None;
@@ -117,6 +120,7 @@ fn above<T: Countable>(items: &[T], first: u128, last: u128) -> Option<(&[T], u1
 
 // What is left below the highest member: the boundaries up to the range of the one before it, and
 // its place.
+#[inline(always)]
 fn below<T: Countable>(items: &[T], first: u128, last: u128) -> Option<(&[T], u128)> {
     if first >= last {
         return None;
@@ -131,6 +135,7 @@ fn below<T: Countable>(items: &[T], first: u128, last: u128) -> Option<(&[T], u1
 }
 
 // The start of the last range, and the boundaries before it.
+#[inline(always)]
 fn last_start<T>(items: &[T]) -> Option<(&T, &[T])> {
     let (last, before) = items.split_last()?;
     if is_odd(items.len()) {

@@ -18,17 +18,19 @@ pub use crate::generated::range_entry::{EntryClone, RangeSetEntry};
 pub(crate) use crate::generated::range_merge::{count_up_to, merge, run_length, search};
 pub use crate::generated::range_merge::{
     BoolOpMergeState, Buffer, BufferMergeState, Compare, Connective, Copier, CountMergeState,
-    DiffOp, InPlaceBuilder, IntersectionOp, MergeOperation, MergeState, MergeStateMut, NoRoom, Run,
-    SliceIterator, SmallVecMergeState, UnionOp, XorOp,
+    DiffOp, Done, InPlaceBuilder, IntersectionOp, MergeOperation, MergeState, MergeStateMut,
+    NoRoom, Run, SliceIterator, SmallVecMergeState, UnionOp, Work, XorOp,
 };
 pub use crate::support::{InPlaceMergeState, InPlaceMergeStateRef};
 pub use comparisons::{Comparisons, EntryCopier};
-pub use countable::{Countable, FromPlace, Unsigned};
+pub use countable::{Countable, FromPlace, Multiples, Unsigned};
 pub use iter::{Gaps, Iter, RangesWithin};
 pub use members::Members;
 pub use parse::{check_ranges, Expected, ParseError};
+pub(crate) use range_set::cut_at;
 pub use range_set::{RangeSet, RangeSet2};
+pub(crate) use range_set_range::has_elements;
 pub use range_set_range::{write_range, RangeSetRange};
 pub(crate) use view::place_in;
-pub use view::RangeSetRef;
+pub use view::{RangeSetRef, Row};
 pub use whole_number::WholeNumber;

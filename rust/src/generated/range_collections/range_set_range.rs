@@ -19,8 +19,18 @@ pub enum RangeSetRange<T> {
     RangeFrom(RangeFrom<T>),
 }
 
-// Whether the range has an element: its start is below its end. Every call that takes a range asks
-// this. An empty or reversed range stands for the empty set.
+/// Whether the range from `start` to below `end` has an element, which is that `start` is below
+/// `end`. Calls that take a range ask this first: an empty or reversed range has no element, and
+/// stands for the empty set.
+///
+/// # Contract
+///
+/// ```text
+/// requires count.old < 2 ^ 127
+/// ensures answer: IsTrue result ↔ (T.cmp start.now end.now ≡ Less)
+/// ensures value: result ≡ is_lt (T.cmp start.now end.now)
+/// ensures counted: count.new ≡ count.old + 1
+/// ```
 #[inline(always)]
 pub(crate) fn has_elements<T: Ord>(start: &T, end: &T, count: &mut Comparisons) -> bool {
     count.compare(start, end).is_lt()

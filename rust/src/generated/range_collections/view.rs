@@ -4,15 +4,16 @@
 pub(crate) mod counting;
 pub(crate) mod endless;
 pub(crate) mod equality;
-pub(crate) mod fitting;
-pub(crate) mod members;
+pub(crate) mod first_fit;
 pub(crate) mod operations;
 pub(crate) mod parts;
 pub(crate) mod predicates;
 pub(crate) mod ranges;
+pub(crate) mod rank;
 
 use crate::generated::range_collections::lists::is_ascending;
-pub(crate) use fitting::place_in;
+pub(crate) use first_fit::place_in;
+pub use first_fit::Row;
 
 /// A borrowed set: a strictly sorted slice of boundaries.
 ///

@@ -4,6 +4,13 @@
 use crate::support::{AllocError, Vec};
 
 /// An element type whose clones are equal to their source.
+#[cfg_attr(
+    range_sets_messages,
+    diagnostic::on_unimplemented(
+        message = "`{Self}` has no copy that may be refused",
+        note = "implement `range_sets::fallible::EntryClone` for it; calls of sets outside of `fallible` ask for `Clone`"
+    )
+)]
 pub trait EntryClone: Ord + Sized {
     /// A copy of this element, which is equal to it, or an error if memory runs out.
     ///

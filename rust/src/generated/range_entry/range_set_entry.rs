@@ -7,6 +7,13 @@
 use crate::support::{AllocError, Global};
 
 /// An element type that has a least value.
+#[cfg_attr(
+    range_sets_messages,
+    diagnostic::on_unimplemented(
+        message = "`{Self}` has no least value",
+        note = "implement `range_sets::RangeSetEntry` for it"
+    )
+)]
 pub trait RangeSetEntry: Ord + Sized {
     /// The least value, or an error if memory runs out.
     ///

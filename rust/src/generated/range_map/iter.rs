@@ -2,14 +2,15 @@
 //! The ranges of a map with their values, from the lowest on and from the highest down.
 
 use crate::generated::range_collections::RangeSetRange;
+use crate::generated::range_list::Items;
+use crate::generated::range_map::step::Step;
 use core::iter::FusedIterator;
 use core::ops::{Range, RangeFrom};
 
 /// The ranges of the steps that are still unread, each with its value. A clause reads it as the
 /// list of these.
 pub struct Iter<'a, K, V> {
-    keys: &'a [K],
-    options: &'a [Option<V>],
+    steps: Items<'a, Step<K, V>, ()>,
     end: Option<&'a K>,
 }
 
@@ -17,8 +18,7 @@ impl<'a, K, V> Clone for Iter<'a, K, V> {
     #[inline]
     fn clone(&self) -> Self {
         Iter {
-            keys: Clone::clone(&self.keys),
-            options: Clone::clone(&self.options),
+            steps: Clone::clone(&self.steps),
             end: Clone::clone(&self.end),
         }
     }
@@ -27,40 +27,57 @@ impl<'a, K, V> Clone for Iter<'a, K, V> {
 impl<'a, K, V> Iter<'a, K, V> {
     // The ranges of these steps up to the end, if there is one.
     #[inline(always)]
-    pub(crate) fn new(keys: &'a [K], options: &'a [Option<V>], end: Option<&'a K>) -> Self {
-        Iter { keys, options, end }
+    pub(crate) fn new(steps: Items<'a, Step<K, V>, ()>, end: Option<&'a K>) -> Self {
+        Iter { steps, end }
     }
 }
 
 impl<'a, K, V> Iterator for Iter<'a, K, V> {
     type Item = (RangeSetRange<&'a K>, &'a V);
 
+    #[inline]
     fn next(&mut self) -> Option<(RangeSetRange<&'a K>, &'a V)> {
-        let (i, value) = match first_value(self.options) {
-            Some((i, value)) => (i, value),
-            _ => return None,
-        };
-        let start = &self.keys[i];
-        let range = range_until(start, next_or(self.keys, i + 1, self.end));
-        *self = Iter::new(&self.keys[i + 1..], &self.options[i + 1..], self.end);
-        Some((range, value))
+        take_first_entry(&mut self.steps, self.end)
     }
 }
 
 impl<'a, K, V> DoubleEndedIterator for Iter<'a, K, V> {
+    #[inline]
     fn next_back(&mut self) -> Option<(RangeSetRange<&'a K>, &'a V)> {
-        let (i, value) = match last_value(self.options) {
-            Some((i, value)) => (i, value),
-            _ => return None,
-        };
-        let start = &self.keys[i];
-        let range = range_until(start, next_or(self.keys, i + 1, self.end));
-        *self = Iter::new(&self.keys[..i], &self.options[..i], Some(start));
-        Some((range, value))
+        take_last_entry(&mut self.steps, &mut self.end)
     }
 }
 
 impl<'a, K, V> FusedIterator for Iter<'a, K, V> {}
+
+// Takes the steps out up to the first one with a value. Returns its range and the value.
+fn take_first_entry<'a, K, V>(
+    steps: &mut Items<'a, Step<K, V>, ()>,
+    end: Option<&'a K>,
+) -> Option<(RangeSetRange<&'a K>, &'a V)> {
+    while let Some(step) = steps.take_first() {
+        if let Some(value) = &step.option {
+            let range = range_until(&step.key, first_key_or(steps, end));
+            return Some((range, value));
+        }
+    }
+    None
+}
+
+// Takes the steps out down to the last one with a value. Returns its range, which ends at the end,
+// and the value. The end is then the lowest key that was taken out.
+fn take_last_entry<'a, K, V>(
+    steps: &mut Items<'a, Step<K, V>, ()>,
+    end: &mut Option<&'a K>,
+) -> Option<(RangeSetRange<&'a K>, &'a V)> {
+    while let Some(step) = steps.take_last() {
+        let above = end.replace(&step.key);
+        if let Some(value) = &step.option {
+            return Some((range_until(&step.key, above), value));
+        }
+    }
+    None
+}
 
 // From the start up to the end, if there is one.
 #[inline(always)]
@@ -71,39 +88,21 @@ fn range_until<'a, K>(start: &'a K, end: Option<&'a K>) -> RangeSetRange<&'a K> 
     }
 }
 
-/// The key at a place, or else the end.
+/// The first key of these steps, or else the end.
 ///
 /// # Contract
 ///
 /// ```text
-/// ensures option_copied result ≡ first_or (drop place keys.now) (option_copied end.entry)
+/// ensures option_copied result ≡ first_or (map (λ s. s.key) steps.now) (option_copied
+///     end.entry)
 /// ```
 #[inline(always)]
-pub fn next_or<'a, K>(keys: &'a [K], place: usize, end: Option<&'a K>) -> Option<&'a K> {
-    match keys.get(place) {
-        Some(key) => Some(key),
+pub fn first_key_or<'a, K, V>(
+    steps: &Items<'a, Step<K, V>, ()>,
+    end: Option<&'a K>,
+) -> Option<&'a K> {
+    match steps.first() {
+        Some(step) => Some(&step.key),
         None => end,
     }
-}
-
-// The first value, and its place.
-fn first_value<V>(options: &[Option<V>]) -> Option<(usize, &V)> {
-    for i in 0..options.len() {
-        if let Some(value) = &options[i] {
-            return Some((i, value));
-        }
-    }
-    None
-}
-
-// The last value, and its place.
-fn last_value<V>(options: &[Option<V>]) -> Option<(usize, &V)> {
-    let mut n = options.len();
-    while n > 0 {
-        n -= 1;
-        if let Some(value) = &options[n] {
-            return Some((n, value));
-        }
-    }
-    None
 }

@@ -2,6 +2,7 @@
 //! Maps from ranges to values: strictly sorted keys, and for each the value that holds from it on,
 //! up to the next one, or none.
 
+pub(crate) mod borrowed_steps;
 pub(crate) mod filter;
 pub(crate) mod free;
 pub(crate) mod gaps;
@@ -14,8 +15,7 @@ pub(crate) mod places;
 pub(crate) mod replacing;
 pub(crate) mod retaining;
 pub(crate) mod runs;
-pub(crate) mod side;
-pub(crate) mod splicing;
+pub(crate) mod step;
 pub(crate) mod update;
 pub(crate) mod value;
 pub(crate) mod within;

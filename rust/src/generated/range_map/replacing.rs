@@ -2,10 +2,11 @@
 //! A range given one option: the steps that lie in it give way to at most two.
 
 use crate::generated::range_collections::Comparisons;
-use crate::generated::range_map::places::{find, make_room, Places};
-use crate::generated::range_map::splicing::splice;
+use crate::generated::range_list::Chunks;
+use crate::generated::range_map::places::{find, option_before, Places};
+use crate::generated::range_map::step::{Step, StepKey};
 use crate::generated::range_map::value::{copy_option, MapValue};
-use crate::support::{AllocError, Vec};
+use crate::support::AllocError;
 
 /// Gives the elements from the start up to the end, if there is one, an option. It asks for memory
 /// only if steps are added or a range becomes two, and before it changes anything.
@@ -13,117 +14,141 @@ use crate::support::{AllocError, Vec};
 /// # Contract
 ///
 /// ```text
-/// requires canonical: IsCanonical K.cmp V.eq (record { keys = keys.old.items; options =
-///     options.old.items })
+/// requires canonical: IsCanonical K.cmp V.eq (steps_in steps.old)
 /// requires some: (e : K) → end ≡ Some e → K.cmp start e ≡ Less
-/// requires made: count.old < 2 ^ 126
-/// ensures canonical: IsCanonical K.cmp V.eq (record { keys = keys.new.items; options =
-///     options.new.items })
-/// ensures values: OnOk result (IsSetTo K.cmp V.eq start end option (record { keys =
-///     keys.old.items; options = options.old.items }) (record { keys = keys.new.items; options
-///     = options.new.items }))
-/// ensures keys_unchanged: OnErr result (keys.new.items ≡ keys.old.items)
-/// ensures options_unchanged: OnErr result (options.new.items ≡ options.old.items)
-/// ensures succeeds: FitsAfter K.cmp V.eq start end option (record { keys = keys.old.items;
-///     options = options.old.items }) → IsOk result
-/// ensures comparisons: AddsAtMost count.old count.new (2 * digits (length keys.old.items))
+/// requires made: count.old < 2 ^ 125
+/// ensures canonical: IsCanonical K.cmp V.eq (steps_in steps.new)
+/// ensures values: OnOk result (IsSetTo K.cmp V.eq start end option (steps_in steps.old)
+///     (steps_in steps.new))
+/// ensures unchanged: OnErr result (steps_in steps.new ≡ steps_in steps.old)
+/// ensures succeeds: FitsAfter K.cmp V.eq start end option (steps_in steps.old) → IsOk result
+/// ensures comparisons: AddsAtMost count.old count.new (2 * (digits (length (steps_in
+///     steps.old).keys) + 7))
 /// ```
 pub(crate) fn set_range<K: Ord, V: MapValue>(
-    keys: &mut Vec<K>,
-    options: &mut Vec<Option<V>>,
+    steps: &mut Chunks<Step<K, V>, ()>,
     start: K,
     end: Option<K>,
     option: Option<V>,
     count: &mut Comparisons,
 ) -> Result<(), AllocError> {
-    let places = find(
-        keys.as_slice(),
-        options.as_slice(),
-        &start,
-        end.as_ref(),
-        &option,
-        count,
-    );
-    make_room(keys, places)?;
-    make_room(options, places)?;
-    let copied = copy_before(options.as_slice(), places)?;
-    put_range(keys, options, places, start, end, option, copied);
-    Ok(())
+    let places = find(steps, &start, end.as_ref(), &option, count);
+    let copied = copy_before(steps, places)?;
+    match put_range(steps, places, start, end, option, copied) {
+        Ok(()) => Ok(()),
+        Err(_) => Err(AllocError),
+    }
 }
 
-/// Puts the range at its places, for which there is room. Where the range lies within one step, the
-/// copy holds from its end on.
+/// Puts the range at its places. Where it lies within one step, the copy holds from its end on. It
+/// asks for memory only if steps are added, and before it changes anything. If that fails, it
+/// hands the option back.
 ///
 /// # Contract
 ///
 /// ```text
-/// requires canonical: IsCanonical K.cmp V.eq (record { keys = keys.old.items; options =
-///     options.old.items })
+/// requires canonical: IsCanonical K.cmp V.eq (steps_in steps.old)
 /// requires some: (e : K) → end ≡ Some e → K.cmp start e ≡ Less
-/// requires places: ArePlaces K.cmp V.eq (record { keys = keys.old.items; options =
-///     options.old.items }) start end option places
-/// requires copied: places.from ≡ places.to → places.ends ≡ true → AreAlike V.eq copied (get_or
-///     (None ∷ options.old.items) places.to None)
-/// requires keys_room: length keys.old.items + put_len places ≤ vec_capacity keys.old +
-///     (places.to - places.from)
-/// requires options_room: length options.old.items + put_len places ≤ vec_capacity options.old
-///     + (places.to - places.from)
-/// ensures canonical: IsCanonical K.cmp V.eq (record { keys = keys.new.items; options =
-///     options.new.items })
-/// ensures values: IsSetTo K.cmp V.eq start end option (record { keys = keys.old.items; options
-///     = options.old.items }) (record { keys = keys.new.items; options = options.new.items })
+/// requires from: IsPlaceAt steps.old places.from
+/// requires to: IsPlaceAt steps.old places.to
+/// requires places: ArePlaces K.cmp V.eq (steps_in steps.old) start end option (span_of
+///     steps.old places)
+/// requires copied: place_at steps.old places.from ≡ place_at steps.old places.to → places.ends
+///     ≡ true → AreAlike V.eq copied (get_or (None ∷ (steps_in steps.old).options) (place_at
+///     steps.old places.to) None)
+/// ensures canonical: IsCanonical K.cmp V.eq (steps_in steps.new)
+/// ensures values: OnOk result (IsSetTo K.cmp V.eq start end option (steps_in steps.old)
+///     (steps_in steps.new))
+/// ensures unchanged: OnErr result (steps_in steps.new ≡ steps_in steps.old)
+/// ensures handed_back: IfErr result (λ back. back ≡ option)
+/// ensures succeeds: FitsAfter K.cmp V.eq start end option (steps_in steps.old) → IsOk result
 /// ```
 pub(crate) fn put_range<K: Ord, V: Eq>(
-    keys: &mut Vec<K>,
-    options: &mut Vec<Option<V>>,
+    steps: &mut Chunks<Step<K, V>, ()>,
     places: Places,
     start: K,
     end: Option<K>,
     option: Option<V>,
     copied: Option<V>,
-) {
-    put_keys(keys, places, start, end);
-    put_options(options, places, option, copied);
+) -> Result<(), Option<V>> {
+    let end = end_if(places.ends, end);
+    if !places.starts {
+        match put_steps(steps, places, None, end, copied) {
+            Ok(()) => return Ok(()),
+            Err(_) => return Err(option),
+        }
+    }
+    let first = Step { key: start, option };
+    match put_steps(steps, places, Some(first), end, copied) {
+        Ok(()) => Ok(()),
+        Err(first) => Err(option_of(first)),
+    }
+}
+
+// The end, if a step has to stand there.
+fn end_if<K>(ends: bool, end: Option<K>) -> Option<K> {
+    if ends {
+        end
+    } else {
+        None
+    }
+}
+
+// The option of a step, if there is one.
+fn option_of<K, V>(step: Option<Step<K, V>>) -> Option<V> {
+    match step {
+        Some(step) => step.option,
+        None => None,
+    }
+}
+
+// Puts the first step, if it is given, and one at the end, if that is, in the place of the steps in
+// the range. The option at the end is that of the last of them, and if there is none it is the
+// copy. If memory runs out, the first step is handed back.
+fn put_steps<K, V>(
+    steps: &mut Chunks<Step<K, V>, ()>,
+    places: Places,
+    first: Option<Step<K, V>>,
+    end: Option<K>,
+    copied: Option<V>,
+) -> Result<(), Option<Step<K, V>>> {
+    match end {
+        None => splice(steps, places, first, None),
+        Some(key) => {
+            if steps.is_before(places.from, places.to) {
+                return steps.splice_last(places.from, places.to, first, &StepKey, key);
+            }
+            let last = Step {
+                key,
+                option: copied,
+            };
+            splice(steps, places, first, Some(last))
+        }
+    }
+}
+
+// Puts one step or two in the place of those in the range. If memory runs out, the first one is
+// handed back.
+fn splice<K, V>(
+    steps: &mut Chunks<Step<K, V>, ()>,
+    places: Places,
+    first: Option<Step<K, V>>,
+    last: Option<Step<K, V>>,
+) -> Result<(), Option<Step<K, V>>> {
+    match steps.splice(places.from, places.to, first, last) {
+        Ok(()) => Ok(()),
+        Err((first, _)) => Err(first),
+    }
 }
 
 // A copy of the option that holds at the end of a range, where the range lies within one step: then
 // the option stays, and holds again from the end on. None where it is moved or isn't needed.
-fn copy_before<V: MapValue>(
-    options: &[Option<V>],
+fn copy_before<K, V: MapValue>(
+    steps: &Chunks<Step<K, V>, ()>,
     places: Places,
 ) -> Result<Option<V>, AllocError> {
-    if places.from < places.to || !places.ends || places.to == 0 {
+    if !places.ends || steps.is_before(places.from, places.to) {
         return Ok(None);
     }
-    copy_option(options[places.to - 1].as_ref())
-}
-
-// Puts the start and the end in the place of the keys in the range.
-fn put_keys<K>(keys: &mut Vec<K>, places: Places, start: K, end: Option<K>) {
-    let first = if places.starts { Some(start) } else { None };
-    let second = if places.ends { end } else { None };
-    splice(keys, places.from, places.to, first, second);
-}
-
-// Puts the option at the start, and the one that held at the end, in the place of the options in
-// the range: the last of them is moved, and if there is none it is the copy.
-fn put_options<V>(
-    options: &mut Vec<Option<V>>,
-    places: Places,
-    option: Option<V>,
-    copied: Option<V>,
-) {
-    let after = moved_or(options.as_mut_slice(), places, copied);
-    let first = if places.starts { Some(option) } else { None };
-    let second = if places.ends { Some(after) } else { None };
-    splice(options, places.from, places.to, first, second);
-}
-
-// The last option in the range, which is moved out, or if there is none the copy.
-fn moved_or<V>(options: &mut [Option<V>], places: Places, copied: Option<V>) -> Option<V> {
-    if places.from < places.to {
-        options[places.to - 1].take()
-    } else {
-        copied
-    }
+    copy_option(option_before(steps, places.to))
 }

@@ -2,14 +2,16 @@
 //! The runs of the keys of two maps, each found with few comparisons.
 
 use crate::generated::range_collections::{run_length, Comparisons, MergeState, Run};
+use crate::generated::range_map::borrowed_steps::BorrowedSteps;
+use crate::generated::range_map::step::Step;
 
-// Two lists of keys that are unread.
-struct Unread<'a, K> {
-    left: &'a [K],
-    right: &'a [K],
+// The steps of two maps that are unread.
+struct Unread<'a, 'l, 'r, K, V, W> {
+    left: &'a [Step<&'l K, &'l V>],
+    right: &'a [Step<&'r K, &'r W>],
 }
 
-impl<'a, K> MergeState for Unread<'a, K> {
+impl<'a, 'l, 'r, K, V, W> MergeState for Unread<'a, 'l, 'r, K, V, W> {
     type Item = K;
 
     #[inline(always)]
@@ -24,12 +26,12 @@ impl<'a, K> MergeState for Unread<'a, K> {
 
     #[inline(always)]
     fn a_at(&self, i: usize) -> &K {
-        &self.left[i]
+        self.left[i].key
     }
 
     #[inline(always)]
     fn b_at(&self, i: usize) -> &K {
-        &self.right[i]
+        self.right[i].key
     }
 }
 
@@ -38,31 +40,32 @@ impl<'a, K> MergeState for Unread<'a, K> {
 /// # Contract
 ///
 /// ```text
-/// requires a_some: i < length a.now
-/// requires b_some: j < length b.now
-/// requires a_ascends: IsAscending K.cmp a.now
-/// requires b_ascends: IsAscending K.cmp b.now
+/// requires a_some: i < length a.now.keys
+/// requires b_some: j < length b.now.keys
+/// requires a_ascends: IsAscending K.cmp a.now.keys
+/// requires b_ascends: IsAscending K.cmp b.now.keys
 /// requires made: count.old < 2 ^ 127
-/// ensures run: IsRun K.cmp a.now i b.now j result
+/// ensures run: IsRun K.cmp a.now.keys i b.now.keys j result
 /// ensures onward: 0 < left_len result + right_len result
 /// ensures at_least: count.old ≤ count.new
-/// ensures paid: count.new + 2 * weight K.cmp (drop (i + left_len result) a.now) (drop (j +
-///     right_len result) b.now) ≤ count.old + 2 * weight K.cmp (drop i a.now) (drop j b.now)
+/// ensures paid: count.new + 2 * weight K.cmp (drop (i + left_len result) a.now.keys) (drop (j
+///     + right_len result) b.now.keys) ≤ count.old + 2 * weight K.cmp (drop i a.now.keys) (drop
+///     j b.now.keys)
 /// ```
 #[inline(always)]
-pub(crate) fn next_run<K: Ord>(
-    a: &[K],
+pub(crate) fn next_run<K: Ord, V, W>(
+    a: &BorrowedSteps<'_, K, V>,
     i: usize,
-    b: &[K],
+    b: &BorrowedSteps<'_, K, W>,
     j: usize,
     count: &mut Comparisons,
 ) -> Run {
-    first_run(&a[i..], &b[j..], count)
+    first_run(a.behind(i), b.behind(j), count)
 }
 
-// The first run of two lists of keys.
+// The first run of two lists of steps.
 #[inline(always)]
-fn first_run<K: Ord>(a: &[K], b: &[K], count: &mut Comparisons) -> Run {
+fn first_run<K: Ord, V, W>(a: &[Step<&K, &V>], b: &[Step<&K, &W>], count: &mut Comparisons) -> Run {
     let unread = Unread { left: a, right: b };
     run_length(&unread, count)
 }

@@ -4,7 +4,7 @@
 use crate::support::AllocError;
 
 /// A type whose values can be copied, which may fail. A map copies a value only where one of its
-/// ranges becomes two.
+/// ranges becomes two, or into a new map.
 pub trait MapValue: Eq + Sized {
     /// A copy of this value, which is equal to it, or an error if memory runs out.
     ///

@@ -28,6 +28,21 @@ fn step<K, O: MergeOperation, C: Compare<K>>(
     Place { i, j, k, next }
 }
 
+// Four steps, as many as a read makes between two looks at the length of a run.
+#[inline(always)]
+fn four_steps<K, O: MergeOperation, C: Compare<K>>(
+    a: &[K],
+    b: &[K],
+    at: Place,
+    op: &O,
+    cmp: &mut C,
+) -> Place {
+    let one = step(a, b, at, op, cmp);
+    let two = step(a, b, one, op, cmp);
+    let three = step(a, b, two, op, cmp);
+    step(a, b, three, op, cmp)
+}
+
 /// Reads items of both slices, one or both at a step, from their starts on, until a run is long or
 /// a slice is nearly used up. It counts what is taken, and returns how far it came.
 ///
@@ -63,17 +78,11 @@ pub(crate) fn read_by_place<K, O: MergeOperation, C: Compare<K>>(
             k: 0,
             next: here.next,
         };
-        let one = step(left, right, from, op, cmp);
-        let two = step(left, right, one, op, cmp);
-        let three = step(left, right, two, op, cmp);
-        let four = step(left, right, three, op, cmp);
+        let four = four_steps(left, right, from, op, cmp);
         if is_long(from, four) {
             return beyond(here, four);
         }
-        let five = step(left, right, four, op, cmp);
-        let six = step(left, right, five, op, cmp);
-        let seven = step(left, right, six, op, cmp);
-        let eight = step(left, right, seven, op, cmp);
+        let eight = four_steps(left, right, four, op, cmp);
         lefts = &lefts[eight.i..];
         rights = &rights[eight.j..];
         here = beyond(here, eight);

@@ -9,7 +9,7 @@ use core::cmp::Ordering;
 /// How many items at the start of a side are below a key, and how the item after them stands to the
 /// key, if there is one.
 #[derive(Clone, Copy)]
-pub(crate) struct Front {
+pub(crate) struct Below {
     pub(crate) len: usize,
     pub(crate) next: Option<Ordering>,
 }
@@ -27,13 +27,13 @@ struct Window {
 /// For an answer of `n` it makes at most twice as many comparisons as `n` has binary digits, less
 /// one. Most runs are of one item, so the second is looked at before any step is doubled.
 #[inline(always)]
-pub(crate) fn gallop<K, L: Indexed<K>, C: Compare<K>>(side: &L, key: &K, cmp: &mut C) -> Front {
+pub(crate) fn gallop<K, L: Indexed<K>, C: Compare<K>>(side: &L, key: &K, cmp: &mut C) -> Below {
     if side.len() < 2 {
-        return Front { len: 1, next: None };
+        return Below { len: 1, next: None };
     }
     let second = cmp.compare(side.at(1), key);
     if !second.is_lt() {
-        return Front {
+        return Below {
             len: 1,
             next: Some(second),
         };
@@ -74,7 +74,7 @@ fn halved<K, L: Indexed<K>, C: Compare<K>>(
     key: &K,
     window: Window,
     cmp: &mut C,
-) -> Front {
+) -> Below {
     let Window {
         mut low,
         mut high,
@@ -90,5 +90,5 @@ fn halved<K, L: Indexed<K>, C: Compare<K>>(
             next = Some(how);
         }
     }
-    Front { len: low, next }
+    Below { len: low, next }
 }

@@ -6,8 +6,8 @@
 //! put finds too little of that, it is room that was asked for, and the unread items move up, at
 //! most once.
 
+use crate::generated::range_merge::in_place_list::GrowsByGap;
 use crate::generated::range_merge::merge_state::Supply;
-use crate::generated::range_merge::place::GrowsByGap;
 use crate::support::SmallVec;
 use core::marker::PhantomData;
 
@@ -67,6 +67,7 @@ impl<K, const N: usize, L: GrowsByGap<K>> InPlaceBuilder<K, N, L> {
     /// ensures kept: self.new.kept ≡ self.old.kept ++ take n self.old.unread
     /// ensures unread: self.new.unread ≡ drop n self.old.unread
     /// ensures puts_left: self.new.puts_left ≡ self.old.puts_left
+    /// ensures room: self.new.room ≡ self.old.room
     /// ```
     #[inline(always)]
     pub(crate) fn keep(&mut self, n: usize) {
@@ -84,6 +85,7 @@ impl<K, const N: usize, L: GrowsByGap<K>> InPlaceBuilder<K, N, L> {
     /// ensures kept: self.new.kept ≡ self.old.kept
     /// ensures unread: self.new.unread ≡ drop n self.old.unread
     /// ensures puts_left: self.new.puts_left ≡ self.old.puts_left
+    /// ensures room: self.new.room ≡ self.old.room
     /// ```
     #[inline(always)]
     pub(crate) fn skip(&mut self, n: usize) {

@@ -25,7 +25,7 @@ pub(crate) fn prepared_copies<K, P: Copier<K>, const N: usize>(
 }
 
 // A copy of each item. It asks for room once.
-fn copies<K, P: Copier<K>, const N: usize>(
+pub(crate) fn copies<K, P: Copier<K>, const N: usize>(
     alloc: Global,
     items: &[K],
     copier: &P,

@@ -8,15 +8,18 @@ pub(crate) mod count;
 pub(crate) mod counting;
 pub(crate) mod grows_at_end;
 pub(crate) mod in_place;
+pub(crate) mod in_place_plain;
 pub(crate) mod in_place_ref;
 pub(crate) mod output;
 pub(crate) mod over_slices;
+pub(crate) mod overwriting;
 pub(crate) mod placing;
 pub(crate) mod reading;
 pub(crate) mod small_vec;
 pub(crate) mod supply;
 pub(crate) mod vec;
 
+pub(crate) use crate::support::append_within;
 pub use crate::support::InPlaceMergeState;
 pub use crate::support::InPlaceMergeStateRef;
 pub use bool_op::BoolOpMergeState;

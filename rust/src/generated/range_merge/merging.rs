@@ -3,7 +3,8 @@
 //! are used up. A reader may read short runs in between.
 
 use crate::generated::range_merge::compare::Compare;
-use crate::generated::range_merge::galloping::{gallop, Front};
+use crate::generated::range_merge::equal_pairs::steps_both;
+use crate::generated::range_merge::galloping::{gallop, Below};
 use crate::generated::range_merge::merge_state::MergeStateMut;
 use crate::generated::range_merge::operations::MergeOperation;
 use crate::generated::range_merge::runs::{order_at, reversed, LeftOf, RightOf};
@@ -124,7 +125,7 @@ fn read_on<S: MergeStateMut, O: MergeOperation, C: Compare<S::Item>, R: ShortRun
     }
 }
 
-// Takes runs or drops them, for so many rounds, or fewer if a list is used up; for `None`, until
+// Takes runs or drops them, for `rounds` rounds, or fewer if a list is used up; for `None`, until
 // then. Each round leaves one comparison of those that twice the weight allows.
 #[inline(always)]
 fn take_rounds<S: MergeStateMut, O: MergeOperation, C: Compare<S::Item>>(
@@ -179,11 +180,11 @@ fn step_left<S: MergeStateMut, O: MergeOperation, C: Compare<S::Item>>(
         return Ok(Went::On(firsts));
     }
     let take = op.takes_a(state.bc());
-    let front = left_front(state, take, cmp);
-    if !advance_left(state, front.len, take)? {
+    let run = left_run(state, take, cmp);
+    if !advance_left(state, run.len, take)? {
         return Ok(Went::Stopped);
     }
-    Ok(Went::On(front.next))
+    Ok(Went::On(run.next))
 }
 
 // Takes or drops the first run, where it is of the right list.
@@ -198,49 +199,16 @@ fn step_right<S: MergeStateMut, O: MergeOperation, C: Compare<S::Item>>(
         return Ok(Went::On(firsts));
     }
     let take = op.takes_b(state.ac());
-    let front = right_front(state, take, cmp);
-    if !advance_right(state, front.len, take)? {
+    let run = right_run(state, take, cmp);
+    if !advance_right(state, run.len, take)? {
         return Ok(Went::Stopped);
     }
-    Ok(Went::On(front.next))
+    Ok(Went::On(run.next))
 }
 
-// Takes or drops the first items, while they are equal.
+/// Whether the first items stand so to one another.
 #[inline(always)]
-fn steps_both<S: MergeStateMut, O: MergeOperation, C: Compare<S::Item>>(
-    state: &mut S,
-    op: &O,
-    mut firsts: Option<Ordering>,
-    cmp: &mut C,
-) -> Result<Went, AllocError> {
-    while stand(firsts, Ordering::Equal) {
-        let next = match step_both(state, op, cmp)? {
-            Went::On(next) => next,
-            _ => return Ok(Went::Stopped),
-        };
-        firsts = next;
-    }
-    Ok(Went::On(firsts))
-}
-
-// Takes or drops the first items, which are equal.
-#[inline(always)]
-fn step_both<S: MergeStateMut, O: MergeOperation, C: Compare<S::Item>>(
-    state: &mut S,
-    op: &O,
-    cmp: &mut C,
-) -> Result<Went, AllocError> {
-    let take = op.takes_both(state.ac(), state.bc());
-    match state.advance_both(take) {
-        Ok(true) => Ok(Went::On(order_at(state, 0, cmp))),
-        Ok(false) => Ok(Went::Stopped),
-        Err(error) => Err(error),
-    }
-}
-
-// Whether the first items stand so to one another.
-#[inline(always)]
-fn stand(firsts: Option<Ordering>, how: Ordering) -> bool {
+pub(crate) fn stand(firsts: Option<Ordering>, how: Ordering) -> bool {
     firsts == Some(how)
 }
 
@@ -265,23 +233,23 @@ fn take_rest<S: MergeStateMut, O: MergeOperation>(
 
 // The first run, which is of the left list. Where the state stops at it, its first item is enough.
 #[inline(always)]
-fn left_front<S: MergeStateMut, C: Compare<S::Item>>(state: &S, take: bool, cmp: &mut C) -> Front {
+fn left_run<S: MergeStateMut, C: Compare<S::Item>>(state: &S, take: bool, cmp: &mut C) -> Below {
     if take && state.stops() {
-        return Front { len: 1, next: None };
+        return Below { len: 1, next: None };
     }
     gallop(&LeftOf(state), state.b_at(0), cmp)
 }
 
 // The first run, which is of the right list. Where the state stops at it, its first item is enough.
 #[inline(always)]
-fn right_front<S: MergeStateMut, C: Compare<S::Item>>(state: &S, take: bool, cmp: &mut C) -> Front {
+fn right_run<S: MergeStateMut, C: Compare<S::Item>>(state: &S, take: bool, cmp: &mut C) -> Below {
     if take && state.stops() {
-        return Front { len: 1, next: None };
+        return Below { len: 1, next: None };
     }
-    let front = gallop(&RightOf(state), state.a_at(0), cmp);
-    Front {
-        len: front.len,
-        next: reversed(front.next),
+    let run = gallop(&RightOf(state), state.a_at(0), cmp);
+    Below {
+        len: run.len,
+        next: reversed(run.next),
     }
 }
 

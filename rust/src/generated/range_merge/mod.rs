@@ -3,15 +3,16 @@
 
 pub(crate) mod by_place;
 pub(crate) mod compare;
+pub(crate) mod equal_pairs;
 pub(crate) mod galloping;
 pub(crate) mod in_place_builder;
+pub(crate) mod in_place_list;
 pub(crate) mod in_place_memory;
 pub(crate) mod indexed;
 pub(crate) mod merge_state;
 pub(crate) mod merging;
 pub(crate) mod operations;
 pub(crate) mod pacing;
-pub(crate) mod place;
 pub(crate) mod runs;
 pub(crate) mod searching;
 pub(crate) mod short_runs;
@@ -20,7 +21,7 @@ pub(crate) mod slice_iterator;
 
 pub use crate::support::move_last_two;
 pub use crate::support::{InPlaceMergeState, InPlaceMergeStateRef};
-pub use compare::{Compare, Copier};
+pub use compare::{Compare, Copier, Done, Work};
 pub use in_place_builder::InPlaceBuilder;
 pub use indexed::Indexed;
 pub use merge_state::{

@@ -4,28 +4,33 @@
 use crate::generated::range_merge::merge_state::MergeState;
 use crate::generated::range_merge::singly::Place;
 
-// A read is worth its call from so many items of each list on.
+// A read is worth its call from this number of items of each list on.
 const FEW: usize = 16;
-// One that came to fewer items of each list met a long run soon: at its first look, or its second.
+// A read that took fewer items of each list met a long run soon: at its first look, or its second.
 const SOON: usize = 5;
-// So many of these in a row are no chance: among random items, too, some runs are long.
+// This number of these in a row is no chance: among random items, too, some runs are long.
 const IN_A_ROW: u32 = 3;
-// A read costs at most so many comparisons more than its runs allow, and each round leaves one.
+// A read costs at most this number of comparisons more than its runs allow, and each round leaves
+// one.
 const PAID: u32 = 6;
-// So many rounds come where runs are mostly long.
-const MANY: u32 = 512;
+// The number of rounds where runs are mostly long.
+const FOR_LONG_RUNS: u32 = 512;
+// Rounds that each took this number of items of the left list met long runs, or many equal pairs.
+const LONG: usize = 48;
 
 /// How many rounds come before the next read.
 pub(crate) struct Rounds {
     // How many reads in a row met a long run soon.
     soon: u32,
+    // How many items of the left list were unread after the last read, if there was one.
+    unread: usize,
 }
 
 impl Rounds {
     /// As few as may be.
     #[inline(always)]
     pub(crate) fn new() -> Self {
-        Rounds { soon: 0 }
+        Rounds { soon: 0, unread: 0 }
     }
 
     /// How many come next: many if runs are better taken whole.
@@ -34,8 +39,17 @@ impl Rounds {
         if self.soon < IN_A_ROW {
             PAID
         } else {
-            MANY
+            FOR_LONG_RUNS
         }
+    }
+
+    /// Whether the rounds since the last read took so much that the next ones are better than a
+    /// read, where `unread` items of the left list are left.
+    #[inline(always)]
+    pub(crate) fn were_long(&mut self, unread: usize) -> bool {
+        let took = self.unread.saturating_sub(unread);
+        self.unread = unread;
+        took / LONG >= self.count() as usize
     }
 
     /// Learns how far a read came.
@@ -46,6 +60,7 @@ impl Rounds {
         } else {
             0
         };
+        self.unread = self.unread.saturating_sub(at.i);
     }
 }
 

@@ -4,10 +4,13 @@
 
 pub(crate) mod branchless;
 pub(crate) mod by_halves;
+pub(crate) mod selecting;
 
 use crate::generated::range_merge::compare::Compare;
 use crate::generated::range_merge::searching::branchless::count_branchless;
 use crate::generated::range_merge::searching::by_halves::search_by_halves;
+use crate::generated::range_merge::searching::selecting::search_selecting;
+use crate::support::SELECTS;
 use core::mem::size_of_val;
 
 /// The index of the item that is equal to `key`, or in an `Err` the index where such an item would
@@ -33,8 +36,8 @@ use core::mem::size_of_val;
 /// ```
 #[inline(always)]
 pub(crate) fn search<K, C: Compare<K>>(items: &[K], key: &K, cmp: &mut C) -> Result<usize, usize> {
-    if !is_read_fast(items, key) {
-        return search_by_halves(items, key, cmp);
+    if !is_short(items, key, true) {
+        return search_longer(items, key, cmp, true);
     }
     let front = count_branchless(items, key, cmp);
     if front.has_equal {
@@ -63,21 +66,54 @@ pub(crate) fn search<K, C: Compare<K>>(items: &[K], key: &K, cmp: &mut C) -> Res
 /// ```
 #[inline(always)]
 pub(crate) fn count_up_to<K, C: Compare<K>>(items: &[K], key: &K, cmp: &mut C) -> usize {
-    if is_read_fast(items, key) {
+    if is_short(items, key, false) {
         return count_branchless(items, key, cmp).len;
     }
-    match search_by_halves(items, key, cmp) {
+    match search_longer(items, key, cmp, false) {
         Ok(i) => i + 1,
         Err(i) => i,
     }
 }
 
-// Whether the items are at hand where they lie: each, as `key`, is a word at most, and all of them
-// together fit into a processor's own cache. Where reading takes so long, a branch that is guessed
-// well, and reads ahead, is better than none.
+// The index of the item that is equal to `key`, or in an `Err` how many are at or below it. If it
+// doesn't have to find an equal one, it may count it among these.
+#[inline(always)]
+fn search_longer<K, C: Compare<K>>(
+    items: &[K],
+    key: &K,
+    cmp: &mut C,
+    finds: bool,
+) -> Result<usize, usize> {
+    if is_read_fast(items, key) {
+        search_selecting(items, key, cmp, finds)
+    } else {
+        search_by_halves(items, key, cmp)
+    }
+}
+
+// Whether a search steps by powers of two.
+#[inline(always)]
+fn is_short<K>(items: &[K], key: &K, finds: bool) -> bool {
+    is_word(key) && items.len() < fewest_halved(finds)
+}
+
+// From how many items on a search halves. From 2^14 on most places of steps share a few lines of a
+// processor's cache. But a search that needn't find the equal item steps as fast up to 2^16.
+#[inline(always)]
+fn fewest_halved(finds: bool) -> usize {
+    match (SELECTS, finds) {
+        (true, true) => 1 << 14,
+        (true, false) => (1 << 16) + 1,
+        (false, _) => 1 << 17,
+    }
+}
+
+// Whether the items are read fast: each, as `key`, is a word at most, and few lie outside of a
+// processor's own cache. Where reading takes long, a branch that is guessed well, and reads ahead,
+// is better than none.
 #[inline(always)]
 fn is_read_fast<K>(items: &[K], key: &K) -> bool {
-    is_word(key) && items.len() < 1 << 17
+    SELECTS && is_word(key) && items.len() < 1 << 18
 }
 
 /// Whether an item is a word at most, as numbers are. Longer items mostly point to what is

@@ -6,15 +6,15 @@ use Rattle.range_c.proofs.chunked.copy.Goals as goal
 
 pub put_all-requires : goal.put_all-requires
 put_all-requires g c = record {
-  fits = omega (arith, c.if-len-lt18446744073709551615.true, c.boundaries_len-len.ensures, ap length (ends-ranges_of c.iter.result), ap length c.iter.ensures);
+  fits = omega (arith, c.boundaries_len-len.type_inv, c.boundaries_len-len.ensures, ap length (ends-ranges_of c.iter.result), ap length c.iter.ensures);
 }
 
-pub returns-then-len-lt18446744073709551615 : goal.returns-then-len-lt18446744073709551615
-returns-then-len-lt18446744073709551615 g c =
+pub returns-then-len-out : goal.returns-then-len-out
+returns-then-len-out g c =
     let same : flat_map range_ends (ranges_of c.iter.result) ≡ c.args.set.now = ends-ranges_of c.iter.result ∙ c.iter.ensures in
-    let is : c.put_all.result ≡ c.boundaries_len-len.result = omega (arith, c.put_all.ensures.counted, ap length same, c.if-len-lt18446744073709551615.true, c.boundaries_len-len.ensures) in
+    let is : c.put_all.result ≡ c.boundaries_len-len.result = omega (arith, c.put_all.ensures.counted, ap length same, c.boundaries_len-len.ensures) in
     record {
       counted = c.boundaries_len-len.ensures;
-      written = λ small fits. c.put_all.ensures.written (omega (arith, is, fits)) ∙ ap₂ (λ xs k. xs ++ drop k c.args.out.now) same is;
+      written = λ fits. c.put_all.ensures.written (omega (arith, is, fits)) ∙ ap₂ (λ xs k. xs ++ drop k c.args.out.now) same is;
       unchanged = λ short. absurd (omega (arith, short, c.if-len-out.true));
     }

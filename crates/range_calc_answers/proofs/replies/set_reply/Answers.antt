@@ -16,8 +16,8 @@ pub returns-in_ok-not-in-Not : goal.returns-in_ok-not-in-Not
 returns-in_ok-not-in-Not c =
     let made = c.in_ok-not-in-Not in
     let negated = made.field-0 in
-    let fits = made.ensures.0.values equals_of_i64 c.requires in
-    rw c.in-Not.is (IsReplyText-line c.set_line.result (of_list Not c.args.set) (list_text negated) (negated, fits, made.ensures.0.negates, refl) c.set_line.ensures)
+    let fits = made.ensures.gives.values equals_of_i64 c.requires in
+    rw c.in-Not.is (IsReplyText-line c.set_line.result (of_list Not c.args.set) (list_text negated) (negated, fits, made.ensures.gives.negates, refl) c.set_line.ensures)
 
 pub returns-in-ToJson : goal.returns-in-ToJson
 returns-in-ToJson c = rw c.in-ToJson.is (IsReplyText-line c.array_line.result (of_list ToJson c.args.set) (array_text c.args.set) refl c.array_line.ensures)

@@ -4,16 +4,16 @@ use Rattle.range_collections.specs.Covered.{members_below}
 use Rattle.range_collections.proofs.Counted.{members_below-nil, Less-pair, members_below-step}
 use Rattle.range_collections.proofs.Previous.{IfSome-at_place, IfSome-when, IfNone-always}
 use Rattle.range_collections.proofs.Ranked.{IfNone-past}
-use Rattle.range_chunks.specs.Chunks.{flat}
+use Rattle.range_list.specs.Lists.{joined}
 use Rattle.range_chunks.proofs.Pairs.{two-more, start-at, end-at, index-after, rest-after}
 use Rattle.range_chunks.proofs.Selected.{member-in_pair, rank-in_pair, member-in_last, rank-in_last, rank-past}
 use Rattle.range_chunks.proofs.members.select.Goals as goal
 
 pub loop-start-init : goal.loop-start-init
 loop-start-init g c =
-    let all = flat c.args.chunks.now in
-    let none : length all - length c.new-unread.result ≡ 0 = omega (arith, ap length c.new-unread.ensures) in (
-      c.new-unread.ensures ∙ sym (ap (λ k. drop k all) none),
+    let all = joined c.args.list.now in
+    let none : length all - length c.items-unread.result ≡ 0 = omega (arith, ap length c.items-unread.ensures) in (
+      c.items-unread.ensures ∙ sym (ap (λ k. drop k all) none),
       omega (arith, none),
       omega (arith, ap (λ k. members_below g.T.Ord.cmp g.T.Countable.value (take k all) g.T.Countable.count) none, members_below-nil g.T.Ord.cmp g.T.Countable.value g.T.Countable.count),
     )
@@ -21,7 +21,7 @@ loop-start-init g c =
 pub between-values-requires : goal.between-values-requires
 between-values-requires g c =
     let law = g.met.T.Countable in
-    let all = flat c.args.chunks.now in
+    let all = joined c.args.list.now in
     let i = length all - length c.loop-start.unread in
     let first = sym c.loop-start.invariant.0 ∙ c.in-Some.ensures in
     let second = c.in-Some-take_first.ensures in
@@ -33,13 +33,13 @@ between-values-requires g c =
 pub returns-then-left-values-clause-member : goal.returns-then-left-values-clause-member
 returns-then-left-values-clause-member g c =
     let law = g.met.T.Countable in
-    let all = flat c.args.chunks.now in
+    let all = joined c.args.list.now in
     let i = length all - length c.loop-start.unread in
     let first = sym c.loop-start.invariant.0 ∙ c.in-Some.ensures in
     let q = c.place-then-left-values.result + c.loop-start.left in
     let at : q ≡ g.T.Countable.place c.in-Some.start.now + c.loop-start.left = omega (arith, c.place-then-left-values.ensures) in
     let low : q < g.T.Countable.place c.in-Some-take_first.end.now = omega (arith, at, c.between-values.ensures.value, c.if-left-values.true) in
-    IfSome-at_place g.T.Countable.value g.T.Countable.count q (λ at. member g.T.Ord.cmp (flat c.args.chunks.now) at ≡ true) c.from_place-then-left-values.result c.from_place-then-left-values.ensures
+    IfSome-at_place g.T.Countable.value g.T.Countable.count q (λ at. member g.T.Ord.cmp (joined c.args.list.now) at ≡ true) c.from_place-then-left-values.result c.from_place-then-left-values.ensures
     (member-in_pair g.met.T.Ord.total g.T.RangeSetEntry.is_value g.T.Countable.value g.T.Countable.place g.T.Countable.count
     law.value_is_value law.place_of_value law.place_fits law.in_order
     all c.requires i c.loop-start.invariant.1 c.in-Some.start.now c.between-values.ensures.start_is_value c.take_first.new.self first c.args.k c.loop-start.left c.loop-start.invariant.2
@@ -48,13 +48,13 @@ returns-then-left-values-clause-member g c =
 pub returns-then-left-values-clause-rank : goal.returns-then-left-values-clause-rank
 returns-then-left-values-clause-rank g c =
     let law = g.met.T.Countable in
-    let all = flat c.args.chunks.now in
+    let all = joined c.args.list.now in
     let i = length all - length c.loop-start.unread in
     let first = sym c.loop-start.invariant.0 ∙ c.in-Some.ensures in
     let q = c.place-then-left-values.result + c.loop-start.left in
     let at : q ≡ g.T.Countable.place c.in-Some.start.now + c.loop-start.left = omega (arith, c.place-then-left-values.ensures) in
     let low : q < g.T.Countable.place c.in-Some-take_first.end.now = omega (arith, at, c.between-values.ensures.value, c.if-left-values.true) in
-    IfSome-at_place g.T.Countable.value g.T.Countable.count q (λ at. members_below g.T.Ord.cmp g.T.Countable.value (flat c.args.chunks.now) (g.T.Countable.place at) ≡ c.args.k) c.from_place-then-left-values.result c.from_place-then-left-values.ensures
+    IfSome-at_place g.T.Countable.value g.T.Countable.count q (λ at. members_below g.T.Ord.cmp g.T.Countable.value (joined c.args.list.now) (g.T.Countable.place at) ≡ c.args.k) c.from_place-then-left-values.result c.from_place-then-left-values.ensures
     (rank-in_pair g.met.T.Ord.total g.T.RangeSetEntry.is_value g.T.Countable.value g.T.Countable.place g.T.Countable.count
     law.value_is_value law.place_of_value law.place_fits law.in_order
     all c.requires i c.loop-start.invariant.1 c.in-Some.start.now c.between-values.ensures.start_is_value c.take_first.new.self first c.args.k c.loop-start.left c.loop-start.invariant.2
@@ -63,12 +63,12 @@ returns-then-left-values-clause-rank g c =
 pub returns-in_default-take_first-clause-member : goal.returns-in_default-take_first-clause-member
 returns-in_default-take_first-clause-member g c =
     let law = g.met.T.Countable in
-    let all = flat c.args.chunks.now in
+    let all = joined c.args.list.now in
     let i = length all - length c.loop-start.unread in
     let first = sym c.loop-start.invariant.0 ∙ c.in-Some.ensures in
     let q = c.in_ok-checked_add.field-0 in
     let at : q ≡ g.T.Countable.place c.in-Some.start.now + c.loop-start.left = omega (arith, c.in_ok-checked_add.ensures.1, c.place.ensures) in
-    IfSome-when g.T.Countable.value g.T.Countable.count q (λ at. member g.T.Ord.cmp (flat c.args.chunks.now) at ≡ true) c.from_place.result c.from_place.ensures
+    IfSome-when g.T.Countable.value g.T.Countable.count q (λ at. member g.T.Ord.cmp (joined c.args.list.now) at ≡ true) c.from_place.result c.from_place.ensures
     (member-in_last g.met.T.Ord.total g.T.RangeSetEntry.is_value g.T.Countable.value g.T.Countable.place g.T.Countable.count
     law.value_is_value law.place_of_value law.place_fits law.in_order
     all c.requires i c.loop-start.invariant.1 c.in-Some.start.now c.known.ensures c.take_first.new.self first c.args.k c.loop-start.left c.loop-start.invariant.2
@@ -77,12 +77,12 @@ returns-in_default-take_first-clause-member g c =
 pub returns-in_default-take_first-clause-rank : goal.returns-in_default-take_first-clause-rank
 returns-in_default-take_first-clause-rank g c =
     let law = g.met.T.Countable in
-    let all = flat c.args.chunks.now in
+    let all = joined c.args.list.now in
     let i = length all - length c.loop-start.unread in
     let first = sym c.loop-start.invariant.0 ∙ c.in-Some.ensures in
     let q = c.in_ok-checked_add.field-0 in
     let at : q ≡ g.T.Countable.place c.in-Some.start.now + c.loop-start.left = omega (arith, c.in_ok-checked_add.ensures.1, c.place.ensures) in
-    IfSome-when g.T.Countable.value g.T.Countable.count q (λ at. members_below g.T.Ord.cmp g.T.Countable.value (flat c.args.chunks.now) (g.T.Countable.place at) ≡ c.args.k) c.from_place.result c.from_place.ensures
+    IfSome-when g.T.Countable.value g.T.Countable.count q (λ at. members_below g.T.Ord.cmp g.T.Countable.value (joined c.args.list.now) (g.T.Countable.place at) ≡ c.args.k) c.from_place.result c.from_place.ensures
     (rank-in_last g.met.T.Ord.total g.T.RangeSetEntry.is_value g.T.Countable.value g.T.Countable.place g.T.Countable.count
     law.value_is_value law.place_of_value law.place_fits law.in_order
     all c.requires i c.loop-start.invariant.1 c.in-Some.start.now c.known.ensures c.take_first.new.self first c.args.k c.loop-start.left c.loop-start.invariant.2
@@ -91,7 +91,7 @@ returns-in_default-take_first-clause-rank g c =
 pub returns-in_default-take_first-clause-none : goal.returns-in_default-take_first-clause-none
 returns-in_default-take_first-clause-none g c =
     let law = g.met.T.Countable in
-    let all = flat c.args.chunks.now in
+    let all = joined c.args.list.now in
     let i = length all - length c.loop-start.unread in
     let first = sym c.loop-start.invariant.0 ∙ c.in-Some.ensures in
     IfNone-past c.from_place.result c.in_ok-checked_add.field-0 g.T.Countable.count _ c.from_place.ensures
@@ -103,7 +103,7 @@ returns-in_default-take_first-clause-none g c =
 pub returns-in_err-checked_add-clause-none : goal.returns-in_err-checked_add-clause-none
 returns-in_err-checked_add-clause-none g c =
     let law = g.met.T.Countable in
-    let all = flat c.args.chunks.now in
+    let all = joined c.args.list.now in
     let i = length all - length c.loop-start.unread in
     let first = sym c.loop-start.invariant.0 ∙ c.in-Some.ensures in
     IfNone-always c.from_residual.result
@@ -115,7 +115,7 @@ returns-in_err-checked_add-clause-none g c =
 pub loop-start-preserved : goal.loop-start-preserved
 loop-start-preserved g c =
     let law = g.met.T.Countable in
-    let all = flat c.args.chunks.now in
+    let all = joined c.args.list.now in
     let i = length all - length c.loop-start.unread in
     let first = sym c.loop-start.invariant.0 ∙ c.in-Some.ensures in
     let second = c.in-Some-take_first.ensures in

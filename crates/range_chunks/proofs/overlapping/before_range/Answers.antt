@@ -1,17 +1,13 @@
 use Rattle.std.proofs.Common.{arith}
 use Rattle.range_collections.proofs.Points.{even-from_test}
 use Rattle.range_collections.proofs.Ranked.{odd-parity}
-use Rattle.range_chunks.specs.Places.{place_in}
+use Rattle.range_list.specs.Lists.{place_at}
 use Rattle.range_chunks.proofs.overlapping.before_range.Goals as goal
 
-pub place_before-requires-clause-some : goal.place_before-requires-clause-some
-place_before-requires-clause-some g c =
-    omega (arith, odd-parity c.is_inside.result (place_in c.args.chunks.now c.args.at) c.is_inside.ensures c.if-is_inside.true)
+pub returns-then-mark_at-clause-before : goal.returns-then-mark_at-clause-before
+returns-then-mark_at-clause-before g c =
+    omega (arith, c.place_before.ensures.before, odd-parity c.mark_at.result (place_at c.args.list.now c.args.at) c.mark_at.ensures c.if-mark_at.true)
 
-pub returns-then-is_inside-clause-before : goal.returns-then-is_inside-clause-before
-returns-then-is_inside-clause-before g c =
-    omega (arith, c.place_before.ensures.before, odd-parity c.is_inside.result (place_in c.args.chunks.now c.args.at) c.is_inside.ensures c.if-is_inside.true)
-
-pub returns-else-is_inside-clause-before : goal.returns-else-is_inside-clause-before
-returns-else-is_inside-clause-before g c =
-    omega (arith, even-from_test c.is_inside.result (place_in c.args.chunks.now c.args.at) c.is_inside.ensures c.if-is_inside.false)
+pub returns-else-mark_at-clause-before : goal.returns-else-mark_at-clause-before
+returns-else-mark_at-clause-before g c =
+    omega (arith, even-from_test c.mark_at.result (place_at c.args.list.now c.args.at) c.mark_at.ensures c.if-mark_at.false)

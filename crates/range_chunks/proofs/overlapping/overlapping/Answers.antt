@@ -4,24 +4,23 @@ use Rattle.std.specs.declared.cmp.Ordering.TheVariants.{Less}
 use Rattle.range_collections.specs.Ranges.{ranges_of}
 use Rattle.range_collections.proofs.Overlapping.{overlaps-nothing, overlapping-places}
 use Rattle.range_collections.proofs.Points.{counts_ordered}
-use Rattle.range_chunks.specs.Chunks.{flat}
-use Rattle.range_chunks.specs.Places.{place_in}
-use Rattle.range_chunks.proofs.InOrder.{place-within}
+use Rattle.range_list.specs.Lists.{joined, place_at}
+use Rattle.range_list.proofs.Placed.{place_at-within}
 use Rattle.range_chunks.proofs.overlapping.overlapping.Goals as goal
 
 pub returns-then-not-is_lt : goal.returns-then-not-is_lt
 returns-then-not-is_lt g c =
     let off : is_lt (g.T.Ord.cmp c.args.start.now c.args.end.now) ≡ false = search rules in
-    ap ranges_of c.nothing-then-not-is_lt.ensures
-    ∙ sym (overlaps-nothing g.T.Ord.cmp g.met.T.Ord.total c.args.start.now c.args.end.now off (ranges_of (flat c.args.chunks.now)))
+    ap ranges_of c.nothing.ensures
+    ∙ sym (overlaps-nothing g.T.Ord.cmp g.met.T.Ord.total c.args.start.now c.args.end.now off (ranges_of (joined c.args.list.now)))
 
 pub between-requires-clause-ordered : goal.between-requires-clause-ordered
 between-requires-clause-ordered g c =
     let less : g.T.Ord.cmp c.args.start.now c.args.end.now ≡ Less = search rules in
-    let n = place_in c.args.chunks.now c.place_up_to-from.result in
-    let m = place_in c.args.chunks.now c.place_below-to.result in
+    let n = place_at c.args.list.now c.place_up_to-from.result in
+    let m = place_at c.args.list.now c.place_below-to.result in
     let ordered : n ≤ m =
-    counts_ordered g.met.T.Ord.total c.args.start.now c.args.end.now (flat c.args.chunks.now) n m c.requires.sorted less
+    counts_ordered g.met.T.Ord.total c.args.start.now c.args.end.now (joined c.args.list.now) n m c.requires.sorted less
     c.place_up_to-from.ensures.within c.place_up_to-from.ensures.before c.place_up_to-from.ensures.from
     c.place_below-to.ensures.within c.place_below-to.ensures.before c.place_below-to.ensures.from in
     omega (arith, ordered, c.before_range.ensures.before, c.behind_range.ensures.at_least)
@@ -29,16 +28,16 @@ between-requires-clause-ordered g c =
 pub returns : goal.returns
 returns g c =
     let less : g.T.Ord.cmp c.args.start.now c.args.end.now ≡ Less = search rules in
-    let n = place_in c.args.chunks.now c.place_up_to-from.result in
-    let m = place_in c.args.chunks.now c.place_below-to.result in
+    let n = place_at c.args.list.now c.place_up_to-from.result in
+    let m = place_at c.args.list.now c.place_below-to.result in
     let ordered : n ≤ m =
-    counts_ordered g.met.T.Ord.total c.args.start.now c.args.end.now (flat c.args.chunks.now) n m c.requires.sorted less
+    counts_ordered g.met.T.Ord.total c.args.start.now c.args.end.now (joined c.args.list.now) n m c.requires.sorted less
     c.place_up_to-from.ensures.within c.place_up_to-from.ensures.before c.place_up_to-from.ensures.from
     c.place_below-to.ensures.within c.place_below-to.ensures.before c.place_below-to.ensures.from in
     ap ranges_of c.between.ensures
-    ∙ overlapping-places g.T.Ord.cmp g.met.T.Ord.total c.args.start.now c.args.end.now (ap is_lt less) (flat c.args.chunks.now) n m
-    (place_in c.args.chunks.now c.before_range.result) (place_in c.args.chunks.now c.behind_range.result)
+    ∙ overlapping-places g.T.Ord.cmp g.met.T.Ord.total c.args.start.now c.args.end.now (ap is_lt less) (joined c.args.list.now) n m
+    (place_at c.args.list.now c.before_range.result) (place_at c.args.list.now c.behind_range.result)
     ordered c.place_up_to-from.ensures.within c.place_below-to.ensures.within
     c.place_up_to-from.ensures.before c.place_up_to-from.ensures.from c.place_below-to.ensures.before c.place_below-to.ensures.from
-    c.before_range.ensures.before c.behind_range.ensures.at_least (place-within c.args.chunks.now c.behind_range.result c.behind_range.ensures.place)
+    c.before_range.ensures.before c.behind_range.ensures.at_least (place_at-within c.args.list.now c.behind_range.result c.behind_range.ensures.place)
     c.behind_range.ensures.at_most c.behind_range.ensures.even

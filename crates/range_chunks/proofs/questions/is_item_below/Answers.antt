@@ -1,9 +1,16 @@
-use Rattle.range_chunks.specs.Chunks.{flat}
-use Rattle.range_chunks.specs.Places.{place_in}
-use Rattle.range_chunks.proofs.InOrder.{IsTrue-item_below}
+use Rattle.std.proofs.Common.{arith}
+use Rattle.range_list.specs.Lists.{joined, place_at}
+use Rattle.range_chunks.proofs.Searched.{IsTrue-item_below, item-read}
 use Rattle.range_chunks.proofs.questions.is_item_below.Goals as goal
 
-pub returns-in-Some : goal.returns-in-Some
-returns-in-Some g c =
-    IsTrue-item_below g.T.Ord.cmp (flat c.args.chunks.now) (place_in c.args.chunks.now c.args.at) c.in-Some.next.now c.args.end.now c.is_lt.result c.cmp.result
-    c.is_lt.ensures c.cmp.ensures c.in-Some.ensures
+pub returns-in-Some-clause-below : goal.returns-in-Some-clause-below
+returns-in-Some-clause-below g c =
+    let there = item-read (joined c.args.list.now) (place_at c.args.list.now c.args.at) c.item_at.result c.item_at.ensures in
+    IsTrue-item_below g.T.Ord.cmp (joined c.args.list.now) (place_at c.args.list.now c.args.at) c.in-Some.next.now c.args.end.now c.is_lt.result c.compare.result
+    c.is_lt.ensures c.compare.ensures.answer (rw c.in-Some.is at there)
+
+pub returns-in-None-clause-below : goal.returns-in-None-clause-below
+returns-in-None-clause-below g c =
+    let past = item-read (joined c.args.list.now) (place_at c.args.list.now c.args.at) c.item_at.result c.item_at.ensures in
+    let end = rw c.in-None.is at past in
+    (λ t. absurd (cc), λ below. absurd (omega (arith, end, below.0)))

@@ -1,16 +1,24 @@
-use Rattle.std.proofs.Common.{◌≡◌, ◌≤◌, [], length, take, drop}
+use Rattle.std.proofs.Common.{◌≡◌, ◌≤◌, ◌<◌, ◌-◌, true, false, [], length, take, drop}
+use Rattle.range_list.specs.Lists.{joined, place_at, IsPlaceAt}
 use Rattle.range_map.specs.Combining.{IsMadeUpTo}
+use Rattle.range_map.specs.Listed.{steps_of, steps_in}
 use Rattle.range_map.specs.Updated.{kept}
 use Rattle.range_map.proofs.retaining.retain_values.Given as goal
 
-abbrev pub invariant-loop-i : goal.invariant-loop-i
-invariant-loop-i g l = record {
-  ordered : l.len ≤ l.i;
-  keys_len : length l.keys.items ≡ length l.fn.keys.items;
-  options_len : length l.options.items ≡ length l.fn.options.items;
-  later_keys : drop l.i l.keys.items ≡ drop l.i l.fn.keys.items;
-  later_options : drop l.i l.options.items ≡ drop l.i l.fn.options.items;
+abbrev pub invariant-loop-more : goal.invariant-loop-more
+invariant-loop-more g l = record {
+  at_place : IsPlaceAt l.steps l.at;
+  end_place : IsPlaceAt l.steps l.end;
+  ordered : place_at l.steps l.end ≤ place_at l.steps l.at;
+  len : length (joined l.steps) ≡ length (joined l.fn.steps);
+  within : place_at l.steps l.at ≤ length (joined l.steps);
+  item : l.more ≡ true → place_at l.steps l.at < length (joined l.steps);
+  past : l.more ≡ false → length (joined l.steps) ≤ place_at l.steps l.at;
+  later : drop (place_at l.steps l.at) (joined l.steps) ≡ drop (place_at l.steps l.at) (joined l.fn.steps);
   made : IsMadeUpTo g.K.Ord.cmp {W = Unit {0}} g.V.PartialEq.eq (λ p q. kept (g.F.MapFilter.is_kept l.filter) p)
-      (record { keys = l.fn.keys.items; options = l.fn.options.items }) (record { keys = []; options = [] }) l.i 0
-      (record { keys = take l.len l.keys.items; options = take l.len l.options.items });
+      (steps_in l.fn.steps) (record { keys = []; options = [] }) (place_at l.steps l.at) 0
+      (steps_of (take (place_at l.steps l.end) (joined l.steps)));
 }
+
+abbrev pub decreases-loop-more : goal.decreases-loop-more
+decreases-loop-more g l = length (joined l.steps) - place_at l.steps l.at

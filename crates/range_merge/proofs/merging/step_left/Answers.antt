@@ -4,7 +4,7 @@ use Rattle.range_merge.proofs.PartsOfMerge.{Part-none, Part-on, Part-stopped}
 use Rattle.std.proofs.Common.{sym, refl, ◌∙◌}
 use Rattle.std.proofs.lemmas.Bool.{false≢true}
 use Rattle.std.specs.declared.cmp.Ordering.TheVariants.{Less}
-use Rattle.range_merge.proofs.Rounds.{Leaves-none, Leaves-one, front-leaves}
+use Rattle.range_merge.proofs.Rounds.{Leaves-none, Leaves-one, first_run-leaves}
 use Rattle.range_merge.proofs.merging.step_left.Goals as goal
 
 pub returns-then-not-stand-clause-part : goal.returns-then-not-stand-clause-part
@@ -15,14 +15,14 @@ pub returns-then-not-branch-clause-part : goal.returns-then-not-branch-clause-pa
 returns-then-not-branch-clause-part g c =
     let takes_is = rw c.bc.ensures at c.takes_a-take.ensures in
     let ran = rw (c.in_ok-advance_left.was, c.if-not-branch.true) at c.advance_left.ensures in
-    rw (c.stand.ensures.0 c.if-not-stand.false) (Part-stopped g.met.C.Compare.total (Left c.left_front-front.result.len) takes_is c.left_front-front.ensures ran)
+    rw (c.stand.ensures.0 c.if-not-stand.false) (Part-stopped g.met.C.Compare.total (Left c.left_run-run.result.len) takes_is c.left_run-run.ensures ran)
 
 pub returns-clause-part : goal.returns-clause-part
 returns-clause-part g c =
     let takes_is = rw c.bc.ensures at c.takes_a-take.ensures in
     let ran = rw (c.in_ok-advance_left.was, c.if-not-branch.false) at c.advance_left.ensures in
     rw (c.stand.ensures.0 c.if-not-stand.false)
-    (Part-on g.met.C.Compare.total (Left c.left_front-front.result.len) takes_is c.left_front-front.ensures c.requires.left_ascending c.requires.right_ascending ran)
+    (Part-on g.met.C.Compare.total (Left c.left_run-run.result.len) takes_is c.left_run-run.ensures c.requires.left_ascending c.requires.right_ascending ran)
 
 pub returns-then-not-stand-clause-leaves : goal.returns-then-not-stand-clause-leaves
 returns-then-not-stand-clause-leaves g c =
@@ -32,4 +32,4 @@ pub returns-clause-leaves : goal.returns-clause-leaves
 returns-clause-leaves g c =
     let ran = rw (c.in_ok-advance_left.was, c.if-not-branch.false) at c.advance_left.ensures in
     rw (c.stand.ensures.0 c.if-not-stand.false)
-    (Leaves-one Less _ _ _ _ _ (front-leaves (Left c.left_front-front.result.len) c.left_front-front.ensures (sym ran.goes_on) (ran.lefts refl) (ran.rights refl)))
+    (Leaves-one Less _ _ _ _ _ (first_run-leaves (Left c.left_run-run.result.len) c.left_run-run.ensures (sym ran.goes_on) (ran.lefts refl) (ran.rights refl)))

@@ -7,8 +7,8 @@ use crate::generated::range_chunks::{ChunkedRangeSet, ChunkedSpace};
 use crate::generated::range_collections::{Countable, FromPlace};
 use core::ops::Range;
 
-// Tells the least number whose place is a multiple of `align` and from which on `count` numbers lie
-// in the range and none is a member, where there is one. The set remembers what it learns of its
+// Writes the least multiple of `align` from which `count` numbers lie in the range and none is a
+// member, if there is one. The set remembers what it learns of its
 // gaps.
 pub(crate) fn first_fit_aligned<T: FromPlace>(
     set: &mut ChunkedSpace<T>,

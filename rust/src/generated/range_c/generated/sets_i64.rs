@@ -16,542 +16,438 @@ use crate::generated::range_c::reading::{check, read};
 use crate::generated::range_c::text::print;
 use crate::generated::range_c::unsorted::from_unsorted;
 use crate::generated::range_collections::{DiffOp, RangeSetRef, XorOp};
+use crate::support::{items_at, room_at};
 
 /// Whether the list is strictly sorted.
-///
-/// # Contract
-///
-/// ```text
-/// ensures IsTrue result ↔ IsAscending int_cmp a.now
-/// ```
-pub fn proved_is_sorted(a: &[i64]) -> bool {
+#[no_mangle]
+pub unsafe extern "C" fn plain_range_set_i64_is_sorted(a: *const i64, a_len: usize) -> bool {
+    let a = unsafe { items_at(a, a_len) };
     RangeSetRef::new(a).is_some()
 }
 
 /// Whether the number is a member.
-///
-/// # Contract
-///
-/// ```text
-/// requires IsAscending int_cmp a.now
-/// ensures result ≡ member int_cmp a.now value
-/// ```
-pub(crate) fn proved_contains(a: &[i64], value: i64) -> bool {
+#[no_mangle]
+pub unsafe extern "C" fn plain_range_set_i64_contains(
+    a: *const i64,
+    a_len: usize,
+    value: i64,
+) -> bool {
+    let a = unsafe { items_at(a, a_len) };
     RangeSetRef::new_unchecked(a).contains(&value)
 }
 
 /// Whether each number from `start` on, up to below `end`, is a member.
-///
-/// # Contract
-///
-/// ```text
-/// requires IsAscending int_cmp a.now
-/// ensures IsTrue result ↔ HasAllWithin int_cmp a.now start end
-/// ```
-pub(crate) fn proved_contains_range(a: &[i64], start: i64, end: i64) -> bool {
+#[no_mangle]
+pub unsafe extern "C" fn plain_range_set_i64_contains_range(
+    a: *const i64,
+    a_len: usize,
+    start: i64,
+    end: i64,
+) -> bool {
+    let a = unsafe { items_at(a, a_len) };
     RangeSetRef::new_unchecked(a).contains_range(start..end)
 }
 
 /// Whether some number from `start` on, up to below `end`, is a member.
-///
-/// # Contract
-///
-/// ```text
-/// requires IsAscending int_cmp a.now
-/// ensures IsTrue result ↔ HasMemberWithin int_cmp a.now start end
-/// ```
-pub(crate) fn proved_intersects_range(a: &[i64], start: i64, end: i64) -> bool {
+#[no_mangle]
+pub unsafe extern "C" fn plain_range_set_i64_intersects_range(
+    a: *const i64,
+    a_len: usize,
+    start: i64,
+    end: i64,
+) -> bool {
+    let a = unsafe { items_at(a, a_len) };
     RangeSetRef::new_unchecked(a).intersects_range(start..end)
 }
 
 /// Whether no number is a member.
-///
-/// # Contract
-///
-/// ```text
-/// requires IsAscending int_cmp a.now
-/// ensures IsTrue result ↔ ((x : ℤ) → member int_cmp a.now x ≡ false)
-/// ```
-pub(crate) fn proved_is_empty(a: &[i64]) -> bool {
+#[no_mangle]
+pub unsafe extern "C" fn plain_range_set_i64_is_empty(a: *const i64, a_len: usize) -> bool {
+    let a = unsafe { items_at(a, a_len) };
     RangeSetRef::new_unchecked(a).is_empty()
 }
 
 /// Whether each number of the type is a member.
-///
-/// # Contract
-///
-/// ```text
-/// requires IsAscending int_cmp a.now
-/// ensures IsTrue result ↔ IsEverything int_cmp (λ x. FitsSigned w64 x) a.now
-/// ```
-pub(crate) fn proved_is_all(a: &[i64]) -> bool {
+#[no_mangle]
+pub unsafe extern "C" fn plain_range_set_i64_is_all(a: *const i64, a_len: usize) -> bool {
+    let a = unsafe { items_at(a, a_len) };
     RangeSetRef::new_unchecked(a).is_all()
 }
 
 /// Whether no number is a member of both.
-///
-/// # Contract
-///
-/// ```text
-/// requires AreAscending int_cmp a.now b.now
-/// ensures IsTrue result ↔ IsDisjoint int_cmp a.now b.now
-/// ```
-pub(crate) fn proved_is_disjoint(a: &[i64], b: &[i64]) -> bool {
+#[no_mangle]
+pub unsafe extern "C" fn plain_range_set_i64_is_disjoint(
+    a: *const i64,
+    a_len: usize,
+    b: *const i64,
+    b_len: usize,
+) -> bool {
+    let a = unsafe { items_at(a, a_len) };
+    let b = unsafe { items_at(b, b_len) };
     RangeSetRef::new_unchecked(a).is_disjoint(RangeSetRef::new_unchecked(b))
 }
 
 /// Whether some number is a member of both.
-///
-/// # Contract
-///
-/// ```text
-/// requires AreAscending int_cmp a.now b.now
-/// ensures IsTrue result ↔ Intersects int_cmp a.now b.now
-/// ```
-pub(crate) fn proved_intersects(a: &[i64], b: &[i64]) -> bool {
+#[no_mangle]
+pub unsafe extern "C" fn plain_range_set_i64_intersects(
+    a: *const i64,
+    a_len: usize,
+    b: *const i64,
+    b_len: usize,
+) -> bool {
+    let a = unsafe { items_at(a, a_len) };
+    let b = unsafe { items_at(b, b_len) };
     RangeSetRef::new_unchecked(a).intersects(RangeSetRef::new_unchecked(b))
 }
 
 /// Whether every member of the left is one of the right.
-///
-/// # Contract
-///
-/// ```text
-/// requires AreAscending int_cmp a.now b.now
-/// ensures IsTrue result ↔ IsSubset int_cmp a.now b.now
-/// ```
-pub(crate) fn proved_is_subset(a: &[i64], b: &[i64]) -> bool {
+#[no_mangle]
+pub unsafe extern "C" fn plain_range_set_i64_is_subset(
+    a: *const i64,
+    a_len: usize,
+    b: *const i64,
+    b_len: usize,
+) -> bool {
+    let a = unsafe { items_at(a, a_len) };
+    let b = unsafe { items_at(b, b_len) };
     RangeSetRef::new_unchecked(a).is_subset(RangeSetRef::new_unchecked(b))
 }
 
 /// Whether both have the same members.
-///
-/// # Contract
-///
-/// ```text
-/// requires AreAscending int_cmp a.now b.now
-/// ensures IsTrue result ↔ IsSameSet int_cmp a.now b.now
-/// ```
-pub(crate) fn proved_equal(a: &[i64], b: &[i64]) -> bool {
+#[no_mangle]
+pub unsafe extern "C" fn plain_range_set_i64_equal(
+    a: *const i64,
+    a_len: usize,
+    b: *const i64,
+    b_len: usize,
+) -> bool {
+    let a = unsafe { items_at(a, a_len) };
+    let b = unsafe { items_at(b, b_len) };
     RangeSetRef::new_unchecked(a) == RangeSetRef::new_unchecked(b)
 }
 
 /// Writes what the connective makes of both sets, and answers how many boundaries that is. It has to be off where neither side is on.
-///
-/// # Contract
-///
-/// ```text
-/// requires sorted: AreAscending int_cmp a.now b.now
-/// requires off: connective < 8
-/// requires fits: length a.now + length b.now < 2 ^ 64
-/// ensures AnswersList int_cmp (connective_of connective) a.now b.now out.old out.new result
-/// ```
-pub(crate) fn proved_combine(a: &[i64], b: &[i64], connective: u32, out: &mut [i64]) -> usize {
+#[no_mangle]
+pub unsafe extern "C" fn plain_range_set_i64_combine(
+    a: *const i64,
+    a_len: usize,
+    b: *const i64,
+    b_len: usize,
+    connective: u32,
+    out: *mut i64,
+    out_len: usize,
+) -> usize {
+    let a = unsafe { items_at(a, a_len) };
+    let b = unsafe { items_at(b, b_len) };
+    let out = unsafe { room_at(out, out_len) };
     combine(a, b, connective, out)
 }
 
 /// Writes what the connective makes of both sets among all numbers of the type, and answers how many boundaries that is. It may be on where neither side is.
-///
-/// # Contract
-///
-/// ```text
-/// requires sorted: AreAscending int_cmp a.now b.now
-/// requires fits: length a.now + length b.now + 1 < 2 ^ 64
-/// ensures AnswersFrom int_cmp (negsuc (2 ^ 63 - 1)) (connective_of connective) a.now b.now
-///     out.old out.new result
-/// ```
-pub(crate) fn proved_combine_from(a: &[i64], b: &[i64], connective: u32, out: &mut [i64]) -> usize {
+#[no_mangle]
+pub unsafe extern "C" fn plain_range_set_i64_combine_from(
+    a: *const i64,
+    a_len: usize,
+    b: *const i64,
+    b_len: usize,
+    connective: u32,
+    out: *mut i64,
+    out_len: usize,
+) -> usize {
+    let a = unsafe { items_at(a, a_len) };
+    let b = unsafe { items_at(b, b_len) };
+    let out = unsafe { room_at(out, out_len) };
     combine_from(a, b, i64::MIN, connective, out)
 }
 
 /// Writes the set of the other numbers: all from the least `i64` on that aren't members.
-///
-/// # Contract
-///
-/// ```text
-/// requires sorted: IsAscending int_cmp a.now
-/// requires fits: length a.now + 1 < 2 ^ 64
-/// ensures AnswersList int_cmp symmetric_difference_table a.now (negsuc (2 ^ 63 - 1) ∷ [])
-///     out.old out.new result
-/// ```
-pub(crate) fn proved_negation(a: &[i64], out: &mut [i64]) -> usize {
+#[no_mangle]
+pub unsafe extern "C" fn plain_range_set_i64_negation(
+    a: *const i64,
+    a_len: usize,
+    out: *mut i64,
+    out_len: usize,
+) -> usize {
+    let a = unsafe { items_at(a, a_len) };
+    let out = unsafe { room_at(out, out_len) };
     merge(a, &[i64::MIN], &XorOp, out)
 }
 
 /// Puts the numbers from `start` to below `end` into the set of the first `len` boundaries, and answers how many it has then. Where the buffer has no room for them it is as it was.
-///
-/// # Contract
-///
-/// ```text
-/// requires within: len ≤ length buffer.old
-/// requires fits: len + 2 < 2 ^ 64
-/// requires sorted: IsAscending int_cmp (take len buffer.old)
-/// ensures ChangesList int_cmp union_table (take len buffer.old) (range_items int_cmp start
-///     end) buffer.old buffer.new result
-/// ```
-pub(crate) fn proved_insert(buffer: &mut [i64], len: usize, start: i64, end: i64) -> usize {
+#[no_mangle]
+pub unsafe extern "C" fn plain_range_set_i64_insert(
+    buffer: *mut i64,
+    buffer_len: usize,
+    len: usize,
+    start: i64,
+    end: i64,
+) -> usize {
+    let buffer = unsafe { room_at(buffer, buffer_len) };
     insert(buffer, len, start, end)
 }
 
 /// Takes the numbers from `start` to below `end` out of the set of the first `len` boundaries, and answers how many it has then. Where the buffer has no room for them it is as it was.
-///
-/// # Contract
-///
-/// ```text
-/// requires within: len ≤ length buffer.old
-/// requires fits: len + 2 < 2 ^ 64
-/// requires sorted: IsAscending int_cmp (take len buffer.old)
-/// ensures ChangesList int_cmp difference_table (take len buffer.old) (range_items int_cmp
-///     start end) buffer.old buffer.new result
-/// ```
-pub(crate) fn proved_remove(buffer: &mut [i64], len: usize, start: i64, end: i64) -> usize {
+#[no_mangle]
+pub unsafe extern "C" fn plain_range_set_i64_remove(
+    buffer: *mut i64,
+    buffer_len: usize,
+    len: usize,
+    start: i64,
+    end: i64,
+) -> usize {
+    let buffer = unsafe { room_at(buffer, buffer_len) };
     remove(buffer, len, start, end)
 }
 
 /// Leaves in the buffer what the connective makes of the set of its first `len` boundaries and another, and answers how many boundaries that is; where there is no room for that set and the result, the room that both take, and the buffer is as it was. The connective has to be off where neither side is on.
-///
-/// # Contract
-///
-/// ```text
-/// requires within: len ≤ length buffer.old
-/// requires off: connective < 8
-/// requires sorted: AreAscending int_cmp (take len buffer.old) other.now
-/// requires fits: len + len + length other.now < 2 ^ 64
-/// ensures ChangesWithin int_cmp (connective_of connective) (take len buffer.old) other.now
-///     buffer.old buffer.new result
-/// ```
-pub(crate) fn proved_combine_within(
-    buffer: &mut [i64],
+#[no_mangle]
+pub unsafe extern "C" fn plain_range_set_i64_combine_within(
+    buffer: *mut i64,
+    buffer_len: usize,
     len: usize,
-    other: &[i64],
+    other: *const i64,
+    other_len: usize,
     connective: u32,
 ) -> usize {
+    let buffer = unsafe { room_at(buffer, buffer_len) };
+    let other = unsafe { items_at(other, other_len) };
     combine_within(buffer, len, other, connective)
 }
 
 /// Writes the numbers from `start` to below `end` that aren't members.
-///
-/// # Contract
-///
-/// ```text
-/// requires sorted: IsAscending int_cmp a.now
-/// requires fits: length a.now + 2 < 2 ^ 64
-/// ensures AnswersList int_cmp difference_table (range_items int_cmp start end) a.now out.old
-///     out.new result
-/// ```
-pub(crate) fn proved_gaps(a: &[i64], start: i64, end: i64, out: &mut [i64]) -> usize {
+#[no_mangle]
+pub unsafe extern "C" fn plain_range_set_i64_gaps(
+    a: *const i64,
+    a_len: usize,
+    start: i64,
+    end: i64,
+    out: *mut i64,
+    out_len: usize,
+) -> usize {
+    let a = unsafe { items_at(a, a_len) };
+    let out = unsafe { room_at(out, out_len) };
     merge(range_of(&[start, end]), a, &DiffOp, out)
 }
 
 /// Writes how many boundaries the part below `at` has, and where the part from it on begins.
-///
-/// # Contract
-///
-/// ```text
-/// requires IsAscending int_cmp a.now
-/// ensures left: take left_len.new a.now ≡ split_left int_cmp a.now at
-/// ensures right: drop right_start.new a.now ≡ split_right int_cmp a.now at
-/// ensures left_within: left_len.new ≡ length (split_left int_cmp a.now at)
-/// ensures right_within: right_start.new + length (split_right int_cmp a.now at) ≡ length a.now
-/// ```
-pub(crate) fn proved_split(a: &[i64], at: i64, left_len: &mut usize, right_start: &mut usize) {
+#[no_mangle]
+pub unsafe extern "C" fn plain_range_set_i64_split(
+    a: *const i64,
+    a_len: usize,
+    at: i64,
+    left_len: &mut usize,
+    right_start: &mut usize,
+) {
+    let a = unsafe { items_at(a, a_len) };
     split(a, at, left_len, right_start)
 }
 
 /// Whether the number is a member, and then writes the range that holds it: its start, whether it has an end, and that.
-///
-/// # Contract
-///
-/// ```text
-/// requires IsAscending int_cmp a.now
-/// ensures member: result ≡ member int_cmp a.now value
-/// ensures of_set: IsTrue result → Contains (ranges_of a.now) (range_told start.new end.new
-///     has_end.new)
-/// ensures holds: IsTrue result → IsInRange int_cmp (range_told start.new end.new has_end.new)
-///     value
-/// ensures none: result ≡ false → (start.new ≡ start.old) × (end.new ≡ end.old) × (has_end.new
-///     ≡ has_end.old)
-/// ensures no_end: has_end.new ≡ false → end.new ≡ end.old
-/// ```
-pub(crate) fn proved_range_at(
-    a: &[i64],
+#[no_mangle]
+pub unsafe extern "C" fn plain_range_set_i64_range_at(
+    a: *const i64,
+    a_len: usize,
     value: i64,
     start: &mut i64,
     end: &mut i64,
     has_end: &mut bool,
 ) -> bool {
+    let a = unsafe { items_at(a, a_len) };
     range_at(a, &value, start, end, has_end)
 }
 
 /// Tells the range that holds the number, or else the next one above it, if there is one.
-///
-/// # Contract
-///
-/// ```text
-/// requires IsAscending int_cmp a.now
-/// ensures of_set: IsTrue result → Contains (ranges_of a.now) (range_told start.new end.new
-///     has_end.new)
-/// ensures first: IsTrue result → (x : ℤ) → is_le (int_cmp value x) ≡ true → is_lt (int_cmp x
-///     start.new) ≡ true → member int_cmp a.now x ≡ false
-/// ensures ends_above: IsTrue result → has_end.new ≡ true → is_lt (int_cmp value end.new) ≡
-///     true
-/// ensures none: result ≡ false → (x : ℤ) → is_le (int_cmp value x) ≡ true → member int_cmp
-///     a.now x ≡ false
-/// ensures unchanged: result ≡ false → (start.new ≡ start.old) × (end.new ≡ end.old) ×
-///     (has_end.new ≡ has_end.old)
-/// ensures no_end: has_end.new ≡ false → end.new ≡ end.old
-/// ```
-pub(crate) fn proved_range_from(
-    a: &[i64],
+#[no_mangle]
+pub unsafe extern "C" fn plain_range_set_i64_range_from(
+    a: *const i64,
+    a_len: usize,
     value: i64,
     start: &mut i64,
     end: &mut i64,
     has_end: &mut bool,
 ) -> bool {
+    let a = unsafe { items_at(a, a_len) };
     range_from(a, &value, start, end, has_end)
 }
 
 /// Tells the least member at or above `from`, if there is one.
-///
-/// # Contract
-///
-/// ```text
-/// requires IsAscending int_cmp a.now
-/// ensures next: IsTrue result → IsNext int_cmp true a.now from next.new
-/// ensures none: result ≡ false → (x : ℤ) → is_le (int_cmp from x) ≡ true → member int_cmp
-///     a.now x ≡ false
-/// ensures unchanged: result ≡ false → next.new ≡ next.old
-/// ```
-pub(crate) fn proved_next_member(a: &[i64], from: i64, next: &mut i64) -> bool {
+#[no_mangle]
+pub unsafe extern "C" fn plain_range_set_i64_next_member(
+    a: *const i64,
+    a_len: usize,
+    from: i64,
+    next: &mut i64,
+) -> bool {
+    let a = unsafe { items_at(a, a_len) };
     next_member(a, &from, next)
 }
 
 /// Tells the least number at or above `from` that isn't a member, if there is one.
-///
-/// # Contract
-///
-/// ```text
-/// requires IsAscending int_cmp a.now
-/// ensures next: IsTrue result → IsNext int_cmp false a.now from next.new
-/// ensures none: result ≡ false → (x : ℤ) → is_le (int_cmp from x) ≡ true → member int_cmp
-///     a.now x ≡ true
-/// ensures unchanged: result ≡ false → next.new ≡ next.old
-/// ```
-pub(crate) fn proved_next_gap(a: &[i64], from: i64, next: &mut i64) -> bool {
+#[no_mangle]
+pub unsafe extern "C" fn plain_range_set_i64_next_gap(
+    a: *const i64,
+    a_len: usize,
+    from: i64,
+    next: &mut i64,
+) -> bool {
+    let a = unsafe { items_at(a, a_len) };
     next_gap(a, &from, next)
 }
 
 /// Tells the greatest member at or below `from`, if there is one.
-///
-/// # Contract
-///
-/// ```text
-/// requires IsAscending int_cmp a.now
-/// ensures previous: IsTrue result → IsPrevious int_cmp (λ x. FitsSigned w64 x) true a.now from
-///     previous.new
-/// ensures none: result ≡ false → (x : ℤ) → FitsSigned w64 x → is_le (int_cmp x from) ≡ true →
-///     member int_cmp a.now x ≡ false
-/// ensures unchanged: result ≡ false → previous.new ≡ previous.old
-/// ```
-pub(crate) fn proved_prev_member(a: &[i64], from: i64, previous: &mut i64) -> bool {
+#[no_mangle]
+pub unsafe extern "C" fn plain_range_set_i64_prev_member(
+    a: *const i64,
+    a_len: usize,
+    from: i64,
+    previous: &mut i64,
+) -> bool {
+    let a = unsafe { items_at(a, a_len) };
     prev_member(a, &from, previous)
 }
 
 /// Tells the greatest number at or below `from` that isn't a member, if there is one.
-///
-/// # Contract
-///
-/// ```text
-/// requires IsAscending int_cmp a.now
-/// ensures previous: IsTrue result → IsPrevious int_cmp (λ x. FitsSigned w64 x) false a.now
-///     from previous.new
-/// ensures none: result ≡ false → (x : ℤ) → FitsSigned w64 x → is_le (int_cmp x from) ≡ true →
-///     member int_cmp a.now x ≡ true
-/// ensures unchanged: result ≡ false → previous.new ≡ previous.old
-/// ```
-pub(crate) fn proved_prev_gap(a: &[i64], from: i64, previous: &mut i64) -> bool {
+#[no_mangle]
+pub unsafe extern "C" fn plain_range_set_i64_prev_gap(
+    a: *const i64,
+    a_len: usize,
+    from: i64,
+    previous: &mut i64,
+) -> bool {
+    let a = unsafe { items_at(a, a_len) };
     prev_gap(a, &from, previous)
 }
 
 /// Tells the member with `k` others below it, if there is one.
-///
-/// # Contract
-///
-/// ```text
-/// requires IsAscending int_cmp a.now
-/// ensures member: IsTrue result → member int_cmp a.now at.new ≡ true
-/// ensures rank: IsTrue result → members_below int_cmp (signed_value (2 ^ 63)) a.now
-///     (signed_place (2 ^ 63) at.new) ≡ k
-/// ensures none: result ≡ false → members_below int_cmp (signed_value (2 ^ 63)) a.now (2 ^ 64)
-///     ≤ k
-/// ensures unchanged: result ≡ false → at.new ≡ at.old
-/// ```
-pub(crate) fn proved_select(a: &[i64], k: u64, at: &mut i64) -> bool {
+#[no_mangle]
+pub unsafe extern "C" fn plain_range_set_i64_select(
+    a: *const i64,
+    a_len: usize,
+    k: u64,
+    at: &mut i64,
+) -> bool {
+    let a = unsafe { items_at(a, a_len) };
     select(a, k, at)
 }
 
 /// How many members are below `at`.
-///
-/// # Contract
-///
-/// ```text
-/// requires IsAscending int_cmp a.now
-/// ensures result ≡ members_below int_cmp (signed_value (2 ^ 63)) a.now (signed_place (2 ^ 63)
-///     at)
-/// ```
-pub(crate) fn proved_rank(a: &[i64], at: i64) -> u64 {
+#[no_mangle]
+pub unsafe extern "C" fn plain_range_set_i64_rank(a: *const i64, a_len: usize, at: i64) -> u64 {
+    let a = unsafe { items_at(a, a_len) };
     rank(a, &at)
 }
 
 /// How many ranges the set has.
-///
-/// # Contract
-///
-/// ```text
-/// requires IsAscending int_cmp a.now
-/// ensures result ≡ length (ranges_of a.now)
-/// ```
-pub(crate) fn proved_ranges_len(a: &[i64]) -> usize {
+#[no_mangle]
+pub unsafe extern "C" fn plain_range_set_i64_ranges_len(a: *const i64, a_len: usize) -> usize {
+    let a = unsafe { items_at(a, a_len) };
     RangeSetRef::new_unchecked(a).ranges_len()
 }
 
 /// Whether there is a range with so many before it, and then writes it: its start, whether it has an end, and that.
-///
-/// # Contract
-///
-/// ```text
-/// requires IsAscending int_cmp a.now
-/// ensures TellsRange (slice_get (ranges_of a.now) index) start.old end.old has_end.old
-///     start.new end.new has_end.new result
-/// ```
-pub(crate) fn proved_range(
-    a: &[i64],
+#[no_mangle]
+pub unsafe extern "C" fn plain_range_set_i64_range(
+    a: *const i64,
+    a_len: usize,
     index: usize,
     start: &mut i64,
     end: &mut i64,
     has_end: &mut bool,
 ) -> bool {
+    let a = unsafe { items_at(a, a_len) };
     range(a, index, start, end, has_end)
 }
 
 /// Whether there is a first range, and then writes it.
-///
-/// # Contract
-///
-/// ```text
-/// requires IsAscending int_cmp a.now
-/// ensures TellsRange (slice_get (ranges_of a.now) 0) start.old end.old has_end.old start.new
-///     end.new has_end.new result
-/// ```
-pub(crate) fn proved_first(a: &[i64], start: &mut i64, end: &mut i64, has_end: &mut bool) -> bool {
+#[no_mangle]
+pub unsafe extern "C" fn plain_range_set_i64_first(
+    a: *const i64,
+    a_len: usize,
+    start: &mut i64,
+    end: &mut i64,
+    has_end: &mut bool,
+) -> bool {
+    let a = unsafe { items_at(a, a_len) };
     first(a, start, end, has_end)
 }
 
 /// Whether there is a last range, and then writes it.
-///
-/// # Contract
-///
-/// ```text
-/// requires IsAscending int_cmp a.now
-/// ensures TellsRange (last_or None (ranges_of a.now)) start.old end.old has_end.old start.new
-///     end.new has_end.new result
-/// ```
-pub(crate) fn proved_last(a: &[i64], start: &mut i64, end: &mut i64, has_end: &mut bool) -> bool {
+#[no_mangle]
+pub unsafe extern "C" fn plain_range_set_i64_last(
+    a: *const i64,
+    a_len: usize,
+    start: &mut i64,
+    end: &mut i64,
+    has_end: &mut bool,
+) -> bool {
+    let a = unsafe { items_at(a, a_len) };
     last(a, start, end, has_end)
 }
 
 /// Whether the set has an end, and then writes how many numbers are members.
-///
-/// # Contract
-///
-/// ```text
-/// requires IsAscending int_cmp a.now
-/// ensures value: IsTrue result → covered_of int_cmp (signed_value (2 ^ 63)) (2 ^ 64) a.now ≡
-///     Some count.new
-/// ensures no_end: result ≡ false → covered_of int_cmp (signed_value (2 ^ 63)) (2 ^ 64) a.now ≡
-///     None
-/// ensures unchanged: result ≡ false → count.new ≡ count.old
-/// ```
-pub(crate) fn proved_covered(a: &[i64], count: &mut u64) -> bool {
+#[no_mangle]
+pub unsafe extern "C" fn plain_range_set_i64_covered(
+    a: *const i64,
+    a_len: usize,
+    count: &mut u64,
+) -> bool {
+    let a = unsafe { items_at(a, a_len) };
     covered(a, count)
 }
 
 /// Whether there is a number from which on `count` numbers lie between `start` and `end` and none is a member, and then writes the least. No number fits at `start`, if that isn't above `end`.
-///
-/// # Contract
-///
-/// ```text
-/// requires IsAscending int_cmp a.now
-/// ensures first: 0 < count → IsFirstFit int_cmp (signed_place (2 ^ 63)) a.now start end count
-///     (cond result (Some at.new) None)
-/// ensures nothing: count ≡ 0 → cond result (Some at.new) None ≡ cond (is_le (int_cmp start
-///     end)) (Some start) None
-/// ensures unchanged: result ≡ false → at.new ≡ at.old
-/// ```
-pub(crate) fn proved_first_fit(a: &[i64], start: i64, end: i64, count: u64, at: &mut i64) -> bool {
+#[no_mangle]
+pub unsafe extern "C" fn plain_range_set_i64_first_fit(
+    a: *const i64,
+    a_len: usize,
+    start: i64,
+    end: i64,
+    count: u64,
+    at: &mut i64,
+) -> bool {
+    let a = unsafe { items_at(a, a_len) };
     put(
         RangeSetRef::new_unchecked(a).first_fit_count(start..end, u128::from(count)),
         at,
     )
 }
 
-/// Whether there is a number from which on `count` numbers lie between `start` and `end`, none of them a member, and whose place is a multiple of `align`, and then writes the least one.
-///
-/// # Contract
-///
-/// ```text
-/// requires IsAscending int_cmp a.now
-/// ensures fits: IsTrue result → IsRow int_cmp (signed_value (2 ^ 63)) false a.now
-///     (signed_place (2 ^ 63) start) (signed_place (2 ^ 63) end) count (signed_place (2 ^ 63)
-///     at.new)
-/// ensures aligned: IsTrue result → (signed_place (2 ^ 63) at.new) % align ≡ 0
-/// ensures least: IsTrue result → (n : ℕ) → n % align ≡ 0 → IsRow int_cmp (signed_value (2 ^
-///     63)) false a.now (signed_place (2 ^ 63) start) (signed_place (2 ^ 63) end) count n →
-///     signed_place (2 ^ 63) at.new ≤ n
-/// ensures none: result ≡ false → 0 < align → (n : ℕ) → n % align ≡ 0 → ¬ (IsRow int_cmp
-///     (signed_value (2 ^ 63)) false a.now (signed_place (2 ^ 63) start) (signed_place (2 ^ 63)
-///     end) count n)
-/// ensures unchanged: result ≡ false → at.new ≡ at.old
-/// ```
-pub(crate) fn proved_first_fit_aligned(
-    a: &[i64],
+/// Whether there is a number from which on `count` numbers lie between `start` and `end`, none of them a member, and which is a multiple of `align`, and then writes the least one.
+#[no_mangle]
+pub unsafe extern "C" fn plain_range_set_i64_first_fit_aligned(
+    a: *const i64,
+    a_len: usize,
     start: i64,
     end: i64,
     count: u64,
     align: u64,
     at: &mut i64,
 ) -> bool {
+    let a = unsafe { items_at(a, a_len) };
     first_fit_aligned(a, start..end, u128::from(count), u128::from(align), at)
 }
 
 /// Whether there is a number from which on `count` members in a row lie between `start` and `end`, and then writes the least one.
-///
-/// # Contract
-///
-/// ```text
-/// requires IsAscending int_cmp a.now
-/// ensures fits: IsTrue result → IsRow int_cmp (signed_value (2 ^ 63)) true a.now (signed_place
-///     (2 ^ 63) start) (signed_place (2 ^ 63) end) count (signed_place (2 ^ 63) at.new)
-/// ensures least: IsTrue result → (n : ℕ) → IsRow int_cmp (signed_value (2 ^ 63)) true a.now
-///     (signed_place (2 ^ 63) start) (signed_place (2 ^ 63) end) count n → signed_place (2 ^
-///     63) at.new ≤ n
-/// ensures none: result ≡ false → (n : ℕ) → ¬ (IsRow int_cmp (signed_value (2 ^ 63)) true a.now
-///     (signed_place (2 ^ 63) start) (signed_place (2 ^ 63) end) count n)
-/// ensures unchanged: result ≡ false → at.new ≡ at.old
-/// ```
-pub(crate) fn proved_first_run(a: &[i64], start: i64, end: i64, count: u64, at: &mut i64) -> bool {
+#[no_mangle]
+pub unsafe extern "C" fn plain_range_set_i64_first_run(
+    a: *const i64,
+    a_len: usize,
+    start: i64,
+    end: i64,
+    count: u64,
+    at: &mut i64,
+) -> bool {
+    let a = unsafe { items_at(a, a_len) };
     first_run(a, start..end, u128::from(count), at)
 }
 
 /// Sorts the numbers, in any order, and moves the distinct ones to the front, as many as it answers.
-///
-/// # Contract
-///
-/// ```text
-/// ensures within: result ≤ length items.old
-/// ensures distinct: AreDistinctOf int_cmp items.old (take result items.new)
-/// ```
-pub fn proved_from_unsorted(items: &mut [i64]) -> usize {
+#[no_mangle]
+pub unsafe extern "C" fn plain_range_set_i64_from_unsorted(
+    items: *mut i64,
+    items_len: usize,
+) -> usize {
+    let items = unsafe { room_at(items, items_len) };
     from_unsorted(items)
 }
 
@@ -582,78 +478,63 @@ impl Ends for RangeI64 {
 }
 
 /// Moves the ranges of the set of all numbers in the ranges to the front, as many as it answers. They may stand in any order, overlap and touch; empty and reversed ones have no number.
-///
-/// # Contract
-///
-/// ```text
-/// ensures within: result ≤ length ranges.old
-/// ensures union: IsUnionOf int_cmp (λ r. r.start) (λ r. r.end) ranges.old (take result
-///     ranges.new)
-/// ```
-pub fn proved_from_ranges(ranges: &mut [RangeI64]) -> usize {
+#[no_mangle]
+pub unsafe extern "C" fn plain_range_set_i64_from_ranges(
+    ranges: *mut RangeI64,
+    ranges_len: usize,
+) -> usize {
+    let ranges = unsafe { room_at(ranges, ranges_len) };
     from_ranges(ranges)
 }
 
 /// The same of the ranges and, if `is_open`, of all numbers from `from` on. What is answered is how many ranges with an end there are; it tells where the one without an end starts.
-///
-/// # Contract
-///
-/// ```text
-/// ensures within: result ≤ length ranges.old
-/// ensures union: IsUnionFrom int_cmp (λ r. r.start) (λ r. r.end) ranges.old (cond is_open
-///     (Some from.old) None) (take result ranges.new) (cond is_open (Some from.new) None)
-/// ```
-pub fn proved_union_from(ranges: &mut [RangeI64], is_open: bool, from: &mut i64) -> usize {
+#[no_mangle]
+pub unsafe extern "C" fn plain_range_set_i64_union_from(
+    ranges: *mut RangeI64,
+    ranges_len: usize,
+    is_open: bool,
+    from: &mut i64,
+) -> usize {
+    let ranges = unsafe { room_at(ranges, ranges_len) };
     union_told(ranges, is_open, from)
 }
 
 /// Writes the ranges as a text, `0..10, 20..`, where the buffer has room for it, and answers how many bytes that is. Where it has no room the buffer is as it was.
-///
-/// # Contract
-///
-/// ```text
-/// requires sorted: IsAscending int_cmp a.now
-/// requires fits: length (ranges_text signed_decimal (ranges_of a.now)) < 2 ^ 64
-/// ensures AnswersText (ranges_text signed_decimal (ranges_of a.now)) out.old out.new result
-/// ```
-pub(crate) fn proved_print(a: &[i64], out: &mut [u8]) -> usize {
+#[no_mangle]
+pub unsafe extern "C" fn plain_range_set_i64_print(
+    a: *const i64,
+    a_len: usize,
+    out: *mut u8,
+    out_len: usize,
+) -> usize {
+    let a = unsafe { items_at(a, a_len) };
+    let out = unsafe { room_at(out, out_len) };
     print(a, out)
 }
 
 /// Whether the bytes are a text of ranges, as `0..10, 20..`: 0, and tells how many numbers it has. Else 1 where it stops being one, at the byte that is told, 2 where a number doesn't fit the type, and 3 where the bytes aren't UTF-8, from the byte on that is told.
-///
-/// # Contract
-///
-/// ```text
-/// requires fits: numbers_in (signed_number 63) text.now < 2 ^ 64
-/// ensures TellsText (signed_number 63) text.now result told.new
-/// ```
-pub(crate) fn proved_check_text(text: &[u8], told: &mut usize) -> u32 {
+#[no_mangle]
+pub unsafe extern "C" fn plain_range_set_i64_check_text(
+    text: *const u8,
+    text_len: usize,
+    told: &mut usize,
+) -> u32 {
+    let text = unsafe { items_at(text, text_len) };
     check::<i64>(text, told)
 }
 
 /// Leaves the ranges with an end of the set of a text's ranges at the front of the buffer, and answers how many these are. It tells whether the set has a range without an end after them, and where that starts.
-///
-/// # Contract
-///
-/// ```text
-/// requires text: IsUtf8 text.now
-/// requires room: numbers_in (signed_number 63) text.now < 2 * length ranges.old + 2
-/// ensures within: result ≤ length ranges.old
-/// ensures few: length (ends_and (λ r. r.start) (λ r. r.end) (take result ranges.new) (cond
-///     is_open.new (Some from.new) None)) ≤ numbers_in (signed_number 63) text.now
-/// ensures sorted: IsAscending int_cmp (ends_and (λ r. r.start) (λ r. r.end) (take result
-///     ranges.new) (cond is_open.new (Some from.new) None))
-/// ensures members: (x : ℤ) → (member int_cmp (ends_and (λ r. r.start) (λ r. r.end) (take
-///     result ranges.new) (cond is_open.new (Some from.new) None)) x ≡ true) ↔ Any (λ range.
-///     IsInRange int_cmp range x) (ranges_in (signed_number 63) text.now)
-/// ```
-pub(crate) fn proved_parse(
-    text: &[u8],
-    ranges: &mut [RangeI64],
+#[no_mangle]
+pub unsafe extern "C" fn plain_range_set_i64_parse(
+    text: *const u8,
+    text_len: usize,
+    ranges: *mut RangeI64,
+    ranges_len: usize,
     is_open: &mut bool,
     from: &mut i64,
 ) -> usize {
+    let text = unsafe { items_at(text, text_len) };
+    let ranges = unsafe { room_at(ranges, ranges_len) };
     let (len, start) = read(text, ranges);
     tell_start(start, is_open, from);
     len

@@ -16,527 +16,435 @@ use crate::generated::range_c::reading::{check, read};
 use crate::generated::range_c::text::print;
 use crate::generated::range_c::unsorted::from_unsorted;
 use crate::generated::range_collections::{DiffOp, RangeSetRef, XorOp};
+use crate::support::{items_at, room_at};
 
 /// Whether the list is strictly sorted.
-///
-/// # Contract
-///
-/// ```text
-/// ensures IsTrue result ↔ IsAscending nat_cmp a.now
-/// ```
-pub fn proved_is_sorted(a: &[u64]) -> bool {
+#[no_mangle]
+pub unsafe extern "C" fn plain_range_set_u64_is_sorted(a: *const u64, a_len: usize) -> bool {
+    let a = unsafe { items_at(a, a_len) };
     RangeSetRef::new(a).is_some()
 }
 
 /// Whether the number is a member.
-///
-/// # Contract
-///
-/// ```text
-/// requires IsAscending nat_cmp a.now
-/// ensures result ≡ member nat_cmp a.now value
-/// ```
-pub(crate) fn proved_contains(a: &[u64], value: u64) -> bool {
+#[no_mangle]
+pub unsafe extern "C" fn plain_range_set_u64_contains(
+    a: *const u64,
+    a_len: usize,
+    value: u64,
+) -> bool {
+    let a = unsafe { items_at(a, a_len) };
     RangeSetRef::new_unchecked(a).contains(&value)
 }
 
 /// Whether each number from `start` on, up to below `end`, is a member.
-///
-/// # Contract
-///
-/// ```text
-/// requires IsAscending nat_cmp a.now
-/// ensures IsTrue result ↔ HasAllWithin nat_cmp a.now start end
-/// ```
-pub(crate) fn proved_contains_range(a: &[u64], start: u64, end: u64) -> bool {
+#[no_mangle]
+pub unsafe extern "C" fn plain_range_set_u64_contains_range(
+    a: *const u64,
+    a_len: usize,
+    start: u64,
+    end: u64,
+) -> bool {
+    let a = unsafe { items_at(a, a_len) };
     RangeSetRef::new_unchecked(a).contains_range(start..end)
 }
 
 /// Whether some number from `start` on, up to below `end`, is a member.
-///
-/// # Contract
-///
-/// ```text
-/// requires IsAscending nat_cmp a.now
-/// ensures IsTrue result ↔ HasMemberWithin nat_cmp a.now start end
-/// ```
-pub(crate) fn proved_intersects_range(a: &[u64], start: u64, end: u64) -> bool {
+#[no_mangle]
+pub unsafe extern "C" fn plain_range_set_u64_intersects_range(
+    a: *const u64,
+    a_len: usize,
+    start: u64,
+    end: u64,
+) -> bool {
+    let a = unsafe { items_at(a, a_len) };
     RangeSetRef::new_unchecked(a).intersects_range(start..end)
 }
 
 /// Whether no number is a member.
-///
-/// # Contract
-///
-/// ```text
-/// requires IsAscending nat_cmp a.now
-/// ensures IsTrue result ↔ ((x : ℕ) → member nat_cmp a.now x ≡ false)
-/// ```
-pub(crate) fn proved_is_empty(a: &[u64]) -> bool {
+#[no_mangle]
+pub unsafe extern "C" fn plain_range_set_u64_is_empty(a: *const u64, a_len: usize) -> bool {
+    let a = unsafe { items_at(a, a_len) };
     RangeSetRef::new_unchecked(a).is_empty()
 }
 
 /// Whether each number of the type is a member.
-///
-/// # Contract
-///
-/// ```text
-/// requires IsAscending nat_cmp a.now
-/// ensures IsTrue result ↔ IsEverything nat_cmp (λ x. x < 2 ^ 64) a.now
-/// ```
-pub(crate) fn proved_is_all(a: &[u64]) -> bool {
+#[no_mangle]
+pub unsafe extern "C" fn plain_range_set_u64_is_all(a: *const u64, a_len: usize) -> bool {
+    let a = unsafe { items_at(a, a_len) };
     RangeSetRef::new_unchecked(a).is_all()
 }
 
 /// Whether no number is a member of both.
-///
-/// # Contract
-///
-/// ```text
-/// requires AreAscending nat_cmp a.now b.now
-/// ensures IsTrue result ↔ IsDisjoint nat_cmp a.now b.now
-/// ```
-pub(crate) fn proved_is_disjoint(a: &[u64], b: &[u64]) -> bool {
+#[no_mangle]
+pub unsafe extern "C" fn plain_range_set_u64_is_disjoint(
+    a: *const u64,
+    a_len: usize,
+    b: *const u64,
+    b_len: usize,
+) -> bool {
+    let a = unsafe { items_at(a, a_len) };
+    let b = unsafe { items_at(b, b_len) };
     RangeSetRef::new_unchecked(a).is_disjoint(RangeSetRef::new_unchecked(b))
 }
 
 /// Whether some number is a member of both.
-///
-/// # Contract
-///
-/// ```text
-/// requires AreAscending nat_cmp a.now b.now
-/// ensures IsTrue result ↔ Intersects nat_cmp a.now b.now
-/// ```
-pub(crate) fn proved_intersects(a: &[u64], b: &[u64]) -> bool {
+#[no_mangle]
+pub unsafe extern "C" fn plain_range_set_u64_intersects(
+    a: *const u64,
+    a_len: usize,
+    b: *const u64,
+    b_len: usize,
+) -> bool {
+    let a = unsafe { items_at(a, a_len) };
+    let b = unsafe { items_at(b, b_len) };
     RangeSetRef::new_unchecked(a).intersects(RangeSetRef::new_unchecked(b))
 }
 
 /// Whether every member of the left is one of the right.
-///
-/// # Contract
-///
-/// ```text
-/// requires AreAscending nat_cmp a.now b.now
-/// ensures IsTrue result ↔ IsSubset nat_cmp a.now b.now
-/// ```
-pub(crate) fn proved_is_subset(a: &[u64], b: &[u64]) -> bool {
+#[no_mangle]
+pub unsafe extern "C" fn plain_range_set_u64_is_subset(
+    a: *const u64,
+    a_len: usize,
+    b: *const u64,
+    b_len: usize,
+) -> bool {
+    let a = unsafe { items_at(a, a_len) };
+    let b = unsafe { items_at(b, b_len) };
     RangeSetRef::new_unchecked(a).is_subset(RangeSetRef::new_unchecked(b))
 }
 
 /// Whether both have the same members.
-///
-/// # Contract
-///
-/// ```text
-/// requires AreAscending nat_cmp a.now b.now
-/// ensures IsTrue result ↔ IsSameSet nat_cmp a.now b.now
-/// ```
-pub(crate) fn proved_equal(a: &[u64], b: &[u64]) -> bool {
+#[no_mangle]
+pub unsafe extern "C" fn plain_range_set_u64_equal(
+    a: *const u64,
+    a_len: usize,
+    b: *const u64,
+    b_len: usize,
+) -> bool {
+    let a = unsafe { items_at(a, a_len) };
+    let b = unsafe { items_at(b, b_len) };
     RangeSetRef::new_unchecked(a) == RangeSetRef::new_unchecked(b)
 }
 
 /// Writes what the connective makes of both sets, and answers how many boundaries that is. It has to be off where neither side is on.
-///
-/// # Contract
-///
-/// ```text
-/// requires sorted: AreAscending nat_cmp a.now b.now
-/// requires off: connective < 8
-/// requires fits: length a.now + length b.now < 2 ^ 64
-/// ensures AnswersList nat_cmp (connective_of connective) a.now b.now out.old out.new result
-/// ```
-pub(crate) fn proved_combine(a: &[u64], b: &[u64], connective: u32, out: &mut [u64]) -> usize {
+#[no_mangle]
+pub unsafe extern "C" fn plain_range_set_u64_combine(
+    a: *const u64,
+    a_len: usize,
+    b: *const u64,
+    b_len: usize,
+    connective: u32,
+    out: *mut u64,
+    out_len: usize,
+) -> usize {
+    let a = unsafe { items_at(a, a_len) };
+    let b = unsafe { items_at(b, b_len) };
+    let out = unsafe { room_at(out, out_len) };
     combine(a, b, connective, out)
 }
 
 /// Writes what the connective makes of both sets among all numbers of the type, and answers how many boundaries that is. It may be on where neither side is.
-///
-/// # Contract
-///
-/// ```text
-/// requires sorted: AreAscending nat_cmp a.now b.now
-/// requires fits: length a.now + length b.now + 1 < 2 ^ 64
-/// ensures AnswersFrom nat_cmp (0) (connective_of connective) a.now b.now out.old out.new
-///     result
-/// ```
-pub(crate) fn proved_combine_from(a: &[u64], b: &[u64], connective: u32, out: &mut [u64]) -> usize {
+#[no_mangle]
+pub unsafe extern "C" fn plain_range_set_u64_combine_from(
+    a: *const u64,
+    a_len: usize,
+    b: *const u64,
+    b_len: usize,
+    connective: u32,
+    out: *mut u64,
+    out_len: usize,
+) -> usize {
+    let a = unsafe { items_at(a, a_len) };
+    let b = unsafe { items_at(b, b_len) };
+    let out = unsafe { room_at(out, out_len) };
     combine_from(a, b, u64::MIN, connective, out)
 }
 
 /// Writes the set of the other numbers: all from the least `u64` on that aren't members.
-///
-/// # Contract
-///
-/// ```text
-/// requires sorted: IsAscending nat_cmp a.now
-/// requires fits: length a.now + 1 < 2 ^ 64
-/// ensures AnswersList nat_cmp symmetric_difference_table a.now (0 ∷ []) out.old out.new result
-/// ```
-pub(crate) fn proved_negation(a: &[u64], out: &mut [u64]) -> usize {
+#[no_mangle]
+pub unsafe extern "C" fn plain_range_set_u64_negation(
+    a: *const u64,
+    a_len: usize,
+    out: *mut u64,
+    out_len: usize,
+) -> usize {
+    let a = unsafe { items_at(a, a_len) };
+    let out = unsafe { room_at(out, out_len) };
     merge(a, &[u64::MIN], &XorOp, out)
 }
 
 /// Puts the numbers from `start` to below `end` into the set of the first `len` boundaries, and answers how many it has then. Where the buffer has no room for them it is as it was.
-///
-/// # Contract
-///
-/// ```text
-/// requires within: len ≤ length buffer.old
-/// requires fits: len + 2 < 2 ^ 64
-/// requires sorted: IsAscending nat_cmp (take len buffer.old)
-/// ensures ChangesList nat_cmp union_table (take len buffer.old) (range_items nat_cmp start
-///     end) buffer.old buffer.new result
-/// ```
-pub(crate) fn proved_insert(buffer: &mut [u64], len: usize, start: u64, end: u64) -> usize {
+#[no_mangle]
+pub unsafe extern "C" fn plain_range_set_u64_insert(
+    buffer: *mut u64,
+    buffer_len: usize,
+    len: usize,
+    start: u64,
+    end: u64,
+) -> usize {
+    let buffer = unsafe { room_at(buffer, buffer_len) };
     insert(buffer, len, start, end)
 }
 
 /// Takes the numbers from `start` to below `end` out of the set of the first `len` boundaries, and answers how many it has then. Where the buffer has no room for them it is as it was.
-///
-/// # Contract
-///
-/// ```text
-/// requires within: len ≤ length buffer.old
-/// requires fits: len + 2 < 2 ^ 64
-/// requires sorted: IsAscending nat_cmp (take len buffer.old)
-/// ensures ChangesList nat_cmp difference_table (take len buffer.old) (range_items nat_cmp
-///     start end) buffer.old buffer.new result
-/// ```
-pub(crate) fn proved_remove(buffer: &mut [u64], len: usize, start: u64, end: u64) -> usize {
+#[no_mangle]
+pub unsafe extern "C" fn plain_range_set_u64_remove(
+    buffer: *mut u64,
+    buffer_len: usize,
+    len: usize,
+    start: u64,
+    end: u64,
+) -> usize {
+    let buffer = unsafe { room_at(buffer, buffer_len) };
     remove(buffer, len, start, end)
 }
 
 /// Leaves in the buffer what the connective makes of the set of its first `len` boundaries and another, and answers how many boundaries that is; where there is no room for that set and the result, the room that both take, and the buffer is as it was. The connective has to be off where neither side is on.
-///
-/// # Contract
-///
-/// ```text
-/// requires within: len ≤ length buffer.old
-/// requires off: connective < 8
-/// requires sorted: AreAscending nat_cmp (take len buffer.old) other.now
-/// requires fits: len + len + length other.now < 2 ^ 64
-/// ensures ChangesWithin nat_cmp (connective_of connective) (take len buffer.old) other.now
-///     buffer.old buffer.new result
-/// ```
-pub(crate) fn proved_combine_within(
-    buffer: &mut [u64],
+#[no_mangle]
+pub unsafe extern "C" fn plain_range_set_u64_combine_within(
+    buffer: *mut u64,
+    buffer_len: usize,
     len: usize,
-    other: &[u64],
+    other: *const u64,
+    other_len: usize,
     connective: u32,
 ) -> usize {
+    let buffer = unsafe { room_at(buffer, buffer_len) };
+    let other = unsafe { items_at(other, other_len) };
     combine_within(buffer, len, other, connective)
 }
 
 /// Writes the numbers from `start` to below `end` that aren't members.
-///
-/// # Contract
-///
-/// ```text
-/// requires sorted: IsAscending nat_cmp a.now
-/// requires fits: length a.now + 2 < 2 ^ 64
-/// ensures AnswersList nat_cmp difference_table (range_items nat_cmp start end) a.now out.old
-///     out.new result
-/// ```
-pub(crate) fn proved_gaps(a: &[u64], start: u64, end: u64, out: &mut [u64]) -> usize {
+#[no_mangle]
+pub unsafe extern "C" fn plain_range_set_u64_gaps(
+    a: *const u64,
+    a_len: usize,
+    start: u64,
+    end: u64,
+    out: *mut u64,
+    out_len: usize,
+) -> usize {
+    let a = unsafe { items_at(a, a_len) };
+    let out = unsafe { room_at(out, out_len) };
     merge(range_of(&[start, end]), a, &DiffOp, out)
 }
 
 /// Writes how many boundaries the part below `at` has, and where the part from it on begins.
-///
-/// # Contract
-///
-/// ```text
-/// requires IsAscending nat_cmp a.now
-/// ensures left: take left_len.new a.now ≡ split_left nat_cmp a.now at
-/// ensures right: drop right_start.new a.now ≡ split_right nat_cmp a.now at
-/// ensures left_within: left_len.new ≡ length (split_left nat_cmp a.now at)
-/// ensures right_within: right_start.new + length (split_right nat_cmp a.now at) ≡ length a.now
-/// ```
-pub(crate) fn proved_split(a: &[u64], at: u64, left_len: &mut usize, right_start: &mut usize) {
+#[no_mangle]
+pub unsafe extern "C" fn plain_range_set_u64_split(
+    a: *const u64,
+    a_len: usize,
+    at: u64,
+    left_len: &mut usize,
+    right_start: &mut usize,
+) {
+    let a = unsafe { items_at(a, a_len) };
     split(a, at, left_len, right_start)
 }
 
 /// Whether the number is a member, and then writes the range that holds it: its start, whether it has an end, and that.
-///
-/// # Contract
-///
-/// ```text
-/// requires IsAscending nat_cmp a.now
-/// ensures member: result ≡ member nat_cmp a.now value
-/// ensures of_set: IsTrue result → Contains (ranges_of a.now) (range_told start.new end.new
-///     has_end.new)
-/// ensures holds: IsTrue result → IsInRange nat_cmp (range_told start.new end.new has_end.new)
-///     value
-/// ensures none: result ≡ false → (start.new ≡ start.old) × (end.new ≡ end.old) × (has_end.new
-///     ≡ has_end.old)
-/// ensures no_end: has_end.new ≡ false → end.new ≡ end.old
-/// ```
-pub(crate) fn proved_range_at(
-    a: &[u64],
+#[no_mangle]
+pub unsafe extern "C" fn plain_range_set_u64_range_at(
+    a: *const u64,
+    a_len: usize,
     value: u64,
     start: &mut u64,
     end: &mut u64,
     has_end: &mut bool,
 ) -> bool {
+    let a = unsafe { items_at(a, a_len) };
     range_at(a, &value, start, end, has_end)
 }
 
 /// Tells the range that holds the number, or else the next one above it, if there is one.
-///
-/// # Contract
-///
-/// ```text
-/// requires IsAscending nat_cmp a.now
-/// ensures of_set: IsTrue result → Contains (ranges_of a.now) (range_told start.new end.new
-///     has_end.new)
-/// ensures first: IsTrue result → (x : ℕ) → is_le (nat_cmp value x) ≡ true → is_lt (nat_cmp x
-///     start.new) ≡ true → member nat_cmp a.now x ≡ false
-/// ensures ends_above: IsTrue result → has_end.new ≡ true → is_lt (nat_cmp value end.new) ≡
-///     true
-/// ensures none: result ≡ false → (x : ℕ) → is_le (nat_cmp value x) ≡ true → member nat_cmp
-///     a.now x ≡ false
-/// ensures unchanged: result ≡ false → (start.new ≡ start.old) × (end.new ≡ end.old) ×
-///     (has_end.new ≡ has_end.old)
-/// ensures no_end: has_end.new ≡ false → end.new ≡ end.old
-/// ```
-pub(crate) fn proved_range_from(
-    a: &[u64],
+#[no_mangle]
+pub unsafe extern "C" fn plain_range_set_u64_range_from(
+    a: *const u64,
+    a_len: usize,
     value: u64,
     start: &mut u64,
     end: &mut u64,
     has_end: &mut bool,
 ) -> bool {
+    let a = unsafe { items_at(a, a_len) };
     range_from(a, &value, start, end, has_end)
 }
 
 /// Tells the least member at or above `from`, if there is one.
-///
-/// # Contract
-///
-/// ```text
-/// requires IsAscending nat_cmp a.now
-/// ensures next: IsTrue result → IsNext nat_cmp true a.now from next.new
-/// ensures none: result ≡ false → (x : ℕ) → is_le (nat_cmp from x) ≡ true → member nat_cmp
-///     a.now x ≡ false
-/// ensures unchanged: result ≡ false → next.new ≡ next.old
-/// ```
-pub(crate) fn proved_next_member(a: &[u64], from: u64, next: &mut u64) -> bool {
+#[no_mangle]
+pub unsafe extern "C" fn plain_range_set_u64_next_member(
+    a: *const u64,
+    a_len: usize,
+    from: u64,
+    next: &mut u64,
+) -> bool {
+    let a = unsafe { items_at(a, a_len) };
     next_member(a, &from, next)
 }
 
 /// Tells the least number at or above `from` that isn't a member, if there is one.
-///
-/// # Contract
-///
-/// ```text
-/// requires IsAscending nat_cmp a.now
-/// ensures next: IsTrue result → IsNext nat_cmp false a.now from next.new
-/// ensures none: result ≡ false → (x : ℕ) → is_le (nat_cmp from x) ≡ true → member nat_cmp
-///     a.now x ≡ true
-/// ensures unchanged: result ≡ false → next.new ≡ next.old
-/// ```
-pub(crate) fn proved_next_gap(a: &[u64], from: u64, next: &mut u64) -> bool {
+#[no_mangle]
+pub unsafe extern "C" fn plain_range_set_u64_next_gap(
+    a: *const u64,
+    a_len: usize,
+    from: u64,
+    next: &mut u64,
+) -> bool {
+    let a = unsafe { items_at(a, a_len) };
     next_gap(a, &from, next)
 }
 
 /// Tells the greatest member at or below `from`, if there is one.
-///
-/// # Contract
-///
-/// ```text
-/// requires IsAscending nat_cmp a.now
-/// ensures previous: IsTrue result → IsPrevious nat_cmp (λ x. x < 2 ^ 64) true a.now from
-///     previous.new
-/// ensures none: result ≡ false → (x : ℕ) → x < 2 ^ 64 → is_le (nat_cmp x from) ≡ true → member
-///     nat_cmp a.now x ≡ false
-/// ensures unchanged: result ≡ false → previous.new ≡ previous.old
-/// ```
-pub(crate) fn proved_prev_member(a: &[u64], from: u64, previous: &mut u64) -> bool {
+#[no_mangle]
+pub unsafe extern "C" fn plain_range_set_u64_prev_member(
+    a: *const u64,
+    a_len: usize,
+    from: u64,
+    previous: &mut u64,
+) -> bool {
+    let a = unsafe { items_at(a, a_len) };
     prev_member(a, &from, previous)
 }
 
 /// Tells the greatest number at or below `from` that isn't a member, if there is one.
-///
-/// # Contract
-///
-/// ```text
-/// requires IsAscending nat_cmp a.now
-/// ensures previous: IsTrue result → IsPrevious nat_cmp (λ x. x < 2 ^ 64) false a.now from
-///     previous.new
-/// ensures none: result ≡ false → (x : ℕ) → x < 2 ^ 64 → is_le (nat_cmp x from) ≡ true → member
-///     nat_cmp a.now x ≡ true
-/// ensures unchanged: result ≡ false → previous.new ≡ previous.old
-/// ```
-pub(crate) fn proved_prev_gap(a: &[u64], from: u64, previous: &mut u64) -> bool {
+#[no_mangle]
+pub unsafe extern "C" fn plain_range_set_u64_prev_gap(
+    a: *const u64,
+    a_len: usize,
+    from: u64,
+    previous: &mut u64,
+) -> bool {
+    let a = unsafe { items_at(a, a_len) };
     prev_gap(a, &from, previous)
 }
 
 /// Tells the member with `k` others below it, if there is one.
-///
-/// # Contract
-///
-/// ```text
-/// requires IsAscending nat_cmp a.now
-/// ensures member: IsTrue result → member nat_cmp a.now at.new ≡ true
-/// ensures rank: IsTrue result → members_below nat_cmp (λ n. n) a.now (at.new) ≡ k
-/// ensures none: result ≡ false → members_below nat_cmp (λ n. n) a.now (2 ^ 64) ≤ k
-/// ensures unchanged: result ≡ false → at.new ≡ at.old
-/// ```
-pub(crate) fn proved_select(a: &[u64], k: u64, at: &mut u64) -> bool {
+#[no_mangle]
+pub unsafe extern "C" fn plain_range_set_u64_select(
+    a: *const u64,
+    a_len: usize,
+    k: u64,
+    at: &mut u64,
+) -> bool {
+    let a = unsafe { items_at(a, a_len) };
     select(a, k, at)
 }
 
 /// How many members are below `at`.
-///
-/// # Contract
-///
-/// ```text
-/// requires IsAscending nat_cmp a.now
-/// ensures result ≡ members_below nat_cmp (λ n. n) a.now (at)
-/// ```
-pub(crate) fn proved_rank(a: &[u64], at: u64) -> u64 {
+#[no_mangle]
+pub unsafe extern "C" fn plain_range_set_u64_rank(a: *const u64, a_len: usize, at: u64) -> u64 {
+    let a = unsafe { items_at(a, a_len) };
     rank(a, &at)
 }
 
 /// How many ranges the set has.
-///
-/// # Contract
-///
-/// ```text
-/// requires IsAscending nat_cmp a.now
-/// ensures result ≡ length (ranges_of a.now)
-/// ```
-pub(crate) fn proved_ranges_len(a: &[u64]) -> usize {
+#[no_mangle]
+pub unsafe extern "C" fn plain_range_set_u64_ranges_len(a: *const u64, a_len: usize) -> usize {
+    let a = unsafe { items_at(a, a_len) };
     RangeSetRef::new_unchecked(a).ranges_len()
 }
 
 /// Whether there is a range with so many before it, and then writes it: its start, whether it has an end, and that.
-///
-/// # Contract
-///
-/// ```text
-/// requires IsAscending nat_cmp a.now
-/// ensures TellsRange (slice_get (ranges_of a.now) index) start.old end.old has_end.old
-///     start.new end.new has_end.new result
-/// ```
-pub(crate) fn proved_range(
-    a: &[u64],
+#[no_mangle]
+pub unsafe extern "C" fn plain_range_set_u64_range(
+    a: *const u64,
+    a_len: usize,
     index: usize,
     start: &mut u64,
     end: &mut u64,
     has_end: &mut bool,
 ) -> bool {
+    let a = unsafe { items_at(a, a_len) };
     range(a, index, start, end, has_end)
 }
 
 /// Whether there is a first range, and then writes it.
-///
-/// # Contract
-///
-/// ```text
-/// requires IsAscending nat_cmp a.now
-/// ensures TellsRange (slice_get (ranges_of a.now) 0) start.old end.old has_end.old start.new
-///     end.new has_end.new result
-/// ```
-pub(crate) fn proved_first(a: &[u64], start: &mut u64, end: &mut u64, has_end: &mut bool) -> bool {
+#[no_mangle]
+pub unsafe extern "C" fn plain_range_set_u64_first(
+    a: *const u64,
+    a_len: usize,
+    start: &mut u64,
+    end: &mut u64,
+    has_end: &mut bool,
+) -> bool {
+    let a = unsafe { items_at(a, a_len) };
     first(a, start, end, has_end)
 }
 
 /// Whether there is a last range, and then writes it.
-///
-/// # Contract
-///
-/// ```text
-/// requires IsAscending nat_cmp a.now
-/// ensures TellsRange (last_or None (ranges_of a.now)) start.old end.old has_end.old start.new
-///     end.new has_end.new result
-/// ```
-pub(crate) fn proved_last(a: &[u64], start: &mut u64, end: &mut u64, has_end: &mut bool) -> bool {
+#[no_mangle]
+pub unsafe extern "C" fn plain_range_set_u64_last(
+    a: *const u64,
+    a_len: usize,
+    start: &mut u64,
+    end: &mut u64,
+    has_end: &mut bool,
+) -> bool {
+    let a = unsafe { items_at(a, a_len) };
     last(a, start, end, has_end)
 }
 
 /// Whether the set has an end, and then writes how many numbers are members.
-///
-/// # Contract
-///
-/// ```text
-/// requires IsAscending nat_cmp a.now
-/// ensures value: IsTrue result → covered_of nat_cmp (λ n. n) (2 ^ 64) a.now ≡ Some count.new
-/// ensures no_end: result ≡ false → covered_of nat_cmp (λ n. n) (2 ^ 64) a.now ≡ None
-/// ensures unchanged: result ≡ false → count.new ≡ count.old
-/// ```
-pub(crate) fn proved_covered(a: &[u64], count: &mut u64) -> bool {
+#[no_mangle]
+pub unsafe extern "C" fn plain_range_set_u64_covered(
+    a: *const u64,
+    a_len: usize,
+    count: &mut u64,
+) -> bool {
+    let a = unsafe { items_at(a, a_len) };
     covered(a, count)
 }
 
 /// Whether there is a number from which on `len` numbers lie between `start` and `end` and none is a member, and then writes the least one.
-///
-/// # Contract
-///
-/// ```text
-/// requires IsAscending nat_cmp a.now
-/// ensures fits: IsTrue result → Fits nat_cmp (λ x. x) a.now start end len at.new
-/// ensures least: IsTrue result → (x : ℕ) → Fits nat_cmp (λ x. x) a.now start end len x →
-///     at.new ≤ x
-/// ensures none: result ≡ false → (x : ℕ) → ¬ (Fits nat_cmp (λ x. x) a.now start end len x)
-/// ensures unchanged: result ≡ false → at.new ≡ at.old
-/// ```
-pub(crate) fn proved_first_fit(a: &[u64], start: u64, end: u64, len: u64, at: &mut u64) -> bool {
+#[no_mangle]
+pub unsafe extern "C" fn plain_range_set_u64_first_fit(
+    a: *const u64,
+    a_len: usize,
+    start: u64,
+    end: u64,
+    len: u64,
+    at: &mut u64,
+) -> bool {
+    let a = unsafe { items_at(a, a_len) };
     first_fit(a, start, end, len, at)
 }
 
-/// Whether there is a number from which on `count` numbers lie between `start` and `end`, none of them a member, and whose place is a multiple of `align`, and then writes the least one.
-///
-/// # Contract
-///
-/// ```text
-/// requires IsAscending nat_cmp a.now
-/// ensures fits: IsTrue result → IsRow nat_cmp (λ n. n) false a.now start end count (at.new)
-/// ensures aligned: IsTrue result → (at.new) % align ≡ 0
-/// ensures least: IsTrue result → (n : ℕ) → n % align ≡ 0 → IsRow nat_cmp (λ n. n) false a.now
-///     start end count n → at.new ≤ n
-/// ensures none: result ≡ false → 0 < align → (n : ℕ) → n % align ≡ 0 → ¬ (IsRow nat_cmp (λ n.
-///     n) false a.now start end count n)
-/// ensures unchanged: result ≡ false → at.new ≡ at.old
-/// ```
-pub(crate) fn proved_first_fit_aligned(
-    a: &[u64],
+/// Whether there is a number from which on `count` numbers lie between `start` and `end`, none of them a member, and which is a multiple of `align`, and then writes the least one.
+#[no_mangle]
+pub unsafe extern "C" fn plain_range_set_u64_first_fit_aligned(
+    a: *const u64,
+    a_len: usize,
     start: u64,
     end: u64,
     count: u64,
     align: u64,
     at: &mut u64,
 ) -> bool {
+    let a = unsafe { items_at(a, a_len) };
     first_fit_aligned(a, start..end, u128::from(count), u128::from(align), at)
 }
 
 /// Whether there is a number from which on `count` members in a row lie between `start` and `end`, and then writes the least one.
-///
-/// # Contract
-///
-/// ```text
-/// requires IsAscending nat_cmp a.now
-/// ensures fits: IsTrue result → IsRow nat_cmp (λ n. n) true a.now start end count (at.new)
-/// ensures least: IsTrue result → (n : ℕ) → IsRow nat_cmp (λ n. n) true a.now start end count n
-///     → at.new ≤ n
-/// ensures none: result ≡ false → (n : ℕ) → ¬ (IsRow nat_cmp (λ n. n) true a.now start end
-///     count n)
-/// ensures unchanged: result ≡ false → at.new ≡ at.old
-/// ```
-pub(crate) fn proved_first_run(a: &[u64], start: u64, end: u64, count: u64, at: &mut u64) -> bool {
+#[no_mangle]
+pub unsafe extern "C" fn plain_range_set_u64_first_run(
+    a: *const u64,
+    a_len: usize,
+    start: u64,
+    end: u64,
+    count: u64,
+    at: &mut u64,
+) -> bool {
+    let a = unsafe { items_at(a, a_len) };
     first_run(a, start..end, u128::from(count), at)
 }
 
 /// Sorts the numbers, in any order, and moves the distinct ones to the front, as many as it answers.
-///
-/// # Contract
-///
-/// ```text
-/// ensures within: result ≤ length items.old
-/// ensures distinct: AreDistinctOf nat_cmp items.old (take result items.new)
-/// ```
-pub fn proved_from_unsorted(items: &mut [u64]) -> usize {
+#[no_mangle]
+pub unsafe extern "C" fn plain_range_set_u64_from_unsorted(
+    items: *mut u64,
+    items_len: usize,
+) -> usize {
+    let items = unsafe { room_at(items, items_len) };
     from_unsorted(items)
 }
 
@@ -567,78 +475,63 @@ impl Ends for RangeU64 {
 }
 
 /// Moves the ranges of the set of all numbers in the ranges to the front, as many as it answers. They may stand in any order, overlap and touch; empty and reversed ones have no number.
-///
-/// # Contract
-///
-/// ```text
-/// ensures within: result ≤ length ranges.old
-/// ensures union: IsUnionOf nat_cmp (λ r. r.start) (λ r. r.end) ranges.old (take result
-///     ranges.new)
-/// ```
-pub fn proved_from_ranges(ranges: &mut [RangeU64]) -> usize {
+#[no_mangle]
+pub unsafe extern "C" fn plain_range_set_u64_from_ranges(
+    ranges: *mut RangeU64,
+    ranges_len: usize,
+) -> usize {
+    let ranges = unsafe { room_at(ranges, ranges_len) };
     from_ranges(ranges)
 }
 
 /// The same of the ranges and, if `is_open`, of all numbers from `from` on. What is answered is how many ranges with an end there are; it tells where the one without an end starts.
-///
-/// # Contract
-///
-/// ```text
-/// ensures within: result ≤ length ranges.old
-/// ensures union: IsUnionFrom nat_cmp (λ r. r.start) (λ r. r.end) ranges.old (cond is_open
-///     (Some from.old) None) (take result ranges.new) (cond is_open (Some from.new) None)
-/// ```
-pub fn proved_union_from(ranges: &mut [RangeU64], is_open: bool, from: &mut u64) -> usize {
+#[no_mangle]
+pub unsafe extern "C" fn plain_range_set_u64_union_from(
+    ranges: *mut RangeU64,
+    ranges_len: usize,
+    is_open: bool,
+    from: &mut u64,
+) -> usize {
+    let ranges = unsafe { room_at(ranges, ranges_len) };
     union_told(ranges, is_open, from)
 }
 
 /// Writes the ranges as a text, `0..10, 20..`, where the buffer has room for it, and answers how many bytes that is. Where it has no room the buffer is as it was.
-///
-/// # Contract
-///
-/// ```text
-/// requires sorted: IsAscending nat_cmp a.now
-/// requires fits: length (ranges_text decimal (ranges_of a.now)) < 2 ^ 64
-/// ensures AnswersText (ranges_text decimal (ranges_of a.now)) out.old out.new result
-/// ```
-pub(crate) fn proved_print(a: &[u64], out: &mut [u8]) -> usize {
+#[no_mangle]
+pub unsafe extern "C" fn plain_range_set_u64_print(
+    a: *const u64,
+    a_len: usize,
+    out: *mut u8,
+    out_len: usize,
+) -> usize {
+    let a = unsafe { items_at(a, a_len) };
+    let out = unsafe { room_at(out, out_len) };
     print(a, out)
 }
 
 /// Whether the bytes are a text of ranges, as `0..10, 20..`: 0, and tells how many numbers it has. Else 1 where it stops being one, at the byte that is told, 2 where a number doesn't fit the type, and 3 where the bytes aren't UTF-8, from the byte on that is told.
-///
-/// # Contract
-///
-/// ```text
-/// requires fits: numbers_in (unsigned_number 64) text.now < 2 ^ 64
-/// ensures TellsText (unsigned_number 64) text.now result told.new
-/// ```
-pub(crate) fn proved_check_text(text: &[u8], told: &mut usize) -> u32 {
+#[no_mangle]
+pub unsafe extern "C" fn plain_range_set_u64_check_text(
+    text: *const u8,
+    text_len: usize,
+    told: &mut usize,
+) -> u32 {
+    let text = unsafe { items_at(text, text_len) };
     check::<u64>(text, told)
 }
 
 /// Leaves the ranges with an end of the set of a text's ranges at the front of the buffer, and answers how many these are. It tells whether the set has a range without an end after them, and where that starts.
-///
-/// # Contract
-///
-/// ```text
-/// requires text: IsUtf8 text.now
-/// requires room: numbers_in (unsigned_number 64) text.now < 2 * length ranges.old + 2
-/// ensures within: result ≤ length ranges.old
-/// ensures few: length (ends_and (λ r. r.start) (λ r. r.end) (take result ranges.new) (cond
-///     is_open.new (Some from.new) None)) ≤ numbers_in (unsigned_number 64) text.now
-/// ensures sorted: IsAscending nat_cmp (ends_and (λ r. r.start) (λ r. r.end) (take result
-///     ranges.new) (cond is_open.new (Some from.new) None))
-/// ensures members: (x : ℕ) → (member nat_cmp (ends_and (λ r. r.start) (λ r. r.end) (take
-///     result ranges.new) (cond is_open.new (Some from.new) None)) x ≡ true) ↔ Any (λ range.
-///     IsInRange nat_cmp range x) (ranges_in (unsigned_number 64) text.now)
-/// ```
-pub(crate) fn proved_parse(
-    text: &[u8],
-    ranges: &mut [RangeU64],
+#[no_mangle]
+pub unsafe extern "C" fn plain_range_set_u64_parse(
+    text: *const u8,
+    text_len: usize,
+    ranges: *mut RangeU64,
+    ranges_len: usize,
     is_open: &mut bool,
     from: &mut u64,
 ) -> usize {
+    let text = unsafe { items_at(text, text_len) };
+    let ranges = unsafe { room_at(ranges, ranges_len) };
     let (len, start) = read(text, ranges);
     tell_start(start, is_open, from);
     len

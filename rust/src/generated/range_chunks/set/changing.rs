@@ -9,7 +9,7 @@ use core::ops::Range;
 
 impl<T: Ord> ChunkedRangeSet<T> {
     /// Adds the elements of the range, as `insert` does, and returns `true` if one of them wasn't a
-    /// member before. It makes at most two searches more.
+    /// member before. It makes one search more.
     ///
     /// ```text
     /// let mut seen = ChunkedRangeSet::new(alloc);
@@ -28,8 +28,12 @@ impl<T: Ord> ChunkedRangeSet<T> {
     ///     || (is_le (T.cmp range.start x) && is_lt (T.cmp x range.end))))
     /// ```
     pub fn insert_changed(&mut self, range: Range<T>) -> Result<bool, AllocError> {
-        let chunks = self.chunks.as_slice();
-        let all = has_all(chunks, &range.start, &range.end, &mut Comparisons::new());
+        let all = has_all(
+            &self.list,
+            &range.start,
+            &range.end,
+            &mut Comparisons::new(),
+        );
         self.insert(range)?;
         Ok(!all)
     }
@@ -53,7 +57,7 @@ impl<T: Ord> ChunkedRangeSet<T> {
     ///     && not (is_le (T.cmp range.start x) && is_lt (T.cmp x range.end))))
     /// ```
     pub fn remove_changed(&mut self, range: Range<T>) -> Result<bool, AllocError> {
-        let some = has_some(self.chunks.as_slice(), &range.start, &range.end);
+        let some = has_some(&self.list, &range.start, &range.end);
         self.remove(range)?;
         Ok(some)
     }

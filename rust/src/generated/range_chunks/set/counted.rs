@@ -22,7 +22,7 @@ impl<T: Ord> ChunkedRangeSet<T> {
     /// ```
     #[inline(always)]
     pub(crate) fn contains_counted(&self, value: &T, count: &mut Comparisons) -> bool {
-        is_member(self.chunks.as_slice(), value, count)
+        is_member(&self.list, value, count)
     }
 }
 
@@ -34,12 +34,12 @@ impl<T: Ord> ChunkedRangeSet<T> {
     /// ```text
     /// requires made: count.old < 2 ^ 64
     /// ensures members: IsTrue result ↔ HasAllWithin T.cmp self.now range.start range.end
-    /// ensures comparisons: AddsAtMost count.old count.new (2 * (digits (length self.now) + digits
-    ///     512) + 1)
+    /// ensures comparisons: AddsAtMost count.old count.new (digits (length self.now) + digits 512 +
+    ///     2)
     /// ```
     #[inline]
     pub(crate) fn contains_range_counted(&self, range: Range<T>, count: &mut Comparisons) -> bool {
-        has_all(self.chunks.as_slice(), &range.start, &range.end, count)
+        has_all(&self.list, &range.start, &range.end, count)
     }
 
     /// `insert`, with a counter.
@@ -60,7 +60,7 @@ impl<T: Ord> ChunkedRangeSet<T> {
         range: Range<T>,
         count: &mut Comparisons,
     ) -> Result<(), AllocError> {
-        set_range(&mut self.chunks, range, true, count)
+        set_range(&mut self.list, range, true, count)
     }
 
     /// `remove`, with a counter.
@@ -81,7 +81,7 @@ impl<T: Ord> ChunkedRangeSet<T> {
         range: Range<T>,
         count: &mut Comparisons,
     ) -> Result<(), AllocError> {
-        set_range(&mut self.chunks, range, false, count)
+        set_range(&mut self.list, range, false, count)
     }
 
     /// `insert_from`, with a counter.
@@ -101,7 +101,7 @@ impl<T: Ord> ChunkedRangeSet<T> {
         range: RangeFrom<T>,
         count: &mut Comparisons,
     ) -> Result<(), AllocError> {
-        set_from(&mut self.chunks, range.start, true, count)
+        set_from(&mut self.list, range.start, true, count)
     }
 
     /// `remove_from`, with a counter.
@@ -121,6 +121,6 @@ impl<T: Ord> ChunkedRangeSet<T> {
         range: RangeFrom<T>,
         count: &mut Comparisons,
     ) -> Result<(), AllocError> {
-        set_from(&mut self.chunks, range.start, false, count)
+        set_from(&mut self.list, range.start, false, count)
     }
 }

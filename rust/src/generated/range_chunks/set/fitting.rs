@@ -3,7 +3,7 @@
 
 use crate::generated::range_chunks::reading::first_fit;
 use crate::generated::range_chunks::set::ChunkedRangeSet;
-use crate::generated::range_collections::{place_in, Countable, FromPlace, Unsigned};
+use crate::generated::range_collections::{place_in, Countable, FromPlace, Multiples, Unsigned};
 use core::ops::Range;
 
 impl<T: Unsigned> ChunkedRangeSet<T> {
@@ -32,7 +32,7 @@ impl<T: Unsigned> ChunkedRangeSet<T> {
 impl<T: Ord> ChunkedRangeSet<T> {
     // How many chunks there are.
     pub(crate) fn chunks_len(&self) -> usize {
-        self.chunks.len()
+        self.list.chunks_len()
     }
 }
 
@@ -59,7 +59,7 @@ impl<T: Countable + Copy> ChunkedRangeSet<T> {
         if count == 0 {
             return start.cmp(&end).is_le().then_some(start);
         }
-        let row = first_fit(self.gaps(&start..&end), count, 1)?;
+        let row = first_fit(self.gaps(&start..&end), count, Multiples::of_one())?;
         Some(row.start)
     }
 
@@ -83,14 +83,14 @@ impl<T: Countable + Copy> ChunkedRangeSet<T> {
         if count == 0 {
             return start.cmp(&end).is_le().then_some(start);
         }
-        let row = first_fit(self.ranges_within(&start..&end), count, 1)?;
+        let row = first_fit(self.ranges_within(&start..&end), count, Multiples::of_one())?;
         Some(row.start)
     }
 }
 
 impl<T: FromPlace> ChunkedRangeSet<T> {
-    /// The least value whose place is a multiple of `align` and from which `count` values lie in
-    /// the range, none of them a member. `None` if there is none, or if `align` is 0.
+    /// The least multiple of `align` from which `count` values lie in the range, none of them a
+    /// member. `None` if there is none, or if `align` is 0. The number of a `char` is its place.
     ///
     /// It looks at each gap from the start up to the answer, and takes no memory.
     ///
@@ -99,11 +99,12 @@ impl<T: FromPlace> ChunkedRangeSet<T> {
     /// ```text
     /// ensures fits: IfSome result (λ at. IsRow T.cmp T.value false self.now (T.place within.start)
     ///     (T.place within.end) count (T.place at))
-    /// ensures aligned: IfSome result (λ at. T.place at % align ≡ 0)
-    /// ensures least: IfSome result (λ at. (n : ℕ) → n % align ≡ 0 → IsRow T.cmp T.value false
-    ///     self.now (T.place within.start) (T.place within.end) count n → T.place at ≤ n)
-    /// ensures none: 0 < align → IfNone result ((n : ℕ) → n % align ≡ 0 → ¬ (IsRow T.cmp T.value
-    ///     false self.now (T.place within.start) (T.place within.end) count n))
+    /// ensures aligned: IfSome result (λ at. IsMultiple T.zero align (T.place at))
+    /// ensures least: IfSome result (λ at. (n : ℕ) → IsMultiple T.zero align n → IsRow T.cmp
+    ///     T.value false self.now (T.place within.start) (T.place within.end) count n → T.place at
+    ///     ≤ n)
+    /// ensures none: 0 < align → IfNone result ((n : ℕ) → IsMultiple T.zero align n → ¬ (IsRow
+    ///     T.cmp T.value false self.now (T.place within.start) (T.place within.end) count n))
     /// ensures no_align: align ≡ 0 → result ≡ None
     /// ```
     pub fn first_fit_aligned(&self, within: Range<T>, count: u128, align: u128) -> Option<T> {
@@ -115,13 +116,14 @@ impl<T: FromPlace> ChunkedRangeSet<T> {
 
     // The place of that value.
     fn first_aligned_place(&self, start: &T, end: &T, count: u128, align: u128) -> Option<u128> {
+        let multiples = Multiples::among::<T>(align);
         if count == 0 {
             if !start.cmp(end).is_le() {
                 return None;
             }
-            return place_in(&(start..end), 0, align);
+            return place_in(&(start..end), 0, multiples);
         }
-        let row = first_fit(self.gaps(start..end), count, align)?;
-        Some(row.at)
+        let row = first_fit(self.gaps(start..end), count, multiples)?;
+        Some(row.place)
     }
 }

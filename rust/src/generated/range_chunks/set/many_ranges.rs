@@ -40,7 +40,7 @@ impl<T: EntryClone> ChunkedRangeSet<T> {
     fn add_range(&mut self, range: &Range<T>) -> Result<(), AllocError> {
         if !range.start.cmp(&range.end).is_lt() {
             // Brings that the boundaries are sorted.
-            let _sorted = &self.chunks;
+            let _sorted = &self.list;
             return Ok(());
         }
         let start = range.start.entry_clone()?;

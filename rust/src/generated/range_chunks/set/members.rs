@@ -17,7 +17,7 @@ impl<T: Countable> ChunkedRangeSet<T> {
     /// ensures value: result ≡ members_below T.cmp T.value self.now (T.place at.now)
     /// ```
     pub fn rank(&self, at: &T) -> u128 {
-        rank(self.chunks.as_slice(), at)
+        rank(&self.list, at)
     }
 }
 
@@ -35,7 +35,7 @@ impl<T: FromPlace> ChunkedRangeSet<T> {
     ///     member T.cmp self.now x ≡ false)
     /// ```
     pub fn prev_member(&self, from: &T) -> Option<T> {
-        prev_at(self.chunks.as_slice(), from, true)
+        prev_at(&self.list, from, true)
     }
 
     /// The greatest value at or below `from` that isn't a member, or `None` if there is none. It is
@@ -51,7 +51,7 @@ impl<T: FromPlace> ChunkedRangeSet<T> {
     ///     member T.cmp self.now x ≡ true)
     /// ```
     pub fn prev_gap(&self, from: &T) -> Option<T> {
-        prev_at(self.chunks.as_slice(), from, false)
+        prev_at(&self.list, from, false)
     }
 
     /// The member with `k` members below it, or `None` if there are no more than `k`.
@@ -67,6 +67,6 @@ impl<T: FromPlace> ChunkedRangeSet<T> {
     /// ensures none: IfNone result (members_below T.cmp T.value self.now T.count ≤ k)
     /// ```
     pub fn select(&self, k: u128) -> Option<T> {
-        select(self.chunks.as_slice(), k)
+        select(&self.list, k)
     }
 }

@@ -16,7 +16,7 @@ impl<T: Ord> ChunkedRangeSet<T> {
     ///     self.old ≡ range ∷ ranges_of self.new)
     /// ```
     pub fn pop_first(&mut self) -> Option<RangeSetRange<T>> {
-        pop_first(&mut self.chunks)
+        pop_first(&mut self.list)
     }
 
     /// Removes the last range and returns it, or `None` if the set is empty. It makes no comparison
@@ -29,6 +29,6 @@ impl<T: Ord> ChunkedRangeSet<T> {
     ///     self.old ≡ ranges_of self.new ++ range ∷ [])
     /// ```
     pub fn pop_last(&mut self) -> Option<RangeSetRange<T>> {
-        pop_last(&mut self.chunks)
+        pop_last(&mut self.list)
     }
 }

@@ -6,7 +6,16 @@ use crate::generated::range_collections::countable::Countable;
 /// A value that can be made from its place. This is a trait of its own, so that `Countable` asks no
 /// more of a caller's type than before.
 pub trait FromPlace: Countable + Copy {
-    /// The value with `place` values below it, or `None` if there aren't so many.
+    /// The place of the number 0, from which multiples are counted: 0 if no number is below it.
+    ///
+    /// # Contract
+    ///
+    /// ```text
+    /// ensures result ≡ zero
+    /// ```
+    fn zero() -> u128;
+
+    /// The value with `place` values below it, or `None` if there are too few values.
     ///
     /// # Contract
     ///
@@ -27,6 +36,10 @@ pub trait FromPlace: Countable + Copy {
 }
 
 impl FromPlace for u8 {
+    fn zero() -> u128 {
+        0
+    }
+
     fn from_place(place: u128) -> Option<u8> {
         u8::try_from(place).ok()
     }
@@ -37,6 +50,10 @@ impl FromPlace for u8 {
 }
 
 impl FromPlace for u16 {
+    fn zero() -> u128 {
+        0
+    }
+
     fn from_place(place: u128) -> Option<u16> {
         u16::try_from(place).ok()
     }
@@ -47,6 +64,10 @@ impl FromPlace for u16 {
 }
 
 impl FromPlace for u32 {
+    fn zero() -> u128 {
+        0
+    }
+
     fn from_place(place: u128) -> Option<u32> {
         u32::try_from(place).ok()
     }
@@ -57,6 +78,10 @@ impl FromPlace for u32 {
 }
 
 impl FromPlace for u64 {
+    fn zero() -> u128 {
+        0
+    }
+
     fn from_place(place: u128) -> Option<u64> {
         u64::try_from(place).ok()
     }
@@ -67,6 +92,10 @@ impl FromPlace for u64 {
 }
 
 impl FromPlace for u128 {
+    fn zero() -> u128 {
+        0
+    }
+
     fn from_place(place: u128) -> Option<u128> {
         Some(place)
     }
@@ -77,6 +106,10 @@ impl FromPlace for u128 {
 }
 
 impl FromPlace for usize {
+    fn zero() -> u128 {
+        0
+    }
+
     fn from_place(place: u128) -> Option<usize> {
         usize::try_from(place).ok()
     }
@@ -87,6 +120,10 @@ impl FromPlace for usize {
 }
 
 impl FromPlace for i8 {
+    fn zero() -> u128 {
+        1 << 7
+    }
+
     fn from_place(place: u128) -> Option<i8> {
         i8::try_from(i128::try_from(place).ok()? + i8::MIN as i128).ok()
     }
@@ -97,6 +134,10 @@ impl FromPlace for i8 {
 }
 
 impl FromPlace for i16 {
+    fn zero() -> u128 {
+        1 << 15
+    }
+
     fn from_place(place: u128) -> Option<i16> {
         i16::try_from(i128::try_from(place).ok()? + i16::MIN as i128).ok()
     }
@@ -107,6 +148,10 @@ impl FromPlace for i16 {
 }
 
 impl FromPlace for i32 {
+    fn zero() -> u128 {
+        1 << 31
+    }
+
     fn from_place(place: u128) -> Option<i32> {
         i32::try_from(i128::try_from(place).ok()? + i32::MIN as i128).ok()
     }
@@ -117,6 +162,10 @@ impl FromPlace for i32 {
 }
 
 impl FromPlace for i64 {
+    fn zero() -> u128 {
+        1 << 63
+    }
+
     fn from_place(place: u128) -> Option<i64> {
         i64::try_from(i128::try_from(place).ok()? + i64::MIN as i128).ok()
     }
@@ -127,6 +176,10 @@ impl FromPlace for i64 {
 }
 
 impl FromPlace for i128 {
+    fn zero() -> u128 {
+        1 << 127
+    }
+
     fn from_place(place: u128) -> Option<i128> {
         match i128::try_from(place) {
             Ok(above) => Some(i128::MIN + above),
@@ -140,6 +193,10 @@ impl FromPlace for i128 {
 }
 
 impl FromPlace for isize {
+    fn zero() -> u128 {
+        isize::MAX as u128 + 1
+    }
+
     fn from_place(place: u128) -> Option<isize> {
         isize::try_from(i128::try_from(place).ok()? + isize::MIN as i128).ok()
     }
@@ -150,6 +207,10 @@ impl FromPlace for isize {
 }
 
 impl FromPlace for char {
+    fn zero() -> u128 {
+        0
+    }
+
     fn from_place(place: u128) -> Option<char> {
         let code = u32::try_from(place).ok()?;
         if code < 0xD800 {

@@ -16,7 +16,7 @@ impl<T: Ord, const N: usize> RangeSet<T, N> {
     ///
     /// Each call moves the boundaries after the range. If there are many ranges, make a set of them
     /// by `from_ranges` and add it by `union_with`: of 100,000 ranges at random, one call each
-    /// takes over 30 times as long, and of as many in order some 4 times.
+    /// takes over 30 times as long.
     ///
     /// It asks for memory only if the set grows by two boundaries and has no room for them, and
     /// before it changes anything. If that fails, the set is as it was and the range is dropped.
@@ -55,7 +55,7 @@ impl<T: Ord, const N: usize> RangeSet<T, N> {
     }
 
     /// Adds the elements of the range, as `insert` does, and returns `true` if one of them wasn't a
-    /// member before. It makes at most `4 * d + 2` comparisons, where `d` is the number of binary
+    /// member before. It makes at most `3 * d + 3` comparisons, where `d` is the number of binary
     /// digits of the number of boundaries (seen by reading).
     ///
     /// ```text

@@ -3,7 +3,7 @@
 
 use crate::generated::range_collections::range_set::RangeSet;
 use crate::generated::range_collections::view::RangeSetRef;
-use crate::generated::range_entry::{EntryClone, RangeSetEntry};
+use crate::generated::range_entry::EntryClone;
 use crate::support::AllocError;
 
 impl<T: EntryClone, const N: usize> RangeSet<T, N> {
@@ -83,5 +83,3 @@ impl<T: EntryClone, const N: usize> RangeSet<T, N> {
         self.as_ref().symmetric_difference(self.allocator(), that)
     }
 }
-
-impl<T: RangeSetEntry + EntryClone, const N: usize> RangeSet<T, N> {}

@@ -3,6 +3,8 @@
 //!
 //! The form with two references does the work, and the others call it; what was owned is dropped,
 //! also where memory is refused.
+//!
+//! `bitor_gives` and the like have both clauses, for a caller with a bound in place of a set.
 
 use crate::generated::range_collections::comparisons::Comparisons;
 use crate::generated::range_collections::lists::{begins_at_least, give_back_room};

@@ -6,7 +6,7 @@ use crate::generated::range_collections::comparisons::Comparisons;
 use crate::generated::range_collections::lists::is_odd;
 use crate::generated::range_collections::range_set_range::has_elements;
 use crate::generated::range_merge::search;
-use crate::support::{move_last_two, AllocError, SmallVec};
+use crate::support::{append_both, move_last_two, AllocError, SmallVec};
 use core::mem;
 use core::ops::Range;
 
@@ -28,11 +28,21 @@ pub(crate) fn set_range<T: Ord, const N: usize>(
     splice(list, from, to, start, end)
 }
 
-// Where the items are cut around an element, so that an odd number stands before exactly if
-// `inside`, and the element where it has to be put there for that. An item that is equal to it
-// stands before the cut or after it, as the number asks.
+/// Where a strictly sorted list is cut around an element, so that the number of items before the
+/// cut is odd exactly if `inside` is true. Returns the index of the cut, and the element if it has
+/// to be put there for that. An item equal to the element stands before the cut or after it, by
+/// that number.
+///
+/// # Contract
+///
+/// ```text
+/// requires sorted: IsAscending T.cmp items.now
+/// requires made: count.old < 2 ^ 127
+/// ensures cut: IsCut T.cmp inside items.now at result.0 result.1
+/// ensures comparisons: AddsAtMost count.old count.new (digits (length items.now))
+/// ```
 #[inline]
-pub(super) fn cut_at<T: Ord>(
+pub(crate) fn cut_at<T: Ord>(
     items: &[T],
     at: T,
     inside: bool,
@@ -109,9 +119,7 @@ fn insert_both<T, const N: usize>(
     start: T,
     end: T,
 ) -> Result<(), AllocError> {
-    list.reserve(2)?;
-    list.push_reserved(start);
-    list.push_reserved(end);
+    append_both(list, start, end)?;
     move_last_two(list.as_mut_slice(), at);
     Ok(())
 }

@@ -2,14 +2,11 @@
 //! The set of single values, which stand in a row.
 
 use crate::generated::range_collections::countable::FromPlace;
-use crate::generated::range_collections::range_set::RangeSet;
 use crate::generated::range_collections::range_set_range::RangeSetRange;
-use crate::generated::range_entry::EntryClone;
 use core::ops::{Range, RangeFrom};
 
-impl<T: FromPlace + EntryClone, const N: usize> RangeSet<T, N> {}
-
 // The range that has this value alone.
+#[inline(always)]
 pub(crate) fn range_of<T: FromPlace>(value: &T) -> RangeSetRange<T> {
     match next_value(value) {
         Some(end) => RangeSetRange::Range(Range { start: *value, end }),
@@ -18,6 +15,7 @@ pub(crate) fn range_of<T: FromPlace>(value: &T) -> RangeSetRange<T> {
 }
 
 // The least value above this one, if there is one.
+#[inline(always)]
 fn next_value<T: FromPlace>(value: &T) -> Option<T> {
     T::from_place(value.place().checked_add(1)?)
 }

@@ -146,6 +146,9 @@ impl<'a, T: RangeSetEntry + EntryClone> RangeSetRef<'a, T> {
     /// ensures flipped: O.connective op.now false false ≡ true → IfOk result (λ set. AreFlipped
     ///     T.cmp T.least (AreCopies T.is_copy (changes T.cmp (O.connective op.now)
     ///     self.now.boundaries.now that.entry.boundaries.now)) set)
+    /// // Of lists of values it has values alone.
+    /// ensures values: EqualsAreValues T.cmp T.is_value → All T.is_value self.now.boundaries.now →
+    ///     All T.is_value that.entry.boundaries.now → IfOk result (λ set. All T.is_value set)
     /// ensures succeeds: O.connective op.now false false ≡ false → length self.now.boundaries.now +
     ///     length that.entry.boundaries.now ≤ M → All T.is_infallible self.now.boundaries.now → All
     ///     T.is_infallible that.entry.boundaries.now → IsOk result

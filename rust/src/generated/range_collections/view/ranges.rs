@@ -7,7 +7,7 @@ use crate::generated::range_collections::iter::Iter;
 use crate::generated::range_collections::lists::is_odd;
 use crate::generated::range_collections::range_set_range::{has_elements, RangeSetRange};
 use crate::generated::range_collections::view::RangeSetRef;
-use crate::generated::range_merge::{count_up_to, search};
+use crate::generated::range_merge::{count_up_to, search, Compare};
 use core::ops::{Range, RangeFrom};
 
 impl<'a, T: Ord> RangeSetRef<'a, T> {
@@ -175,8 +175,8 @@ impl<'a, T: Ord> RangeSetRef<'a, T> {
         self.contains_range_counted(range, &mut Comparisons::new())
     }
 
-    /// The same, counted: at most `2 * d + 1` comparisons, where `d` is the number of binary digits
-    /// of the number of boundaries.
+    /// The same, counted: at most `d + 2` comparisons, where `d` is the number of binary digits of
+    /// the number of boundaries; one if there are none.
     ///
     /// # Contract
     ///
@@ -184,8 +184,8 @@ impl<'a, T: Ord> RangeSetRef<'a, T> {
     /// requires count.old < 2 ^ 64
     /// ensures members: IsTrue result ↔ HasAllWithin T.cmp self.now.boundaries.now range.start
     ///     range.end
-    /// ensures comparisons: AddsAtMost count.old count.new (2 * digits (length
-    ///     self.now.boundaries.now) + 1)
+    /// ensures comparisons: AddsAtMost count.old count.new (digits (length self.now.boundaries.now)
+    ///     + min 1 (length self.now.boundaries.now) + 1)
     /// ```
     #[inline]
     pub(crate) fn contains_range_counted(&self, range: Range<T>, count: &mut Comparisons) -> bool {
@@ -214,7 +214,7 @@ impl<'a, T: Ord> RangeSetRef<'a, T> {
         if !is_odd(before) {
             return false;
         }
-        before == self.count_below(end, count)
+        !self.is_next_below(before, end, count)
     }
 
     // Whether some element from `start` on and below `end` is a member.
@@ -227,7 +227,7 @@ impl<'a, T: Ord> RangeSetRef<'a, T> {
         if is_odd(count) {
             return true;
         }
-        self.is_next_below(count, end)
+        self.is_next_below(count, end, &mut Comparisons::new())
     }
 
     // The least element at or above `from` that is a member, where `inside` is true, or else that
@@ -243,9 +243,9 @@ impl<'a, T: Ord> RangeSetRef<'a, T> {
 
     // Whether there is a boundary at place `i`, and it is below `end`.
     #[inline(always)]
-    fn is_next_below(&self, i: usize, end: &T) -> bool {
+    fn is_next_below(&self, i: usize, end: &T, count: &mut Comparisons) -> bool {
         match self.boundaries.get(i) {
-            Some(next) => next.cmp(end).is_lt(),
+            Some(next) => count.compare(next, end).is_lt(),
             None => false,
         }
     }

@@ -3,32 +3,36 @@
 //! its option differs from the last one.
 
 use crate::generated::range_collections::{Comparisons, EntryClone, Run};
+use crate::generated::range_list::Chunks;
+use crate::generated::range_map::borrowed_steps::BorrowedSteps;
 use crate::generated::range_map::map::RangeMap;
 use crate::generated::range_map::operation::MapOperation;
-use crate::generated::range_map::places::{is_before, option_before};
+use crate::generated::range_map::places::is_before;
 use crate::generated::range_map::runs::{left_len, next_run, right_len};
-use crate::generated::range_map::side::Side;
+use crate::generated::range_map::step::Step;
 use crate::support::{AllocError, Global};
 
 // What the operation makes of both.
 pub(super) fn combined<K: EntryClone, V, W, O: MapOperation<V, W>>(
     alloc: Global,
-    a: &Side<K, V>,
-    b: &Side<K, W>,
+    a: &BorrowedSteps<K, V>,
+    b: &BorrowedSteps<K, W>,
     op: &O,
     count: &mut Comparisons,
 ) -> Result<RangeMap<K, O::Output>, AllocError> {
     let mut made = RangeMap::new(alloc);
+    let a_len = a.len();
+    let b_len = b.len();
     let mut i = 0;
     let mut j = 0;
-    while i < a.keys.len() && j < b.keys.len() {
-        let run = next_run(a.keys, i, b.keys, j, count);
+    while i < a_len && j < b_len {
+        let run = next_run(a, i, b, j, count);
         put_run(&mut made, a, i, b, j, run, op)?;
         i += left_len(run);
         j += right_len(run);
     }
-    put_left(&mut made, a, i, a.keys.len(), b, j, op)?;
-    put_right(&mut made, a, a.keys.len(), b, j, b.keys.len(), op)?;
+    put_left(&mut made, a, i, a_len, b, j, op)?;
+    put_right(&mut made, a, a_len, b, j, b_len, op)?;
     Ok(made)
 }
 
@@ -36,9 +40,9 @@ pub(super) fn combined<K: EntryClone, V, W, O: MapOperation<V, W>>(
 #[inline]
 fn put_run<K: EntryClone, V, W, O: MapOperation<V, W>>(
     made: &mut RangeMap<K, O::Output>,
-    a: &Side<K, V>,
+    a: &BorrowedSteps<K, V>,
     i: usize,
-    b: &Side<K, W>,
+    b: &BorrowedSteps<K, W>,
     j: usize,
     run: Run,
     op: &O,
@@ -54,16 +58,16 @@ fn put_run<K: EntryClone, V, W, O: MapOperation<V, W>>(
 #[inline]
 fn put_left<K: EntryClone, V, W, O: MapOperation<V, W>>(
     made: &mut RangeMap<K, O::Output>,
-    a: &Side<K, V>,
+    a: &BorrowedSteps<K, V>,
     i: usize,
     to: usize,
-    b: &Side<K, W>,
+    b: &BorrowedSteps<K, W>,
     j: usize,
     op: &O,
 ) -> Result<(), AllocError> {
     for n in i..to {
-        let option = op.apply(option_before(a.options, n + 1), option_before(b.options, j))?;
-        put(made, &a.keys[n], option)?;
+        let option = op.apply(a.option_before(n + 1), b.option_before(j))?;
+        put(made, a.key(n), option)?;
     }
     Ok(())
 }
@@ -72,16 +76,16 @@ fn put_left<K: EntryClone, V, W, O: MapOperation<V, W>>(
 #[inline]
 fn put_right<K: EntryClone, V, W, O: MapOperation<V, W>>(
     made: &mut RangeMap<K, O::Output>,
-    a: &Side<K, V>,
+    a: &BorrowedSteps<K, V>,
     i: usize,
-    b: &Side<K, W>,
+    b: &BorrowedSteps<K, W>,
     j: usize,
     to: usize,
     op: &O,
 ) -> Result<(), AllocError> {
     for n in j..to {
-        let option = op.apply(option_before(a.options, i), option_before(b.options, n + 1))?;
-        put(made, &b.keys[n], option)?;
+        let option = op.apply(a.option_before(i), b.option_before(n + 1))?;
+        put(made, b.key(n), option)?;
     }
     Ok(())
 }
@@ -90,35 +94,38 @@ fn put_right<K: EntryClone, V, W, O: MapOperation<V, W>>(
 #[inline]
 fn put_both<K: EntryClone, V, W, O: MapOperation<V, W>>(
     made: &mut RangeMap<K, O::Output>,
-    a: &Side<K, V>,
+    a: &BorrowedSteps<K, V>,
     i: usize,
-    b: &Side<K, W>,
+    b: &BorrowedSteps<K, W>,
     j: usize,
     op: &O,
 ) -> Result<(), AllocError> {
-    let option = op.apply(
-        option_before(a.options, i + 1),
-        option_before(b.options, j + 1),
-    )?;
-    put(made, &a.keys[i], option)
+    let option = op.apply(a.option_before(i + 1), b.option_before(j + 1))?;
+    put(made, a.key(i), option)
 }
 
 // Puts a step at the end, with a copy of the key, if its option differs from the last one.
 #[inline]
-fn put<K: EntryClone, U: Eq>(
+pub(super) fn put<K: EntryClone, U: Eq>(
     made: &mut RangeMap<K, U>,
     key: &K,
     option: Option<U>,
 ) -> Result<(), AllocError> {
-    if is_before(made.options.as_slice(), made.options.len(), &option) {
+    push(&mut made.steps, key, option)
+}
+
+// The same of a list of steps.
+#[inline]
+fn push<K: EntryClone, U: Eq>(
+    steps: &mut Chunks<Step<K, U>, ()>,
+    key: &K,
+    option: Option<U>,
+) -> Result<(), AllocError> {
+    if is_before(steps, steps.end(), &option) {
         return Ok(());
     }
     let key = key.entry_clone()?;
-    made.keys.reserve(1)?;
-    made.options.reserve(1)?;
-    made.keys.push_reserved(key);
-    made.options.push_reserved(option);
-    Ok(())
+    steps.push(Step { key, option })
 }
 
 impl<K: EntryClone, V: Eq> RangeMap<K, V> {
@@ -130,7 +137,7 @@ impl<K: EntryClone, V: Eq> RangeMap<K, V> {
     ///
     /// The operation is asked once for each step of either map. It must give nothing where both
     /// have nothing. It makes at most twice as many comparisons of keys as the weight of both lists
-    /// of keys, and asks for memory as the result grows.
+    /// of keys. It asks for memory for a reference to each step, and as the result grows.
     ///
     /// # Contract
     ///
@@ -141,6 +148,7 @@ impl<K: EntryClone, V: Eq> RangeMap<K, V> {
     ///     that.now map)
     /// ensures comparisons: AddsAtMost count.old count.new (2 * weight K.cmp self.now.keys
     ///     that.now.keys)
+    /// ensures succeeds: length self.now.keys ≡ 0 → length that.now.keys ≡ 0 → IsOk result
     /// ```
     pub(crate) fn combine<W: Eq, O: MapOperation<V, W>>(
         &self,
@@ -149,17 +157,19 @@ impl<K: EntryClone, V: Eq> RangeMap<K, V> {
         op: &O,
         count: &mut Comparisons,
     ) -> Result<RangeMap<K, O::Output>, AllocError> {
-        combined(alloc, &self.side(), &that.side(), op, count)
+        let left = self.borrowed_steps(alloc)?;
+        let right = that.borrowed_steps(alloc)?;
+        combined(alloc, &left, &right, op, count)
     }
 }
 
 impl<K: Ord, V: Eq> RangeMap<K, V> {
-    // The steps.
+    // The steps, by reference.
     #[inline(always)]
-    pub(super) fn side(&self) -> Side<'_, K, V> {
-        Side {
-            keys: self.keys.as_slice(),
-            options: self.options.as_slice(),
-        }
+    pub(super) fn borrowed_steps(
+        &self,
+        alloc: Global,
+    ) -> Result<BorrowedSteps<'_, K, V>, AllocError> {
+        BorrowedSteps::of_steps(alloc, self.steps.items())
     }
 }

@@ -2,9 +2,11 @@
 //! Copies of a map.
 
 use crate::generated::range_collections::EntryClone;
+use crate::generated::range_list::{Chunks, Items};
 use crate::generated::range_map::map::RangeMap;
+use crate::generated::range_map::step::Step;
 use crate::generated::range_map::value::{copy_option, MapValue};
-use crate::support::{AllocError, Global, Vec};
+use crate::support::{AllocError, Global};
 
 impl<K: EntryClone, V: MapValue> RangeMap<K, V> {
     /// A map of copies of the keys and the values, or an error if memory runs out.
@@ -15,28 +17,31 @@ impl<K: EntryClone, V: MapValue> RangeMap<K, V> {
     /// ensures keys: IfOk result (λ map. AllZip K.is_copy self.now.keys map.keys)
     /// ensures equal: IfOk result (λ map. AreEqualSteps K.cmp V.eq self.now map)
     /// ensures values: IfOk result (λ map. IsSameMap K.cmp V.eq self.now map)
+    /// ensures succeeds: length self.now.keys ≡ 0 → IsOk result
     /// ```
     pub fn try_clone(&self) -> Result<Self, AllocError> {
-        let alloc = *self.keys.allocator();
-        Ok(RangeMap {
-            keys: clones(alloc, self.keys.as_slice())?,
-            options: copies(alloc, self.options.as_slice())?,
-        })
+        let steps = copies(self.steps.allocator(), self.steps.items())?;
+        Ok(RangeMap { steps })
     }
 }
 
-// A list of clones of the keys.
-fn clones<K: EntryClone>(alloc: Global, keys: &[K]) -> Result<Vec<K>, AllocError> {
-    let mut list = Vec::with_capacity(alloc, keys.len())?;
-    K::append_clones(&mut list, keys)?;
+// A list of copies of the steps.
+fn copies<K: EntryClone, V: MapValue>(
+    alloc: Global,
+    steps: Items<'_, Step<K, V>, ()>,
+) -> Result<Chunks<Step<K, V>, ()>, AllocError> {
+    let mut list = Chunks::new(alloc);
+    let mut unread = steps;
+    while let Some(step) = unread.take_first() {
+        list.push(copy_of(step)?)?;
+    }
     Ok(list)
 }
 
-// A list of copies of the options.
-fn copies<V: MapValue>(alloc: Global, options: &[Option<V>]) -> Result<Vec<Option<V>>, AllocError> {
-    let mut list = Vec::with_capacity(alloc, options.len())?;
-    for option in options {
-        list.push(copy_option(option.as_ref())?)?;
-    }
-    Ok(list)
+// A copy of a step.
+fn copy_of<K: EntryClone, V: MapValue>(step: &Step<K, V>) -> Result<Step<K, V>, AllocError> {
+    Ok(Step {
+        key: step.key.entry_clone()?,
+        option: copy_option(step.option.as_ref())?,
+    })
 }

@@ -2,14 +2,35 @@
 //! Maps compared: equal if each key has equal values in both, which is that their steps are equal
 //! one by one.
 
+use crate::generated::range_list::Items;
 use crate::generated::range_map::map::RangeMap;
+use crate::generated::range_map::step::Step;
 
 impl<K: Ord, V: Eq> PartialEq for RangeMap<K, V> {
     /// Whether each key has equal values in both, or none in either.
     fn eq(&self, other: &Self) -> bool {
-        self.keys.as_slice() == other.keys.as_slice()
-            && self.options.as_slice() == other.options.as_slice()
+        are_equal(self.steps.items(), other.steps.items())
     }
 }
 
 impl<K: Ord, V: Eq> Eq for RangeMap<K, V> {}
+
+// Whether the steps are equal one by one.
+fn are_equal<K: Ord, V: Eq>(
+    these: Items<'_, Step<K, V>, ()>,
+    those: Items<'_, Step<K, V>, ()>,
+) -> bool {
+    let mut these = these;
+    let mut those = those;
+    while let Some(this) = these.take_first() {
+        match those.take_first() {
+            Some(that) => {
+                if this.key != that.key || this.option != that.option {
+                    return false;
+                }
+            }
+            None => return false,
+        }
+    }
+    those.first().is_none()
+}

@@ -5,9 +5,8 @@ use crate::generated::range_collections::{Comparisons, RangeSetRange};
 use crate::generated::range_map::gaps::Gaps;
 use crate::generated::range_map::iter::Iter;
 use crate::generated::range_map::map::RangeMap;
-use crate::generated::range_map::places::{key_before, option_before};
+use crate::generated::range_map::places::{key_at, key_before, option_before, place_up_to};
 use crate::generated::range_map::within::{gaps_between, overlapping_steps};
-use crate::generated::range_merge::count_up_to;
 use core::ops::Range;
 
 /// The longest range around a key whose keys all have one value, or all have none. It has no start
@@ -29,7 +28,7 @@ impl<K: Ord, V: Eq> RangeMap<K, V> {
     /// ```
     #[inline]
     pub fn iter(&self) -> Iter<'_, K, V> {
-        Iter::new(self.keys.as_slice(), self.options.as_slice(), None)
+        Iter::new(self.steps.items(), None)
     }
 
     /// The ranges that share a key with this one, whole, each with its value. It has none in common
@@ -46,12 +45,7 @@ impl<K: Ord, V: Eq> RangeMap<K, V> {
     ///     self.now)
     /// ```
     pub fn overlapping<'a>(&'a self, range: Range<&K>) -> Iter<'a, K, V> {
-        overlapping_steps(
-            self.keys.as_slice(),
-            self.options.as_slice(),
-            range.start,
-            range.end,
-        )
+        overlapping_steps(&self.steps, range.start, range.end)
     }
 
     /// The parts of a range whose keys have no value, from the lowest on and from the highest down.
@@ -67,12 +61,7 @@ impl<K: Ord, V: Eq> RangeMap<K, V> {
     /// ensures AreGaps K.cmp self.now within.entry.start.now within.entry.end.now result
     /// ```
     pub fn gaps<'a>(&'a self, within: Range<&'a K>) -> Gaps<'a, K, V> {
-        gaps_between(
-            self.keys.as_slice(),
-            self.options.as_slice(),
-            within.start,
-            within.end,
-        )
+        gaps_between(&self.steps, within.start, within.end)
     }
 
     /// The longest range around `key` with its value, or with none.
@@ -90,11 +79,11 @@ impl<K: Ord, V: Eq> RangeMap<K, V> {
     ///     (option_copied result.end)
     /// ```
     pub fn range_at(&self, key: &K) -> Stretch<'_, K, V> {
-        let n = count_up_to(self.keys.as_slice(), key, &mut Comparisons::new());
+        let place = place_up_to(&self.steps, key, &mut Comparisons::new());
         Stretch {
-            start: key_before(self.keys.as_slice(), n),
-            end: self.keys.as_slice().get(n),
-            value: option_before(self.options.as_slice(), n),
+            start: key_before(&self.steps, place),
+            end: key_at(&self.steps, place),
+            value: option_before(&self.steps, place),
         }
     }
 }

@@ -3,12 +3,13 @@
 //! others.
 
 use crate::generated::range_collections::{Comparisons, EntryClone, RangeSet, RangeSetRef};
+use crate::generated::range_map::borrowed_steps::BorrowedSteps;
 use crate::generated::range_map::map::combining::combined;
 use crate::generated::range_map::map::RangeMap;
-use crate::generated::range_map::operations::{unit_if, HasThis, HasValue, Within};
-use crate::generated::range_map::side::Side;
+use crate::generated::range_map::operations::{HasThis, HasValue, Within};
+use crate::generated::range_map::step::StepKey;
 use crate::generated::range_map::value::MapValue;
-use crate::support::{AllocError, Global, SmallVec, Vec};
+use crate::support::{AllocError, Global, SmallVec};
 
 impl<K: EntryClone, V: Eq> RangeMap<K, V> {
     /// The set of the keys that have a value.
@@ -16,13 +17,17 @@ impl<K: EntryClone, V: Eq> RangeMap<K, V> {
     /// # Contract
     ///
     /// ```text
-    /// ensures IfOk result (λ set. (x : K) → member K.cmp set x ≡ is_some (value_at K.cmp self.now
-    ///     x))
+    /// ensures members: IfOk result (λ set. (x : K) → member K.cmp set x ≡ is_some (value_at K.cmp
+    ///     self.now x))
+    /// ensures succeeds: length self.now.keys ≡ 0 → IsOk result
     /// ```
     pub fn domain<const N: usize>(&self, alloc: Global) -> Result<RangeSet<K, N>, AllocError> {
+        if self.steps.is_empty() {
+            return Ok(RangeSet::empty(alloc));
+        }
         let nothing: RangeMap<K, ()> = RangeMap::new(alloc);
         let units = self.combine(alloc, &nothing, &HasValue, &mut Comparisons::new())?;
-        Ok(set_of(units))
+        units.into_set()
     }
 
     /// The set of the keys that have this value.
@@ -30,17 +35,21 @@ impl<K: EntryClone, V: Eq> RangeMap<K, V> {
     /// # Contract
     ///
     /// ```text
-    /// ensures IfOk result (λ set. (x : K) → member K.cmp set x ≡ option_eq V.eq (value_at K.cmp
-    ///     self.now x) (Some value.now))
+    /// ensures members: IfOk result (λ set. (x : K) → member K.cmp set x ≡ option_eq V.eq (value_at
+    ///     K.cmp self.now x) (Some value.now))
+    /// ensures succeeds: length self.now.keys ≡ 0 → IsOk result
     /// ```
     pub fn where_equal<const N: usize>(
         &self,
         alloc: Global,
         value: &V,
     ) -> Result<RangeSet<K, N>, AllocError> {
+        if self.steps.is_empty() {
+            return Ok(RangeSet::empty(alloc));
+        }
         let nothing: RangeMap<K, ()> = RangeMap::new(alloc);
         let units = self.combine(alloc, &nothing, &HasThis(value), &mut Comparisons::new())?;
-        Ok(set_of(units))
+        units.into_set()
     }
 }
 
@@ -50,8 +59,9 @@ impl<K: EntryClone, V: MapValue> RangeMap<K, V> {
     /// # Contract
     ///
     /// ```text
-    /// ensures IfOk result (λ map. (x : K) → AreAlike V.eq (value_at K.cmp map x) (cond (member
-    ///     K.cmp set.entry.boundaries.now x) (value_at K.cmp self.now x) None))
+    /// ensures values: IfOk result (λ map. (x : K) → AreAlike V.eq (value_at K.cmp map x) (cond
+    ///     (member K.cmp set.entry.boundaries.now x) (value_at K.cmp self.now x) None))
+    /// ensures succeeds: length self.now.keys ≡ 0 → IsOk result
     /// ```
     pub fn restrict(&self, alloc: Global, set: RangeSetRef<K>) -> Result<Self, AllocError> {
         self.within(alloc, set, true)
@@ -62,8 +72,9 @@ impl<K: EntryClone, V: MapValue> RangeMap<K, V> {
     /// # Contract
     ///
     /// ```text
-    /// ensures IfOk result (λ map. (x : K) → AreAlike V.eq (value_at K.cmp map x) (cond (member
-    ///     K.cmp set.entry.boundaries.now x) None (value_at K.cmp self.now x)))
+    /// ensures values: IfOk result (λ map. (x : K) → AreAlike V.eq (value_at K.cmp map x) (cond
+    ///     (member K.cmp set.entry.boundaries.now x) None (value_at K.cmp self.now x)))
+    /// ensures succeeds: length self.now.keys ≡ 0 → IsOk result
     /// ```
     pub fn without(&self, alloc: Global, set: RangeSetRef<K>) -> Result<Self, AllocError> {
         self.within(alloc, set, false)
@@ -73,35 +84,28 @@ impl<K: EntryClone, V: MapValue> RangeMap<K, V> {
 impl<K: EntryClone, V: MapValue> RangeMap<K, V> {
     // The map on the members of the set, or else on the others.
     fn within(&self, alloc: Global, set: RangeSetRef<K>, inside: bool) -> Result<Self, AllocError> {
-        let options = on_off(alloc, set.boundaries.len())?;
-        let side = Side {
-            keys: set.boundaries,
-            options: options.as_slice(),
-        };
+        if self.steps.is_empty() {
+            return Ok(RangeMap::new(alloc));
+        }
+        let left = self.borrowed_steps(alloc)?;
+        let right = BorrowedSteps::of_set(alloc, set)?;
         combined(
             alloc,
-            &self.side(),
-            &side,
+            &left,
+            &right,
             &Within { inside },
             &mut Comparisons::new(),
         )
     }
 }
 
-// So many options: by turns the unit, first, and none.
-fn on_off(alloc: Global, len: usize) -> Result<Vec<Option<()>>, AllocError> {
-    let mut list = Vec::with_capacity(alloc, len)?;
-    for i in 0..len {
-        list.push(unit_if(i % 2 == 0))?;
+impl<K: Ord> RangeMap<K, ()> {
+    // The set of the keys that have the unit.
+    fn into_set<const N: usize>(self) -> Result<RangeSet<K, N>, AllocError> {
+        let RangeMap { steps } = self;
+        match steps.into_list(&StepKey) {
+            Ok(keys) => Ok(RangeSet::new_unchecked(SmallVec::from_vec(keys))),
+            Err((error, _)) => Err(error),
+        }
     }
-    Ok(list)
-}
-
-// The set of the keys of a map to the unit that have it.
-fn set_of<K: Ord, const N: usize>(map: RangeMap<K, ()>) -> RangeSet<K, N> {
-    let RangeMap {
-        keys,
-        options: _options,
-    } = map;
-    RangeSet::new_unchecked(SmallVec::from_vec(keys))
 }

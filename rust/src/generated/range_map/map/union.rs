@@ -14,8 +14,9 @@ impl<K: EntryClone, V: MapValue> RangeMap<K, V> {
     /// # Contract
     ///
     /// ```text
-    /// ensures IfOk result (λ map. IsCombined K.cmp V.eq (λ p q. option_or p q) self.now that.now
-    ///     map)
+    /// ensures values: IfOk result (λ map. IsCombined K.cmp V.eq (λ p q. option_or p q) self.now
+    ///     that.now map)
+    /// ensures succeeds: length self.now.keys ≡ 0 → length that.now.keys ≡ 0 → IsOk result
     /// ```
     pub fn union_with_left(&self, alloc: Global, that: &Self) -> Result<Self, AllocError> {
         self.combine(alloc, that, &LeftFirst, &mut Comparisons::new())
@@ -27,8 +28,9 @@ impl<K: EntryClone, V: MapValue> RangeMap<K, V> {
     /// # Contract
     ///
     /// ```text
-    /// ensures IfOk result (λ map. IsCombined K.cmp V.eq (λ p q. option_or q p) self.now that.now
-    ///     map)
+    /// ensures values: IfOk result (λ map. IsCombined K.cmp V.eq (λ p q. option_or q p) self.now
+    ///     that.now map)
+    /// ensures succeeds: length self.now.keys ≡ 0 → length that.now.keys ≡ 0 → IsOk result
     /// ```
     pub fn union_with_right(&self, alloc: Global, that: &Self) -> Result<Self, AllocError> {
         self.combine(alloc, that, &RightFirst, &mut Comparisons::new())

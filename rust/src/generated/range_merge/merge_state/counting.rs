@@ -2,9 +2,8 @@
 //! Short runs of two slices, read by place into a number.
 
 use crate::generated::range_merge::by_place::read_by_place;
-use crate::generated::range_merge::compare::Compare;
+use crate::generated::range_merge::compare::{Compare, Done, Work};
 use crate::generated::range_merge::merge_state::over_slices::SliceMergeState;
-use crate::generated::range_merge::merge_state::reading::Read;
 use crate::generated::range_merge::merge_state::MergeState;
 use crate::generated::range_merge::operations::MergeOperation;
 use crate::generated::range_merge::pacing::{are_few, Rounds};
@@ -55,6 +54,9 @@ impl<'a, K, O: MergeOperation, C: Compare<K>> ShortRuns<SliceMergeState<'a, K, u
         if are_few(state) {
             return next;
         }
+        if self.rounds.were_long(state.a_len()) {
+            return next;
+        }
         let at = count_short_runs(state, op, next, cmp);
         self.rounds.learn(at);
         at.next
@@ -76,16 +78,36 @@ fn count_short_runs<K, O: MergeOperation, C: Compare<K>>(
     };
     let a = state.a.as_slice();
     let b = state.b.as_slice();
-    // The counter goes by value, so that the merge can keep its own in registers.
-    let read = read_apart(a, b, next, op, cmp.fresh());
-    cmp.add(read.cmp);
-    let at = read.at;
+    // By value, so that the merge can keep its own counter in registers.
+    let at = cmp.apart(&mut Counting { a, b, next, op });
     state.a.drop_front(at.i);
     state.b.drop_front(at.j);
     state.ac = state.ac != (at.i % 2 == 1);
     state.bc = state.bc != (at.j % 2 == 1);
     state.output += at.k;
     at
+}
+
+// What is to be counted.
+struct Counting<'r, K, O: MergeOperation> {
+    a: &'r [K],
+    b: &'r [K],
+    next: Ordering,
+    op: &'r Relative<'r, O>,
+}
+
+impl<'r, K, O: MergeOperation, C: Compare<K>> Work<K, C> for Counting<'r, K, O> {
+    type Answer = Place;
+
+    #[inline(always)]
+    fn run(&mut self, cmp: C) -> Done<C, Place> {
+        read_apart(self.a, self.b, self.next, self.op, cmp)
+    }
+
+    #[inline(always)]
+    fn undone(&self) -> Place {
+        Place::start(self.next)
+    }
 }
 
 // Counts short runs, and what it compares in a counter of its own.
@@ -96,8 +118,8 @@ fn read_apart<K, O: MergeOperation, C: Compare<K>>(
     next: Ordering,
     op: &Relative<'_, O>,
     cmp: C,
-) -> Read<C> {
+) -> Done<C, Place> {
     let mut cmp = cmp;
-    let at = read_by_place(a, b, next, op, &mut cmp);
-    Read { at, cmp }
+    let answer = read_by_place(a, b, next, op, &mut cmp);
+    Done { cmp, answer }
 }

@@ -3,6 +3,10 @@
 
 use crate::support::AllocError;
 
+/// From this number of items on a run is copied all at once, which costs more than it saves for a
+/// few.
+pub(crate) const COPIED_AT_ONCE: usize = 8;
+
 /// What the items that are taken are appended to, by a means such as a copier. From which side they
 /// come makes no difference.
 pub trait Output<K, By> {

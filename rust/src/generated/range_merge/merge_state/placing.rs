@@ -3,11 +3,11 @@
 
 use crate::generated::range_merge::compare::Compare;
 use crate::generated::range_merge::in_place_builder::InPlaceBuilder;
+use crate::generated::range_merge::in_place_list::GrowsByGap;
 use crate::generated::range_merge::merge_state::supply::Supply;
 use crate::generated::range_merge::merge_state::{MergeState, MergeStateMut};
 use crate::generated::range_merge::merging;
 use crate::generated::range_merge::operations::MergeOperation;
-use crate::generated::range_merge::place::GrowsByGap;
 use crate::support::AllocError;
 
 /// A state that keeps items of its left list, and puts what its right side gives between them. Once
@@ -46,7 +46,8 @@ impl<K, const N: usize, R: Supply<K>, L: GrowsByGap<K>> PlacingMergeState<K, N, 
     /// # Contract
     ///
     /// ```text
-    /// ensures L.items result ≡ self.kept
+    /// ensures items: L.items result ≡ self.kept
+    /// ensures room: L.room result ≡ self.room
     /// ```
     pub fn result(self) -> L {
         self.builder.only_kept()
@@ -92,7 +93,7 @@ impl<K, const N: usize, R: Supply<K>, L: GrowsByGap<K>> MergeStateMut
     #[inline(always)]
     fn advance_b(&mut self, n: usize, take: bool) -> Result<bool, AllocError> {
         self.bc = self.bc != (n % 2 == 1);
-        put_front(&mut self.builder, &mut self.right, n, take);
+        put_or_drop(&mut self.builder, &mut self.right, n, take);
         Ok(true)
     }
 
@@ -119,7 +120,7 @@ impl<K, const N: usize, R: Supply<K>, L: GrowsByGap<K>> MergeStateMut
 // Removes the first `n` unread items of the right side, and puts what stands for them if they are
 // wanted.
 #[inline(always)]
-fn put_front<K, const N: usize, R: Supply<K>, L: GrowsByGap<K>>(
+fn put_or_drop<K, const N: usize, R: Supply<K>, L: GrowsByGap<K>>(
     builder: &mut InPlaceBuilder<K, N, L>,
     right: &mut R,
     n: usize,

@@ -80,7 +80,9 @@ impl<'a, K, P: Copier<K>, const M: usize> SmallVecMergeState<'a, K, P, M> {
         let mut list = r.into_vec()?;
         // Where there is no room for both at once, the list grows run by run.
         let _asked = list.reserve(a.len().saturating_add(b.len()));
-        Self::merge_into(list, a, b, copier, op, cmp)
+        Ok(inline_if_few(Self::merge_into(
+            list, a, b, copier, op, cmp,
+        )?))
     }
 
     /// Appends to the empty list. It asks for no memory where there is room for both lengths (seen
@@ -92,21 +94,21 @@ impl<'a, K, P: Copier<K>, const M: usize> SmallVecMergeState<'a, K, P, M> {
         copier: &'a P,
         op: &O,
         cmp: &mut C,
-    ) -> Result<SmallVec<K, M>, AllocError> {
+    ) -> Result<Vec<K>, AllocError> {
         let mut state = SliceMergeState::over(a, b, list, Copying { copier });
         let _went_through = match Singly::of(copier) {
             Some(mut reader) => merging::merge_with(&mut state, op, cmp, &mut reader)?,
             None => merging::merge(&mut state, op, cmp)?,
         };
-        Ok(inline_if_few(state.result()))
+        Ok(state.result())
     }
 }
 
 // Of so few items together, most merges take no more than fit inline or in a list that grows once.
 const FEW: usize = 8;
 
-// The items inline if they fit there, and else where they lie.
-fn inline_if_few<K, const M: usize>(items: Vec<K>) -> SmallVec<K, M> {
+/// The items inline if they fit there, and else where they lie.
+pub(crate) fn inline_if_few<K, const M: usize>(items: Vec<K>) -> SmallVec<K, M> {
     let mut list = SmallVec::from_vec(items);
     if list.len() <= M {
         list.shrink_to_fit();
@@ -114,7 +116,7 @@ fn inline_if_few<K, const M: usize>(items: Vec<K>) -> SmallVec<K, M> {
     list
 }
 
-/// Whether so many items of two lists are together at most `room`.
+/// Whether `a` items and `b` items are together at most `room`.
 pub(crate) fn fit_together(a: usize, b: usize, room: usize) -> bool {
     a <= room && b <= room - a
 }

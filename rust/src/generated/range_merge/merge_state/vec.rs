@@ -3,17 +3,14 @@
 
 use crate::generated::range_merge::compare::Copier;
 use crate::generated::range_merge::merge_state::grows_at_end::append_copies;
-use crate::generated::range_merge::merge_state::output::Output;
+use crate::generated::range_merge::merge_state::output::{Output, COPIED_AT_ONCE};
 use crate::generated::range_merge::merge_state::small_vec::Copying;
 use crate::support::{AllocError, Vec};
-
-// A run of so many items is copied all at once, which costs more than it saves for a few.
-const MANY: usize = 8;
 
 impl<'a, K, P: Copier<K>> Output<K, Copying<'a, P>> for Vec<K> {
     #[inline(always)]
     fn append(&mut self, items: &[K], take: bool, by: &Copying<'a, P>) -> Result<bool, AllocError> {
-        if items.len() < MANY {
+        if items.len() < COPIED_AT_ONCE {
             append_copies(self, items, take, by.copier)?;
         } else if take {
             by.copier.append(self, items)?;

@@ -11,14 +11,14 @@ use crate::support::{select_unpredictable, Log2Down};
 /// How many items at the front of a list are known to be at or below a key, and whether one of them
 /// is equal to it.
 #[derive(Clone, Copy)]
-pub(super) struct Front {
+pub(super) struct AtOrBelow {
     pub(super) len: usize,
     pub(super) has_equal: bool,
 }
 
 /// The items at or below `key`, of a list that isn't long.
 #[inline(always)]
-pub(super) fn count_branchless<K, C: Compare<K>>(items: &[K], key: &K, cmp: &mut C) -> Front {
+pub(super) fn count_branchless<K, C: Compare<K>>(items: &[K], key: &K, cmp: &mut C) -> AtOrBelow {
     if items.len() < 4 {
         return count_few(items, key, cmp);
     }
@@ -32,8 +32,8 @@ pub(super) fn count_branchless<K, C: Compare<K>>(items: &[K], key: &K, cmp: &mut
 
 // The same of at most three items, where all steps are known.
 #[inline(always)]
-fn count_few<K, C: Compare<K>>(items: &[K], key: &K, cmp: &mut C) -> Front {
-    let none = Front {
+fn count_few<K, C: Compare<K>>(items: &[K], key: &K, cmp: &mut C) -> AtOrBelow {
+    let none = AtOrBelow {
         len: 0,
         has_equal: false,
     };
@@ -50,11 +50,11 @@ fn count_few<K, C: Compare<K>>(items: &[K], key: &K, cmp: &mut C) -> Front {
 // Leaves `2 ^ levels - 1` items: those before the item that is compared, or as many at the list's
 // end.
 #[inline(always)]
-fn first_comparison<K, C: Compare<K>>(items: &[K], key: &K, cmp: &mut C, levels: u32) -> Front {
+fn first_comparison<K, C: Compare<K>>(items: &[K], key: &K, cmp: &mut C, levels: u32) -> AtOrBelow {
     let power = 1usize << levels;
     let past = items.len() - power + 1;
     let how = cmp.compare(&items[power - 1], key);
-    Front {
+    AtOrBelow {
         // A shift by the answer would make each search wait for the one before.
         len: select_unpredictable(how.is_le(), past, 0),
         has_equal: how.is_eq(),
@@ -67,10 +67,10 @@ fn four_levels<K, C: Compare<K>>(
     items: &[K],
     key: &K,
     cmp: &mut C,
-    front: Front,
+    front: AtOrBelow,
     levels: u32,
     bits: u32,
-) -> Front {
+) -> AtOrBelow {
     if levels <= bits {
         return front;
     }
@@ -86,10 +86,10 @@ fn level<K, C: Compare<K>>(
     items: &[K],
     key: &K,
     cmp: &mut C,
-    front: Front,
+    front: AtOrBelow,
     levels: u32,
     bits: u32,
-) -> Front {
+) -> AtOrBelow {
     if levels <= bits {
         return front;
     }
@@ -98,9 +98,15 @@ fn level<K, C: Compare<K>>(
 
 // Compares the middle one of the items that are left.
 #[inline(always)]
-fn step<K, C: Compare<K>>(items: &[K], key: &K, cmp: &mut C, front: Front, bits: u32) -> Front {
+fn step<K, C: Compare<K>>(
+    items: &[K],
+    key: &K,
+    cmp: &mut C,
+    front: AtOrBelow,
+    bits: u32,
+) -> AtOrBelow {
     let how = cmp.compare(&items[front.len + ((1usize << bits) - 1)], key);
-    Front {
+    AtOrBelow {
         len: front.len + ((how.is_le() as usize) << bits),
         has_equal: front.has_equal | how.is_eq(),
     }

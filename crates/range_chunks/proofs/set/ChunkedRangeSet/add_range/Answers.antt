@@ -4,7 +4,7 @@ use Rattle.std.specs.Ordering.{is_lt}
 use Rattle.std.specs.declared.cmp.Ordering.TheVariants.{Less}
 use Rattle.range_collections.specs.Ranges.{range_items}
 use Rattle.range_collections.proofs.ManyRanges.{Less-copies, IsAdded-copies, IsAdded-none, range_is}
-use Rattle.range_chunks.specs.Chunks.{flat}
+use Rattle.range_list.specs.Lists.{joined}
 use Rattle.range_chunks.proofs.set.ChunkedRangeSet.add_range.Goals as goal
 
 pub returns-then-not-is_lt : goal.returns-then-not-is_lt
@@ -12,7 +12,7 @@ returns-then-not-is_lt g c =
     let r = c.args.range.now in
     let off : is_lt (g.T.Ord.cmp r.start r.end) ≡ false = search rules in
     rw (← c.self.view_is)
-    (IsAdded-none g.met.T.Ord.total g.T.EntryClone.is_copy g.T.EntryClone.is_infallible 0 (flat c.self.inside.chunks.items) _ c.self.invariant.0
+    (IsAdded-none g.met.T.Ord.total g.T.EntryClone.is_copy g.T.EntryClone.is_infallible 0 (joined c.self.inside.list) _ c.self.invariant
     (ap (λ b. cond b (r.start ∷ r.end ∷ []) []) off))
 
 pub returns : goal.returns

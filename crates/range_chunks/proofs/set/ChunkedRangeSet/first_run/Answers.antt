@@ -1,5 +1,5 @@
-use Rattle.std.proofs.Common.{refl, sym, subst, true, arith}
-use Rattle.std.proofs.Math.Nat.{mod-one}
+use Rattle.std.proofs.Common.{sym, subst, true, arith}
+use Rattle.range_collections.proofs.NextMultiple.{each_multiple}
 use Rattle.range_collections.specs.Fits.{IsRow}
 use Rattle.range_collections.proofs.Previous.{IfNone-always}
 use Rattle.range_collections.proofs.Rows.{IsRow-from_parts, IsRow-to_parts}
@@ -9,7 +9,7 @@ pub returns-in_err-row-clause-none : goal.returns-in_err-row-clause-none
 returns-in_err-row-clause-none g c =
     let law = g.met.T.Countable in
     IfNone-always c.from_residual.result
-    (λ n row. c.in_err-row.ensures.none n (mod-one n)
+    (λ n row. c.in_err-row.ensures.none n (each_multiple c.of_one.result c.of_one.ensures n)
     (IsRow-to_parts g.met.T.Ord.total g.T.RangeSetEntry.is_value g.T.Countable.value g.T.Countable.place g.T.Countable.count
     law.value_is_value law.place_of_value law.place_fits law.in_order
     c.args.self.now c.ranges_within.result c.args.within.start c.args.within.end c.known.ensures c.known-2.ensures true (λ b. b) (λ b e. e) (λ b e. e)
@@ -19,19 +19,19 @@ pub returns-clause-fits : goal.returns-clause-fits
 returns-clause-fits g c =
     let law = g.met.T.Countable in
     subst (IsRow g.T.Ord.cmp g.T.Countable.value true c.args.self.now (g.T.Countable.place c.args.within.start) (g.T.Countable.place c.args.within.end) c.args.count)
-    (sym (c.in_ok-row.ensures.first.begins refl))
+    (sym (c.in_ok-row.ensures.first.begins c.of_one.ensures))
     (IsRow-from_parts g.met.T.Ord.total g.T.RangeSetEntry.is_value g.T.Countable.value g.T.Countable.place g.T.Countable.count
     law.value_is_value law.place_of_value law.place_fits law.in_order
     c.args.self.now c.ranges_within.result c.args.within.start c.args.within.end c.known.ensures c.known-2.ensures true (λ b. b) (λ b e. e) (λ b e. e)
-    c.ranges_within.ensures.members c.args.count c.in_ok-row.row.at (omega (arith, c.if-count-eq0.false)) c.in_ok-row.ensures.first.row)
+    c.ranges_within.ensures.members c.args.count c.in_ok-row.row.place (omega (arith, c.if-count-eq0.false)) c.in_ok-row.ensures.first.row)
 
 pub returns-clause-least : goal.returns-clause-least
 returns-clause-least g c n row =
     let law = g.met.T.Countable in
     let least =
-    c.in_ok-row.ensures.first.least n (mod-one n)
+    c.in_ok-row.ensures.first.least n (each_multiple c.of_one.result c.of_one.ensures n)
     (IsRow-to_parts g.met.T.Ord.total g.T.RangeSetEntry.is_value g.T.Countable.value g.T.Countable.place g.T.Countable.count
     law.value_is_value law.place_of_value law.place_fits law.in_order
     c.args.self.now c.ranges_within.result c.args.within.start c.args.within.end c.known.ensures c.known-2.ensures true (λ b. b) (λ b e. e) (λ b e. e)
     c.ranges_within.ensures.members c.args.count n row) in
-    omega (arith, least, c.in_ok-row.ensures.first.begins refl)
+    omega (arith, least, c.in_ok-row.ensures.first.begins c.of_one.ensures)

@@ -1,17 +1,15 @@
 use Rattle.range_collections.proofs.Unions.{copies_are_equal}
 use Rattle.range_collections.proofs.Values.{IsAscending-equal}
-use Rattle.range_chunks.specs.Chunks.{flat}
+use Rattle.range_list.specs.Lists.{joined}
 use Rattle.range_chunks.proofs.set.ChunkedRangeSet.from_view.Goals as goal
 
 pub invariant_of-result : goal.invariant_of-result
-invariant_of-result g c = (
-  IsAscending-equal g.met.T.Ord.total c.boundaries.result.now (flat c.in_ok-clones_of.field-0.items)
-      (copies_are_equal g.met.T.Ord.total g.met.T.EntryClone.copy_is_equal c.boundaries.result.now (flat c.in_ok-clones_of.field-0.items) c.in_ok-clones_of.ensures.copies)
-      c.boundaries.ensures.sorted,
-  c.in_ok-clones_of.ensures.chunks,
-)
+invariant_of-result g c =
+    IsAscending-equal g.met.T.Ord.total c.boundaries.result.now (joined c.in_ok-from_clones.field-0)
+    (copies_are_equal g.met.T.Ord.total g.met.T.EntryClone.copy_is_equal c.boundaries.result.now (joined c.in_ok-from_clones.field-0) c.in_ok-from_clones.ensures)
+    c.boundaries.ensures.sorted
 
 pub returns-clause-equal : goal.returns-clause-equal
 returns-clause-equal g c =
     rw (← c.boundaries.ensures.same)
-    (copies_are_equal g.met.T.Ord.total g.met.T.EntryClone.copy_is_equal c.boundaries.result.now (flat c.in_ok-clones_of.field-0.items) c.in_ok-clones_of.ensures.copies)
+    (copies_are_equal g.met.T.Ord.total g.met.T.EntryClone.copy_is_equal c.boundaries.result.now (joined c.in_ok-from_clones.field-0) c.in_ok-from_clones.ensures)

@@ -1,9 +1,9 @@
-use Rattle.std.proofs.Common.{ap, length}
-use Rattle.range_chunks.proofs.Emptied.{AreChunks-none, IsAscending-none, no_members}
+use Rattle.range_merge.proofs.Members.{member-nil}
+use Rattle.range_collections.proofs.Ascending.{IsAscending-nil}
 use Rattle.range_chunks.proofs.set.ChunkedRangeSet.new.Goals as goal
 
 pub invariant_of-result : goal.invariant_of-result
-invariant_of-result g c = (IsAscending-none g.met.T.Ord.total c.new.result.items (ap length c.new.ensures.items), AreChunks-none c.new.result.items (ap length c.new.ensures.items))
+invariant_of-result g c = rw c.new.ensures (IsAscending-nil g.T.Ord.cmp)
 
 pub returns-clause-members : goal.returns-clause-members
-returns-clause-members g c = no_members g.met.T.Ord.total c.new.result.items (ap length c.new.ensures.items)
+returns-clause-members g c = λ x. rw c.new.ensures (member-nil g.T.Ord.cmp x)

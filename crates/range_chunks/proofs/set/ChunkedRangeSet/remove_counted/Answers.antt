@@ -4,25 +4,21 @@ use Rattle.range_merge.specs.Connective.{difference_table}
 use Rattle.range_collections.specs.Splicing.{range_table}
 use Rattle.range_collections.proofs.Insertion.{Means-alike, difference-alike}
 use Rattle.range_collections.proofs.RangeMembers.{members-taken}
-use Rattle.range_chunks.specs.Chunks.{flat}
-use Rattle.range_chunks.proofs.Counted.{counted-twice}
+use Rattle.range_list.specs.Lists.{joined}
 use Rattle.range_chunks.proofs.set.ChunkedRangeSet.remove_counted.Goals as goal
 
 pub returns-clause-changed : goal.returns-clause-changed
 returns-clause-changed g c =
     rw (← c.self.view_is)
     (record {
-      means = on_ok_weaker c.set_range.result (Means-alike (range_table false) difference_table difference-alike (flat c.set_range.new.chunks.items) (flat c.self.inside.chunks.items) _) c.set_range.ensures.changed.means;
+      means = on_ok_weaker c.set_range.result (Means-alike (range_table false) difference_table difference-alike (joined c.set_range.new.list) (joined c.self.inside.list) _) c.set_range.ensures.changed.means;
       left_own_item = c.set_range.ensures.changed.left_own_item;
       unchanged = c.set_range.ensures.changed.unchanged;
-      succeeds = λ items m few. c.set_range.ensures.changed.succeeds items (Means-alike difference_table (range_table false) (λ x y. sym (difference-alike x y)) items (flat c.self.inside.chunks.items) _ m) few;
+      succeeds = λ items m few. c.set_range.ensures.changed.succeeds items (Means-alike difference_table (range_table false) (λ x y. sym (difference-alike x y)) items (joined c.self.inside.list) _ m) few;
       empty = c.set_range.ensures.changed.empty;
     })
 
 pub returns-clause-members : goal.returns-clause-members
 returns-clause-members g c =
     rw (← c.self.view_is)
-    (on_ok_weaker c.set_range.result (members-taken g.met.T.Ord.total c.args.range.start c.args.range.end (flat c.set_range.new.chunks.items) (flat c.self.inside.chunks.items)) c.set_range.ensures.changed.means)
-
-pub returns-clause-comparisons : goal.returns-clause-comparisons
-returns-clause-comparisons g c = rw (← c.self.view_is) (counted-twice c.self.inside.chunks.items c.args.count.now c.set_range.new.count c.set_range.ensures.comparisons)
+    (on_ok_weaker c.set_range.result (members-taken g.met.T.Ord.total c.args.range.start c.args.range.end (joined c.set_range.new.list) (joined c.self.inside.list)) c.set_range.ensures.changed.means)

@@ -1,5 +1,5 @@
-use Rattle.std.proofs.Common.{refl, sym, subst, false, arith}
-use Rattle.std.proofs.Math.Nat.{mod-one}
+use Rattle.std.proofs.Common.{sym, subst, false, arith}
+use Rattle.range_collections.proofs.NextMultiple.{each_multiple}
 use Rattle.range_collections.specs.Fits.{IsRow}
 use Rattle.range_collections.proofs.Previous.{IfNone-always}
 use Rattle.range_chunks.proofs.space.ChunkedSpace.first_fit_count.Goals as goal
@@ -8,13 +8,13 @@ pub returns-then-count-eq0-clause-none : goal.returns-then-count-eq0-clause-none
 returns-then-count-eq0-clause-none g c = rw (← c.self.view_is) (rw c.if-count-eq0.true c.first_fit_count_unchanged.ensures.none)
 
 pub returns-in_err-row-clause-none : goal.returns-in_err-row-clause-none
-returns-in_err-row-clause-none g c = IfNone-always c.from_residual.result (λ n row. c.in_err-row.ensures.none n (mod-one n) row)
+returns-in_err-row-clause-none g c = IfNone-always c.from_residual.result (λ n row. c.in_err-row.ensures.none n (each_multiple c.of_one.result c.of_one.ensures n) row)
 
 pub returns-clause-fits : goal.returns-clause-fits
 returns-clause-fits g c =
     subst (IsRow g.T.Ord.cmp g.T.Countable.value false c.args.self.now (g.T.Countable.place c.args.within.start) (g.T.Countable.place c.args.within.end) c.args.count)
-    (sym (c.in_ok-row.ensures.first.begins refl)) c.in_ok-row.ensures.first.row
+    (sym (c.in_ok-row.ensures.first.begins c.of_one.ensures)) c.in_ok-row.ensures.first.row
 
 pub returns-clause-least : goal.returns-clause-least
 returns-clause-least g c n row =
-    omega (arith, c.in_ok-row.ensures.first.least n (mod-one n) row, c.in_ok-row.ensures.first.begins refl)
+    omega (arith, c.in_ok-row.ensures.first.least n (each_multiple c.of_one.result c.of_one.ensures n) row, c.in_ok-row.ensures.first.begins c.of_one.ensures)

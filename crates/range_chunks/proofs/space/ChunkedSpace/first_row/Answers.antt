@@ -6,37 +6,37 @@ use Rattle.range_chunks.proofs.space.ChunkedSpace.first_row.Goals as goal
 pub returns-in-At-clause-first : goal.returns-in-At-clause-first
 returns-in-At-clause-first g c = record {
   row =
-      widened g.T.Ord.cmp g.T.Countable.value g.T.Countable.place c.loop-end.self c.args.self.now (c.loop-end.invariant.same ∙ c.forget_wasted.ensures) c.args.start c.loop-end.from c.args.end c.args.count _
-      c.loop-end.invariant.from c.in-At.ensures.step.row;
+      widened g.T.Ord.cmp g.T.Countable.value g.T.Countable.place c.loop-multiples.self c.args.self.now (c.loop-multiples.invariant.same ∙ c.forget_wasted.ensures) c.args.start c.loop-multiples.from c.args.end c.args.count _
+      c.loop-multiples.invariant.from c.in-At.ensures.step.row;
   aligned = c.in-At.ensures.step.aligned;
   least = λ n even row.
       c.in-At.ensures.step.least n even
-      (narrowed g.T.Ord.cmp g.T.Countable.value g.T.Countable.place c.loop-end.self c.args.self.now (c.loop-end.invariant.same ∙ c.forget_wasted.ensures) c.args.start c.loop-end.from c.args.end c.args.count n
-      (c.loop-end.invariant.above n even
+      (narrowed g.T.Ord.cmp g.T.Countable.value g.T.Countable.place c.loop-multiples.self c.args.self.now (c.loop-multiples.invariant.same ∙ c.forget_wasted.ensures) c.args.start c.loop-multiples.from c.args.end c.args.count n
+      (c.loop-multiples.invariant.above n even
       (subst (λ list. IsRow g.T.Ord.cmp g.T.Countable.value false list (g.T.Countable.place c.args.start) (g.T.Countable.place c.args.end) c.args.count n) (sym c.forget_wasted.ensures) row)) row);
   begins = c.in-At.ensures.step.begins;
 }
 
-pub loop-end-preserved : goal.loop-end-preserved
-loop-end-preserved g c = record {
-  same = c.in-From.ensures.unchanged ∙ c.loop-end.invariant.same;
-  from = omega (arith, c.loop-end.invariant.from, c.in-From.ensures.step.past);
+pub loop-multiples-preserved : goal.loop-multiples-preserved
+loop-multiples-preserved g c = record {
+  same = c.in-From.ensures.unchanged ∙ c.loop-multiples.invariant.same;
+  from = omega (arith, c.loop-multiples.invariant.from, c.in-From.ensures.step.past);
   above = λ n even row.
       c.in-From.ensures.step.above n even
-      (narrowed g.T.Ord.cmp g.T.Countable.value g.T.Countable.place c.loop-end.self c.forget_wasted.new.self c.loop-end.invariant.same c.args.start c.loop-end.from c.args.end c.args.count n
-      (c.loop-end.invariant.above n even row) row);
+      (narrowed g.T.Ord.cmp g.T.Countable.value g.T.Countable.place c.loop-multiples.self c.forget_wasted.new.self c.loop-multiples.invariant.same c.args.start c.loop-multiples.from c.args.end c.args.count n
+      (c.loop-multiples.invariant.above n even row) row);
 }
 
 pub returns-in-Nowhere-clause-none : goal.returns-in-Nowhere-clause-none
 returns-in-Nowhere-clause-none g c n even row =
     c.in-Nowhere.ensures.step n even
-    (narrowed g.T.Ord.cmp g.T.Countable.value g.T.Countable.place c.loop-end.self c.args.self.now (c.loop-end.invariant.same ∙ c.forget_wasted.ensures) c.args.start c.loop-end.from c.args.end c.args.count n
-    (c.loop-end.invariant.above n even
+    (narrowed g.T.Ord.cmp g.T.Countable.value g.T.Countable.place c.loop-multiples.self c.args.self.now (c.loop-multiples.invariant.same ∙ c.forget_wasted.ensures) c.args.start c.loop-multiples.from c.args.end c.args.count n
+    (c.loop-multiples.invariant.above n even
     (subst (λ list. IsRow g.T.Ord.cmp g.T.Countable.value false list (g.T.Countable.place c.args.start) (g.T.Countable.place c.args.end) c.args.count n) (sym c.forget_wasted.ensures) row)) row)
 
 pub returns-clause-none : goal.returns-clause-none
 returns-clause-none g c n even row =
     let above =
-    c.loop-end.invariant.above n even
+    c.loop-multiples.invariant.above n even
     (subst (λ list. IsRow g.T.Ord.cmp g.T.Countable.value false list (g.T.Countable.place c.args.start) (g.T.Countable.place c.args.end) c.args.count n) (sym c.forget_wasted.ensures) row) in
-    omega (arith, above, row.up_to, c.loop-end-test.false, c.place.ensures, c.place-in-loop-end.ensures, c.requires.some)
+    omega (arith, above, row.up_to, c.loop-multiples-test.false, c.place.ensures, c.place-in-loop-multiples.ensures, c.requires.some)

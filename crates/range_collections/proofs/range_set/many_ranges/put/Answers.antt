@@ -1,49 +1,53 @@
-use Rattle.std.proofs.Common.{inr, arith, rules, true}
+use Rattle.std.proofs.Common.{◌≡◌, ◌∙◌, sym, subst, true, false, length, Some, All, [], ◌∷◌}
+use Rattle.std.specs.declared.cmp.Ordering.TheVariants.{Less}
+use Rattle.std.proofs.lemmas.List.Elements.{All-weaker}
 use Rattle.std.proofs.lemmas.Result.{on_ok_weaker}
+use Rattle.range_merge.specs.Boundaries.{is_odd}
+use Rattle.range_merge.specs.Connective.{Means, union_table}
+use Rattle.range_collections.specs.InPlace.{AreOwnElseOf}
 use Rattle.range_collections.specs.Splicing.{IsCut}
-use Rattle.range_collections.proofs.Insertion.{cuts_ordered, same_parity, IsAscending-spliced, IsAscending-answer}
-use Rattle.range_collections.proofs.ManyRanges.{Means-put, AreOwnElseOf-put, length-put}
+use Rattle.range_collections.proofs.Insertion.{IsAscending-answer, IsAscending-spliced}
+use Rattle.range_collections.proofs.ManyRanges.{AreOwnElseOf-put, IsCut-all_below, Means-put, spliced-end}
 use Rattle.range_collections.proofs.range_set.many_ranges.put.Goals as goal
 
-pub splice-requires : goal.splice-requires
-splice-requires g c =
+pub returns-then-is_after-clause-sorted : goal.returns-then-is_after-clause-sorted
+returns-then-is_after-clause-sorted g c =
     let a = c.args.list.now.items in
-    let p : IsCut g.T.Ord.cmp true a c.args.start c.cut_near_end-from.result.0 c.cut_near_end-from.result.1 = rw c.as_slice.ensures at c.cut_near_end-from.ensures in
-    let q : IsCut g.T.Ord.cmp true a c.args.end c.cut_near_end-to.result.0 c.cut_near_end-to.result.1 = rw c.as_slice-2.ensures at c.cut_near_end-to.ensures in (
-      search rules,
-      (
-        cuts_ordered g.met.T.Ord.total true a c.args.start c.args.end _ _ _ _ c.requires.sorted c.requires.less p q,
-        (q.within, same_parity g.met.T.Ord.total true a c.args.start c.args.end _ _ _ _ c.requires.sorted c.requires.less p q),
-      ),
-    )
+    let o = g.met.T.Ord.total in
+    let even : is_odd (length a) ≡ false = rw c.as_slice.ensures at (c.is_after.ensures.even c.if-is_after.true) in
+    let low : All (λ y. g.T.Ord.cmp y c.args.start ≡ Less) a = rw c.as_slice.ensures at (c.is_after.ensures.below c.if-is_after.true) in
+    let lower : All (λ y. g.T.Ord.cmp y c.args.end ≡ Less) a =
+    All-weaker (λ y. g.T.Ord.cmp y c.args.start ≡ Less) (λ y. g.T.Ord.cmp y c.args.end ≡ Less) (λ y l. o.trans y c.args.start c.args.end l c.requires.less) a low in
+    let p : IsCut g.T.Ord.cmp true a c.args.start (length a) (Some c.args.start) = IsCut-all_below o a c.requires.sorted c.args.start even low in
+    let q : IsCut g.T.Ord.cmp true a c.args.end (length a) (Some c.args.end) = IsCut-all_below o a c.requires.sorted c.args.end even lower in
+    IsAscending-answer g.T.Ord.cmp c.append_both.result c.append_both.new.list.items _ a
+    (on_ok_weaker c.append_both.result (λ kept. kept ∙ sym (spliced-end o a c.args.start c.args.end)) c.append_both.ensures.items) c.append_both.ensures.unchanged
+    (IsAscending-spliced o true a c.args.start c.args.end _ _ _ _ c.requires.sorted c.requires.less p q) c.requires.sorted
 
-pub returns-clause-sorted : goal.returns-clause-sorted
-returns-clause-sorted g c =
+pub returns-then-is_after-clause-means : goal.returns-then-is_after-clause-means
+returns-then-is_after-clause-means g c =
     let a = c.args.list.now.items in
-    let p : IsCut g.T.Ord.cmp true a c.args.start c.cut_near_end-from.result.0 c.cut_near_end-from.result.1 = rw c.as_slice.ensures at c.cut_near_end-from.ensures in
-    let q : IsCut g.T.Ord.cmp true a c.args.end c.cut_near_end-to.result.0 c.cut_near_end-to.result.1 = rw c.as_slice-2.ensures at c.cut_near_end-to.ensures in
-    IsAscending-answer g.T.Ord.cmp c.splice.result c.splice.new.list.items _ a c.splice.ensures.items c.splice.ensures.unchanged
-    (IsAscending-spliced g.met.T.Ord.total true a c.args.start c.args.end _ _ _ _ c.requires.sorted c.requires.less p q) c.requires.sorted
+    let o = g.met.T.Ord.total in
+    let even : is_odd (length a) ≡ false = rw c.as_slice.ensures at (c.is_after.ensures.even c.if-is_after.true) in
+    let low : All (λ y. g.T.Ord.cmp y c.args.start ≡ Less) a = rw c.as_slice.ensures at (c.is_after.ensures.below c.if-is_after.true) in
+    let lower : All (λ y. g.T.Ord.cmp y c.args.end ≡ Less) a =
+    All-weaker (λ y. g.T.Ord.cmp y c.args.start ≡ Less) (λ y. g.T.Ord.cmp y c.args.end ≡ Less) (λ y l. o.trans y c.args.start c.args.end l c.requires.less) a low in
+    let p : IsCut g.T.Ord.cmp true a c.args.start (length a) (Some c.args.start) = IsCut-all_below o a c.requires.sorted c.args.start even low in
+    let q : IsCut g.T.Ord.cmp true a c.args.end (length a) (Some c.args.end) = IsCut-all_below o a c.requires.sorted c.args.end even lower in
+    on_ok_weaker c.append_both.result
+    (λ kept. subst (λ items. Means g.T.Ord.cmp union_table items a (c.args.start ∷ c.args.end ∷ [])) (spliced-end o a c.args.start c.args.end ∙ sym kept) (Means-put o a c.args.start c.args.end _ _ _ _ c.requires.sorted c.requires.less p q))
+    c.append_both.ensures.items
 
-pub returns-clause-means : goal.returns-clause-means
-returns-clause-means g c =
+pub returns-then-is_after-clause-left_own_item : goal.returns-then-is_after-clause-left_own_item
+returns-then-is_after-clause-left_own_item g c =
     let a = c.args.list.now.items in
-    let p : IsCut g.T.Ord.cmp true a c.args.start c.cut_near_end-from.result.0 c.cut_near_end-from.result.1 = rw c.as_slice.ensures at c.cut_near_end-from.ensures in
-    let q : IsCut g.T.Ord.cmp true a c.args.end c.cut_near_end-to.result.0 c.cut_near_end-to.result.1 = rw c.as_slice-2.ensures at c.cut_near_end-to.ensures in
-    on_ok_weaker c.splice.result (λ kept. rw kept (Means-put g.met.T.Ord.total a c.args.start c.args.end _ _ _ _ c.requires.sorted c.requires.less p q))
-    c.splice.ensures.items
-
-pub returns-clause-left_own_item : goal.returns-clause-left_own_item
-returns-clause-left_own_item g c =
-    let a = c.args.list.now.items in
-    let p : IsCut g.T.Ord.cmp true a c.args.start c.cut_near_end-from.result.0 c.cut_near_end-from.result.1 = rw c.as_slice.ensures at c.cut_near_end-from.ensures in
-    let q : IsCut g.T.Ord.cmp true a c.args.end c.cut_near_end-to.result.0 c.cut_near_end-to.result.1 = rw c.as_slice-2.ensures at c.cut_near_end-to.ensures in
-    on_ok_weaker c.splice.result (λ kept. rw kept (AreOwnElseOf-put g.met.T.Ord.total a c.args.start c.args.end _ _ _ _ c.requires.sorted c.requires.less p q))
-    c.splice.ensures.items
-
-pub returns-clause-succeeds : goal.returns-clause-succeeds
-returns-clause-succeeds g c =
-    let a = c.args.list.now.items in
-    let p : IsCut g.T.Ord.cmp true a c.args.start c.cut_near_end-from.result.0 c.cut_near_end-from.result.1 = rw c.as_slice.ensures at c.cut_near_end-from.ensures in
-    let q : IsCut g.T.Ord.cmp true a c.args.end c.cut_near_end-to.result.0 c.cut_near_end-to.result.1 = rw c.as_slice-2.ensures at c.cut_near_end-to.ensures in
-    λ few. c.splice.ensures.succeeds (inr (omega (arith, few, length-put g.met.T.Ord.total a c.args.start c.args.end _ _ _ _ c.requires.sorted c.requires.less p q)))
+    let o = g.met.T.Ord.total in
+    let even : is_odd (length a) ≡ false = rw c.as_slice.ensures at (c.is_after.ensures.even c.if-is_after.true) in
+    let low : All (λ y. g.T.Ord.cmp y c.args.start ≡ Less) a = rw c.as_slice.ensures at (c.is_after.ensures.below c.if-is_after.true) in
+    let lower : All (λ y. g.T.Ord.cmp y c.args.end ≡ Less) a =
+    All-weaker (λ y. g.T.Ord.cmp y c.args.start ≡ Less) (λ y. g.T.Ord.cmp y c.args.end ≡ Less) (λ y l. o.trans y c.args.start c.args.end l c.requires.less) a low in
+    let p : IsCut g.T.Ord.cmp true a c.args.start (length a) (Some c.args.start) = IsCut-all_below o a c.requires.sorted c.args.start even low in
+    let q : IsCut g.T.Ord.cmp true a c.args.end (length a) (Some c.args.end) = IsCut-all_below o a c.requires.sorted c.args.end even lower in
+    on_ok_weaker c.append_both.result
+    (λ kept. subst (λ items. AreOwnElseOf g.T.Ord.cmp a (c.args.start ∷ c.args.end ∷ []) items) (spliced-end o a c.args.start c.args.end ∙ sym kept) (AreOwnElseOf-put o a c.args.start c.args.end _ _ _ _ c.requires.sorted c.requires.less p q))
+    c.append_both.ensures.items

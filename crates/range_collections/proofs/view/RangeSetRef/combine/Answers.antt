@@ -3,7 +3,7 @@ use Rattle.std.proofs.lemmas.Bool.{false≢true}
 use Rattle.std.proofs.lemmas.Result.{IfOk-from_err, IfOk-weaker}
 use Rattle.range_collections.specs.Values.{IsFlipped}
 use Rattle.range_collections.proofs.Combined.{MeansAmong-from_means, IfOk-negated}
-use Rattle.range_collections.proofs.Headline.{IsTheResult-combined}
+use Rattle.range_collections.proofs.Headline.{IsTheResult-combined, AreValues-copied}
 use Rattle.range_collections.proofs.view.RangeSetRef.combine.Goals as goal
 
 pub returns-then-flips-clause-means : goal.returns-then-flips-clause-means
@@ -13,19 +13,19 @@ returns-then-flips-clause-means g c =
     let b = c.args.that.boundaries.now in
     let on = sym c.when_off-flips.ensures ∙ c.if-flips.true in
     IfOk-negated g.T.Ord.cmp g.T.RangeSetEntry.is_value f c.in_ok-merged.merged a b c.not.result on
-    (c.in_ok-merged.ensures.opposite on) c.not.ensures.0.negates
+    (c.in_ok-merged.ensures.opposite on) c.not.ensures.gives.negates
 
 pub returns-then-flips-clause-flipped : goal.returns-then-flips-clause-flipped
 returns-then-flips-clause-flipped g c = λ _.
     let Flipped = IsFlipped g.T.Ord.cmp g.T.RangeSetEntry.least c.in_ok-merged.merged in
-    IfOk-weaker c.not.result Flipped _ (λ items w. (c.in_ok-merged.merged, c.in_ok-merged.ensures.copies, w)) c.not.ensures.0.flipped
+    IfOk-weaker c.not.result Flipped _ (λ items w. (c.in_ok-merged.merged, c.in_ok-merged.ensures.copies, w)) c.not.ensures.gives.flipped
 
 pub returns-then-flips-clause-succeeds_flipped : goal.returns-then-flips-clause-succeeds_flipped
 returns-then-flips-clause-succeeds_flipped g c = λ _ room _ _ infallible.
     let f = g.O.MergeOperation.connective c.args.op.now in
     let a = c.args.self.now.boundaries.now in
     let b = c.args.that.boundaries.now in
-    c.not.ensures.0.succeeds (inr (omega (arith, room, c.changes_are_at_most_the_lengths.ensures.at_most f a b, c.in_ok-merged.ensures.len), infallible))
+    c.not.ensures.gives.succeeds (inr (omega (arith, room, c.changes_are_at_most_the_lengths.ensures.at_most f a b, c.in_ok-merged.ensures.len), infallible))
 
 pub returns-else-flips-clause-means : goal.returns-else-flips-clause-means
 returns-else-flips-clause-means g c =
@@ -115,3 +115,23 @@ returns-in_err-merged-clause-headline g c =
           (returns-in_err-merged-clause-means g c) (returns-in_err-merged-clause-left_own_item g c) (returns-in_err-merged-clause-flipped g c);
       comparisons = returns-in_err-merged-clause-comparisons g c;
     }
+
+pub returns-then-flips-clause-values : goal.returns-then-flips-clause-values
+returns-then-flips-clause-values g c equals v w =
+    let f = g.O.MergeOperation.connective c.args.op.now in
+    let a = c.args.self.now.boundaries.now in
+    let b = c.args.that.boundaries.now in
+    c.not.ensures.gives.values equals
+    (AreValues-copied g.met.T.Ord.total g.met.T.EntryClone.copy_is_equal g.T.RangeSetEntry.is_value equals a b v w _ c.in_ok-merged.merged
+    (c.changes_are_marked_truly.ensures.marks f a b c.args.self.now.sorted c.args.that.sorted) c.in_ok-merged.ensures.copies)
+
+pub returns-else-flips-clause-values : goal.returns-else-flips-clause-values
+returns-else-flips-clause-values g c equals v w =
+    let f = g.O.MergeOperation.connective c.args.op.now in
+    let a = c.args.self.now.boundaries.now in
+    let b = c.args.that.boundaries.now in
+    AreValues-copied g.met.T.Ord.total g.met.T.EntryClone.copy_is_equal g.T.RangeSetEntry.is_value equals a b v w _ c.in_ok-merged.merged
+    (c.changes_are_marked_truly.ensures.marks f a b c.args.self.now.sorted c.args.that.sorted) c.in_ok-merged.ensures.copies
+
+pub returns-in_err-merged-clause-values : goal.returns-in_err-merged-clause-values
+returns-in_err-merged-clause-values g c = λ equals v w. IfOk-from_err c.from_residual.result _ c.from_residual.ensures.0

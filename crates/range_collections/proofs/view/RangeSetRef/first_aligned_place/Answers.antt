@@ -1,6 +1,7 @@
 use Rattle.std.proofs.Common.{false, not, ◌≡◌, sym, ◌∙◌, arith}
 use Rattle.range_collections.proofs.Previous.{IfNone-always}
 use Rattle.std.specs.Ordering.{is_le}
+use Rattle.range_collections.proofs.NextMultiple.{IsOneOf-among}
 use Rattle.range_collections.proofs.Ranked.{place-le}
 use Rattle.range_collections.proofs.Rows.{none-reversed, IsRow-from_parts, IsRow-to_parts, from_not, to_not}
 use Rattle.range_collections.proofs.view.RangeSetRef.first_aligned_place.Goals as goal
@@ -27,7 +28,7 @@ returns-in_err-row-clause-none g c =
     let law = g.met.T.Countable in
     IfNone-always c.from_residual.result
     (λ n even row.
-    c.in_err-row.ensures.none n even
+    c.in_err-row.ensures.none n (IsOneOf-among c.among-multiples.result g.T.FromPlace.zero c.args.align c.among-multiples.ensures.of c.among-multiples.ensures.zero n even)
     (IsRow-to_parts g.met.T.Ord.total g.T.RangeSetEntry.is_value g.T.Countable.value g.T.Countable.place g.T.Countable.count
     law.value_is_value law.place_of_value law.place_fits law.in_order
     c.args.self.now.boundaries.now c.gaps.result c.args.start.now c.args.end.now c.known.ensures c.known-2.ensures false not
@@ -47,7 +48,7 @@ pub returns-clause-least : goal.returns-clause-least
 returns-clause-least g c n even row =
     let law = g.met.T.Countable in
     let least =
-    c.in_ok-row.ensures.least n even
+    c.in_ok-row.ensures.least n (IsOneOf-among c.among-multiples.result g.T.FromPlace.zero c.args.align c.among-multiples.ensures.of c.among-multiples.ensures.zero n even)
     (IsRow-to_parts g.met.T.Ord.total g.T.RangeSetEntry.is_value g.T.Countable.value g.T.Countable.place g.T.Countable.count
     law.value_is_value law.place_of_value law.place_fits law.in_order
     c.args.self.now.boundaries.now c.gaps.result c.args.start.now c.args.end.now c.known.ensures c.known-2.ensures false not

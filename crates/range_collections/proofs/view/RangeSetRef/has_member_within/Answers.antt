@@ -21,4 +21,4 @@ returns g c =
     ↔ HasMemberWithin g.T.Ord.cmp c.args.self.now.boundaries.now c.args.start.now c.args.end.now =
     HasMemberWithin-next g.met.T.Ord.total c.args.self.now.boundaries.now c.args.start.now c.args.end.now c.count_up_to-count.result
     c.args.self.now.sorted c.count_up_to-count.ensures.within c.count_up_to-count.ensures.before c.count_up_to-count.ensures.from even in
-    (λ t. next.0 (c.is_next_below.ensures.0 t), λ h. c.is_next_below.ensures.1 (next.1 h))
+    (λ t. next.0 (c.is_next_below.ensures.answer.0 t), λ h. c.is_next_below.ensures.answer.1 (next.1 h))

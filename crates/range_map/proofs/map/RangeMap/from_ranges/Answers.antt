@@ -13,6 +13,7 @@ pub loop-range-init : goal.loop-range-init
 loop-range-init g c =
     let made = c.into_iter-range-iterator.ensures.into_iter_gives in
     record {
+      few = omega (arith, ap length made.0);
       len = made.1 ∙ c.args.ranges.ok.0 ∙ sym (ap length made.0);
       values = λ x.
           ap₂ (λ qs p. option_eq g.V.PartialEq.eq (last_at g.K.Ord.cmp qs p x) (last_at g.K.Ord.cmp c.args.ranges.items None x)) made.0 (c.new-map.ensures.values x)
@@ -26,6 +27,7 @@ loop-range-preserved g c =
     let E = g.V.PartialEq.eq in
     let rest = into_iter_items c.next.new.self in
     record {
+      few = omega (arith, c.loop-range.invariant.few, ap length next.0);
       len = omega (arith, next.1, c.loop-range.invariant.len, ap length next.0);
       values = λ x.
           let new = value_at order c.insert.new.self x in
@@ -37,8 +39,12 @@ loop-range-preserved g c =
           ∙ c.loop-range.invariant.values x;
     }
 
-pub returns : goal.returns
-returns g c = λ x.
+pub returns-clause-values : goal.returns-clause-values
+returns-clause-values g c = λ x.
     let none : into_iter_items c.loop-range.range-iterator ≡ [] = nil_from_length _ (sym c.loop-range.invariant.len ∙ c.in-None.ensures.steps.0) in
     ap (λ qs. option_eq g.V.PartialEq.eq (last_at g.K.Ord.cmp qs (value_at g.K.Ord.cmp c.loop-range.map x) x) (last_at g.K.Ord.cmp c.args.ranges.items None x)) (sym none)
     ∙ c.loop-range.invariant.values x
+
+pub returns-in_err-insert-clause-succeeds : goal.returns-in_err-insert-clause-succeeds
+returns-in_err-insert-clause-succeeds g c = λ none.
+    absurd (omega (arith, none, c.loop-range.invariant.few, ap length c.in-Some.ensures.steps.0))

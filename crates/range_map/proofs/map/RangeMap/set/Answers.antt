@@ -1,4 +1,5 @@
 use Rattle.std.proofs.Common.{arith}
+use Rattle.range_map.specs.Listed.{steps_in}
 use Rattle.range_map.proofs.map.RangeMap.set.Goals as goal
 
 pub returns-clause-succeeds : goal.returns-clause-succeeds
@@ -9,7 +10,7 @@ returns-clause-no_change g c =
     rw (← c.self.view_is)
     (λ same.
     c.set_range.ensures.succeeds (record {
-      after = record { keys = c.self.inside.keys.items; options = c.self.inside.options.items };
+      after = steps_in c.self.inside.steps;
       canonical = c.self.invariant;
       values = same;
       no_longer = omega arith;

@@ -1,14 +1,14 @@
-use Rattle.std.proofs.Common.{arith}
+use Rattle.std.proofs.Common.{ℕ, length, subst, arith}
 use Rattle.range_merge.proofs.FirstRun.{weight-le}
-use Rattle.range_map.specs.Steps.{Steps}
+use Rattle.range_map.specs.Combining.{IsMadeUpTo}
 use Rattle.range_map.proofs.MadeUpTo.{IsMadeUpTo-nothing, IsCombined-made}
 use Rattle.range_map.proofs.RunPlaces.{left_len-within, right_len-within}
 use Rattle.range_map.proofs.map.combining.combined.Goals as goal
 
 pub loop-i-init : goal.loop-i-init
 loop-i-init g c =
-    let a : Steps g.row.K.Denot g.row.V.Denot = record { keys = c.args.a.now.keys.now; options = c.args.a.now.options.now } in
-    let b : Steps g.row.K.Denot g.row.W.Denot = record { keys = c.args.b.now.keys.now; options = c.args.b.now.options.now } in
+    let a = c.args.a.now in
+    let b = c.args.b.now in
     record {
       left_within = omega arith;
       right_within = omega arith;
@@ -23,15 +23,15 @@ next_run-run-requires-clause-made g c =
       arith,
       c.requires.made,
       c.loop-i.invariant.paid,
-      weight-le g.met.K.Ord.total c.args.a.now.keys.now c.args.b.now.keys.now c.args.a.now.ascending c.args.b.now.ascending,
-      c.type_inv.a.0.0.1.0,
-      c.type_inv.b.0.0.1.0,
+      weight-le g.met.K.Ord.total c.args.a.now.keys c.args.b.now.keys c.requires.a_ascends c.requires.b_ascends,
+      c.len-a_len.ensures,
+      c.len-b_len.ensures,
     )
 
 pub loop-i-preserved : goal.loop-i-preserved
 loop-i-preserved g c =
-    let ks = c.args.a.now.keys.now in
-    let ls = c.args.b.now.keys.now in
+    let ks = c.args.a.now.keys in
+    let ls = c.args.b.now.keys in
     let i = c.loop-i.i in
     let j = c.loop-i.j in
     let run = c.next_run-run.ensures in
@@ -45,6 +45,13 @@ loop-i-preserved g c =
 
 pub returns-clause-values : goal.returns-clause-values
 returns-clause-values g c =
-    let a : Steps g.row.K.Denot g.row.V.Denot = record { keys = c.args.a.now.keys.now; options = c.args.a.now.options.now } in
-    let b : Steps g.row.K.Denot g.row.W.Denot = record { keys = c.args.b.now.keys.now; options = c.args.b.now.options.now } in
-    IsCombined-made g.K.Ord.cmp g.met.K.Ord.total g.O.Output.PartialEq.eq g.met.O.Output.Eq.laws (g.O.MapOperation.gives c.args.op.now) a b c.put_right.new.made c.in_ok-put_right.ensures
+    let order = g.K.Ord.cmp in
+    let a = c.args.a.now in
+    let b = c.args.b.now in
+    let E = g.O.Output.PartialEq.eq in
+    let f = g.O.MapOperation.gives c.args.op.now in
+    let made = c.put_right.new.made in
+    let all : IsMadeUpTo order E f a b (length a.keys) (length b.keys) made =
+    subst (λ (m : ℕ). IsMadeUpTo order E f a b (length a.keys) m made) c.len-b_len.ensures
+    (subst (λ (n : ℕ). IsMadeUpTo order E f a b n c.len-b_len.result made) c.len-a_len.ensures c.in_ok-put_right.ensures.made) in
+    IsCombined-made order g.met.K.Ord.total E g.met.O.Output.Eq.laws f a b made all

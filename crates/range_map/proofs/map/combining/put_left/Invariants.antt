@@ -3,5 +3,4 @@ use Rattle.range_map.proofs.map.combining.put_left.Given as goal
 
 abbrev pub invariant-loop-n : goal.invariant-loop-n
 invariant-loop-n g l =
-    IsMadeUpTo g.K.Ord.cmp g.O.Output.PartialEq.eq (g.O.MapOperation.gives l.op) (record { keys = l.a.keys.now; options = l.a.options.now })
-    (record { keys = l.b.keys.now; options = l.b.options.now }) l.n l.j l.made
+    IsMadeUpTo g.K.Ord.cmp g.O.Output.PartialEq.eq (g.O.MapOperation.gives l.op) l.a l.b l.n l.j l.made

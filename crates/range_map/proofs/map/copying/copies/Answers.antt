@@ -1,13 +1,21 @@
-use Rattle.std.proofs.Common.{sym, ap, ◌∙◌, arith}
-use Rattle.std.proofs.lemmas.List.Elements.{all_zip_more}
-use Rattle.std.specs.Option.{option_eq}
-use Rattle.std.specs.Cmp.Lexicographic.{options_equiv}
-use Rattle.range_map.specs.Steps.{AreAlike}
+use Rattle.std.proofs.Common.{ap}
+use Rattle.range_list.specs.Lists.{joined}
+use Rattle.range_map.proofs.Pushed.{AreCopied-nothing, AreCopied-more, copied_keys, copied_options}
 use Rattle.range_map.proofs.map.copying.copies.Goals as goal
 
-pub loop-option-preserved : goal.loop-option-preserved
-loop-option-preserved g c =
-    rw c.in_ok-push.ensures.items
-    (all_zip_more (λ p q. AreAlike g.V.PartialEq.eq p q) c.args.options.now c.loop-option.list.items c.loop-option.option-index c.option-item.result
-    c.in_ok-copy_option.field-0 (omega arith) c.option-item.is c.loop-option.invariant
-    ((options_equiv g.met.V.Eq.laws).symm c.option-item.result c.in_ok-copy_option.field-0 ∙ sym (ap (option_eq g.V.PartialEq.eq c.in_ok-copy_option.field-0) c.as_ref.ensures.value) ∙ c.in_ok-copy_option.ensures.same))
+pub loop-step-init : goal.loop-step-init
+loop-step-init g c =
+    AreCopied-nothing g.K.EntryClone.is_copy g.V.PartialEq.eq c.args.steps (joined c.new-list.result) (ap joined c.new-list.ensures)
+
+pub loop-step-preserved : goal.loop-step-preserved
+loop-step-preserved g c =
+    AreCopied-more g.K.EntryClone.is_copy g.V.PartialEq.eq c.args.steps c.loop-step.unread (joined c.loop-step.list) c.take_first.new.self (joined c.push.new.self)
+    c.in-Some.step.now c.in_ok-copy_of.field-0 c.loop-step.invariant c.in-Some.ensures c.in_ok-push.ensures.items c.in_ok-copy_of.ensures.key c.in_ok-copy_of.ensures.option
+
+pub returns-clause-keys : goal.returns-clause-keys
+returns-clause-keys g c =
+    copied_keys g.K.EntryClone.is_copy g.V.PartialEq.eq c.args.steps c.loop-step.unread (joined c.loop-step.list) c.loop-step.invariant c.in_default.ensures.0
+
+pub returns-clause-options : goal.returns-clause-options
+returns-clause-options g c =
+    copied_options g.K.EntryClone.is_copy g.V.PartialEq.eq c.args.steps c.loop-step.unread (joined c.loop-step.list) c.loop-step.invariant c.in_default.ensures.0

@@ -1,7 +1,10 @@
-use Rattle.std.proofs.Common.{take}
-use Rattle.std.specs.List.{AllZip}
-use Rattle.range_map.specs.Steps.{AreAlike}
+use Rattle.std.proofs.Common.{length}
+use Rattle.range_list.specs.Lists.{joined}
+use Rattle.range_map.proofs.Pushed.{AreCopied}
 use Rattle.range_map.proofs.map.copying.copies.Given as goal
 
-abbrev pub invariant-loop-option : goal.invariant-loop-option
-invariant-loop-option g l = AllZip (λ p q. AreAlike g.V.PartialEq.eq p q) (take l.option-index l.options) l.list.items
+abbrev pub invariant-loop-step : goal.invariant-loop-step
+invariant-loop-step g l = AreCopied g.K.EntryClone.is_copy g.V.PartialEq.eq l.fn.steps l.unread (joined l.list)
+
+abbrev pub decreases-loop-step : goal.decreases-loop-step
+decreases-loop-step g l = length l.unread

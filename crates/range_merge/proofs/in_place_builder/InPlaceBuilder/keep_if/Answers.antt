@@ -19,3 +19,9 @@ returns-clause-unread g c = c.skip.ensures.unread
 
 pub returns-clause-puts_left : goal.returns-clause-puts_left
 returns-clause-puts_left g c = c.skip.ensures.puts_left
+
+pub returns-then-wanted-clause-room : goal.returns-then-wanted-clause-room
+returns-then-wanted-clause-room g c = c.keep.ensures.room
+
+pub returns-clause-room : goal.returns-clause-room
+returns-clause-room g c = c.skip.ensures.room

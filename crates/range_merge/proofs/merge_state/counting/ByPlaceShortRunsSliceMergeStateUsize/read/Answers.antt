@@ -8,3 +8,11 @@ returns-then-are_few-clause-goes_on g c = record {
   right_ascends = c.requires.right_ascending;
   stands = c.requires.stands;
 }
+
+pub returns-then-were_long-clause-goes_on : goal.returns-then-were_long-clause-goes_on
+returns-then-were_long-clause-goes_on g c = record {
+  progress = Progress-none;
+  left_ascends = c.requires.left_ascending;
+  right_ascends = c.requires.right_ascending;
+  stands = c.requires.stands;
+}

@@ -26,3 +26,10 @@ returns-in-Err-clause-succeeds g c = rw (← c.len-extra.ensures.value) c.in-Err
 
 pub returns-in-Err-clause-comparisons : goal.returns-in-Err-clause-comparisons
 returns-in-Err-clause-comparisons g c = record { at_least = le_refl _; at_most = le-add_right _ _ }
+
+pub returns-in-Ok-clause-room : goal.returns-in-Ok-clause-room
+returns-in-Ok-clause-room g c =
+    rw (c.replace-kept.ensures.value, c.merged.ensures.room, c.over-state.ensures.room) c.in-Ok.ensures.keeps_room
+
+pub returns-in-Err-clause-room : goal.returns-in-Err-clause-room
+returns-in-Err-clause-room g c = c.in-Err.ensures.keeps_room

@@ -18,3 +18,6 @@ returns-in-Err-clause-right_handed_back g c = refl
 
 pub returns-in-Err-clause-succeeds : goal.returns-in-Err-clause-succeeds
 returns-in-Err-clause-succeeds g c = rw (← c.len-extra.ensures.value) c.in-Err.ensures.succeeds
+
+pub returns-in-Ok-clause-room : goal.returns-in-Ok-clause-room
+returns-in-Ok-clause-room g c = rw c.over.ensures.room c.prepared.ensures.keeps_room

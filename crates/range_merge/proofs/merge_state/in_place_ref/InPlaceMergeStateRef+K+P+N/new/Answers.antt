@@ -24,3 +24,6 @@ returns-in-Err-clause-handed_back g c = c.prepared_copies.ensures.items
 
 pub returns-in-Err-clause-succeeds : goal.returns-in-Err-clause-succeeds
 returns-in-Err-clause-succeeds g c = c.in-Err.ensures.succeeds
+
+pub returns-in-Ok-clause-room : goal.returns-in-Ok-clause-room
+returns-in-Ok-clause-room g c = rw c.over.ensures.room c.prepared_copies.ensures.keeps_room

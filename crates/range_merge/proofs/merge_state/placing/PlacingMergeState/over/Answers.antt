@@ -21,3 +21,6 @@ returns-clause-right_on g c = refl
 
 pub returns-clause-kept : goal.returns-clause-kept
 returns-clause-kept g c = c.over.ensures.kept
+
+pub returns-clause-room : goal.returns-clause-room
+returns-clause-room g c = c.over.ensures.room

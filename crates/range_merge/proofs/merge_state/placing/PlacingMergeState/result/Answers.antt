@@ -1,4 +1,7 @@
 use Rattle.range_merge.proofs.merge_state.placing.PlacingMergeState.result.Goals as goal
 
-pub returns : goal.returns
-returns g c = rw (← c.self.view_is) c.only_kept.ensures
+pub returns-clause-items : goal.returns-clause-items
+returns-clause-items g c = rw (← c.self.view_is) c.only_kept.ensures.items
+
+pub returns-clause-room : goal.returns-clause-room
+returns-clause-room g c = rw (← c.self.view_is) c.only_kept.ensures.room

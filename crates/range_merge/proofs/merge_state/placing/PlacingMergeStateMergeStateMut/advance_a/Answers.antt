@@ -30,7 +30,7 @@ returns-clause-output g c =
     rw (← c.self.view_is) (λ before. c.keeps_own.ensures c.args.take c.args.n builder.unread builder.kept c.keep_if.new.self.kept before c.keep_if.ensures.kept)
 
 pub returns-clause-fixed : goal.returns-clause-fixed
-returns-clause-fixed g c = refl
+returns-clause-fixed g c = rw (← c.self.view_is) c.keep_if.ensures.room
 
 pub returns-clause-succeeds : goal.returns-clause-succeeds
 returns-clause-succeeds g c = λ _. refl

@@ -1,0 +1,305 @@
+// SPDX-License-Identifier: MIT OR Apache-2.0
+// Maps that give ranges of whole numbers values, for C++17 and later, over the maps of range_set.h.
+//
+//     using range_sets::range_map;
+//     range_map<int64_t, std::string> bookings = {{9, 12, "Ada"}};
+//     bookings.insert(11, 14, "Bob");
+//     for (const auto &[hours, who] : bookings) std::cout << hours.start << ".." << hours.end << ' ' << who << '\n';
+//     if (bookings.get(10) == "Ada") std::cout << "Ada at ten\n";
+//
+// A key has the value of the last range that was put around it, or none; ranges that touch and have one value are one. Keys are the
+// elements of a range_set. Numbers, enums and pointers stand in the map itself. Of other values it has a list, of each once, for which
+// they need `<`: a value that no range has any more leaves it when the list has doubled, or by `clear`.
+//
+// Where memory is refused std::bad_alloc is thrown, and the map is as it was. Threads may share a map that none changes. Among n ranges
+// a search makes about log n comparisons, and a change moves the items of one chunk at most, as in range_set.h.
+#ifndef RANGE_MAP_HPP
+#define RANGE_MAP_HPP
+
+#include "range_set.hpp"
+
+#include <map>
+#include <vector>
+
+namespace range_sets {
+
+namespace detail {
+
+// The calls of the header for one of its types of keys.
+template <class Key> struct map_calls;
+
+#define RANGE_MAP_CALLS(number, Key) \
+    template <> struct map_calls<Key> { \
+        using map = range_map_##number; \
+        using stretch = range_map_##number##_stretch; \
+        static constexpr auto make = range_map_##number##_new; \
+        static constexpr auto free = range_map_##number##_free; \
+        static constexpr auto copy = range_map_##number##_copy; \
+        static constexpr auto insert = range_map_##number##_insert; \
+        static constexpr auto insert_from = range_map_##number##_insert_from; \
+        static constexpr auto remove = range_map_##number##_remove; \
+        static constexpr auto remove_from = range_map_##number##_remove_from; \
+        static constexpr auto range_at = range_map_##number##_range_at; \
+        static constexpr auto len = range_map_##number##_len; \
+    };
+RANGE_MAP_CALLS(i64, std::int64_t)
+RANGE_MAP_CALLS(u64, std::uint64_t)
+#undef RANGE_MAP_CALLS
+
+// Whether a value is kept as a number of 64 bits.
+template <class V> constexpr bool is_plain = (std::is_integral_v<V> || std::is_enum_v<V> || std::is_pointer_v<V>) && sizeof(V) <= 8;
+
+// Whether a type has `<`.
+template <class V, class = void> constexpr bool is_ordered = false;
+template <class V> constexpr bool is_ordered<V, std::void_t<decltype(std::declval<const V &>() < std::declval<const V &>())>> = true;
+
+// Values by their numbers: here a list of them.
+template <class V, bool = is_plain<V>> class values {
+    static_assert(is_ordered<V>, "the values of a range_map are numbers, enums or pointers, or need an operator <");
+
+public:
+    const V &value_of(std::uint64_t number) const noexcept { return *list_[static_cast<std::size_t>(number)]; }
+    std::optional<std::uint64_t> find(const V &value) const
+    {
+        const auto it = numbers_.find(value);
+        if (it == numbers_.end()) return std::nullopt;
+        return it->second;
+    }
+    std::uint64_t number_of(const V &value)
+    {
+        if (const auto number = find(value)) return *number;
+        // What is refused leaves a number without a value.
+        list_.push_back(nullptr);
+        const std::uint64_t number = list_.size() - 1;
+        list_.back() = &numbers_.emplace(value, number).first->first;
+        return number;
+    }
+    std::size_t size() const noexcept { return list_.size(); }
+
+private:
+    std::map<V, std::uint64_t> numbers_;
+    std::vector<const V *> list_;
+};
+
+template <class V> class values<V, true> {
+public:
+    static V value_of(std::uint64_t number) noexcept
+    {
+        if constexpr (std::is_pointer_v<V>) return reinterpret_cast<V>(static_cast<std::uintptr_t>(number));
+        else return static_cast<V>(number);
+    }
+    static std::optional<std::uint64_t> find(V value) noexcept { return number_of(value); }
+    static std::uint64_t number_of(V value) noexcept
+    {
+        if constexpr (std::is_pointer_v<V>) return reinterpret_cast<std::uintptr_t>(value);
+        else return static_cast<std::uint64_t>(value);
+    }
+    static std::size_t size() noexcept { return 0; }
+};
+
+} // namespace detail
+
+template <class T, class V> class range_map {
+    using element = detail::element<T>;
+    using number = typename element::number;
+    using key = std::conditional_t<std::is_signed_v<number>, std::int64_t, std::uint64_t>;
+    using calls = detail::map_calls<key>;
+    using values = detail::values<V>;
+    using integer = detail::integer<T>;
+
+public:
+    using value_type = std::pair<range<T>, V>;
+
+    // A start, an end and a value in braces.
+    struct entry {
+        integer start;
+        integer end;
+        V value;
+    };
+
+    // Goes over the ranges that have a value, by a search each, until the map changes. A value of the list is a reference.
+    class iterator {
+    public:
+        using iterator_category = std::input_iterator_tag;
+        using value_type = range_map::value_type;
+        using difference_type = std::ptrdiff_t;
+        using reference = std::pair<range<T>, decltype(std::declval<const values &>().value_of(0))>;
+        using pointer = detail::arrow<reference>;
+
+        iterator() noexcept = default;
+
+        reference operator*() const noexcept
+        {
+            const auto at = [](key of) { return element::out(static_cast<number>(of)); };
+            return {{at(at_.start), at(at_.end), at_.has_end}, map_->values_.value_of(at_.value)};
+        }
+        pointer operator->() const noexcept { return pointer(**this); }
+        iterator &operator++() noexcept
+        {
+            at_ = at_.has_end ? map_->from(at_.end) : typename calls::stretch();
+            return *this;
+        }
+        iterator operator++(int) noexcept
+        {
+            const iterator before = *this;
+            ++*this;
+            return before;
+        }
+
+        // Of two iterators of one map.
+        friend bool operator==(const iterator &a, const iterator &b) noexcept
+        {
+            return a.at_.has_value == b.at_.has_value && (!a.at_.has_value || a.at_.start == b.at_.start);
+        }
+        friend bool operator!=(const iterator &a, const iterator &b) noexcept { return !(a == b); }
+
+    private:
+        friend class range_map;
+        iterator(const range_map *map, typename calls::stretch at) noexcept : map_(map), at_(at) {}
+
+        // Past all where the keys have no value.
+        const range_map *map_ = nullptr;
+        typename calls::stretch at_ = {};
+    };
+    using const_iterator = iterator;
+
+    // The map without a value. It takes no memory. Those below begin with it, so that what they throw gives their memory back.
+    range_map() noexcept = default;
+    // Where these overlap the later one's value holds.
+    range_map(std::initializer_list<entry> entries) : range_map()
+    {
+        for (const entry &it : entries) insert(it.start, it.end, it.value);
+    }
+    // A copy has the values in its list that a range has.
+    range_map(const range_map &other) : range_map()
+    {
+        if constexpr (detail::is_plain<V>) {
+            if (other.map_.at != nullptr) detail::see_memory(calls::copy(other.map_, &map_));
+        } else {
+            for (const auto &[keys, value] : other) insert(keys, value);
+        }
+    }
+    range_map(range_map &&other) noexcept { swap(other); }
+    range_map &operator=(range_map other) noexcept
+    {
+        swap(other);
+        return *this;
+    }
+    ~range_map() { calls::free(&map_); }
+    void swap(range_map &other) noexcept
+    {
+        std::swap(map_, other.map_);
+        std::swap(values_, other.values_);
+        std::swap(limit_, other.limit_);
+    }
+    friend void swap(range_map &a, range_map &b) noexcept { a.swap(b); }
+
+    // Gives the keys from `start` to below `end` a value, takes theirs away; or those of all keys from `start` on.
+    range_map &insert(integer start, integer end, const V &value) { return put(calls::insert, value, key_of(start), key_of(end)); }
+    range_map &insert_from(integer start, const V &value) { return put(calls::insert_from, value, key_of(start)); }
+    range_map &remove(integer start, integer end) { return change(calls::remove, key_of(start), key_of(end)); }
+    range_map &remove_from(integer start) { return change(calls::remove_from, key_of(start)); }
+    // The same of a range, which may have no end.
+    range_map &insert(const range<T> &it, const V &value) { return it.has_end ? insert(it.start, it.end, value) : insert_from(it.start, value); }
+    range_map &remove(const range<T> &it) { return it.has_end ? remove(it.start, it.end) : remove_from(it.start); }
+    void clear() noexcept { range_map().swap(*this); }
+
+    bool contains(integer at) const noexcept { return around(at).has_value; }
+    // The value of a key, or nothing.
+    std::optional<V> get(integer at) const
+    {
+        const auto it = around(at);
+        if (!it.has_value) return std::nullopt;
+        return values_.value_of(it.value);
+    }
+    // The longest range around a key whose keys have its value, and that; nothing where it has none.
+    std::optional<value_type> range_at(integer at) const
+    {
+        const iterator it(this, around(at));
+        if (it == end()) return std::nullopt;
+        return value_type(*it);
+    }
+    // The ranges that have a key from `start` to below `end`, whole, each with its value.
+    std::vector<value_type> overlapping(integer start, integer end) const
+    {
+        std::vector<value_type> found;
+        if (start.value < end.value)
+            for (iterator it = begin_from(start); it != this->end() && it->first.start < end.value; ++it) found.emplace_back(*it);
+        return found;
+    }
+
+    // The keys that have a value, that have this one, and those from `start` to below `end` that have none.
+    range_set<T> domain() const
+    {
+        return keys_where([](std::uint64_t) { return true; });
+    }
+    range_set<T> where_equal(const V &value) const
+    {
+        const auto wanted = values_.find(value);
+        return keys_where([&](std::uint64_t it) { return wanted && *wanted == it; });
+    }
+    range_set<T> gaps(integer start, integer end) const
+    {
+        std::vector<range<T>> taken;
+        for (const auto &it : overlapping(start, end)) taken.push_back(it.first);
+        return range_set<T>{{start, end}} - range_set<T>(taken);
+    }
+
+    // The ranges with their values, those that have a key at or above another, and how many ranges there are.
+    iterator begin() const & noexcept { return iterator(this, from(std::numeric_limits<key>::min())); }
+    iterator begin() const && = delete;
+    iterator begin_from(integer at) const & noexcept { return iterator(this, from(key_of(at))); }
+    iterator begin_from(integer at) const && = delete;
+    iterator end() const & noexcept { return iterator(); }
+    iterator end() const && = delete;
+    std::size_t size() const noexcept { return calls::len(map_); }
+    bool empty() const noexcept { return size() == 0; }
+
+    friend bool operator==(const range_map &a, const range_map &b) { return a.size() == b.size() && std::equal(a.begin(), a.end(), b.begin()); }
+    friend bool operator!=(const range_map &a, const range_map &b) { return !(a == b); }
+
+private:
+    static key key_of(integer at) noexcept { return element::in(at.value); }
+    typename calls::stretch around(integer at) const noexcept { return calls::range_at(map_, key_of(at)); }
+    // The first range with a value that has a key at or above another. One without a value is followed by one that has one.
+    typename calls::stretch from(key at) const noexcept
+    {
+        const auto it = calls::range_at(map_, at);
+        return it.has_value || !it.has_end ? it : calls::range_at(map_, it.end);
+    }
+
+    template <class Wanted> range_set<T> keys_where(Wanted wanted) const
+    {
+        std::vector<range<T>> found;
+        for (iterator it = begin(); it != end(); ++it)
+            if (wanted(it.at_.value)) found.push_back((*it).first);
+        return range_set<T>(found);
+    }
+
+    template <class Call, class... Keys> range_map &put(Call call, const V &value, Keys... keys)
+    {
+        // What the map was stays until the change is done, since the value may be one of its list.
+        range_map before;
+        if (values_.size() >= limit_) {
+            before = *this;
+            before.limit_ = 64 + 2 * before.values_.size();
+            swap(before);
+        }
+        return change(call, keys..., values_.number_of(value));
+    }
+    template <class Call, class... Numbers> range_map &change(Call call, Numbers... numbers)
+    {
+        if (map_.at == nullptr) detail::see_memory(calls::make(&map_));
+        detail::see_memory(call(&map_, numbers...));
+        return *this;
+    }
+
+    typename calls::map map_ = {};
+    values values_;
+    // How long the list of values may grow before it is made anew.
+    std::size_t limit_ = 64;
+};
+
+} // namespace range_sets
+
+#endif

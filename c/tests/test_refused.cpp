@@ -1,0 +1,160 @@
+// Tests of chunked_range_set and range_map where memory is refused: each request of each call in turn. It is linked with
+// -Wl,--wrap=malloc,--wrap=realloc, so that it stands before the library's malloc.
+#include "checking.h"
+#include "range_map.hpp"
+
+#include <cstddef>
+#include <cstdio>
+#include <cstdlib>
+#include <new>
+#include <utility>
+#include <vector>
+
+using range_sets::chunked_range_set;
+using range_sets::range_map;
+using range_sets::range_set;
+
+extern "C" {
+void *__real_malloc(std::size_t size);
+void *__real_realloc(void *memory, std::size_t size);
+void *__wrap_malloc(std::size_t size);
+void *__wrap_realloc(void *memory, std::size_t size);
+}
+
+static long refused;
+// How many requests are met before one is refused; all if it is negative.
+static long left = -1;
+
+static bool is_met()
+{
+    if (left < 0) return true;
+    if (left == 0) refused++;
+    return left > 0 && left-- > 0;
+}
+
+void *__wrap_malloc(std::size_t size)
+{
+    return is_met() ? __real_malloc(size) : nullptr;
+}
+
+void *__wrap_realloc(void *memory, std::size_t size)
+{
+    return is_met() ? __real_realloc(memory, size) : nullptr;
+}
+
+// Makes a change again and again, with one request more met each time, until it is done. What is refused is thrown, and leaves the set
+// or map as it was. A change that doesn't always take memory may be met at once.
+template <class Set, class Change> static void until_done(const Set &before, const char *what, Change change, bool always = true)
+{
+    long met = 0;
+    for (bool thrown = true; thrown; met++) {
+        Set set(before);
+        thrown = false;
+        left = met;
+        try {
+            change(set);
+        } catch (const std::bad_alloc &) {
+            thrown = true;
+        }
+        left = -1;
+        check((set == before) == thrown, what);
+    }
+    check(met > 1 || !always, what);
+}
+
+template <class T> static void all()
+{
+    using set = chunked_range_set<T>;
+    std::vector<std::pair<T, T>> pairs;
+    for (T i = 0; i < 256; i++) pairs.emplace_back(static_cast<T>(10 * i), static_cast<T>(10 * i + 5));
+    const range_set<T> list(pairs);
+    const set nothing, many(list);
+    until_done(nothing, "insert into no set", [](set &it) { it.insert(3, 5); });
+    until_done(nothing, "insert_from into no set", [](set &it) { it.insert_from(3); });
+    until_done(many, "insert into a full chunk", [](set &it) { it.insert(7, 8); });
+    until_done(many, "remove out of the middle of a range", [](set &it) { it.remove(2, 3); });
+    until_done(nothing, "a copy", [&](set &it) { it = many; });
+    until_done(nothing, "a set of a list", [&](set &it) { it = set(list); });
+    until_done(nothing, "|= of another", [&](set &it) { it |= many; });
+
+    using map = range_map<T, int>;
+    map none, full;
+    full.insert(5, 7, 1);
+    until_done(none, "insert into no map", [](map &it) { it.insert(3, 5, 7); });
+    until_done(none, "insert_from into no map", [](map &it) { it.insert_from(3, 7); });
+    until_done(none, "a copy of a map", [&](map &it) { it = full; });
+    long grown = -refused;
+    for (T i = 0; i < 100; i++) {
+        const auto put = [i](map &it) { it.insert(static_cast<T>(3 * i), static_cast<T>(3 * i + 1), static_cast<int>(i)); };
+        until_done(none, "insert into a map", put, false);
+        put(none);
+    }
+    grown += refused;
+    check(grown > 0, "a map that grows");
+}
+
+// How many blocks the library has by the allocator of these.
+static long blocks;
+
+static void *allocate(void *, std::size_t size)
+{
+    if (!is_met()) return nullptr;
+    blocks++;
+    return __real_malloc(size);
+}
+
+static void *resize(void *, void *memory, std::size_t, std::size_t size)
+{
+    return is_met() ? __real_realloc(memory, size) : nullptr;
+}
+
+static void release(void *, void *memory, std::size_t)
+{
+    blocks--;
+    std::free(memory);
+}
+
+// A copy of a map in chunks that is refused memory gives back what it took.
+template <class V> static void gives_back(V few[5])
+{
+    const range_set_allocator counting = {allocate, resize, release, nullptr};
+    range_set_use_allocator(&counting);
+    {
+        range_map<std::int64_t, V> map;
+        for (int i = 0; i < 200; i++) map.insert(10 * i, 10 * i + 5, few[i % 5]);
+        const long before = blocks;
+        bool thrown = true;
+        for (long met = 0; thrown; met++) {
+            thrown = false;
+            left = met;
+            try {
+                const range_map<std::int64_t, V> copy(map);
+                left = -1;
+                check(met > 2 && copy == map, "a copy in chunks");
+            } catch (const std::bad_alloc &) {
+                thrown = true;
+            }
+            left = -1;
+            check(blocks == before, "a copy that is refused gives back what it took");
+        }
+        const range_map<std::int64_t, V> none;
+        until_done(none, "a map of a list", [&](range_map<std::int64_t, V> &it) { it = {{1, 3, few[0]}, {7, 9, few[1]}}; });
+        check(blocks == before, "a list that is refused gives back what it took");
+    }
+    check(blocks == 0, "all is given back");
+    range_set_use_allocator(nullptr);
+}
+
+int main()
+{
+    int numbers[] = {0, 1, 2, 3, 4};
+    std::vector<int> lists[] = {{0}, {1}, {2}, {3}, {4}};
+    gives_back(numbers);
+    gives_back(lists);
+    all<std::int32_t>();
+    all<std::uint32_t>();
+    all<std::int64_t>();
+    all<std::uint64_t>();
+    std::printf("test_refused: %ld checks, %ld requests refused\n", checks, refused);
+    return 0;
+}

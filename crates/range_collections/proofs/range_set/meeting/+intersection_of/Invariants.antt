@@ -1,5 +1,0 @@
-use Rattle.std.proofs.Common.{length}
-use Rattle.range_collections.proofs.range_set.meeting.+intersection_of.Given as goal
-
-abbrev pub decreases-intersection_of : goal.decreases-intersection_of
-decreases-intersection_of g l = length l.sets.now

@@ -1,0 +1,12 @@
+use Rattle.std.proofs.Common.{rules, ◌∙◌, sym}
+use Rattle.range_list.proofs.Listed.{IsPlace-from, before-lists, before-none}
+use Rattle.range_list.proofs.list.Chunks.item_before.Goals as goal
+
+pub returns-then-is_empty : goal.returns-then-is_empty
+returns-then-is_empty g c = rw (← c.self.view_is) (before-none c.self.inside.chunks.items c.args.at (search rules) (rw (← c.self.view_is) at c.requires))
+
+pub item_before-requires-clause-place : goal.item_before-requires-clause-place
+item_before-requires-clause-place g c = rw c.as_slice.ensures.value (IsPlace-from c.self.inside.chunks.items c.args.at (search rules) (rw (← c.self.view_is) at c.requires))
+
+pub returns : goal.returns
+returns g c = rw (← c.self.view_is) ((rw c.as_slice.ensures.value at c.item_before.ensures) ∙ sym (before-lists c.self.inside.chunks.items c.args.at))

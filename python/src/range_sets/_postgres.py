@@ -1,0 +1,129 @@
+"""Multiranges of PostgreSQL: their texts, and the ranges that psycopg makes of them."""
+
+from __future__ import annotations
+
+import re
+from datetime import date, datetime, timedelta
+from itertools import zip_longest
+from typing import Any, Callable, Iterator, Protocol
+
+from ._errors import ParseError
+from ._kinds import DATE, SIGNED, Kind, Now, kind_of, of
+
+# A bound as the server writes it, with nothing for none, and perhaps in quotes.
+_BOUND = r'("[^"\\]*"|[^"\\,\[\](){}]*)'
+_RANGE = re.compile(rf"\s*(?:empty|([\[(]){_BOUND},{_BOUND}([\])]))\s*", re.IGNORECASE)
+_OPENED, _CLOSED = re.compile(r"\s*\{\s*"), re.compile(r"\}\s*")
+# What elements of the kinds look like, and how one is read.
+_DAY = r"\d{4}-\d\d-\d\d"
+_TIME = rf"{_DAY}[ T]\d\d:\d\d:\d\d(\.\d{{1,6}})?"
+_FORMS: dict[str, tuple[re.Pattern[str], Callable[[str], Any]]] = {
+    "int": (re.compile(r"\s*[-+]?\d+\s*", re.ASCII), int),
+    "date": (re.compile(_DAY, re.ASCII), date.fromisoformat),
+    "datetime": (re.compile(_TIME, re.ASCII), datetime.fromisoformat),
+    "datetime[UTC]": (re.compile(rf"{_TIME}[-+]\d\d(:\d\d){{0,2}}", re.ASCII), datetime.fromisoformat),
+}
+
+
+class Bounds(Protocol):
+    """What checkers of types know of a range of psycopg's."""
+
+    @property
+    def lower(self) -> Any:
+        ...
+
+    @property
+    def lower_inc(self) -> bool:
+        ...
+
+    @property
+    def upper(self) -> Any:
+        ...
+
+    @property
+    def upper_inc(self) -> bool:
+        ...
+
+
+def half_open(lower: Any, lower_inc: bool, upper: Any, upper_inc: bool) -> tuple[Any, Any]:
+    """The start and the end of a range of PostgreSQL's."""
+    return lower if lower is None or lower_inc else _after(lower), upper if upper is None or not upper_inc else _after(upper)
+
+
+def _after(element: Any) -> Any:
+    """The next element, which numbers and dates alone have, as the server says too."""
+    kind = of(element)
+    if kind not in (SIGNED, DATE):
+        raise ValueError(f"expected a range with its start and without its end, and of {element!r} there is no next one")
+    return element + (1 if kind is SIGNED else timedelta(1))
+
+
+def read(text: str, kind: Kind | None) -> tuple[list[tuple[Any, Any]], Kind | None]:
+    """The pairs of a multirange or a range as the server writes it, and their kind, which the first element decides if none is given."""
+    if not isinstance(text, str):
+        raise TypeError(f"expected a text, not {type(text).__name__}")
+    if kind is not None:
+        _see_kind(kind)
+    pairs = []
+    for found in _ranges_in(text):
+        if found[1] is None:
+            continue
+        ends = []
+        for group in (2, 3):
+            element, kind = _element(found[group], found.start(group), kind)
+            ends.append(element)
+        pairs.append(half_open(ends[0], found[1] == "[", ends[1], found[4] == "]"))
+    return pairs, kind
+
+
+def _ranges_in(text: str) -> Iterator[re.Match[str]]:
+    opened = _OPENED.match(text)
+    at = opened.end() if opened else 0
+    if opened and _CLOSED.fullmatch(text, at):
+        return
+    while True:
+        found = _RANGE.match(text, at)
+        if found is None:
+            raise ParseError("a range", at)
+        yield found
+        at = found.end()
+        if (_CLOSED.fullmatch(text, at) is not None) if opened else at == len(text):
+            return
+        if not opened or text[at : at + 1] != ",":
+            raise ParseError("a comma or a brace" if opened else "the end", at)
+        at += 1
+
+
+def _element(text: str, position: int, kind: Kind | None) -> tuple[Any, Kind | None]:
+    """An element, or None for no bound, and its kind."""
+    if not text:
+        return None, kind
+    plain = text[1:-1] if text.startswith('"') else text
+    if kind is None:
+        kind = kind_of(next((name for name, (form, _) in _FORMS.items() if form.fullmatch(plain)), None))
+    if kind is None:
+        raise ParseError("a number, a date or a time", position)
+    form, read_one = _FORMS[kind.name]
+    try:
+        if form.fullmatch(plain):
+            element = read_one(plain)
+            kind.number(element)
+            return element, kind
+    except (ValueError, OverflowError):
+        pass
+    raise ParseError(kind.element, position)
+
+
+def _see_kind(kind: Kind) -> None:
+    if kind.name not in _FORMS:
+        raise TypeError(f"PostgreSQL's multiranges are of the kinds {', '.join(_FORMS)}, and not {kind.name}")
+
+
+def written(now: Now) -> str:
+    """The text of a set as the server reads it. A start at the least element is none, as an end past the greatest is."""
+    boundaries, kind = now
+    _see_kind(kind)
+    quote = '"' * kind.name.startswith("datetime")
+    bounds = ["" if code == kind.least else f"{quote}{kind.value(code)}{quote}" for code in boundaries]
+    ranges = zip_longest(bounds[::2], bounds[1::2], fillvalue="")
+    return "{" + ",".join(f"{'[' if start else '('}{start},{end})" for start, end in ranges) + "}"

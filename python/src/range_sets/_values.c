@@ -1,0 +1,205 @@
+/* The values of a map by their numbers. */
+#include "_values.h"
+
+/* ---- Numbers by hashes ---- */
+
+size_t first_slot(const Numbers *self, uint64_t hash)
+{
+    /* Hashes of numbers are these, and often differ in a few bits alone. */
+    return (size_t)(hash * 0x9E3779B97F4A7C15u >> 32) & (self->room - 1);
+}
+
+size_t next_number(const Numbers *self, uint64_t hash, size_t *slot)
+{
+    if (self->room == 0) return NONE;
+    for (;; ++*slot) {
+        *slot &= self->room - 1;
+        if (self->slots[*slot].number == NONE || self->slots[*slot].hash == hash) return self->slots[*slot].number;
+    }
+}
+
+void add_number(Numbers *self, uint64_t hash, size_t number)
+{
+    size_t slot = first_slot(self, hash);
+    while (self->slots[slot].number != NONE) slot = (slot + 1) & (self->room - 1);
+    self->slots[slot].hash = hash;
+    self->slots[slot].number = number;
+}
+
+bool make_numbers(Numbers *self, size_t room)
+{
+    Numbers made = {PyMem_Malloc(2 * room * sizeof *made.slots), 2 * room};
+    if (made.slots == NULL) return PyErr_NoMemory() != NULL;
+    for (size_t i = 0; i < made.room; i++) made.slots[i].number = NONE;
+    for (size_t i = 0; i < self->room; i++) {
+        if (self->slots[i].number != NONE) add_number(&made, self->slots[i].hash, self->slots[i].number);
+    }
+    PyMem_Free(self->slots);
+    *self = made;
+    return true;
+}
+
+/* Takes a number out. The next ones move up, so that a search meets no free slot before them. */
+static void take_number(Numbers *self, uint64_t hash, size_t number)
+{
+    size_t last = self->room - 1, free = first_slot(self, hash), at;
+    while (self->slots[free].number != number) free = (free + 1) & last;
+    for (at = (free + 1) & last; self->slots[at].number != NONE; at = (at + 1) & last) {
+        if (((at - first_slot(self, self->slots[at].hash)) & last) < ((at - free) & last)) continue;
+        self->slots[free] = self->slots[at];
+        free = at;
+    }
+    self->slots[free].number = NONE;
+}
+
+/* ---- Values ---- */
+
+/* Makes a free place. */
+static bool make_room(Values *self)
+{
+    size_t used = self->room, room = used == 0 ? 4 : 2 * used;
+    if (self->free != NONE) return true;
+    Value *places = PyMem_Realloc(self->places, room * sizeof *places);
+    if (places == NULL) return PyErr_NoMemory() != NULL;
+    self->places = places;
+    if (!make_numbers(&self->numbers, room)) return false;
+    self->room = room;
+    for (size_t i = room; i-- > used; self->free = i) places[i] = (Value){.next = self->free};
+    return true;
+}
+
+size_t add_value(Values *self, PyObject *value, Py_hash_t hash)
+{
+    if (!make_room(self)) return NONE;
+    size_t number = self->free;
+    self->free = self->places[number].next;
+    self->places[number] = (Value){.value = Py_NewRef(value), .hash = hash};
+    add_number(&self->numbers, (uint64_t)hash, number);
+    self->turns++;
+    return number;
+}
+
+int are_one(PyObject *a, PyObject *b)
+{
+    if (a == b || !Py_IS_TYPE(a, Py_TYPE(b))) return a == b;
+    Py_INCREF(a);
+    Py_INCREF(b);
+    int is_one = PyObject_RichCompareBool(a, b, Py_EQ);
+    Py_DECREF(a);
+    Py_DECREF(b);
+    return is_one;
+}
+
+/* If an `==` puts a value in or takes one out, the search begins anew, as in a dict. */
+bool find_value(Values *self, PyObject *value, Py_hash_t *hash, size_t *number)
+{
+    *number = NONE;
+    *hash = PyObject_Hash(value);
+    if (*hash == -1) {
+        if (!PyErr_ExceptionMatches(PyExc_TypeError)) return false;
+        PyErr_Clear();
+    }
+    size_t slot = first_slot(&self->numbers, (uint64_t)*hash), found;
+    while (*number == NONE && (found = next_number(&self->numbers, (uint64_t)*hash, &slot)) != NONE) {
+        uint64_t seen = self->turns;
+        int is_one = are_one(self->places[found].value, value);
+        if (is_one < 0) return false;
+        if (self->turns != seen) slot = first_slot(&self->numbers, (uint64_t)*hash);
+        else if (is_one) *number = found;
+        else slot++;
+    }
+    return true;
+}
+
+size_t keep_again(Values *self, size_t number)
+{
+    self->places[number].calls++;
+    return number;
+}
+
+bool keep_value(Values *self, PyObject *value, size_t *number)
+{
+    Py_hash_t hash;
+    if (!find_value(self, value, &hash, number)) return false;
+    if (*number == NONE) *number = add_value(self, value, hash);
+    if (*number != NONE) keep_again(self, *number);
+    return *number != NONE;
+}
+
+static void see_left(Values *self, size_t number)
+{
+    Value *it = &self->places[number];
+    if (it->ranges > 0 || it->calls > 0 || it->is_left) return;
+    it->is_left = true;
+    it->next = self->left;
+    self->left = number;
+}
+
+void let_go(Values *self, size_t number)
+{
+    self->places[number].calls--;
+    see_left(self, number);
+}
+
+void count_ranges(Values *self, size_t number, size_t by)
+{
+    self->places[number].ranges += by;
+    see_left(self, number);
+}
+
+void drop_left(Values *self)
+{
+    while (self->left != NONE) {
+        size_t number = self->left;
+        Value *it = &self->places[number];
+        self->left = it->next;
+        it->is_left = false;
+        if (it->ranges > 0 || it->calls > 0) continue;
+        take_number(&self->numbers, (uint64_t)it->hash, number);
+        it->next = self->free;
+        self->free = number;
+        self->turns++;
+        Py_CLEAR(it->value);
+    }
+}
+
+bool copy_values(const Values *self, Values *other)
+{
+    size_t places_size = self->room * sizeof *self->places, slots_size = self->numbers.room * sizeof *self->numbers.slots;
+    if (self->room == 0) return true;
+    Value *places = PyMem_Malloc(places_size);
+    void *slots = PyMem_Malloc(slots_size);
+    if (places == NULL || slots == NULL) {
+        PyMem_Free(places);
+        PyMem_Free(slots);
+        return PyErr_NoMemory() != NULL;
+    }
+    *other = *self;
+    other->places = memcpy(places, self->places, places_size);
+    other->numbers.slots = memcpy(slots, self->numbers.slots, slots_size);
+    /* The calls are about to put theirs into this table alone. */
+    for (size_t i = 0; i < other->room; i++) {
+        if (places[i].value == NULL) continue;
+        Py_INCREF(places[i].value);
+        places[i].calls = 0;
+        see_left(other, i);
+    }
+    /* No value ends by this: the other table has it too. */
+    drop_left(other);
+    return true;
+}
+
+int visit_values(const Values *self, visitproc visit, void *arg)
+{
+    for (size_t i = 0; i < self->room; i++) Py_VISIT(self->places[i].value);
+    return 0;
+}
+
+void clear_values(Values *self)
+{
+    Values all = *self;
+    *self = (Values){.free = NONE, .left = NONE};
+    PyMem_Free(all.numbers.slots);
+    for (size_t i = 0; i < all.room; i++) Py_XDECREF(all.places[i].value);
+    PyMem_Free(all.places);
+}

@@ -1,0 +1,228 @@
+//! Sets in chunks made of ranges, and what changes one.
+
+use crate::any_range::{AnyRange, IntoRange};
+use crate::array::List;
+use crate::forms::{ends, fails};
+use crate::generated::range_chunks as proved;
+use crate::generated::range_collections::FromPlace;
+use crate::range::RangeSetRange;
+use crate::support::{Global, SmallVec};
+
+macro_rules! changes {
+    (
+        $form:ident, $Clone:ident, $must_use:meta, $errors:ident,
+        $at:literal, $from:literal, $ok:literal, $end:literal
+    ) => {
+        impl<T: Ord> $form::ChunkedRangeSet<T> {
+            /// Returns the empty set. It takes no memory.
+            ///
+            /// # Examples
+            ///
+            /// ```
+            #[doc = concat!("use ", $at, "::ChunkedRangeSet;")]
+            ///
+            /// assert!(ChunkedRangeSet::<u64>::new().is_empty());
+            /// ```
+            #[must_use]
+            pub fn new() -> Self {
+                Self::of_proved(proved::ChunkedRangeSet::new(Global))
+            }
+
+            /// Returns the set of the values that lie in one of the ranges at least, which stand in any
+            /// order.
+            ///
+            #[doc = $errors!("`collect` does the same." or "If memory runs out.")]
+            /// # Examples
+            ///
+            /// ```
+            #[doc = concat!("use ", $at, "::ChunkedRangeSet;")]
+            ///
+            #[doc = concat!("let busy = ChunkedRangeSet::from_ranges([15..18, 11..12, 12..13])", $ok)]
+            /// assert_eq!(busy.to_string(), "11..13, 15..18");
+            #[doc = $end]
+            /// ```
+            #[$must_use]
+            pub fn from_ranges<R>(ranges: impl IntoIterator<Item = R>) -> $form::Given<Self>
+            where
+                R: IntoRange<T>,
+            {
+                let ranges = ranges.into_iter().map(Into::into);
+                let list = SmallVec::<T, 2>::of_ranges(ranges, $form::SORTING);
+                let set = list.and_then(List::into_chunks).map(Self::of_proved);
+                $form::given::<T, _, _>(set)
+            }
+
+            /// Returns the set of these values, which may come in any order and more than once.
+            ///
+            #[doc = $errors!("If memory runs out.")]
+            /// # Examples
+            ///
+            /// ```
+            #[doc = concat!("use ", $at, "::ChunkedRangeSet;")]
+            ///
+            #[doc = concat!("let set = ChunkedRangeSet::from_values([7u8, 3, 255, 4, 3])", $ok)]
+            /// assert_eq!(set.to_string(), "3..5, 7..8, 255..");
+            #[doc = $end]
+            /// ```
+            #[$must_use]
+            pub fn from_values(values: impl IntoIterator<Item = T>) -> $form::Given<Self>
+            where
+                T: FromPlace,
+            {
+                Self::from_ranges(values.into_iter().map(RangeSetRange::of_value))
+            }
+
+            /// Adds the values of a range [of any kind](AnyRange). An empty or a reversed range changes
+            /// nothing.
+            ///
+            /// Of two equal boundaries the set's own stays.
+            ///
+            #[doc = $errors!("If memory runs out, which is asked for only if the set grows. The set is \
+                then as it was.")]
+            /// # Examples
+            ///
+            /// ```
+            #[doc = concat!("use ", $at, "::ChunkedRangeSet;")]
+            ///
+            /// let mut busy = ChunkedRangeSet::new();
+            #[doc = concat!("busy.insert(11..12)", $ok)]
+            #[doc = concat!("busy.insert(12..14)", $ok)]
+            #[doc = concat!("busy.insert(22..)", $ok)]
+            /// assert_eq!(busy.to_string(), "11..14, 22..");
+            #[doc = $end]
+            /// ```
+            #[inline]
+            pub fn insert(&mut self, range: impl AnyRange<T>) -> $form::Given<()> {
+                $form::given::<T, _, _>(match range.into() {
+                    RangeSetRange::Range(range) => self.changed(|set| set.insert(range)),
+                    RangeSetRange::RangeFrom(range) => self.changed(|set| set.insert_from(range)),
+                })
+            }
+
+            /// Removes the values of a range [of any kind](AnyRange). An empty or a reversed range changes
+            /// nothing.
+            ///
+            /// It takes memory only if it cuts a range in two, or ends one that had no end.
+            ///
+            #[doc = $errors!("If memory runs out. The set is then as it was.")]
+            /// # Examples
+            ///
+            /// ```
+            #[doc = concat!("use ", $at, "::ChunkedRangeSet;")]
+            ///
+            #[doc = concat!("let mut open = ChunkedRangeSet::from_ranges([9..17])", $ok)]
+            #[doc = concat!("open.remove(12..13)", $ok)]
+            #[doc = concat!("open.remove(16..)", $ok)]
+            /// assert_eq!(open.to_string(), "9..12, 13..16");
+            #[doc = $end]
+            /// ```
+            #[inline]
+            pub fn remove(&mut self, range: impl AnyRange<T>) -> $form::Given<()> {
+                $form::given::<T, _, _>(match range.into() {
+                    RangeSetRange::Range(range) => self.changed(|set| set.remove(range)),
+                    RangeSetRange::RangeFrom(range) => self.changed(|set| set.remove_from(range)),
+                })
+            }
+
+            /// Adds the values of a range, as [`insert`](Self::insert) does. Returns `true` if one of them
+            /// wasn't a member.
+            ///
+            #[doc = $errors!("If memory runs out. The set is then as it was.")]
+            /// # Examples
+            ///
+            /// ```
+            #[doc = concat!("use ", $at, "::ChunkedRangeSet;")]
+            ///
+            #[doc = concat!("let mut seen = ChunkedRangeSet::from_ranges([0..10])", $ok)]
+            #[doc = concat!("let changed = seen.insert_changed(5..12)", $ok)]
+            #[doc = concat!("let again = seen.insert_changed(3..=11)", $ok)]
+            /// assert!(changed && !again);
+            #[doc = $end]
+            /// ```
+            pub fn insert_changed(&mut self, range: impl AnyRange<T>) -> $form::Given<bool> {
+                $form::given::<T, _, _>(match range.into() {
+                    RangeSetRange::Range(range) => self.changed(|set| set.insert_changed(range)),
+                    RangeSetRange::RangeFrom(range) => {
+                        let changes = self.next_gap(&range.start).is_some();
+                        self.changed(|set| set.insert_from(range)).map(|()| changes)
+                    }
+                })
+            }
+
+            /// Removes the values of a range, as [`remove`](Self::remove) does. Returns `true` if one of
+            /// them was a member.
+            ///
+            #[doc = $errors!("If memory runs out. The set is then as it was.")]
+            /// # Examples
+            ///
+            /// ```
+            #[doc = concat!("use ", $at, "::ChunkedRangeSet;")]
+            ///
+            #[doc = concat!("let mut free = ChunkedRangeSet::from_ranges([0..10])", $ok)]
+            #[doc = concat!("let changed = free.remove_changed(8..)", $ok)]
+            #[doc = concat!("let again = free.remove_changed(8..10)", $ok)]
+            /// assert!(changed && !again);
+            #[doc = $end]
+            /// ```
+            pub fn remove_changed(&mut self, range: impl AnyRange<T>) -> $form::Given<bool> {
+                $form::given::<T, _, _>(match range.into() {
+                    RangeSetRange::Range(range) => self.changed(|set| set.remove_changed(range)),
+                    RangeSetRange::RangeFrom(range) => {
+                        let changes = self.next_member(&range.start).is_some();
+                        self.changed(|set| set.remove_from(range)).map(|()| changes)
+                    }
+                })
+            }
+
+            /// Removes the first range and returns it, or `None` if the set is empty. It takes no memory.
+            ///
+            /// # Examples
+            ///
+            /// ```
+            #[doc = concat!("use ", $at, "::ChunkedRangeSet;")]
+            ///
+            #[doc = concat!("let mut busy = ChunkedRangeSet::from_ranges([9..11, 15..18])", $ok)]
+            /// assert_eq!(busy.pop_first(), Some((9..11).into()));
+            /// assert_eq!(busy.to_string(), "15..18");
+            #[doc = $end]
+            /// ```
+            pub fn pop_first(&mut self) -> Option<RangeSetRange<T>> {
+                self.changed(|set| set.pop_first()).map(RangeSetRange::from_proved)
+            }
+
+            /// Removes the last range and returns it, or `None` if the set is empty. It takes no memory.
+            ///
+            /// # Examples
+            ///
+            /// ```
+            #[doc = concat!("use ", $at, "::ChunkedRangeSet;")]
+            ///
+            #[doc = concat!("let mut busy = ChunkedRangeSet::from_ranges([9..11, 15..18])", $ok)]
+            /// assert_eq!(busy.pop_last(), Some((15..18).into()));
+            /// assert_eq!(busy.to_string(), "9..11");
+            #[doc = $end]
+            /// ```
+            pub fn pop_last(&mut self) -> Option<RangeSetRange<T>> {
+                self.changed(|set| set.pop_last()).map(RangeSetRange::from_proved)
+            }
+
+            /// Removes all values.
+            ///
+            /// # Examples
+            ///
+            /// ```
+            #[doc = concat!("use ", $at, "::ChunkedRangeSet;")]
+            ///
+            #[doc = concat!("let mut open = ChunkedRangeSet::from_ranges([9..17])", $ok)]
+            /// open.clear();
+            /// assert!(open.is_empty());
+            #[doc = $end]
+            /// ```
+            pub fn clear(&mut self) {
+                self.changed(|set| set.clear());
+            }
+        }
+    };
+}
+
+both_forms!(changes);

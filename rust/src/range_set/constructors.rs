@@ -1,0 +1,252 @@
+//! Sets of boundaries, of ranges, of values, and of other sets.
+
+use crate::any_range::IntoRange;
+use crate::array::{Array, List};
+use crate::entry::RangeSetEntry;
+use crate::fallible::EntryClone;
+use crate::forms::{ends, fails};
+use crate::generated::range_collections::FromPlace;
+use crate::range::RangeSetRange;
+use crate::range_set::{intersection_of_sets, Joining};
+use crate::view::RangeSetRef;
+use smallvec::SmallVec;
+
+macro_rules! constructors {
+    (
+        $form:ident, $Clone:ident, $must_use:meta, $errors:ident,
+        $at:literal, $from:literal, $ok:literal, $end:literal
+    ) => {
+        impl<T, A: Array<Item = T>> $form::RangeSet<A> {
+            /// Returns the set with these boundaries, or `None` if they aren't strictly sorted. It takes
+            /// no memory.
+            ///
+            /// [`from_unsorted`](Self::from_unsorted) sorts them. The empty set is
+            /// [`empty`](Self::empty), which takes no list.
+            ///
+            /// The array type doesn't follow from the boundaries, nor from ranges that are collected. A
+            /// line that makes a set of them names it: `let set: RangeSet<[i32; 4]> = ..`, or `RangeSet2`.
+            ///
+            /// # Examples
+            ///
+            /// ```
+            #[doc = concat!("use ", $at, "::RangeSet;")]
+            /// use smallvec::smallvec;
+            ///
+            /// let set: RangeSet<[i32; 4]> = RangeSet::new(smallvec![0, 10, 20]).unwrap();
+            /// assert!(set.contains(&25));
+            /// assert!(RangeSet::<[i32; 4]>::new(smallvec![10, 0]).is_none());
+            /// ```
+            #[must_use]
+            pub fn new(boundaries: SmallVec<A>) -> Option<Self>
+            where
+                T: Ord,
+            {
+                RangeSetRef::new(&boundaries)?;
+                Some(Self::of_list(A::list(boundaries)))
+            }
+
+            /// Returns the set whose boundaries are the distinct ones of these, in order. Of equal ones
+            /// the first stays.
+            ///
+            #[doc = $errors!("If there is no room for the boundaries, or none to sort them: more \
+                than 20 take a list of their places.")]
+            /// # Examples
+            ///
+            /// ```
+            #[doc = concat!("use ", $at, "::RangeSet2;")]
+            ///
+            #[doc = concat!("let set: RangeSet2<i32> = RangeSet2::from_unsorted([20, 0, 10, 0])", $ok)]
+            /// assert_eq!(set.boundaries(), [0, 10, 20]);
+            #[doc = $end]
+            /// ```
+            #[$must_use]
+            pub fn from_unsorted(boundaries: impl IntoIterator<Item = T>) -> $form::Given<Self>
+            where
+                T: Ord,
+            {
+                let list = A::List::collected(boundaries.into_iter());
+                let sorted = list.and_then(|list| list.sorted($form::SORTING));
+                $form::given::<T, _, _>(sorted.map(Self::of_list))
+            }
+
+            /// Returns the empty set. It takes no memory, and can be a constant.
+            ///
+            /// # Examples
+            ///
+            /// ```
+            #[doc = concat!("use ", $at, "::RangeSet2;")]
+            ///
+            /// static NOTHING: RangeSet2<i32> = RangeSet2::empty();
+            /// assert!(NOTHING.is_empty());
+            ///
+            /// let mut busy = RangeSet2::empty();
+            #[doc = concat!("busy.insert(9..17)", $ok)]
+            /// assert_eq!(busy.to_string(), "9..17");
+            #[doc = $end]
+            /// ```
+            #[doc(alias = "new")]
+            #[must_use]
+            pub const fn empty() -> Self {
+                Self {
+                    list: A::List::EMPTY,
+                }
+            }
+
+            /// Returns the set of all values.
+            ///
+            #[doc = $errors!("If memory runs out, which happens only if the set keeps no boundary in \
+                itself.")]
+            /// # Examples
+            ///
+            /// ```
+            #[doc = concat!("use ", $at, "::RangeSet2;")]
+            ///
+            #[doc = concat!("let all = RangeSet2::<i8>::all()", $ok)]
+            /// assert!(all.is_all() && all.contains(&-128));
+            #[doc = $end]
+            /// ```
+            #[$must_use]
+            pub fn all() -> $form::Given<Self>
+            where
+                T: RangeSetEntry,
+            {
+                $form::given::<T, _, _>(A::List::of_all().map(Self::of_list))
+            }
+
+            /// Returns the set of the values that lie in one of the ranges at least.
+            ///
+            /// The ranges are of any kind that [becomes one](IntoRange) by `into`, as those of std do, and
+            /// `&Range` by its `Clone`. They stand in any order, and may overlap, touch or be empty.
+            /// Those that come in the order of their starts are appended one after the other. From the
+            /// first that doesn't on, starts and ends are sorted, which takes *O*(*n* log *n*)
+            /// comparisons.
+            ///
+            #[doc = $errors!("`collect` does the same." or "If memory runs out.")]
+            /// # Examples
+            ///
+            /// ```
+            #[doc = concat!("use ", $at, "::RangeSet2;")]
+            ///
+            #[doc = concat!("let busy = RangeSet2::<u32>::from_ranges([15..18, 11..12, 12..13])", $ok)]
+            /// assert_eq!(busy.to_string(), "11..13, 15..18");
+            #[doc = $end]
+            /// ```
+            #[$must_use]
+            pub fn from_ranges<R>(ranges: impl IntoIterator<Item = R>) -> $form::Given<Self>
+            where
+                T: Ord,
+                R: IntoRange<T>,
+            {
+                let ranges = ranges.into_iter().map(Into::into);
+                let list = A::List::of_ranges(ranges, $form::SORTING);
+                $form::given::<T, _, _>(list.map(Self::of_list))
+            }
+
+            /// Returns the set of these values, which may come in any order and more than once.
+            ///
+            /// It takes as long as [`from_ranges`](Self::from_ranges) with as many ranges.
+            ///
+            #[doc = $errors!("If memory runs out.")]
+            /// # Examples
+            ///
+            /// ```
+            #[doc = concat!("use ", $at, "::RangeSet2;")]
+            ///
+            #[doc = concat!("let set = RangeSet2::<u8>::from_values([7, 3, 255, 4, 3])", $ok)]
+            /// assert_eq!(set.to_string(), "3..5, 7..8, 255..");
+            #[doc = $end]
+            /// ```
+            #[$must_use]
+            pub fn from_values(values: impl IntoIterator<Item = T>) -> $form::Given<Self>
+            where
+                T: FromPlace,
+            {
+                Self::from_ranges(values.into_iter().map(RangeSetRange::of_value))
+            }
+
+            /// Returns the set of the members of one of the sets at least.
+            ///
+            /// It copies each boundary once, and then joins the sets in pairs.
+            ///
+            #[doc = $errors!("If memory runs out or a copy fails.")]
+            /// # Examples
+            ///
+            /// ```
+            #[doc = concat!("use ", $at, "::RangeSet2;")]
+            /// use range_sets::RangeSetRef;
+            ///
+            #[doc = concat!("let mine = RangeSet2::", $from, "(9..11)", $ok)]
+            /// let yours = RangeSetRef::new(&[10, 12, 15, 18]).unwrap();
+            #[doc = concat!("let busy: RangeSet2<u32> = RangeSet2::union_all([&mine, yours])", $ok)]
+            /// assert_eq!(busy.to_string(), "9..12, 15..18");
+            #[doc = $end]
+            /// ```
+            #[$must_use]
+            pub fn union_all<S>(sets: impl IntoIterator<Item = S>) -> $form::Given<Self>
+            where
+                T: Ord + $Clone,
+                S: AsRef<RangeSetRef<T>>,
+            {
+                let joined = Joining::<A>::of_sets(sets, &$form::Copier);
+                $form::given::<T, _, _>(joined.map(Self::of_list))
+            }
+
+            /// Returns the set of the members of each of the sets, or of every value if there is no set.
+            ///
+            /// It copies the first set, and cuts it to one after the other.
+            ///
+            #[doc = $errors!("If memory runs out or a copy fails.")]
+            /// # Examples
+            ///
+            /// ```
+            #[doc = concat!("use ", $at, "::RangeSet2;")]
+            /// use range_sets::RangeSetRef;
+            ///
+            #[doc = concat!("let mine = RangeSet2::", $from, "(9..17)", $ok)]
+            /// let yours = RangeSetRef::new(&[10, 12, 15, 18]).unwrap();
+            #[doc = concat!(
+                "let free: RangeSet2<u32> = RangeSet2::intersection_all([&mine, yours])", $ok
+            )]
+            /// assert_eq!(free.to_string(), "10..12, 15..17");
+            #[doc = $end]
+            /// ```
+            #[$must_use]
+            pub fn intersection_all<S>(sets: impl IntoIterator<Item = S>) -> $form::Given<Self>
+            where
+                T: RangeSetEntry + $Clone,
+                S: AsRef<RangeSetRef<T>>,
+            {
+                let common = intersection_of_sets(sets, &$form::Copier);
+                $form::given::<T, _, _>(common.map(Self::of_list))
+            }
+
+            /// Returns the list of the boundaries, strictly sorted.
+            ///
+            /// # Examples
+            ///
+            /// ```
+            #[doc = concat!("use ", $at, "::RangeSet2;")]
+            ///
+            #[doc = concat!("let set = RangeSet2::", $from, "(0..10)", $ok)]
+            /// assert_eq!(set.into_inner().as_slice(), [0, 10]);
+            #[doc = $end]
+            /// ```
+            #[must_use]
+            pub fn into_inner(self) -> SmallVec<A> {
+                A::inner(self.list)
+            }
+
+            #[inline(always)]
+            pub(crate) fn of_list(list: A::List) -> Self {
+                Self { list }
+            }
+
+            #[inline(always)]
+            pub(crate) fn view(&self) -> &RangeSetRef<T> {
+                RangeSetRef::over(self.list.as_slice())
+            }
+        }
+    };
+}
+
+both_forms!(constructors);

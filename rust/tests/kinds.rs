@@ -1,0 +1,274 @@
+//! Ranges of every kind that std has, between values and between references, wherever a call takes one.
+
+use range_sets::tracker::{ChunkedTracker, Tracker};
+use range_sets::{ChunkedRangeSet, ChunkedSpace, RangeMap, RangeSet2, RangeSetRange, RangeSetRef};
+use std::fmt::Debug;
+use std::iter::once;
+use std::ops::{Bound, RangeBounds};
+
+type Part = RangeSetRange<u8>;
+
+/// Each set of some boundaries: with the least value or without, with an end or without.
+fn sets() -> Vec<Vec<u8>> {
+    const BOUNDARIES: [u8; 6] = [0, 2, 3, 7, 8, 12];
+    (0..1 << BOUNDARIES.len())
+        .map(|mask| {
+            (0..BOUNDARIES.len())
+                .filter(|i| mask >> i & 1 == 1)
+                .map(|i| BOUNDARIES[i])
+                .collect()
+        })
+        .collect()
+}
+
+/// The ends of the ranges that are tried.
+const ENDS: [u8; 7] = [0, 1, 3, 5, 8, 13, 255];
+
+fn is_member(boundaries: &[u8], value: u8) -> bool {
+    boundaries
+        .iter()
+        .filter(|&&boundary| boundary <= value)
+        .count()
+        % 2
+        == 1
+}
+
+/// The parts of the values that are wanted, value by value. One up to the greatest value has no end, unless the range has.
+fn parts(within: &impl RangeBounds<u8>, is_wanted: impl Fn(u8) -> bool) -> Vec<Part> {
+    let (mut found, mut start) = (Vec::new(), None);
+    for value in 0..=255 {
+        if within.contains(&value) && is_wanted(value) {
+            start = start.or(Some(value));
+        } else if let Some(start) = start.take() {
+            found.push((start..value).into());
+        }
+    }
+    found.extend(start.map(|start| RangeSetRange::from(start..)));
+    found
+}
+
+/// The ranges of a set that have a value of a range.
+fn met(boundaries: &[u8], range: &impl RangeBounds<u8>) -> Vec<Part> {
+    let all = parts(&(..), |value| is_member(boundaries, value));
+    let has = |part: &Part| (0..=255).any(|value| part.contains(&value) && range.contains(&value));
+    all.into_iter().filter(has).collect()
+}
+
+/// A part that a view gives between bounds, within a range from the least value on.
+fn of_bounds((start, end): (Bound<&u8>, Bound<&u8>)) -> Part {
+    let start = match start {
+        Bound::Included(start) => *start,
+        _ => 0,
+    };
+    match end {
+        Bound::Excluded(end) => (start..*end).into(),
+        Bound::Included(last) => (start..=*last).into(),
+        Bound::Unbounded => (start..).into(),
+    }
+}
+
+/// Asks each type for its gaps, its parts and the ranges that are met. A view may give its parts in another form.
+macro_rules! ask {
+    ($boundaries:expr, $range:expr, $of_view:expr) => {{
+        let (boundaries, range): (&[u8], _) = ($boundaries, $range);
+        let what = format!("{boundaries:?} in {range:?}");
+        let gaps = parts(&range, |value| !is_member(boundaries, value));
+        let inside = parts(&range, |value| is_member(boundaries, value));
+        let met = met(boundaries, &range);
+
+        let view = RangeSetRef::new(boundaries).unwrap();
+        let found: Vec<Part> = view.gaps(range.clone()).map($of_view).collect();
+        assert_eq!(found, gaps, "{what}");
+        let found: Vec<Part> = view.ranges_within(range.clone()).map($of_view).collect();
+        assert_eq!(found, inside, "{what}");
+        let found: Vec<Part> = view.overlapping(range.clone()).copied().collect();
+        assert_eq!(found, met, "{what}");
+
+        let chunked = ChunkedRangeSet::from(view);
+        let found: Vec<Part> = chunked.gaps(range.clone()).map(Part::from).collect();
+        assert_eq!(found, gaps, "{what}");
+        let found: Vec<Part> = chunked
+            .ranges_within(range.clone())
+            .map(Part::from)
+            .collect();
+        assert_eq!(found, inside, "{what}");
+        let found: Vec<Part> = chunked.overlapping(range.clone()).copied().collect();
+        assert_eq!(found, met, "{what}");
+
+        let space = ChunkedSpace::from(chunked);
+        assert!(
+            space.gaps(range.clone()).map(Part::from).eq(gaps.clone()),
+            "{what}"
+        );
+        assert_eq!(
+            space.intersects_range(range.clone()),
+            !met.is_empty(),
+            "{what}"
+        );
+
+        let mut map: RangeMap<u8, bool> = view.iter().copied().map(|part| (part, true)).collect();
+        let found: Vec<Part> = map
+            .overlapping(range.clone())
+            .map(|(key, _)| key.copied())
+            .collect();
+        assert_eq!(found, met, "{what}");
+        // Neighbours with other values have no gap between them.
+        for start in view.iter().map(|part| **part.start()) {
+            map.insert(start..=start, false);
+        }
+        let found: Vec<Part> = map.gaps(range.clone()).map(Part::from).collect();
+        assert_eq!(found, gaps, "{what}");
+    }};
+}
+
+#[test]
+fn between_values() {
+    for boundaries in sets() {
+        ask!(&boundaries, .., of_bounds);
+        for a in ENDS {
+            ask!(&boundaries, a.., Part::from);
+            ask!(&boundaries, ..a, Part::from);
+            ask!(&boundaries, ..=a, Part::from);
+            ask!(&boundaries, RangeSetRange::from(a..), Part::from);
+            for b in ENDS {
+                ask!(&boundaries, a..b, Part::from);
+                ask!(&boundaries, a..=b, Part::from);
+                ask!(&boundaries, RangeSetRange::from(a..b), Part::from);
+            }
+        }
+    }
+}
+
+#[test]
+fn between_references() {
+    fn same<'a, P: Debug + PartialEq>(
+        these: impl Iterator<Item = P> + 'a,
+        those: impl Iterator<Item = P> + 'a,
+    ) {
+        assert_eq!(these.collect::<Vec<_>>(), those.collect::<Vec<_>>());
+    }
+    for boundaries in sets() {
+        let view = RangeSetRef::new(&boundaries).unwrap();
+        let chunked = ChunkedRangeSet::from(view);
+        let map: RangeMap<u8, ()> = view.iter().map(|range| (range.cloned(), ())).collect();
+        for (a, b) in ENDS.iter().flat_map(|a| ENDS.iter().map(move |b| (a, b))) {
+            let range = *a..*b;
+            // By reference to the range, and as the ends of a range between references have it.
+            same(view.gaps(&range), view.gaps(a..b));
+            same(view.gaps(&a..&b), view.gaps(a..b));
+            same(view.ranges_within(&range), view.ranges_within(a..b));
+            same(chunked.gaps(&range), chunked.gaps(a..b));
+            same(chunked.gaps(&a..&b), view.gaps(a..b));
+            same(chunked.ranges_within(&range), view.ranges_within(a..b));
+            same(map.gaps(&range), view.gaps(a..b));
+            same(map.gaps(&a..&b), view.gaps(a..b));
+            for found in [&range, &(*a..*b)] {
+                same(view.overlapping(found), view.overlapping(a..b));
+                same(view.overlapping(&a..&b), view.overlapping(a..b));
+                same(chunked.overlapping(found), chunked.overlapping(a..b));
+                same(map.overlapping(found), map.overlapping(a..b));
+            }
+            same(view.overlapping(a..), view.overlapping(*a..));
+            same(chunked.overlapping(a..), chunked.overlapping(*a..));
+            same(view.gaps(a..b).cloned(), view.gaps(*a..*b));
+            same(view.gaps(a..).copied(), view.gaps(*a..));
+            same(chunked.gaps(a..b).cloned(), chunked.gaps(*a..*b));
+            same(map.gaps(a..b).copied(), map.gaps(*a..*b));
+        }
+    }
+}
+
+/// A range without an end goes up to the greatest value, which is in no row.
+#[test]
+fn rows_of_values_in_every_kind_of_range() {
+    for boundaries in sets() {
+        let view = RangeSetRef::new(&boundaries).unwrap();
+        let chunked = ChunkedRangeSet::from(view);
+        let mut space = ChunkedSpace::from(chunked.clone());
+        for (count, align) in [(0, 1), (1, 3), (2, 4), (5, 1), (241, 2), (255, 1)] {
+            macro_rules! same {
+                ($range:expr, $ended:expr) => {{
+                    let (range, ended) = ($range, $ended);
+                    let fit = view.first_fit_count(ended.clone(), count);
+                    let aligned = view.first_fit_aligned(ended.clone(), count, align);
+                    let len = u8::try_from(count).unwrap();
+                    assert_eq!(view.first_fit(range.clone(), len), fit);
+                    assert_eq!(view.first_fit_count(range.clone(), count), fit);
+                    assert_eq!(view.first_fit_aligned(range.clone(), count, align), aligned);
+                    assert_eq!(chunked.first_fit_unchanged(range.clone(), len), fit);
+                    assert_eq!(
+                        chunked.first_fit_aligned(range.clone(), count, align),
+                        aligned
+                    );
+                    assert_eq!(space.first_fit(range.clone(), len), fit);
+                    assert_eq!(space.first_fit_count(range.clone(), count), fit);
+                    assert_eq!(
+                        space.first_fit_aligned(range.clone(), count, align),
+                        aligned
+                    );
+                    let run = view.first_run(ended, count);
+                    assert_eq!(view.first_run(range.clone(), count), run);
+                    assert_eq!(chunked.first_run(range.clone(), count), run);
+                }};
+            }
+            same!(.., 0..255);
+            for a in ENDS {
+                same!(a.., a..255);
+                same!(..a, 0..a);
+                same!(..=a, 0..a.saturating_add(1));
+                same!(RangeSetRange::from(a..), a..255);
+                for b in ENDS {
+                    same!(a..b, a..b);
+                    assert_eq!(view.first_run(&(a..b), count), view.first_run(a..b, count));
+                    let after = if a <= b { b.saturating_add(1) } else { b };
+                    same!(a..=b, a..after);
+                }
+            }
+        }
+    }
+}
+
+#[test]
+fn offsets_of_trackers() {
+    let ranges = [0..10, 20..30, u64::MAX - 5..u64::MAX];
+    let mut small = Tracker::new(8);
+    let mut large = ChunkedTracker::new(8).unwrap();
+    for range in ranges {
+        small.record(range.clone()).unwrap();
+        large.record(range).unwrap();
+    }
+    let all: [RangeSetRange<u64>; 3] = [
+        (10..20).into(),
+        (30..u64::MAX - 5).into(),
+        (u64::MAX..).into(),
+    ];
+    assert!(large.gaps(0..).eq(all.clone()));
+    assert!(large.gaps(..).eq(all.clone()));
+    assert!(small.gaps(0..).eq(all));
+    assert!(large.gaps(..=10).eq([(10..11).into()]));
+    assert!(large.gaps(5..25).eq(once(10..20)) && small.gaps(5..25).eq(once(10..20)));
+    assert!(large.gaps(&(5..25)).eq([&10..&20]));
+    assert!(large.gaps(u64::MAX..).eq([(u64::MAX..).into()]));
+    assert!(large.gaps(u64::MAX - 3..u64::MAX).next().is_none());
+    let empty = ChunkedTracker::new(8).unwrap();
+    assert!(empty.gaps(7..).eq([(7..).into()]));
+}
+
+/// What a reader writes first, with the type that it gives.
+#[test]
+fn parts_have_the_kind_of_their_range() {
+    let busy: RangeSet2<u32> = "9..11, 15..18".parse().unwrap();
+    let free: Vec<std::ops::Range<u32>> = busy.gaps(8..20).collect();
+    assert_eq!(free, [8..9, 11..15, 18..20]);
+    let free: Vec<RangeSetRange<u32>> = busy.gaps(16..).collect();
+    assert_eq!(free, [(18..).into()]);
+    let mut left = busy.gaps(8..=20);
+    let before = left.clone();
+    assert_eq!(left.next(), Some((8..9).into()));
+    assert_eq!(
+        format!("{left:?} of {before:?}"),
+        "[11..15, 18..21] of [8..9, 11..15, 18..21]"
+    );
+    assert_eq!(left.by_ref().count(), 2);
+    assert_eq!((left.next(), left.next()), (None, None));
+}
