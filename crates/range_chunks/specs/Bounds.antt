@@ -15,8 +15,8 @@ use Rattle.range_chunks.specs.declared.gap_bound.GapBound.{GapBound}
 use Rattle.range_collections.specs.declared.view.first_fit.Row.{Row}
 use Rattle.range_chunks.specs.declared.reading.Reading.{Reading}
 use Rattle.range_chunks.specs.declared.reading.Reading.TheVariants.{Found, Stopped, End}
-use Rattle.range_chunks.specs.declared.reading.Step.{Step}
-use Rattle.range_chunks.specs.declared.reading.Step.TheVariants.{At, From, Nowhere}
+use Rattle.range_chunks.specs.declared.reading.SearchStep.{SearchStep}
+use Rattle.range_chunks.specs.declared.reading.SearchStep.TheVariants.{At, From, Nowhere}
 
 -- the walk didn't stop between gaps
 abbrev pub IsWhole : {K : Type 0} → Reading K → Type 0
@@ -51,7 +51,7 @@ module _ {K : Type 0} (order : K → K → Ordering) (value : ℕ → K) (place 
     pub above : (at : ℕ) → IsOneOf m at → IsRow order value false items (place start) (place end) count at → place x ≤ at
 
   -- what one step of a search found
-  abbrev pub IsStep : List K → K → K → ℕ → Multiples → Step K → Type 0
+  abbrev pub IsStep : List K → K → K → ℕ → Multiples → SearchStep K → Type 0
   IsStep items start end count m (At r) = IsFirstFree items start end count m r
   IsStep items start end count m (From x) = IsPast items start end count m x
   IsStep items start end count m Nowhere =

@@ -11,20 +11,20 @@ use Rattle.range_collections.specs.Reading.{any_number, is_ranges}
 use Rattle.range_collections.specs.Scanning.{kind_of, is_end, expected, after}
 use Rattle.range_collections.specs.declared.parse.Expected.{Expected}
 use Rattle.range_collections.specs.declared.parse.ParseError.TheVariants.{Malformed}
-use Rattle.range_collections.specs.declared.parse.Place.{Place}
-use Rattle.range_collections.specs.declared.parse.Place.TheVariants.{First, Start, StartSign, InStart, OneDot, End, EndSign, InEnd, After}
+use Rattle.range_collections.specs.declared.parse.State.{State}
+use Rattle.range_collections.specs.declared.parse.State.TheVariants.{First, Start, StartSign, InStart, OneDot, End, EndSign, InEnd, After}
 use Rattle.range_collections.proofs.ReadRange.{follow}
-use Rattle.range_collections.proofs.ReadTexts.{text_ends, place_after, place_on, ends_on, begins, stops, may, may_not}
+use Rattle.range_collections.proofs.ReadTexts.{text_ends, state_after, state_on, ends_on, begins, stops, may, may_not}
 use Rattle.range_collections.proofs.ReadRanges.{ends}
 
--- the characters of the text before byte `at` lead to the place, and the rest is left
-pub record IsReadTo (text rest : List ℕ) (at : ℕ) (place : Place) : Type 0 where
+-- the characters of the text before byte `at` lead to the state, and the rest is left
+pub record IsReadTo (text rest : List ℕ) (at : ℕ) (state : State) : Type 0 where
   pub done : List ℕ
   pub left : List ℕ
   pub split : chars text ≡ done ++ left
   pub spells : encode_utf8_all left ≡ rest
   pub ends_at : at ≡ length (encode_utf8_all done)
-  pub leads_to : place_after done First ≡ Some place
+  pub leads_to : state_after done First ≡ Some state
 
 pub nothing_read : (text : List ℕ) → IsUtf8 text → IsReadTo text text 0 First
 nothing_read text h = record { done = []; left = chars text; split = refl; spells = encodes-chars text h; ends_at = refl; leads_to = refl }
@@ -32,9 +32,9 @@ nothing_read text h = record { done = []; left = chars text; split = refl; spell
 length_one : (c : ℕ) → length (encode_utf8_all (c ∷ [])) ≡ length (encode_utf8 c)
 length_one c = ap length (append-nil (encode_utf8 c))
 
-pub one_read : (text rest later : List ℕ) (at next : ℕ) (c : ℕ) (place later_place : Place) → IsReadTo text rest at place → rest ≡ encode_utf8 c ++ later → next ≡ at + length (encode_utf8 c) →
-    Some later_place ≡ after place (kind_of c) → IsReadTo text later next later_place
-one_read text rest later at next c place later_place h e n k =
+pub one_read : (text rest later : List ℕ) (at next : ℕ) (c : ℕ) (state later_state : State) → IsReadTo text rest at state → rest ≡ encode_utf8 c ++ later → next ≡ at + length (encode_utf8 c) →
+    Some later_state ≡ after state (kind_of c) → IsReadTo text later next later_state
+one_read text rest later at next c state later_state h e n k =
     let more = cons_from_encodes h.left later c (h.spells ∙ e) in
     record {
       done = h.done ++ c ∷ [];
@@ -44,13 +44,13 @@ one_read text rest later at next c place later_place h e n k =
       ends_at =
           n ∙ ap (λ m. m + length (encode_utf8 c)) h.ends_at ∙ ap (λ m. length (encode_utf8_all h.done) + m) (sym (length_one c))
           ∙ sym (length-append (encode_utf8_all h.done) (encode_utf8_all (c ∷ []))) ∙ ap length (sym (encodes-append h.done (c ∷ [])));
-      leads_to = place_on h.done (c ∷ []) First ∙ ap (option_and_then (place_after (c ∷ []))) h.leads_to ∙ ap (option_and_then (λ q. Some q)) (sym k);
+      leads_to = state_on h.done (c ∷ []) First ∙ ap (option_and_then (state_after (c ∷ []))) h.leads_to ∙ ap (option_and_then (λ q. Some q)) (sym k);
     }
 
 -- the front that was read
 
-ends_here : (done : List ℕ) (place : Place) → place_after done First ≡ Some place → ends done First ≡ is_end place
-ends_here done place e = ap (λ w. ends w First) (sym (append-nil done)) ∙ ends_on done [] First ∙ ap (λ o. follow o (ends [])) e
+ends_here : (done : List ℕ) (state : State) → state_after done First ≡ Some state → ends done First ≡ is_end state
+ends_here done state e = ap (λ w. ends w First) (sym (append-nil done)) ∙ ends_on done [] First ∙ ap (λ o. follow o (ends [])) e
 
 front_scalars : (cs ds : List ℕ) → all_scalars (cs ++ ds) ≡ true → all_scalars cs ≡ true
 front_scalars [] ds h = refl
@@ -77,8 +77,8 @@ goes_on (b ∷ ds) (d ∷ done) rest later c e l =
     let more = goes_on ds done rest later c same.1 shorter in
     (more.0, ap₂ (λ x xs. x ∷ xs) same.0 more.1)
 
--- what may follow, place by place
-expected_after : (done : List ℕ) (place : Place) → all_scalars done ≡ true → place_after done First ≡ Some place → IsExpected (encode_utf8_all done) (expected place)
+-- what may follow, state by state
+expected_after : (done : List ℕ) (state : State) → all_scalars done ≡ true → state_after done First ≡ Some state → IsExpected (encode_utf8_all done) (expected state)
 expected_after done First h e =
     (may done 48 First InStart h e (omega arith) refl refl, may_not done 46 First h e (omega arith) refl refl, λ _. may done 43 First StartSign h e (omega arith) refl refl)
 expected_after done Start h e =
@@ -102,7 +102,7 @@ expected_after done InEnd h e =
 expected_after done After h e =
     (may done 44 After Start h e (omega arith) refl refl, text_ends done h ∙ ends_here done After e, may_not done 43 After h e (omega arith) refl refl)
 
-module _ (text rest : List ℕ) (at : ℕ) (place : Place) (utf8 : IsUtf8 text) (h : IsReadTo text rest at place) where
+module _ (text rest : List ℕ) (at : ℕ) (state : State) (utf8 : IsUtf8 text) (h : IsReadTo text rest at state) where
   scalars : all_scalars h.done ≡ true
   scalars = front_scalars h.done h.left (ap all_scalars (sym h.split) ∙ scalars-chars text utf8)
 
@@ -112,7 +112,7 @@ module _ (text rest : List ℕ) (at : ℕ) (place : Place) (utf8 : IsUtf8 text) 
   front : take at text ≡ encode_utf8_all h.done
   front = ap₂ take h.ends_at parts ∙ take-append_seam (encode_utf8_all h.done) rest
 
-  whole : is_ranges any_number text ≡ follow (Some place) (ends h.left)
+  whole : is_ranges any_number text ≡ follow (Some state) (ends h.left)
   whole =
       ap (is_ranges any_number) (sym (encodes-chars text utf8)) ∙ text_ends (chars text) (scalars-chars text utf8) ∙ ap (λ w. ends w First) h.split
       ∙ ends_on h.done h.left First ∙ ap (λ o. follow o (ends h.left)) h.leads_to
@@ -121,12 +121,12 @@ module _ (text rest : List ℕ) (at : ℕ) (place : Place) (utf8 : IsUtf8 text) 
   within_text = omega (arith, h.ends_at, ap length parts, length-append (encode_utf8_all h.done) rest)
 
   front_begins : BeginsRanges (take at text)
-  front_begins = subst BeginsRanges (sym front) (begins h.done place scalars h.leads_to)
+  front_begins = subst BeginsRanges (sym front) (begins h.done state scalars h.leads_to)
 
-  expected_there : (e : Expected) → e ≡ expected place → IsExpected (take at text) e
-  expected_there e k = subst (λ x. IsExpected (take at text) x) (sym k) (subst (λ w. IsExpected w (expected place)) (sym front) (expected_after h.done place scalars h.leads_to))
+  expected_there : (e : Expected) → e ≡ expected state → IsExpected (take at text) e
+  expected_there e k = subst (λ x. IsExpected (take at text) x) (sym k) (subst (λ w. IsExpected w (expected state)) (sym front) (expected_after h.done state scalars h.leads_to))
 
-  longer_begins : (later : List ℕ) (c n : ℕ) → rest ≡ encode_utf8 c ++ later → None ≡ after place (kind_of c) → at < n → n ≤ length text → ¬ (BeginsRanges (take n text))
+  longer_begins : (later : List ℕ) (c n : ℕ) → rest ≡ encode_utf8 c ++ later → None ≡ after state (kind_of c) → at < n → n ≤ length text → ¬ (BeginsRanges (take n text))
   longer_begins later c n e k above most b =
       let ds : List ℕ = b.is_text.0 in
       let spelt : encode_utf8_all ds ≡ take n text = b.is_text.1.1 in
@@ -135,35 +135,35 @@ module _ (text rest : List ℕ) (at : ℕ) (place : Place) (utf8 : IsUtf8 text) 
       (omega (arith, h.ends_at, ap length spelt, length-take-le n text most))
       in
       stops ds b.is_text.1.0
-      (ap (λ w. place_after w First) more.1 ∙ place_on h.done (c ∷ more.0) First ∙ ap (option_and_then (place_after (c ∷ more.0))) h.leads_to
-      ∙ ap (option_and_then (place_after more.0)) (sym k))
+      (ap (λ w. state_after w First) more.1 ∙ state_on h.done (c ∷ more.0) First ∙ ap (option_and_then (state_after (c ∷ more.0))) h.leads_to
+      ∙ ap (option_and_then (state_after more.0)) (sym k))
       (subst BeginsRanges (sym spelt) b)
 
   -- a character that may not stand there
-  pub fault_there : (later : List ℕ) (c : ℕ) (e : Expected) → rest ≡ encode_utf8 c ++ later → None ≡ after place (kind_of c) → e ≡ expected place → IsFaultIn text (Malformed at e)
+  pub fault_there : (later : List ℕ) (c : ℕ) (e : Expected) → rest ≡ encode_utf8 c ++ later → None ≡ after state (kind_of c) → e ≡ expected state → IsFaultIn text (Malformed at e)
   fault_there later c e r k x =
       let more = cons_from_encodes h.left later c (h.spells ∙ r) in (
-        whole ∙ ap (λ w. ends w place) more.1 ∙ ap (λ o. follow o (ends more.0)) (sym k),
+        whole ∙ ap (λ w. ends w state) more.1 ∙ ap (λ o. follow o (ends more.0)) (sym k),
         record { within = within_text; begins = front_begins; longest = λ n above most. longer_begins later c n r k above most },
         expected_there e x,
       )
 
 -- at the end of the text
-module _ (text rest : List ℕ) (at : ℕ) (place : Place) (utf8 : IsUtf8 text) (h : IsReadTo text rest at place) (none : length rest ≡ 0) where
+module _ (text rest : List ℕ) (at : ℕ) (state : State) (utf8 : IsUtf8 text) (h : IsReadTo text rest at state) (none : length rest ≡ 0) where
   no_rest : (ds : List ℕ) → encode_utf8_all ds ≡ rest → ds ≡ []
   no_rest [] e = refl
   no_rest (d ∷ ds) e = absurd (omega (arith, none, ap length e, length-append (encode_utf8 d) (encode_utf8_all ds), length-encode d, (len_utf8_bounds d).0))
 
-  pub whole_text : is_ranges any_number text ≡ is_end place
-  whole_text = whole text rest at place utf8 h ∙ ap (λ w. ends w place) (no_rest h.left h.spells)
+  pub whole_text : is_ranges any_number text ≡ is_end state
+  whole_text = whole text rest at state utf8 h ∙ ap (λ w. ends w state) (no_rest h.left h.spells)
 
   at_end : at ≡ length text
-  at_end = omega (arith, h.ends_at, none, ap length (parts text rest at place utf8 h), length-append (encode_utf8_all h.done) rest)
+  at_end = omega (arith, h.ends_at, none, ap length (parts text rest at state utf8 h), length-append (encode_utf8_all h.done) rest)
 
-  pub fault_at_end : (e : Expected) → is_end place ≡ false → e ≡ expected place → IsFaultIn text (Malformed (length text) e)
+  pub fault_at_end : (e : Expected) → is_end state ≡ false → e ≡ expected state → IsFaultIn text (Malformed (length text) e)
   fault_at_end e k x =
       subst (λ n. IsFaultIn text (Malformed n e)) at_end (
         whole_text ∙ k,
-        record { within = within_text text rest at place utf8 h; begins = front_begins text rest at place utf8 h; longest = λ n above most. absurd (omega (arith, at_end, above, most)) },
-        expected_there text rest at place utf8 h e x,
+        record { within = within_text text rest at state utf8 h; begins = front_begins text rest at state utf8 h; longest = λ n above most. absurd (omega (arith, at_end, above, most)) },
+        expected_there text rest at state utf8 h e x,
       )

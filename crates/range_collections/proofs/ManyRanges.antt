@@ -1,6 +1,6 @@
 -- A range added to a set: cuts near the set's end, the list after it, and the union of one range
 -- more.
-use Rattle.std.proofs.Common.{◌≡◌, ◌≢◌, refl, sym, ap, ap₂, ◌∙◌, subst, ℕ, suc, ◌↔◌, ◌*◌, ◌/◌, inl, inr, ◌<◌, ◌≤◌, ◌+◌, ◌-◌, Option, Some, None, Bool, true, false, not, cond, ◌||◌, List, [], ◌∷◌, ◌++◌, length, take, drop, get_or, arith, All, true≢false, Result, Ok, Err, IsOk, IsErr, OnOk, append_assoc, length-append}
+use Rattle.std.proofs.Common.{◌≡◌, ◌≢◌, refl, sym, ap, ap₂, ◌∙◌, subst, ℕ, zero, suc, ◌↔◌, ◌*◌, ◌/◌, inl, inr, ◌<◌, ◌≤◌, ◌+◌, ◌-◌, Option, Some, None, Bool, true, false, not, cond, ◌||◌, List, [], ◌∷◌, ◌++◌, length, take, drop, get_or, arith, All, true≢false, Result, Ok, Err, IsOk, IsErr, OnOk, append_assoc, length-append}
 use Rattle.std.specs.Cmp.{IsTotalOrder}
 use Rattle.std.specs.List.{AllZip, AllWithin, flat_map}
 use Rattle.std.specs.Ordering.{is_le, is_lt}
@@ -38,6 +38,10 @@ not-false false h = cc
 
 false_is_not_true : (b : Bool) → b ≡ false → b ≡ true → ⊥
 false_is_not_true b f t = true≢false (sym t ∙ f)
+
+positive : (n : ℕ) → is_odd n ≡ true → 0 < n
+positive zero h = cc
+positive (suc n) h = omega arith
 
 module _ {K : Type 0} {order : K → K → Ordering} (o : IsTotalOrder order) where
   -- ---- where an element is cut off near the end
@@ -97,6 +101,30 @@ module _ {K : Type 0} {order : K → K → Ordering} (o : IsTotalOrder order) wh
           reaches =
               by_Ordering (order y at) (λ l. absurd (false_is_not_true (is_lt (order y at)) short (ap is_lt l)))
               (λ e. ap is_le (Equal-sym o y at e)) (λ g. le-from_greater o y at g)
+
+  -- all items are at or below the element, and the last one is a start
+  module _ (xs : List K) (at : K) (up : IsAscending order xs) (odd : is_odd (length xs) ≡ true) where
+    pub IsCut-in_open : (y : K) → y ≡ get_or xs (length xs - 1) y → is_le (order y at) ≡ true → IsCut order true xs at (length xs) None
+    IsCut-in_open y is reached = record {
+      within = omega arith;
+      before = λ k d low high.
+          elim (cases_lt k (length xs - 1)) as (λ _. is_le (order (get_or xs k d) at) ≡ true) [
+            | inl less ↦
+                ap is_le
+                (Less-then_le o (get_or xs k d) y at
+                (subst (λ w. order (get_or xs k d) w ≡ Less) (last_is (length xs - 1) d refl) (up k (length xs - 1) d less (omega (arith, positive (length xs) odd)))) reached)
+            | inr last ↦ subst (λ w. is_le (order w at) ≡ true) (sym (last_is k d (omega (arith, last, high)))) reached
+          ];
+      from = λ k d low high. absurd (omega (arith, low, high));
+      is_put = All-nil (λ w. (w ≡ at) × All (λ x. order x at ≢ Equal) xs);
+      parity = ap is_odd plain ∙ odd;
+    }
+      where
+        last_is : (k : ℕ) (d : K) → k ≡ length xs - 1 → get_or xs k d ≡ y
+        last_is k d e = ap (λ n. get_or xs n d) e ∙ get_or_default xs (length xs - 1) d y (omega (arith, positive (length xs) odd)) ∙ sym is
+
+        plain : length xs + 0 ≡ length xs
+        plain = omega arith
 
   -- ---- what lies at the end
   module _ (xs : List K) (up : IsAscending order xs) where

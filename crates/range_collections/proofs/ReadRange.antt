@@ -11,8 +11,8 @@ use Rattle.range_collections.specs.Reading.{is_numeral, any_number, range_up_to,
 use Rattle.range_collections.specs.Scanning.{kind_of, is_range_end, after_dot, after_sign, after_digit}
 use Rattle.range_collections.specs.declared.parse.Kind.{Kind}
 use Rattle.range_collections.specs.declared.parse.Kind.TheVariants.{Blank, Comma, Dot, Sign, Digit, Other}
-use Rattle.range_collections.specs.declared.parse.Place.{Place}
-use Rattle.range_collections.specs.declared.parse.Place.TheVariants.{Start, StartSign, InStart, OneDot, End, EndSign, InEnd}
+use Rattle.range_collections.specs.declared.parse.State.{State}
+use Rattle.range_collections.specs.declared.parse.State.TheVariants.{Start, StartSign, InStart, OneDot, End, EndSign, InEnd}
 
 -- kinds, by the tests of a character
 
@@ -88,27 +88,27 @@ has_kind c =
 
 -- a walk of places over a range without blanks
 
--- what holds of the place, if there is one
-abbrev pub follow : Option Place → (Place → Bool) → Bool
+-- what holds of the state, if there is one
+abbrev pub follow : Option State → (State → Bool) → Bool
 follow None f = false
-follow (Some place) f = f place
+follow (Some state) f = f state
 
--- the place after a character within a range
-abbrev pub within : Place → Kind → Option Place
-within place Dot = after_dot place
-within place Sign = after_sign place
-within place Digit = after_digit place
-within place _ = None
+-- the state after a character within a range
+abbrev pub within : State → Kind → Option State
+within state Dot = after_dot state
+within state Sign = after_sign state
+within state Digit = after_digit state
+within state _ = None
 
--- the characters go on from the place to the end of a range
-abbrev pub ends_range : List ℕ → Place → Bool
-ends_range [] place = is_range_end place
-ends_range (c ∷ cs) place = follow (within place (kind_of c)) (ends_range cs)
+-- the characters go on from the state to the end of a range
+abbrev pub ends_range : List ℕ → State → Bool
+ends_range [] state = is_range_end state
+ends_range (c ∷ cs) state = follow (within state (kind_of c)) (ends_range cs)
 
 -- by the kind of the first character
-by_kind : (c : ℕ) (cs : List ℕ) (place : Place) (f : Bool → Bool) → ((kind : Kind) → follow (within place kind) (ends_range cs) ≡ f (is_digit kind)) →
-    ends_range (c ∷ cs) place ≡ f (is_ascii_digit c)
-by_kind c cs place f h = h (kind_of c) ∙ ap f (sym (has_kind c).digit)
+by_kind : (c : ℕ) (cs : List ℕ) (state : State) (f : Bool → Bool) → ((kind : Kind) → follow (within state kind) (ends_range cs) ≡ f (is_digit kind)) →
+    ends_range (c ∷ cs) state ≡ f (is_ascii_digit c)
+by_kind c cs state f h = h (kind_of c) ∙ ap f (sym (has_kind c).digit)
 
 in_end : (cs : List ℕ) → ends_range cs InEnd ≡ all_ascii_digits cs
 in_end [] = refl

@@ -8,21 +8,21 @@ use Rattle.range_collections.specs.Reading.{any_number, range_of, parts_of}
 use Rattle.range_collections.specs.Scanning.{kind_of, is_range_end, is_end, after}
 use Rattle.range_collections.specs.declared.parse.Kind.{Kind}
 use Rattle.range_collections.specs.declared.parse.Kind.TheVariants.{Blank, Comma, Dot, Sign, Digit, Other}
-use Rattle.range_collections.specs.declared.parse.Place.{Place}
-use Rattle.range_collections.specs.declared.parse.Place.TheVariants.{First, Start, End, InEnd, After}
+use Rattle.range_collections.specs.declared.parse.State.{State}
+use Rattle.range_collections.specs.declared.parse.State.TheVariants.{First, Start, End, InEnd, After}
 use Rattle.range_collections.proofs.ReadRange.{is_blank, is_comma, has_kind, follow, within, ends_range, is_range}
 
 -- a part between commas
 
--- the place after a character of a part
-abbrev along : Place → Kind → Option Place
-along place Comma = None
-along place kind = after place kind
+-- the state after a character of a part
+abbrev along : State → Kind → Option State
+along state Comma = None
+along state kind = after state kind
 
--- the characters go on from the place to the end of a range, or to blanks after one
-abbrev pub ends_part : List ℕ → Place → Bool
-ends_part [] place = is_range_end place
-ends_part (c ∷ cs) place = follow (along place (kind_of c)) (ends_part cs)
+-- the characters go on from the state to the end of a range, or to blanks after one
+abbrev pub ends_part : List ℕ → State → Bool
+ends_part [] state = is_range_end state
+ends_part (c ∷ cs) state = follow (along state (kind_of c)) (ends_part cs)
 
 -- no characters but blanks
 abbrev are_blanks : List ℕ → Bool
@@ -55,21 +55,21 @@ after_part (c ∷ cs) = go (after_part cs) (kind_of c) ∙ sym (more_blanks c cs
   go h Blank = h
   go h _ = refl
 
--- the place is inside of a range
-abbrev is_inside : Place → Bool
+-- the state is inside of a range
+abbrev is_inside : State → Bool
 is_inside First = false
 is_inside Start = false
 is_inside After = false
 is_inside _ = true
 
-abbrev all_inside : Option Place → Bool
+abbrev all_inside : Option State → Bool
 all_inside None = true
-all_inside (Some place) = is_inside place
+all_inside (Some state) = is_inside state
 
-within_inside : (place : Place) (kind : Kind) → all_inside (within place kind) ≡ true
-within_inside place Blank = refl
-within_inside place Comma = refl
-within_inside place Other = refl
+within_inside : (state : State) (kind : Kind) → all_inside (within state kind) ≡ true
+within_inside state Blank = refl
+within_inside state Comma = refl
+within_inside state Other = refl
 within_inside First Dot = refl
 within_inside _ Dot = refl
 within_inside First Sign = refl
@@ -77,22 +77,22 @@ within_inside _ Sign = refl
 within_inside First Digit = refl
 within_inside _ Digit = refl
 
-same_inside : (f g : Place → Bool) → ((place : Place) → is_inside place ≡ true → f place ≡ g place) → (o : Option Place) → all_inside o ≡ true → follow o f ≡ follow o g
+same_inside : (f g : State → Bool) → ((state : State) → is_inside state ≡ true → f state ≡ g state) → (o : Option State) → all_inside o ≡ true → follow o f ≡ follow o g
 same_inside f g h None e = refl
-same_inside f g h (Some place) e = h place e
+same_inside f g h (Some state) e = h state e
 
 -- by the kind of a character that is not blank
-no_blank : (kind : Kind) (place : Place) → is_blank kind ≡ false → along place kind ≡ within place kind
-no_blank Blank place e = cc
-no_blank Comma place e = refl
-no_blank Dot place e = refl
-no_blank Sign place e = refl
-no_blank Digit place e = refl
-no_blank Other place e = refl
+no_blank : (kind : Kind) (state : State) → is_blank kind ≡ false → along state kind ≡ within state kind
+no_blank Blank state e = cc
+no_blank Comma state e = refl
+no_blank Dot state e = refl
+no_blank Sign state e = refl
+no_blank Digit state e = refl
+no_blank Other state e = refl
 
-no_range_of_blank : (c : ℕ) (cs : List ℕ) (place : Place) → is_blank (kind_of c) ≡ true → ends_range (c ∷ cs) place ≡ false
-no_range_of_blank c cs place e = go (kind_of c) e where
-  go : (kind : Kind) → is_blank kind ≡ true → follow (within place kind) (ends_range cs) ≡ false
+no_range_of_blank : (c : ℕ) (cs : List ℕ) (state : State) → is_blank (kind_of c) ≡ true → ends_range (c ∷ cs) state ≡ false
+no_range_of_blank c cs state e = go (kind_of c) e where
+  go : (kind : Kind) → is_blank kind ≡ true → follow (within state kind) (ends_range cs) ≡ false
   go Blank e = refl
   go Comma e = refl
   go Dot e = cc
@@ -108,30 +108,30 @@ and_false : (b : Bool) → (b && false) ≡ false
 and_false true = refl
 and_false false = refl
 
-blank_inside : (cs : List ℕ) (place : Place) → is_inside place ≡ true → follow (along place Blank) (ends_part cs) ≡ (are_blanks cs && is_range_end place)
+blank_inside : (cs : List ℕ) (state : State) → is_inside state ≡ true → follow (along state Blank) (ends_part cs) ≡ (are_blanks cs && is_range_end state)
 blank_inside cs First e = cc
 blank_inside cs Start e = cc
 blank_inside cs After e = cc
 blank_inside cs End e = after_part cs ∙ sym (and_true (are_blanks cs))
 blank_inside cs InEnd e = after_part cs ∙ sym (and_true (are_blanks cs))
-blank_inside cs place e = sym (and_false (are_blanks cs))
+blank_inside cs state e = sym (and_false (are_blanks cs))
 
-inside_part : (cs : List ℕ) (place : Place) → is_inside place ≡ true → ends_part cs place ≡ ends_range (drop_trailing_whitespace cs) place
-inside_part [] place e = refl
-inside_part (c ∷ cs) place e = go (inside_part cs) (kind_of c) refl ∙ ap (λ ds. ends_range ds place) (sym (trailing c cs)) where
-  go : ((q : Place) → is_inside q ≡ true → ends_part cs q ≡ ends_range (drop_trailing_whitespace cs) q) → (kind : Kind) → kind_of c ≡ kind → follow (along place (kind_of c)) (ends_part cs) ≡
-      ends_range (cond (is_blank (kind_of c) && are_blanks cs) [] (c ∷ drop_trailing_whitespace cs)) place
+inside_part : (cs : List ℕ) (state : State) → is_inside state ≡ true → ends_part cs state ≡ ends_range (drop_trailing_whitespace cs) state
+inside_part [] state e = refl
+inside_part (c ∷ cs) state e = go (inside_part cs) (kind_of c) refl ∙ ap (λ ds. ends_range ds state) (sym (trailing c cs)) where
+  go : ((q : State) → is_inside q ≡ true → ends_part cs q ≡ ends_range (drop_trailing_whitespace cs) q) → (kind : Kind) → kind_of c ≡ kind → follow (along state (kind_of c)) (ends_part cs) ≡
+      ends_range (cond (is_blank (kind_of c) && are_blanks cs) [] (c ∷ drop_trailing_whitespace cs)) state
   go h Blank k =
-      ap (λ t. follow (along place t) (ends_part cs)) k ∙ blank_inside cs place e ∙ blank (are_blanks cs)
-      ∙ ap (λ t. ends_range (cond (is_blank t && are_blanks cs) [] (c ∷ drop_trailing_whitespace cs)) place) (sym k)
+      ap (λ t. follow (along state t) (ends_part cs)) k ∙ blank_inside cs state e ∙ blank (are_blanks cs)
+      ∙ ap (λ t. ends_range (cond (is_blank t && are_blanks cs) [] (c ∷ drop_trailing_whitespace cs)) state) (sym k)
     where
-      blank : (b : Bool) → (b && is_range_end place) ≡ ends_range (cond b [] (c ∷ drop_trailing_whitespace cs)) place
+      blank : (b : Bool) → (b && is_range_end state) ≡ ends_range (cond b [] (c ∷ drop_trailing_whitespace cs)) state
       blank true = refl
-      blank false = sym (no_range_of_blank c (drop_trailing_whitespace cs) place (ap is_blank k))
+      blank false = sym (no_range_of_blank c (drop_trailing_whitespace cs) state (ap is_blank k))
   go h kind k =
-      ap (λ o. follow o (ends_part cs)) (no_blank (kind_of c) place (ap is_blank k))
-      ∙ same_inside (ends_part cs) (ends_range (drop_trailing_whitespace cs)) h (within place (kind_of c)) (within_inside place (kind_of c))
-      ∙ ap (λ t. ends_range (cond (t && are_blanks cs) [] (c ∷ drop_trailing_whitespace cs)) place) (sym (ap is_blank k))
+      ap (λ o. follow o (ends_part cs)) (no_blank (kind_of c) state (ap is_blank k))
+      ∙ same_inside (ends_part cs) (ends_range (drop_trailing_whitespace cs)) h (within state (kind_of c)) (within_inside state (kind_of c))
+      ∙ ap (λ t. ends_range (cond (t && are_blanks cs) [] (c ∷ drop_trailing_whitespace cs)) state) (sym (ap is_blank k))
 
 -- the characters without blanks at both ends
 abbrev pub between_blanks : List ℕ → List ℕ
@@ -158,15 +158,15 @@ part_is_range cs = start_part cs ∙ is_range (between_blanks cs)
 
 -- all parts
 
--- the characters go on from the place to the end of the text after a range
-abbrev ends_ranges : List ℕ → Place → Bool
-ends_ranges [] place = is_range_end place
-ends_ranges (c ∷ cs) place = follow (after place (kind_of c)) (ends_ranges cs)
+-- the characters go on from the state to the end of the text after a range
+abbrev ends_ranges : List ℕ → State → Bool
+ends_ranges [] state = is_range_end state
+ends_ranges (c ∷ cs) state = follow (after state (kind_of c)) (ends_ranges cs)
 
--- the first part goes on from the place, and each later one is a range
-abbrev parts_end : List (List ℕ) → Place → Bool
-parts_end [] place = false
-parts_end (part ∷ parts) place = ends_part part place && list_all (λ p. ends_part p Start) parts
+-- the first part goes on from the state, and each later one is a range
+abbrev parts_end : List (List ℕ) → State → Bool
+parts_end [] state = false
+parts_end (part ∷ parts) state = ends_part part state && list_all (λ p. ends_part p Start) parts
 
 pub first_part : (cs : List ℕ) → (part : List ℕ) × (parts : List (List ℕ)) × (parts_of cs ≡ part ∷ parts)
 first_part [] = ([], [], refl)
@@ -176,33 +176,33 @@ first_part (c ∷ cs) = go (first_part cs) (c == 44) where
   go h true = ([], parts_of cs, refl)
   go h false = (c ∷ h.0, h.1, ap (onto_first c) h.2)
 
-follow_and : (o : Option Place) (f g : Place → Bool) (t : Bool) → ((place : Place) → f place ≡ (g place && t)) → follow o f ≡ (follow o g && t)
+follow_and : (o : Option State) (f g : State → Bool) (t : Bool) → ((state : State) → f state ≡ (g state && t)) → follow o f ≡ (follow o g && t)
 follow_and None f g t h = refl
-follow_and (Some place) f g t h = h place
+follow_and (Some state) f g t h = h state
 
-ranges_by_parts : (cs : List ℕ) (place : Place) → ends_ranges cs place ≡ parts_end (parts_of cs) place
-ranges_by_parts [] place = sym (and_true (is_range_end place))
-ranges_by_parts (c ∷ cs) place =
+ranges_by_parts : (cs : List ℕ) (state : State) → ends_ranges cs state ≡ parts_end (parts_of cs) state
+ranges_by_parts [] state = sym (and_true (is_range_end state))
+ranges_by_parts (c ∷ cs) state =
     let split = first_part cs in
-    go (ranges_by_parts cs) split.0 split.1 split.2 (kind_of c) refl ∙ ap (λ t. parts_end (cond t ([] ∷ parts_of cs) (onto_first c (parts_of cs))) place) (sym (has_kind c).comma)
+    go (ranges_by_parts cs) split.0 split.1 split.2 (kind_of c) refl ∙ ap (λ t. parts_end (cond t ([] ∷ parts_of cs) (onto_first c (parts_of cs))) state) (sym (has_kind c).comma)
   where
-    go : ((q : Place) → ends_ranges cs q ≡ parts_end (parts_of cs) q) → (part : List ℕ) (parts : List (List ℕ)) → parts_of cs ≡ part ∷ parts → (kind : Kind) → kind_of c ≡ kind →
-        follow (after place (kind_of c)) (ends_ranges cs) ≡ parts_end (cond (is_comma (kind_of c)) ([] ∷ parts_of cs) (onto_first c (parts_of cs))) place
+    go : ((q : State) → ends_ranges cs q ≡ parts_end (parts_of cs) q) → (part : List ℕ) (parts : List (List ℕ)) → parts_of cs ≡ part ∷ parts → (kind : Kind) → kind_of c ≡ kind →
+        follow (after state (kind_of c)) (ends_ranges cs) ≡ parts_end (cond (is_comma (kind_of c)) ([] ∷ parts_of cs) (onto_first c (parts_of cs))) state
     go h part parts split Comma k =
-        ap (λ t. follow (after place t) (ends_ranges cs)) k ∙ comma (is_range_end place)
-        ∙ ap (λ t. parts_end (cond (is_comma t) ([] ∷ parts_of cs) (onto_first c (parts_of cs))) place) (sym k)
+        ap (λ t. follow (after state t) (ends_ranges cs)) k ∙ comma (is_range_end state)
+        ∙ ap (λ t. parts_end (cond (is_comma t) ([] ∷ parts_of cs) (onto_first c (parts_of cs))) state) (sym k)
       where
         comma : (b : Bool) → follow (cond b (Some Start) None) (ends_ranges cs) ≡ (b && list_all (λ p. ends_part p Start) (parts_of cs))
         comma true = h Start ∙ ap (λ ps. parts_end ps Start) split ∙ ap (list_all (λ p. ends_part p Start)) (sym split)
         comma false = refl
     go h part parts split kind k =
-        follow_and (after place (kind_of c)) (ends_ranges cs) (ends_part part) (list_all (λ p. ends_part p Start) parts)
+        follow_and (after state (kind_of c)) (ends_ranges cs) (ends_part part) (list_all (λ p. ends_part p Start) parts)
         (λ q. h q ∙ ap (λ ps. parts_end ps q) split)
         ∙ ap (λ o. follow o (ends_part part) && list_all (λ p. ends_part p Start) parts) (no_comma (kind_of c) (ap is_comma k))
-        ∙ ap (λ ps. parts_end (onto_first c ps) place) (sym split)
-        ∙ ap (λ t. parts_end (cond t ([] ∷ parts_of cs) (onto_first c (parts_of cs))) place) (sym (ap is_comma k))
+        ∙ ap (λ ps. parts_end (onto_first c ps) state) (sym split)
+        ∙ ap (λ t. parts_end (cond t ([] ∷ parts_of cs) (onto_first c (parts_of cs))) state) (sym (ap is_comma k))
       where
-        no_comma : (kind : Kind) → is_comma kind ≡ false → after place kind ≡ along place kind
+        no_comma : (kind : Kind) → is_comma kind ≡ false → after state kind ≡ along state kind
         no_comma Comma e = cc
         no_comma Blank e = refl
         no_comma Dot e = refl
@@ -210,21 +210,21 @@ ranges_by_parts (c ∷ cs) place =
         no_comma Digit e = refl
         no_comma Other e = refl
 
--- the characters go on from the place to the end of a text of ranges
-abbrev pub ends : List ℕ → Place → Bool
-ends [] place = is_end place
-ends (c ∷ cs) place = follow (after place (kind_of c)) (ends cs)
+-- the characters go on from the state to the end of a text of ranges
+abbrev pub ends : List ℕ → State → Bool
+ends [] state = is_end state
+ends (c ∷ cs) state = follow (after state (kind_of c)) (ends cs)
 
--- the place is not at the start of the text
-abbrev is_later : Place → Bool
+-- the state is not at the start of the text
+abbrev is_later : State → Bool
 is_later First = false
 is_later _ = true
 
-abbrev all_later : Option Place → Bool
+abbrev all_later : Option State → Bool
 all_later None = true
-all_later (Some place) = is_later place
+all_later (Some state) = is_later state
 
-after_later : (place : Place) (kind : Kind) → is_later place ≡ true → all_later (after place kind) ≡ true
+after_later : (state : State) (kind : Kind) → is_later state ≡ true → all_later (after state kind) ≡ true
 after_later First kind e = cc
 after_later Start Blank e = refl
 after_later _ Blank e = refl
@@ -239,14 +239,14 @@ after_later _ Digit e = refl
 after_later Start Other e = refl
 after_later _ Other e = refl
 
-same_later : (f g : Place → Bool) → ((place : Place) → is_later place ≡ true → f place ≡ g place) → (o : Option Place) → all_later o ≡ true → follow o f ≡ follow o g
+same_later : (f g : State → Bool) → ((state : State) → is_later state ≡ true → f state ≡ g state) → (o : Option State) → all_later o ≡ true → follow o f ≡ follow o g
 same_later f g h None e = refl
-same_later f g h (Some place) e = h place e
+same_later f g h (Some state) e = h state e
 
-later_ends : (cs : List ℕ) (place : Place) → is_later place ≡ true → ends cs place ≡ ends_ranges cs place
+later_ends : (cs : List ℕ) (state : State) → is_later state ≡ true → ends cs state ≡ ends_ranges cs state
 later_ends [] First e = cc
-later_ends [] place e = refl
-later_ends (c ∷ cs) place e = same_later (ends cs) (ends_ranges cs) (later_ends cs) (after place (kind_of c)) (after_later place (kind_of c) e)
+later_ends [] state e = refl
+later_ends (c ∷ cs) state e = same_later (ends cs) (ends_ranges cs) (later_ends cs) (after state (kind_of c)) (after_later state (kind_of c) e)
 
 first_ends : (cs : List ℕ) → ends cs First ≡ ((length (between_blanks cs) == 0) || ends_ranges cs Start)
 first_ends [] = refl

@@ -15,16 +15,16 @@ use Rattle.range_collections.specs.Reading.{any_number, range_of, range_in, is_r
 use Rattle.range_collections.specs.Scanning.{kind_of, after}
 use Rattle.range_collections.specs.declared.parse.Kind.{Kind}
 use Rattle.range_collections.specs.declared.parse.Kind.TheVariants.{Blank, Comma, Dot, Sign, Digit, Other}
-use Rattle.range_collections.specs.declared.parse.Place.{Place}
-use Rattle.range_collections.specs.declared.parse.Place.TheVariants.{First, Start, StartSign, InStart, OneDot, EndSign}
+use Rattle.range_collections.specs.declared.parse.State.{State}
+use Rattle.range_collections.specs.declared.parse.State.TheVariants.{First, Start, StartSign, InStart, OneDot, EndSign}
 use Rattle.range_collections.proofs.ReadRange.{IsOfKind, has_kind, follow, within, ends_range, is_range}
 use Rattle.range_collections.proofs.ReadRanges.{ends_part, between_blanks, start_part, first_part, ends, ends_by_parts}
 
 -- a range in bytes
 
-high_stops : (b : ℕ) (place : Place) → 128 ≤ b → within place (kind_of b) ≡ None
-high_stops b place high = go (kind_of b) (has_kind b) where
-  go : (kind : Kind) → IsOfKind b kind → within place kind ≡ None
+high_stops : (b : ℕ) (state : State) → 128 ≤ b → within state (kind_of b) ≡ None
+high_stops b state high = go (kind_of b) (has_kind b) where
+  go : (kind : Kind) → IsOfKind b kind → within state kind ≡ None
   go Blank h = refl
   go Comma h = refl
   go Other h = refl
@@ -32,27 +32,27 @@ high_stops b place high = go (kind_of b) (has_kind b) where
   go Sign h = let e = h.sign in absurd (grind (arith, tests))
   go Digit h = let e = h.digit in absurd (grind (arith, tests))
 
-same_follow : (o : Option Place) (f g : Place → Bool) → ((place : Place) → f place ≡ g place) → follow o f ≡ follow o g
+same_follow : (o : Option State) (f g : State → Bool) → ((state : State) → f state ≡ g state) → follow o f ≡ follow o g
 same_follow None f g h = refl
-same_follow (Some place) f g h = h place
+same_follow (Some state) f g h = h state
 
-high_first : (bs rest : List ℕ) (c : ℕ) (place : Place) → bs ≡ encode_utf8 c ++ rest → 128 ≤ c → ends_range bs place ≡ false
-high_first [] rest c place e high = absurd (omega (arith, ap length e, length-append (encode_utf8 c) rest, length-encode c, (len_utf8_bounds c).0))
-high_first (b ∷ bs) rest c place e high =
-    elim (cases_lt b 128) as (λ _. ends_range (b ∷ bs) place ≡ false) [
+high_first : (bs rest : List ℕ) (c : ℕ) (state : State) → bs ≡ encode_utf8 c ++ rest → 128 ≤ c → ends_range bs state ≡ false
+high_first [] rest c state e high = absurd (omega (arith, ap length e, length-append (encode_utf8 c) rest, length-encode c, (len_utf8_bounds c).0))
+high_first (b ∷ bs) rest c state e high =
+    elim (cases_lt b 128) as (λ _. ends_range (b ∷ bs) state ≡ false) [
       | inl low ↦ absurd (omega (arith, char_from_byte (b ∷ bs) rest c e low (omega arith)))
-      | inr high ↦ ap (λ o. follow o (ends_range bs)) (high_stops b place high)
+      | inr high ↦ ap (λ o. follow o (ends_range bs)) (high_stops b state high)
     ]
 
-range_in_bytes : (cs : List ℕ) (place : Place) → ends_range (encode_utf8_all cs) place ≡ ends_range cs place
-range_in_bytes [] place = refl
-range_in_bytes (c ∷ cs) place = go (range_in_bytes cs) (cases_lt c 128) where
-  go : ((q : Place) → ends_range (encode_utf8_all cs) q ≡ ends_range cs q) → (c < 128) ⊎ (128 ≤ c) → ends_range (encode_utf8_all (c ∷ cs)) place ≡ ends_range (c ∷ cs) place
+range_in_bytes : (cs : List ℕ) (state : State) → ends_range (encode_utf8_all cs) state ≡ ends_range cs state
+range_in_bytes [] state = refl
+range_in_bytes (c ∷ cs) state = go (range_in_bytes cs) (cases_lt c 128) where
+  go : ((q : State) → ends_range (encode_utf8_all cs) q ≡ ends_range cs q) → (c < 128) ⊎ (128 ≤ c) → ends_range (encode_utf8_all (c ∷ cs)) state ≡ ends_range (c ∷ cs) state
   go h (inl low) =
-      ap (λ w. ends_range (w ++ encode_utf8_all cs) place) (encode_ascii c low)
-      ∙ same_follow (within place (kind_of c)) (ends_range (encode_utf8_all cs)) (ends_range cs) h
+      ap (λ w. ends_range (w ++ encode_utf8_all cs) state) (encode_ascii c low)
+      ∙ same_follow (within state (kind_of c)) (ends_range (encode_utf8_all cs)) (ends_range cs) h
   go h (inr high) =
-      high_first (encode_utf8_all (c ∷ cs)) (encode_utf8_all cs) c place refl high ∙ sym (ap (λ o. follow o (ends_range cs)) (high_stops c place high))
+      high_first (encode_utf8_all (c ∷ cs)) (encode_utf8_all cs) c state refl high ∙ sym (ap (λ o. follow o (ends_range cs)) (high_stops c state high))
 
 -- the parts in bytes
 
@@ -176,33 +176,33 @@ text_ends cs h =
 
 -- fronts
 
--- the place after the characters, if they may stand after a place
-abbrev pub place_after : List ℕ → Place → Option Place
-place_after [] place = Some place
-place_after (c ∷ cs) place = option_and_then (place_after cs) (after place (kind_of c))
+-- the state after the characters, if they may stand after a state
+abbrev pub state_after : List ℕ → State → Option State
+state_after [] state = Some state
+state_after (c ∷ cs) state = option_and_then (state_after cs) (after state (kind_of c))
 
-followed_on : (o : Option Place) (f : Place → Option Place) (g h : Place → Bool) → ((place : Place) → g place ≡ follow (f place) h) → follow o g ≡ follow (option_and_then f o) h
+followed_on : (o : Option State) (f : State → Option State) (g h : State → Bool) → ((state : State) → g state ≡ follow (f state) h) → follow o g ≡ follow (option_and_then f o) h
 followed_on None f g h e = refl
-followed_on (Some place) f g h e = e place
+followed_on (Some state) f g h e = e state
 
-pub ends_on : (cs ds : List ℕ) (place : Place) → ends (cs ++ ds) place ≡ follow (place_after cs place) (ends ds)
-ends_on [] ds place = refl
-ends_on (c ∷ cs) ds place = followed_on (after place (kind_of c)) (place_after cs) (ends (cs ++ ds)) (ends ds) (ends_on cs ds)
+pub ends_on : (cs ds : List ℕ) (state : State) → ends (cs ++ ds) state ≡ follow (state_after cs state) (ends ds)
+ends_on [] ds state = refl
+ends_on (c ∷ cs) ds state = followed_on (after state (kind_of c)) (state_after cs) (ends (cs ++ ds)) (ends ds) (ends_on cs ds)
 
-and_then_on : (o : Option Place) (f g h : Place → Option Place) → ((place : Place) → f place ≡ option_and_then h (g place)) → option_and_then f o ≡ option_and_then h (option_and_then g o)
+and_then_on : (o : Option State) (f g h : State → Option State) → ((state : State) → f state ≡ option_and_then h (g state)) → option_and_then f o ≡ option_and_then h (option_and_then g o)
 and_then_on None f g h e = refl
-and_then_on (Some place) f g h e = e place
+and_then_on (Some state) f g h e = e state
 
-pub place_on : (cs ds : List ℕ) (place : Place) → place_after (cs ++ ds) place ≡ option_and_then (place_after ds) (place_after cs place)
-place_on [] ds place = refl
-place_on (c ∷ cs) ds place = and_then_on (after place (kind_of c)) (place_after (cs ++ ds)) (place_after cs) (place_after ds) (place_on cs ds)
+pub state_on : (cs ds : List ℕ) (state : State) → state_after (cs ++ ds) state ≡ option_and_then (state_after ds) (state_after cs state)
+state_on [] ds state = refl
+state_on (c ∷ cs) ds state = and_then_on (after state (kind_of c)) (state_after (cs ++ ds)) (state_after cs) (state_after ds) (state_on cs ds)
 
 pub more_scalars : (cs ds : List ℕ) → AreScalars cs → AreScalars ds → AreScalars (cs ++ ds)
 more_scalars [] ds h k = k
 more_scalars (c ∷ cs) ds h k = one_more_scalar c (cs ++ ds) (and_left _ _ h) (more_scalars cs ds (and_right _ _ h) k)
 
--- characters that lead from a place to the end
-abbrev rest_from : Place → List ℕ
+-- characters that lead from a state to the end
+abbrev rest_from : State → List ℕ
 rest_from First = []
 rest_from Start = 48 ∷ 46 ∷ 46 ∷ []
 rest_from StartSign = 48 ∷ 46 ∷ 46 ∷ []
@@ -211,26 +211,26 @@ rest_from OneDot = 46 ∷ []
 rest_from EndSign = 48 ∷ []
 rest_from _ = []
 
-rest_ends : (place : Place) → ends (rest_from place) place ≡ true
+rest_ends : (state : State) → ends (rest_from state) state ≡ true
 rest_ends First = refl
 rest_ends _ = refl
 
-rest_scalars : (place : Place) → AreScalars (rest_from place)
+rest_scalars : (state : State) → AreScalars (rest_from state)
 rest_scalars First = refl
 rest_scalars _ = refl
 
-pub begins : (cs : List ℕ) (place : Place) → AreScalars cs → place_after cs First ≡ Some place → BeginsRanges (encode_utf8_all cs)
-begins cs place h e =
+pub begins : (cs : List ℕ) (state : State) → AreScalars cs → state_after cs First ≡ Some state → BeginsRanges (encode_utf8_all cs)
+begins cs state h e =
     record {
       is_text = (cs, (h, refl));
-      rest = encode_utf8_all (rest_from place);
-      rest_is_text = (rest_from place, (rest_scalars place, refl));
+      rest = encode_utf8_all (rest_from state);
+      rest_is_text = (rest_from state, (rest_scalars state, refl));
       are_ranges =
-          ap (is_ranges any_number) (sym (encodes-append cs (rest_from place))) ∙ text_ends (cs ++ rest_from place) (more_scalars cs (rest_from place) h (rest_scalars place))
-          ∙ ends_on cs (rest_from place) First ∙ ap (λ o. follow o (ends (rest_from place))) e ∙ rest_ends place;
+          ap (is_ranges any_number) (sym (encodes-append cs (rest_from state))) ∙ text_ends (cs ++ rest_from state) (more_scalars cs (rest_from state) h (rest_scalars state))
+          ∙ ends_on cs (rest_from state) First ∙ ap (λ o. follow o (ends (rest_from state))) e ∙ rest_ends state;
     }
 
-pub stops : (cs : List ℕ) → AreScalars cs → place_after cs First ≡ None → ¬ (BeginsRanges (encode_utf8_all cs))
+pub stops : (cs : List ℕ) → AreScalars cs → state_after cs First ≡ None → ¬ (BeginsRanges (encode_utf8_all cs))
 stops cs h e b =
     let ds : List ℕ = b.rest_is_text.0 in
     let none : is_ranges any_number (encode_utf8_all cs ++ b.rest) ≡ false =
@@ -245,15 +245,15 @@ stops cs h e b =
 front_on : (cs : List ℕ) (c : ℕ) → c < 128 → encode_utf8_all (cs ++ c ∷ []) ≡ encode_utf8_all cs ++ c ∷ []
 front_on cs c low = encodes-append cs (c ∷ []) ∙ ap (λ w. encode_utf8_all cs ++ w) (append-nil (encode_utf8 c) ∙ encode_ascii c low)
 
-one_more : (cs : List ℕ) (c : ℕ) (place : Place) → place_after cs First ≡ Some place → place_after (cs ++ c ∷ []) First ≡ option_and_then (λ q. Some q) (after place (kind_of c))
-one_more cs c place e = place_on cs (c ∷ []) First ∙ ap (option_and_then (place_after (c ∷ []))) e
+one_more : (cs : List ℕ) (c : ℕ) (state : State) → state_after cs First ≡ Some state → state_after (cs ++ c ∷ []) First ≡ option_and_then (λ q. Some q) (after state (kind_of c))
+one_more cs c state e = state_on cs (c ∷ []) First ∙ ap (option_and_then (state_after (c ∷ []))) e
 
-pub may : (cs : List ℕ) (c : ℕ) (place next : Place) → AreScalars cs → place_after cs First ≡ Some place → c < 128 → IsScalar c → after place (kind_of c) ≡ Some next → MayFollow (encode_utf8_all cs) c
-may cs c place next h e low scalar k =
+pub may : (cs : List ℕ) (c : ℕ) (state next : State) → AreScalars cs → state_after cs First ≡ Some state → c < 128 → IsScalar c → after state (kind_of c) ≡ Some next → MayFollow (encode_utf8_all cs) c
+may cs c state next h e low scalar k =
     subst BeginsRanges (front_on cs c low)
-    (begins (cs ++ c ∷ []) next (more_scalars cs (c ∷ []) h (ap (λ t. t && true) scalar)) (one_more cs c place e ∙ ap (option_and_then (λ q. Some q)) k))
+    (begins (cs ++ c ∷ []) next (more_scalars cs (c ∷ []) h (ap (λ t. t && true) scalar)) (one_more cs c state e ∙ ap (option_and_then (λ q. Some q)) k))
 
-pub may_not : (cs : List ℕ) (c : ℕ) (place : Place) → AreScalars cs → place_after cs First ≡ Some place → c < 128 → IsScalar c → after place (kind_of c) ≡ None → ¬ (MayFollow (encode_utf8_all cs) c)
-may_not cs c place h e low scalar k b =
-    stops (cs ++ c ∷ []) (more_scalars cs (c ∷ []) h (ap (λ t. t && true) scalar)) (one_more cs c place e ∙ ap (option_and_then (λ q. Some q)) k)
+pub may_not : (cs : List ℕ) (c : ℕ) (state : State) → AreScalars cs → state_after cs First ≡ Some state → c < 128 → IsScalar c → after state (kind_of c) ≡ None → ¬ (MayFollow (encode_utf8_all cs) c)
+may_not cs c state h e low scalar k b =
+    stops (cs ++ c ∷ []) (more_scalars cs (c ∷ []) h (ap (λ t. t && true) scalar)) (one_more cs c state e ∙ ap (option_and_then (λ q. Some q)) k)
     (subst BeginsRanges (sym (front_on cs c low)) b)

@@ -13,7 +13,7 @@ ghost use Rattle.range_merge.specs.Steps.{FirstsStand, one_of_run, takes};
 
 use crate::compare::Compare;
 use crate::operations::MergeOperation;
-use crate::singly::{Place, Relative, beyond, has_nine, is_long, is_on};
+use crate::singly::{ReadSoFar, Relative, beyond, has_nine, is_long, is_on};
 use std::cmp::Ordering;
 
 // Reads the first item, or one of each list where they are equal, and compares the next two.
@@ -21,10 +21,10 @@ use std::cmp::Ordering;
 fn step<K, O: MergeOperation, C: Compare<K>>(
     a: &[K],
     b: &[K],
-    at: Place,
+    at: ReadSoFar,
     op: &O,
     cmp: &mut C,
-) -> Place
+) -> ReadSoFar
     requires left_some { at.i + 1 < length a.now }
     requires right_some { at.j + 1 < length b.now }
     requires room { at.k ≤ at.i + at.j }
@@ -50,7 +50,7 @@ fn step<K, O: MergeOperation, C: Compare<K>>(
     let on = is_on(op, i % 2 == 1, j % 2 == 1);
     let k = at.k + (on != (at.k % 2 == 1)) as usize;
     let next = cmp.compare(&a[i], &b[j]);
-    Place { i, j, k, next }
+    ReadSoFar { i, j, k, next }
 }
 
 // Four steps, as many as a read makes between two looks at the length of a run.
@@ -58,10 +58,10 @@ fn step<K, O: MergeOperation, C: Compare<K>>(
 fn four_steps<K, O: MergeOperation, C: Compare<K>>(
     a: &[K],
     b: &[K],
-    at: Place,
+    at: ReadSoFar,
     op: &O,
     cmp: &mut C,
-) -> Place
+) -> ReadSoFar
     requires left_some { at.i + 4 < length a.now }
     requires right_some { at.j + 4 < length b.now }
     requires room { at.k ≤ at.i + at.j }
@@ -94,7 +94,7 @@ pub(crate) fn read_by_place<K, O: MergeOperation, C: Compare<K>>(
     next: Ordering,
     op: &O,
     cmp: &mut C,
-) -> Place
+) -> ReadSoFar
     requires left_ascending { IsAscending C.order a.now }
     requires right_ascending { IsAscending C.order b.now }
     requires stands { FirstsStand C.order a.now b.now (Some next) }
@@ -110,7 +110,7 @@ pub(crate) fn read_by_place<K, O: MergeOperation, C: Compare<K>>(
     ensures made { C.count cmp.old ≤ C.count cmp.new }
     ensures at_most { result.k ≤ result.i + result.j }
 {
-    let mut here = Place {
+    let mut here = ReadSoFar {
         i: 0,
         j: 0,
         k: 0,
@@ -127,7 +127,7 @@ pub(crate) fn read_by_place<K, O: MergeOperation, C: Compare<K>>(
             ac: here.i % 2 == 1,
             bc: here.j % 2 == 1,
         };
-        let from = Place {
+        let from = ReadSoFar {
             i: 0,
             j: 0,
             k: 0,

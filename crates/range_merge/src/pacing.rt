@@ -2,10 +2,10 @@
 ghost use Rattle.std.specs.Prelude.{◌≡◌, ◌<◌, ◌≤◌, false, length};
 
 use crate::merge_state::MergeState;
-use crate::singly::Place;
+use crate::singly::ReadSoFar;
 
 // A read is worth its call from this number of items of each list on.
-const FEW: usize = 16;
+const READ_FROM: usize = 16;
 // A read that took fewer items of each list met a long run soon: at its first look, or its second.
 const SOON: usize = 5;
 // This number of these in a row is no chance: among random items, too, some runs are long.
@@ -57,7 +57,7 @@ impl Rounds {
 
     /// Learns how far a read came.
     #[inline(always)]
-    pub(crate) fn learn(&mut self, at: Place) {
+    pub(crate) fn learn(&mut self, at: ReadSoFar) {
         self.soon = if at.i.max(at.j) < SOON {
             self.soon.saturating_add(1)
         } else {
@@ -72,5 +72,5 @@ impl Rounds {
 pub(crate) fn are_few<S: MergeState>(state: &S) -> bool
     ensures some { result ≡ false → 0 < length (S.left state.now) }
 {
-    state.a_len() < FEW || state.b_len() < FEW
+    state.a_len() < READ_FROM || state.b_len() < READ_FROM
 }

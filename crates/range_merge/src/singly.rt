@@ -18,14 +18,14 @@ use std::hint::select_unpredictable;
 /// How many items of each list are read and how many are put out, and how the next two items stand
 /// to one another.
 #[derive(Clone, Copy)]
-pub(crate) struct Place {
+pub(crate) struct ReadSoFar {
     pub(crate) i: usize,
     pub(crate) j: usize,
     pub(crate) k: usize,
     pub(crate) next: Ordering,
 }
 
-impl Place {
+impl ReadSoFar {
     /// The start of both lists, where nothing was read.
     #[inline(always)]
     pub(crate) fn start(next: Ordering) -> Self
@@ -34,7 +34,7 @@ impl Place {
         ensures taken { result.k ≡ 0 }
         ensures next { result.next ≡ next }
     {
-        Place {
+        ReadSoFar {
             i: 0,
             j: 0,
             k: 0,
@@ -123,14 +123,14 @@ fn one_of<K: Drop, P: Copier<K>>(first: bool, one: &K, other: &K, by: &P) -> K
 fn step<K: Drop, P: Copier<K>, O: MergeOperation, C: Compare<K>>(
     a: &[K],
     b: &[K],
-    at: Place,
+    at: ReadSoFar,
     firsts: &mut Firsts<K>,
     op: &O,
     by: &P,
     cmp: &mut C,
     out: &mut [K],
     keeps: bool,
-) -> Place
+) -> ReadSoFar
     requires left_some { at.i + 1 < length a.now }
     requires right_some { at.j + 1 < length b.now }
     requires left_is { slice_get a.now at.i ≡ Some firsts.old.left }
@@ -171,7 +171,7 @@ fn step<K: Drop, P: Copier<K>, O: MergeOperation, C: Compare<K>>(
     out[at.k] = one_of(takes | !keeps, &first, &out[at.k], by);
     let k = at.k + takes as usize;
     let next = cmp.compare(&firsts.left, &firsts.right);
-    Place { i, j, k, next }
+    ReadSoFar { i, j, k, next }
 }
 
 // Four steps, as many as a read makes between two looks at the length of a run.
@@ -179,14 +179,14 @@ fn step<K: Drop, P: Copier<K>, O: MergeOperation, C: Compare<K>>(
 fn four_steps<K: Drop, P: Copier<K>, O: MergeOperation, C: Compare<K>>(
     a: &[K],
     b: &[K],
-    at: Place,
+    at: ReadSoFar,
     firsts: &mut Firsts<K>,
     op: &O,
     by: &P,
     cmp: &mut C,
     out: &mut [K],
     keeps: bool,
-) -> Place
+) -> ReadSoFar
     requires left_some { at.i + 4 < length a.now }
     requires right_some { at.j + 4 < length b.now }
     requires left_is { slice_get a.now at.i ≡ Some firsts.old.left }
@@ -219,7 +219,7 @@ fn four_steps<K: Drop, P: Copier<K>, O: MergeOperation, C: Compare<K>>(
 
 /// Whether items of one side alone were read since `from`, and the next one is of that side.
 #[inline(always)]
-pub(crate) fn is_long(from: Place, at: Place) -> bool
+pub(crate) fn is_long(from: ReadSoFar, at: ReadSoFar) -> bool
     ensures { IsTrue result ↔ IsLong at.next from.i from.j at.i at.j }
 {
     (at.j == from.j && at.next.is_lt()) || (at.i == from.i && at.next.is_gt())
@@ -246,7 +246,7 @@ fn has_eight(lefts: usize, rights: usize, room: usize) -> bool
 
 /// A place of the whole lists, from one in windows that begin at `start`.
 #[inline(always)]
-pub(crate) fn beyond(start: Place, at: Place) -> Place
+pub(crate) fn beyond(start: ReadSoFar, at: ReadSoFar) -> ReadSoFar
     requires lefts { start.i + at.i < 2 ^ 64 }
     requires rights { start.j + at.j < 2 ^ 64 }
     requires taken { start.k + at.k < 2 ^ 64 }
@@ -255,7 +255,7 @@ pub(crate) fn beyond(start: Place, at: Place) -> Place
     ensures taken { result.k ≡ start.k + at.k }
     ensures next { result.next ≡ at.next }
 {
-    Place {
+    ReadSoFar {
         i: start.i + at.i,
         j: start.j + at.j,
         k: start.k + at.k,
@@ -279,7 +279,7 @@ pub(crate) fn read_singly<K: Drop, P: Copier<K>, O: MergeOperation, C: Compare<K
     cmp: &mut C,
     out: &mut [K],
     keeps: bool,
-) -> Place
+) -> ReadSoFar
     requires left_ascending { IsAscending C.order a.now }
     requires right_ascending { IsAscending C.order b.now }
     requires stands { FirstsStand C.order a.now b.now (Some next) }
@@ -300,7 +300,7 @@ pub(crate) fn read_singly<K: Drop, P: Copier<K>, O: MergeOperation, C: Compare<K
     ensures len { length out.new ≡ length out.old }
     ensures behind { IsTrue keeps → drop result.k out.new ≡ drop result.k out.old }
 {
-    let mut here = Place {
+    let mut here = ReadSoFar {
         i: 0,
         j: 0,
         k: 0,
@@ -322,7 +322,7 @@ pub(crate) fn read_singly<K: Drop, P: Copier<K>, O: MergeOperation, C: Compare<K
             ac: here.i % 2 == 1,
             bc: here.j % 2 == 1,
         };
-        let from = Place {
+        let from = ReadSoFar {
             i: 0,
             j: 0,
             k: 0,

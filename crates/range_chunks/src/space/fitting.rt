@@ -6,7 +6,7 @@ ghost use Rattle.range_collections.specs.Fits.{Fits, IsMultiple, IsOneOf, IsRow}
 ghost use Rattle.range_chunks.specs.Bounds.{IsBound, IsFirstFree, IsPast, IsStep};
 
 use crate::gap_bound::{GapBound, first_above, forget_wasted, stop_of};
-use crate::reading::{Reading, Step, Until, first_row};
+use crate::reading::{Reading, SearchStep, Until, first_row};
 use crate::space::ChunkedSpace;
 use range_collections::{Countable, FromPlace, Multiples, Row, Unsigned};
 use std::ops::Range;
@@ -77,9 +77,9 @@ impl<T: Countable + Copy> ChunkedSpace<T> {
         while from.place() < end.place() {
             at = first_above(self.bounds.as_slice(), at, from.place());
             match self.step(at, from, end, count, multiples) {
-                Step::At(row) => return Some(row),
-                Step::From(next) => from = next,
-                Step::Nowhere => return None,
+                SearchStep::At(row) => return Some(row),
+                SearchStep::From(next) => from = next,
+                SearchStep::Nowhere => return None,
             }
         }
         None
@@ -93,14 +93,21 @@ impl<T: Countable + Copy> ChunkedSpace<T> {
     }
 
     // Looks from one value on, which lies before the bound at an index or in what it speaks of.
-    fn step(&mut self, at: usize, from: T, end: T, count: u128, multiples: Multiples) -> Step<T>
+    fn step(
+        &mut self,
+        at: usize,
+        from: T,
+        end: T,
+        count: u128,
+        multiples: Multiples,
+    ) -> SearchStep<T>
         requires some { 0 < count }
         requires aligned { 0 < multiples.of }
         ensures unchanged { self.new ≡ self.old }
         ensures step { IsStep T.cmp T.value T.place self.old from end count multiples result }
     {
         if let Some(past) = self.known_past(at, &from, count, multiples) {
-            return Step::From(past);
+            return SearchStep::From(past);
         }
         from.known();
         end.known();
@@ -109,7 +116,7 @@ impl<T: Countable + Copy> ChunkedSpace<T> {
             place: stop_of(self.bounds.as_slice(), at, from.place()),
         };
         match first_row(self.taken.gaps(&from..&end), count, multiples, Some(until)) {
-            Reading::Found(row) => Step::At(row),
+            Reading::Found(row) => SearchStep::At(row),
             Reading::Stopped { end: next, most } => {
                 let bound = GapBound {
                     start: from,
@@ -119,9 +126,9 @@ impl<T: Countable + Copy> ChunkedSpace<T> {
                     multiples,
                 };
                 self.note(at, bound);
-                Step::From(next)
+                SearchStep::From(next)
             }
-            Reading::End => Step::Nowhere,
+            Reading::End => SearchStep::Nowhere,
         }
     }
 

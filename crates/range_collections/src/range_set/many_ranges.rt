@@ -388,6 +388,9 @@ fn cut_near_end<T: Ord + Drop>(items: &[T], at: T) -> (usize, Option<T>)
 {
     let len = items.len();
     if is_odd(len) {
+        if items[len - 1].cmp(&at).is_le() {
+            return (len, None);
+        }
         return cut_at(items, at, true, &mut Comparisons::new());
     }
     if len == 0 || items[len - 1].cmp(&at).is_lt() {

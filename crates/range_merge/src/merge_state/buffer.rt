@@ -17,7 +17,7 @@ use crate::merge_state::over_slices::SliceMergeState;
 use crate::merge_state::reading::{Room, Singly};
 use crate::merging;
 use crate::operations::MergeOperation;
-use crate::singly::{Place, Relative, read_singly};
+use crate::singly::{ReadSoFar, Relative, read_singly};
 use std::alloc::AllocError;
 use std::cmp::Ordering;
 use std::mem::size_of_val;
@@ -198,7 +198,7 @@ impl<'o, K: Copy, O: MergeOperation, C: Compare<K>> Room<K, (), ByCopy, O, C> fo
         copier: &ByCopy,
         cmp: C,
         _n: usize,
-    ) -> Done<C, Place> {
+    ) -> Done<C, ReadSoFar> {
         let at = self.given.min(self.items.len());
         let read = read_behind(a, b, next, op, copier, cmp, &mut self.items[at..]);
         self.given += read.answer.k;
@@ -216,7 +216,7 @@ fn read_behind<K: Copy, O: MergeOperation, C: Compare<K>>(
     copier: &ByCopy,
     cmp: C,
     out: &mut [K],
-) -> Done<C, Place>
+) -> Done<C, ReadSoFar>
     requires left_ascending { IsAscending C.order a.now }
     requires right_ascending { IsAscending C.order b.now }
     requires stands { FirstsStand C.order a.now b.now (Some next) }

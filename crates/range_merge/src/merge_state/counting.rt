@@ -17,7 +17,7 @@ use crate::operations::MergeOperation;
 use crate::pacing::{Rounds, are_few};
 use crate::searching::is_word;
 use crate::short_runs::ShortRuns;
-use crate::singly::{Place, Relative};
+use crate::singly::{ReadSoFar, Relative};
 use std::cmp::Ordering;
 
 /// Reads short runs by place, where items are read fast.
@@ -78,7 +78,7 @@ fn count_short_runs<K, O: MergeOperation, C: Compare<K>>(
     op: &O,
     next: Ordering,
     cmp: &mut C,
-) -> Place
+) -> ReadSoFar
     requires stands { FirstsStand C.order state.old.left state.old.right (Some next) }
     requires left_ascending { IsAscending C.order state.old.left }
     requires right_ascending { IsAscending C.order state.old.right }
@@ -125,7 +125,7 @@ struct Counting<'r, K, O: MergeOperation> {
 }
 
 impl<'r, K, O: MergeOperation, C: Compare<K>> Work<K, C> for Counting<'r, K, O> {
-    type Answer = Place;
+    type Answer = ReadSoFar;
 
     ghost is_ready = { λ it.
         IsAscending C.order it.a.now
@@ -140,13 +140,13 @@ impl<'r, K, O: MergeOperation, C: Compare<K>> Work<K, C> for Counting<'r, K, O> 
         × CostsAtMost C.order it.a.now it.b.now at.i at.j n };
 
     #[inline(always)]
-    fn run(&mut self, cmp: C) -> Done<C, Place> {
+    fn run(&mut self, cmp: C) -> Done<C, ReadSoFar> {
         read_apart(self.a, self.b, self.next, self.op, cmp)
     }
 
     #[inline(always)]
-    fn undone(&self) -> Place {
-        Place::start(self.next)
+    fn undone(&self) -> ReadSoFar {
+        ReadSoFar::start(self.next)
     }
 }
 
@@ -158,7 +158,7 @@ fn read_apart<K, O: MergeOperation, C: Compare<K>>(
     next: Ordering,
     op: &Relative<'_, O>,
     cmp: C,
-) -> Done<C, Place>
+) -> Done<C, ReadSoFar>
     requires left_ascending { IsAscending C.order a.now }
     requires right_ascending { IsAscending C.order b.now }
     requires stands { FirstsStand C.order a.now b.now (Some next) }

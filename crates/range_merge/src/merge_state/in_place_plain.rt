@@ -23,7 +23,7 @@ use std::mem;
 
 // Up to this number of items, moving within the room that they have takes less time than memory
 // for a spare.
-const FEW: usize = 32;
+const MOVED_WITHIN: usize = 32;
 
 // A list that is this many times as long is much longer.
 const MUCH: usize = 8;
@@ -91,7 +91,7 @@ fn merged_within<
     ensures room { a.new.capacity ≡ a.old.capacity }
     ensures comparisons { AddsAtMost (C.count cmp.old) (C.count cmp.new) (2 * weight C.order a.old.items b.now) }
 {
-    if fit_together(a.len(), b.len(), FEW) || !are_alike(a.len(), b.len()) {
+    if fit_together(a.len(), b.len(), MOVED_WITHIN) || !are_alike(a.len(), b.len()) {
         return false;
     }
     let alloc = *a.allocator();

@@ -16,7 +16,7 @@ use crate::merge_state::over_slices::SliceMergeState;
 use crate::merge_state::reading::{Room, Singly};
 use crate::merging;
 use crate::operations::MergeOperation;
-use crate::singly::{Place, Relative, read_singly};
+use crate::singly::{ReadSoFar, Relative, read_singly};
 use std::alloc::AllocError;
 use std::cmp::Ordering;
 
@@ -62,7 +62,7 @@ impl<'o, 'p, K: Drop, P: Copier<K>, O: MergeOperation, C: Compare<K>> Room<K, &'
         copier: &P,
         cmp: C,
         _n: usize,
-    ) -> Done<C, Place> {
+    ) -> Done<C, ReadSoFar> {
         let read = read_over(&mut self.items[self.given..], cmp, a, b, next, op, copier);
         self.given += read.answer.k;
         read
@@ -138,7 +138,7 @@ fn read_over<K: Drop, P: Copier<K>, O: MergeOperation, C: Compare<K>>(
     next: Ordering,
     op: &Relative<'_, O>,
     by: &P,
-) -> Done<C, Place>
+) -> Done<C, ReadSoFar>
     requires left_ascending { IsAscending C.order a.now }
     requires right_ascending { IsAscending C.order b.now }
     requires stands { FirstsStand C.order a.now b.now (Some next) }

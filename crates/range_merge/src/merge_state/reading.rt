@@ -17,7 +17,7 @@ use crate::merge_state::small_vec::Copying;
 use crate::operations::MergeOperation;
 use crate::pacing::{Rounds, are_few};
 use crate::short_runs::ShortRuns;
-use crate::singly::{Place, Relative, copied, read_singly};
+use crate::singly::{ReadSoFar, Relative, copied, read_singly};
 use std::cmp::Ordering;
 use std::marker::{Model, PhantomData};
 use std::mem;
@@ -36,7 +36,7 @@ pub(crate) trait Room<K, By, P: Copier<K>, O: MergeOperation, C: Compare<K>>: Ou
         copier: &P,
         cmp: C,
         n: usize,
-    ) -> Done<C, Place>
+    ) -> Done<C, ReadSoFar>
         requires can_read { CanRead C.order P.alike P.is_infallible a.now b.now next }
         requires fits { Self.fits self.old (length a.now + length b.now) }
         requires made { C.count cmp < 2 ^ 126 }
@@ -66,7 +66,7 @@ struct Reading<'r, K, By, P: Copier<K>, O: MergeOperation, L> {
 
 impl<'r, K, By, P: Copier<K>, O: MergeOperation, C: Compare<K>, L: Room<K, By, P, O, C>> Work<K, C>
     for Reading<'r, K, By, P, O, L> {
-    type Answer = Place;
+    type Answer = ReadSoFar;
 
     ghost is_ready = { λ it.
         CanRead C.order P.alike P.is_infallible it.a.now it.b.now it.next
@@ -80,13 +80,13 @@ impl<'r, K, By, P: Copier<K>, O: MergeOperation, C: Compare<K>, L: Room<K, By, P
         × CostsAtMost C.order it.a.now it.b.now at.i at.j n };
 
     #[inline(always)]
-    fn run(&mut self, cmp: C) -> Done<C, Place> {
+    fn run(&mut self, cmp: C) -> Done<C, ReadSoFar> {
         self.output.read(self.a, self.b, self.next, self.op, self.copier, cmp, self.n)
     }
 
     #[inline(always)]
-    fn undone(&self) -> Place {
-        Place::start(self.next)
+    fn undone(&self) -> ReadSoFar {
+        ReadSoFar::start(self.next)
     }
 }
 
@@ -130,7 +130,7 @@ impl<'p, K, P: Copier<K>> Singly<'p, K, P> {
 
     // Fits the rounds and the room to how far a read came.
     #[inline(always)]
-    fn learn(&mut self, at: Place) {
+    fn learn(&mut self, at: ReadSoFar) {
         self.rounds.learn(at);
         self.room = if self.room - at.k.min(self.room) < 8 {
             self.room.saturating_mul(2)
@@ -191,7 +191,7 @@ fn read_short_runs<
     op: &O,
     next: Ordering,
     cmp: &mut C,
-) -> Place
+) -> ReadSoFar
     requires stands { FirstsStand C.order state.old.left state.old.right (Some next) }
     requires left_ascending { IsAscending C.order state.old.left }
     requires right_ascending { IsAscending C.order state.old.right }
@@ -253,7 +253,7 @@ impl<'a, K: Drop, P: Copier<K>, O: MergeOperation, C: Compare<K>> Room<K, Copyin
         copier: &P,
         cmp: C,
         n: usize,
-    ) -> Done<C, Place> {
+    ) -> Done<C, ReadSoFar> {
         let alloc = *self.allocator();
         // The list goes by value, so that the merge can keep its own in registers.
         let list = mem::replace(self, Vec::new(alloc));
@@ -271,7 +271,7 @@ impl<'a, K: Drop, P: Copier<K>, O: MergeOperation, C: Compare<K>> Room<K, Copyin
 struct ReadInto<K, C> {
     list: Vec<K>,
     cmp: C,
-    at: Place,
+    at: ReadSoFar,
 }
 
 // Reads short runs into the list, as far as it has room and for `room` items at most.

@@ -16,7 +16,7 @@ pub enum Reading<T> {
 }
 
 /// What a step of a search found.
-pub enum Step<T> {
+pub enum SearchStep<T> {
     /// It fits there.
     At(Row<T>),
     /// It fits nowhere below.

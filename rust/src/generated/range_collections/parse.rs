@@ -202,7 +202,7 @@ impl Kind {
 
 // How far the text of a list of ranges is read.
 #[derive(Clone, Copy)]
-enum Place {
+enum State {
     // At the start of the text.
     First,
     // After a comma.
@@ -220,42 +220,42 @@ enum Place {
     After,
 }
 
-impl Place {
+impl State {
     // What is expected there.
     fn expected(self) -> Expected {
         match self {
-            Place::First | Place::Start | Place::StartSign | Place::End | Place::EndSign => {
+            State::First | State::Start | State::StartSign | State::End | State::EndSign => {
                 Expected::Number
             }
-            Place::InStart | Place::OneDot => Expected::Dot,
-            Place::InEnd | Place::After => Expected::Comma,
+            State::InStart | State::OneDot => Expected::Dot,
+            State::InEnd | State::After => Expected::Comma,
         }
     }
 
     // Whether the text may end there.
     fn is_end(self) -> bool {
         match self {
-            Place::First | Place::End | Place::InEnd | Place::After => true,
-            Place::Start | Place::StartSign | Place::InStart | Place::OneDot | Place::EndSign => {
+            State::First | State::End | State::InEnd | State::After => true,
+            State::Start | State::StartSign | State::InStart | State::OneDot | State::EndSign => {
                 false
             }
         }
     }
 
-    // The place after a character of this kind, if it may stand there.
-    fn after(self, kind: Kind) -> Option<Place> {
+    // The state after a character of this kind, if it may stand there.
+    fn after(self, kind: Kind) -> Option<State> {
         match (self, kind) {
-            (Place::First, Kind::Blank) => Some(Place::First),
-            (Place::Start, Kind::Blank) => Some(Place::Start),
-            (Place::First | Place::Start, Kind::Sign) => Some(Place::StartSign),
-            (Place::First | Place::Start, Kind::Digit) => Some(Place::InStart),
-            (Place::StartSign | Place::InStart, Kind::Digit) => Some(Place::InStart),
-            (Place::InStart, Kind::Dot) => Some(Place::OneDot),
-            (Place::OneDot, Kind::Dot) => Some(Place::End),
-            (Place::End, Kind::Sign) => Some(Place::EndSign),
-            (Place::End | Place::EndSign | Place::InEnd, Kind::Digit) => Some(Place::InEnd),
-            (Place::End | Place::InEnd | Place::After, Kind::Blank) => Some(Place::After),
-            (Place::End | Place::InEnd | Place::After, Kind::Comma) => Some(Place::Start),
+            (State::First, Kind::Blank) => Some(State::First),
+            (State::Start, Kind::Blank) => Some(State::Start),
+            (State::First | State::Start, Kind::Sign) => Some(State::StartSign),
+            (State::First | State::Start, Kind::Digit) => Some(State::InStart),
+            (State::StartSign | State::InStart, Kind::Digit) => Some(State::InStart),
+            (State::InStart, Kind::Dot) => Some(State::OneDot),
+            (State::OneDot, Kind::Dot) => Some(State::End),
+            (State::End, Kind::Sign) => Some(State::EndSign),
+            (State::End | State::EndSign | State::InEnd, Kind::Digit) => Some(State::InEnd),
+            (State::End | State::InEnd | State::After, Kind::Blank) => Some(State::After),
+            (State::End | State::InEnd | State::After, Kind::Comma) => Some(State::Start),
             _ => None,
         }
     }
@@ -264,20 +264,20 @@ impl Place {
 // Why a text that writes no ranges doesn't: the first byte that may not stand where it does, or
 // else a number.
 fn fault_in(text: &str) -> ParseError {
-    let mut place = Place::First;
+    let mut state = State::First;
     for (at, c) in text.char_indices() {
-        match place.after(Kind::of(c)) {
-            Some(next) => place = next,
+        match state.after(Kind::of(c)) {
+            Some(next) => state = next,
             None => {
-                let expected = place.expected();
+                let expected = state.expected();
                 return ParseError::Malformed { at, expected };
             }
         }
     }
-    if place.is_end() {
+    if state.is_end() {
         ParseError::OutOfRange
     } else {
-        let expected = place.expected();
+        let expected = state.expected();
         ParseError::Malformed {
             at: text.len(),
             expected,

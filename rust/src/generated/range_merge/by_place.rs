@@ -8,7 +8,9 @@
 
 use crate::generated::range_merge::compare::Compare;
 use crate::generated::range_merge::operations::MergeOperation;
-use crate::generated::range_merge::singly::{beyond, has_nine, is_long, is_on, Place, Relative};
+use crate::generated::range_merge::singly::{
+    beyond, has_nine, is_long, is_on, ReadSoFar, Relative,
+};
 use core::cmp::Ordering;
 
 // Reads the first item, or one of each list where they are equal, and compares the next two.
@@ -16,16 +18,16 @@ use core::cmp::Ordering;
 fn step<K, O: MergeOperation, C: Compare<K>>(
     a: &[K],
     b: &[K],
-    at: Place,
+    at: ReadSoFar,
     op: &O,
     cmp: &mut C,
-) -> Place {
+) -> ReadSoFar {
     let i = at.i + at.next.is_le() as usize;
     let j = at.j + at.next.is_ge() as usize;
     let on = is_on(op, i % 2 == 1, j % 2 == 1);
     let k = at.k + (on != (at.k % 2 == 1)) as usize;
     let next = cmp.compare(&a[i], &b[j]);
-    Place { i, j, k, next }
+    ReadSoFar { i, j, k, next }
 }
 
 // Four steps, as many as a read makes between two looks at the length of a run.
@@ -33,10 +35,10 @@ fn step<K, O: MergeOperation, C: Compare<K>>(
 fn four_steps<K, O: MergeOperation, C: Compare<K>>(
     a: &[K],
     b: &[K],
-    at: Place,
+    at: ReadSoFar,
     op: &O,
     cmp: &mut C,
-) -> Place {
+) -> ReadSoFar {
     let one = step(a, b, at, op, cmp);
     let two = step(a, b, one, op, cmp);
     let three = step(a, b, two, op, cmp);
@@ -54,8 +56,8 @@ pub(crate) fn read_by_place<K, O: MergeOperation, C: Compare<K>>(
     next: Ordering,
     op: &O,
     cmp: &mut C,
-) -> Place {
-    let mut here = Place {
+) -> ReadSoFar {
+    let mut here = ReadSoFar {
         i: 0,
         j: 0,
         k: 0,
@@ -72,7 +74,7 @@ pub(crate) fn read_by_place<K, O: MergeOperation, C: Compare<K>>(
             ac: here.i % 2 == 1,
             bc: here.j % 2 == 1,
         };
-        let from = Place {
+        let from = ReadSoFar {
             i: 0,
             j: 0,
             k: 0,

@@ -2,10 +2,10 @@
 //! For how many rounds a merge takes whole runs between two reads of short ones.
 
 use crate::generated::range_merge::merge_state::MergeState;
-use crate::generated::range_merge::singly::Place;
+use crate::generated::range_merge::singly::ReadSoFar;
 
 // A read is worth its call from this number of items of each list on.
-const FEW: usize = 16;
+const READ_FROM: usize = 16;
 // A read that took fewer items of each list met a long run soon: at its first look, or its second.
 const SOON: usize = 5;
 // This number of these in a row is no chance: among random items, too, some runs are long.
@@ -54,7 +54,7 @@ impl Rounds {
 
     /// Learns how far a read came.
     #[inline(always)]
-    pub(crate) fn learn(&mut self, at: Place) {
+    pub(crate) fn learn(&mut self, at: ReadSoFar) {
         self.soon = if at.i.max(at.j) < SOON {
             self.soon.saturating_add(1)
         } else {
@@ -67,5 +67,5 @@ impl Rounds {
 /// Whether a list has too few unread items for a read to be worth its call.
 #[inline(always)]
 pub(crate) fn are_few<S: MergeState>(state: &S) -> bool {
-    state.a_len() < FEW || state.b_len() < FEW
+    state.a_len() < READ_FROM || state.b_len() < READ_FROM
 }

@@ -12,18 +12,18 @@ use core::cmp::Ordering;
 /// How many items of each list are read and how many are put out, and how the next two items stand
 /// to one another.
 #[derive(Clone, Copy)]
-pub(crate) struct Place {
+pub(crate) struct ReadSoFar {
     pub(crate) i: usize,
     pub(crate) j: usize,
     pub(crate) k: usize,
     pub(crate) next: Ordering,
 }
 
-impl Place {
+impl ReadSoFar {
     /// The start of both lists, where nothing was read.
     #[inline(always)]
     pub(crate) fn start(next: Ordering) -> Self {
-        Place {
+        ReadSoFar {
             i: 0,
             j: 0,
             k: 0,
@@ -96,14 +96,14 @@ fn one_of<K, P: Copier<K>>(first: bool, one: &K, other: &K, by: &P) -> K {
 fn step<K, P: Copier<K>, O: MergeOperation, C: Compare<K>>(
     a: &[K],
     b: &[K],
-    at: Place,
+    at: ReadSoFar,
     firsts: &mut Firsts<K>,
     op: &O,
     by: &P,
     cmp: &mut C,
     out: &mut [K],
     keeps: bool,
-) -> Place {
+) -> ReadSoFar {
     let first = one_of(at.next.is_le(), &firsts.left, &firsts.right, by);
     firsts.left = one_of(at.next.is_le(), &a[at.i + 1], &firsts.left, by);
     firsts.right = one_of(at.next.is_ge(), &b[at.j + 1], &firsts.right, by);
@@ -114,7 +114,7 @@ fn step<K, P: Copier<K>, O: MergeOperation, C: Compare<K>>(
     out[at.k] = one_of(takes | !keeps, &first, &out[at.k], by);
     let k = at.k + takes as usize;
     let next = cmp.compare(&firsts.left, &firsts.right);
-    Place { i, j, k, next }
+    ReadSoFar { i, j, k, next }
 }
 
 // Four steps, as many as a read makes between two looks at the length of a run.
@@ -122,14 +122,14 @@ fn step<K, P: Copier<K>, O: MergeOperation, C: Compare<K>>(
 fn four_steps<K, P: Copier<K>, O: MergeOperation, C: Compare<K>>(
     a: &[K],
     b: &[K],
-    at: Place,
+    at: ReadSoFar,
     firsts: &mut Firsts<K>,
     op: &O,
     by: &P,
     cmp: &mut C,
     out: &mut [K],
     keeps: bool,
-) -> Place {
+) -> ReadSoFar {
     let one = step(a, b, at, firsts, op, by, cmp, out, keeps);
     let two = step(a, b, one, firsts, op, by, cmp, out, keeps);
     let three = step(a, b, two, firsts, op, by, cmp, out, keeps);
@@ -138,7 +138,7 @@ fn four_steps<K, P: Copier<K>, O: MergeOperation, C: Compare<K>>(
 
 /// Whether items of one side alone were read since `from`, and the next one is of that side.
 #[inline(always)]
-pub(crate) fn is_long(from: Place, at: Place) -> bool {
+pub(crate) fn is_long(from: ReadSoFar, at: ReadSoFar) -> bool {
     (at.j == from.j && at.next.is_lt()) || (at.i == from.i && at.next.is_gt())
 }
 
@@ -156,8 +156,8 @@ fn has_eight(lefts: usize, rights: usize, room: usize) -> bool {
 
 /// A place of the whole lists, from one in windows that begin at `start`.
 #[inline(always)]
-pub(crate) fn beyond(start: Place, at: Place) -> Place {
-    Place {
+pub(crate) fn beyond(start: ReadSoFar, at: ReadSoFar) -> ReadSoFar {
+    ReadSoFar {
         i: start.i + at.i,
         j: start.j + at.j,
         k: start.k + at.k,
@@ -181,8 +181,8 @@ pub(crate) fn read_singly<K, P: Copier<K>, O: MergeOperation, C: Compare<K>>(
     cmp: &mut C,
     out: &mut [K],
     keeps: bool,
-) -> Place {
-    let mut here = Place {
+) -> ReadSoFar {
+    let mut here = ReadSoFar {
         i: 0,
         j: 0,
         k: 0,
@@ -204,7 +204,7 @@ pub(crate) fn read_singly<K, P: Copier<K>, O: MergeOperation, C: Compare<K>>(
             ac: here.i % 2 == 1,
             bc: here.j % 2 == 1,
         };
-        let from = Place {
+        let from = ReadSoFar {
             i: 0,
             j: 0,
             k: 0,

@@ -2,7 +2,7 @@
 //! The search for the first fit, which passes over gaps that are known to be too short.
 
 use crate::generated::range_chunks::gap_bound::{first_above, forget_wasted, stop_of, GapBound};
-use crate::generated::range_chunks::reading::{first_row, Reading, Step, Until};
+use crate::generated::range_chunks::reading::{first_row, Reading, SearchStep, Until};
 use crate::generated::range_chunks::space::ChunkedSpace;
 use crate::generated::range_collections::{Countable, FromPlace, Multiples, Row};
 use core::ops::Range;
@@ -45,9 +45,9 @@ impl<T: Countable + Copy> ChunkedSpace<T> {
         while from.place() < end.place() {
             at = first_above(self.bounds.as_slice(), at, from.place());
             match self.step(at, from, end, count, multiples) {
-                Step::At(row) => return Some(row),
-                Step::From(next) => from = next,
-                Step::Nowhere => return None,
+                SearchStep::At(row) => return Some(row),
+                SearchStep::From(next) => from = next,
+                SearchStep::Nowhere => return None,
             }
         }
         None
@@ -59,16 +59,23 @@ impl<T: Countable + Copy> ChunkedSpace<T> {
     }
 
     // Looks from one value on, which lies before the bound at an index or in what it speaks of.
-    fn step(&mut self, at: usize, from: T, end: T, count: u128, multiples: Multiples) -> Step<T> {
+    fn step(
+        &mut self,
+        at: usize,
+        from: T,
+        end: T,
+        count: u128,
+        multiples: Multiples,
+    ) -> SearchStep<T> {
         if let Some(past) = self.known_past(at, &from, count, multiples) {
-            return Step::From(past);
+            return SearchStep::From(past);
         }
         let until = Until {
             ranges: GAPS,
             place: stop_of(self.bounds.as_slice(), at, from.place()),
         };
         match first_row(self.taken.gaps(&from..&end), count, multiples, Some(until)) {
-            Reading::Found(row) => Step::At(row),
+            Reading::Found(row) => SearchStep::At(row),
             Reading::Stopped { end: next, most } => {
                 let bound = GapBound {
                     start: from,
@@ -78,9 +85,9 @@ impl<T: Countable + Copy> ChunkedSpace<T> {
                     multiples,
                 };
                 self.note(at, bound);
-                Step::From(next)
+                SearchStep::From(next)
             }
-            Reading::End => Step::Nowhere,
+            Reading::End => SearchStep::Nowhere,
         }
     }
 

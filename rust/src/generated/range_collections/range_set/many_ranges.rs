@@ -271,6 +271,9 @@ fn put_within<T: Ord, const N: usize>(
 fn cut_near_end<T: Ord>(items: &[T], at: T) -> (usize, Option<T>) {
     let len = items.len();
     if is_odd(len) {
+        if items[len - 1].cmp(&at).is_le() {
+            return (len, None);
+        }
         return cut_at(items, at, true, &mut Comparisons::new());
     }
     if len == 0 || items[len - 1].cmp(&at).is_lt() {

@@ -10,7 +10,7 @@ use crate::generated::range_merge::merge_state::over_slices::SliceMergeState;
 use crate::generated::range_merge::merge_state::reading::{Room, Singly};
 use crate::generated::range_merge::merging;
 use crate::generated::range_merge::operations::MergeOperation;
-use crate::generated::range_merge::singly::{read_singly, Place, Relative};
+use crate::generated::range_merge::singly::{read_singly, ReadSoFar, Relative};
 use crate::support::AllocError;
 use core::cmp::Ordering;
 use core::mem::size_of_val;
@@ -178,7 +178,7 @@ impl<'o, K: Copy, O: MergeOperation, C: Compare<K>> Room<K, (), ByCopy, O, C> fo
         copier: &ByCopy,
         cmp: C,
         _n: usize,
-    ) -> Done<C, Place> {
+    ) -> Done<C, ReadSoFar> {
         let at = self.given.min(self.items.len());
         let read = read_behind(a, b, next, op, copier, cmp, &mut self.items[at..]);
         self.given += read.answer.k;
@@ -196,7 +196,7 @@ fn read_behind<K: Copy, O: MergeOperation, C: Compare<K>>(
     copier: &ByCopy,
     cmp: C,
     out: &mut [K],
-) -> Done<C, Place> {
+) -> Done<C, ReadSoFar> {
     let mut cmp = cmp;
     let answer = read_singly(a, b, next, op, copier, &mut cmp, out, true);
     Done { cmp, answer }

@@ -9,7 +9,7 @@ use crate::generated::range_merge::operations::MergeOperation;
 use crate::generated::range_merge::pacing::{are_few, Rounds};
 use crate::generated::range_merge::searching::is_word;
 use crate::generated::range_merge::short_runs::ShortRuns;
-use crate::generated::range_merge::singly::{Place, Relative};
+use crate::generated::range_merge::singly::{ReadSoFar, Relative};
 use core::cmp::Ordering;
 
 /// Reads short runs by place, where items are read fast.
@@ -70,7 +70,7 @@ fn count_short_runs<K, O: MergeOperation, C: Compare<K>>(
     op: &O,
     next: Ordering,
     cmp: &mut C,
-) -> Place {
+) -> ReadSoFar {
     let op = &Relative {
         op,
         ac: state.ac,
@@ -97,16 +97,16 @@ struct Counting<'r, K, O: MergeOperation> {
 }
 
 impl<'r, K, O: MergeOperation, C: Compare<K>> Work<K, C> for Counting<'r, K, O> {
-    type Answer = Place;
+    type Answer = ReadSoFar;
 
     #[inline(always)]
-    fn run(&mut self, cmp: C) -> Done<C, Place> {
+    fn run(&mut self, cmp: C) -> Done<C, ReadSoFar> {
         read_apart(self.a, self.b, self.next, self.op, cmp)
     }
 
     #[inline(always)]
-    fn undone(&self) -> Place {
-        Place::start(self.next)
+    fn undone(&self) -> ReadSoFar {
+        ReadSoFar::start(self.next)
     }
 }
 
@@ -118,7 +118,7 @@ fn read_apart<K, O: MergeOperation, C: Compare<K>>(
     next: Ordering,
     op: &Relative<'_, O>,
     cmp: C,
-) -> Done<C, Place> {
+) -> Done<C, ReadSoFar> {
     let mut cmp = cmp;
     let answer = read_by_place(a, b, next, op, &mut cmp);
     Done { cmp, answer }

@@ -16,7 +16,7 @@ use core::mem;
 
 // Up to this number of items, moving within the room that they have takes less time than memory
 // for a spare.
-const FEW: usize = 32;
+const MOVED_WITHIN: usize = 32;
 
 // A list that is this many times as long is much longer.
 const MUCH: usize = 8;
@@ -60,7 +60,7 @@ fn merged_within<K, P: Copier<K>, O: MergeOperation, C: Compare<K>, const N: usi
     op: &O,
     cmp: &mut C,
 ) -> bool {
-    if fit_together(a.len(), b.len(), FEW) || !are_alike(a.len(), b.len()) {
+    if fit_together(a.len(), b.len(), MOVED_WITHIN) || !are_alike(a.len(), b.len()) {
         return false;
     }
     let alloc = *a.allocator();

@@ -8,7 +8,7 @@ use crate::generated::range_merge::merge_state::over_slices::SliceMergeState;
 use crate::generated::range_merge::merge_state::reading::{Room, Singly};
 use crate::generated::range_merge::merging;
 use crate::generated::range_merge::operations::MergeOperation;
-use crate::generated::range_merge::singly::{read_singly, Place, Relative};
+use crate::generated::range_merge::singly::{read_singly, ReadSoFar, Relative};
 use crate::support::AllocError;
 use core::cmp::Ordering;
 
@@ -42,7 +42,7 @@ impl<'o, 'p, K, P: Copier<K>, O: MergeOperation, C: Compare<K>> Room<K, &'p P, P
         copier: &P,
         cmp: C,
         _n: usize,
-    ) -> Done<C, Place> {
+    ) -> Done<C, ReadSoFar> {
         let read = read_over(&mut self.items[self.given..], cmp, a, b, next, op, copier);
         self.given += read.answer.k;
         read
@@ -101,7 +101,7 @@ fn read_over<K, P: Copier<K>, O: MergeOperation, C: Compare<K>>(
     next: Ordering,
     op: &Relative<'_, O>,
     by: &P,
-) -> Done<C, Place> {
+) -> Done<C, ReadSoFar> {
     let mut cmp = cmp;
     let answer = read_singly(a, b, next, op, by, &mut cmp, out, false);
     Done { cmp, answer }

@@ -9,7 +9,7 @@ use crate::generated::range_merge::merge_state::MergeState;
 use crate::generated::range_merge::operations::MergeOperation;
 use crate::generated::range_merge::pacing::{are_few, Rounds};
 use crate::generated::range_merge::short_runs::ShortRuns;
-use crate::generated::range_merge::singly::{copied, read_singly, Place, Relative};
+use crate::generated::range_merge::singly::{copied, read_singly, ReadSoFar, Relative};
 use crate::support::Vec;
 use core::cmp::Ordering;
 use core::marker::PhantomData;
@@ -31,7 +31,7 @@ pub(crate) trait Room<K, By, P: Copier<K>, O: MergeOperation, C: Compare<K>>:
         copier: &P,
         cmp: C,
         n: usize,
-    ) -> Done<C, Place>;
+    ) -> Done<C, ReadSoFar>;
 }
 
 // What an output is to read.
@@ -49,17 +49,17 @@ struct Reading<'r, K, By, P: Copier<K>, O: MergeOperation, L> {
 impl<'r, K, By, P: Copier<K>, O: MergeOperation, C: Compare<K>, L: Room<K, By, P, O, C>> Work<K, C>
     for Reading<'r, K, By, P, O, L>
 {
-    type Answer = Place;
+    type Answer = ReadSoFar;
 
     #[inline(always)]
-    fn run(&mut self, cmp: C) -> Done<C, Place> {
+    fn run(&mut self, cmp: C) -> Done<C, ReadSoFar> {
         self.output
             .read(self.a, self.b, self.next, self.op, self.copier, cmp, self.n)
     }
 
     #[inline(always)]
-    fn undone(&self) -> Place {
-        Place::start(self.next)
+    fn undone(&self) -> ReadSoFar {
+        ReadSoFar::start(self.next)
     }
 }
 
@@ -92,7 +92,7 @@ impl<'p, K, P: Copier<K>> Singly<'p, K, P> {
 
     // Fits the rounds and the room to how far a read came.
     #[inline(always)]
-    fn learn(&mut self, at: Place) {
+    fn learn(&mut self, at: ReadSoFar) {
         self.rounds.learn(at);
         self.room = if self.room - at.k.min(self.room) < 8 {
             self.room.saturating_mul(2)
@@ -146,7 +146,7 @@ fn read_short_runs<
     op: &O,
     next: Ordering,
     cmp: &mut C,
-) -> Place {
+) -> ReadSoFar {
     let op = &Relative {
         op,
         ac: state.ac,
@@ -185,7 +185,7 @@ impl<'a, K, P: Copier<K>, O: MergeOperation, C: Compare<K>> Room<K, Copying<'a, 
         copier: &P,
         cmp: C,
         n: usize,
-    ) -> Done<C, Place> {
+    ) -> Done<C, ReadSoFar> {
         let alloc = *self.allocator();
         // The list goes by value, so that the merge can keep its own in registers.
         let list = mem::replace(self, Vec::new(alloc));
@@ -202,7 +202,7 @@ impl<'a, K, P: Copier<K>, O: MergeOperation, C: Compare<K>> Room<K, Copying<'a, 
 struct ReadInto<K, C> {
     list: Vec<K>,
     cmp: C,
-    at: Place,
+    at: ReadSoFar,
 }
 
 // Reads short runs into the list, as far as it has room and for `room` items at most.
