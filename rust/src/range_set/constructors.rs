@@ -7,7 +7,7 @@ use crate::fallible::EntryClone;
 use crate::forms::{ends, fails};
 use crate::generated::range_collections::FromPlace;
 use crate::range::RangeSetRange;
-use crate::range_set::{intersection_of_sets, Joining};
+use crate::range_set::{intersection_of_sets, union_of_sets};
 use crate::view::RangeSetRef;
 use smallvec::SmallVec;
 
@@ -187,7 +187,7 @@ macro_rules! constructors {
                 T: Ord + $Clone,
                 S: AsRef<RangeSetRef<T>>,
             {
-                let joined = Joining::<A>::of_sets(sets, &$form::Copier);
+                let joined = union_of_sets(sets, &$form::Copier);
                 $form::given::<T, _, _>(joined.map(Self::of_list))
             }
 
