@@ -9,7 +9,6 @@ mod inserting;
 mod items;
 mod itself;
 mod joining;
-mod keeping;
 mod key_of;
 mod list;
 mod mark;
@@ -21,6 +20,7 @@ mod removing;
 mod replacing;
 mod searching;
 mod splicing;
+mod splicing_last;
 mod swapping;
 mod taking;
 

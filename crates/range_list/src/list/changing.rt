@@ -7,7 +7,6 @@ ghost use Rattle.range_list.specs.Lists.{joined, place_at, IsPlaceAt, HasPlacesO
 
 use crate::appending::{push, replace_from, truncate};
 use crate::inserting::fill;
-use crate::keeping::splice_last;
 use crate::key_of::{IntoKey, SetKey};
 use crate::list::Chunks;
 use crate::list::counting::option_len;
@@ -17,6 +16,7 @@ use crate::overwriting::{item_place, set_key};
 use crate::place::Place;
 use crate::replacing::{fill_from, replace_between};
 use crate::splicing::splice;
+use crate::splicing_last::splice_last;
 use crate::swapping::swap_items;
 use std::alloc::AllocError;
 

@@ -9,7 +9,6 @@ pub(crate) mod inserting;
 pub(crate) mod items;
 pub(crate) mod itself;
 pub(crate) mod joining;
-pub(crate) mod keeping;
 pub(crate) mod key_of;
 pub(crate) mod list;
 pub(crate) mod mark;
@@ -21,6 +20,7 @@ pub(crate) mod removing;
 pub(crate) mod replacing;
 pub(crate) mod searching;
 pub(crate) mod splicing;
+pub(crate) mod splicing_last;
 pub(crate) mod swapping;
 pub(crate) mod taking;
 

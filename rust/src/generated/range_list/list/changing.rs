@@ -3,7 +3,6 @@
 
 use crate::generated::range_list::appending::{push, replace_from, truncate};
 use crate::generated::range_list::inserting::fill;
-use crate::generated::range_list::keeping::splice_last;
 use crate::generated::range_list::key_of::{IntoKey, SetKey};
 use crate::generated::range_list::list::counting::option_len;
 use crate::generated::range_list::list::Chunks;
@@ -13,6 +12,7 @@ use crate::generated::range_list::overwriting::{item_place, set_key};
 use crate::generated::range_list::place::Place;
 use crate::generated::range_list::replacing::{fill_from, replace_between};
 use crate::generated::range_list::splicing::splice;
+use crate::generated::range_list::splicing_last::splice_last;
 use crate::generated::range_list::swapping::swap_items;
 use crate::support::{AllocError, Vec};
 

@@ -2,7 +2,7 @@ use Rattle.std.proofs.Common.{arith}
 use Rattle.range_list.specs.Chunks.{flat}
 use Rattle.range_list.specs.Places.{place_in}
 use Rattle.range_list.proofs.Twice.{kept-inserted}
-use Rattle.range_list.proofs.keeping.put_before.Goals as goal
+use Rattle.range_list.proofs.splicing_last.put_before.Goals as goal
 
 pub returns-in-Ok-clause-items : goal.returns-in-Ok-clause-items
 returns-in-Ok-clause-items g c = λ d.

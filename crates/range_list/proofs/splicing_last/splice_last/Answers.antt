@@ -3,7 +3,7 @@ use Rattle.range_list.specs.Chunks.{flat}
 use Rattle.range_list.specs.Places.{place_in}
 use Rattle.range_list.proofs.InOrder.{place-within}
 use Rattle.range_list.proofs.Twice.{at-last}
-use Rattle.range_list.proofs.keeping.splice_last.Goals as goal
+use Rattle.range_list.proofs.splicing_last.splice_last.Goals as goal
 
 pub put_before-requires-clause-item : goal.put_before-requires-clause-item
 put_before-requires-clause-item g c = omega (arith, c.requires.some, place-within c.args.chunks.now.items c.args.to c.requires.to)

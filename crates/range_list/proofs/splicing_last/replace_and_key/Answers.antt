@@ -4,7 +4,7 @@ use Rattle.range_list.specs.Chunks.{flat}
 use Rattle.range_list.specs.Places.{place_in}
 use Rattle.range_list.proofs.InOrder.{item-within}
 use Rattle.range_list.proofs.Twice.{kept-replaced}
-use Rattle.range_list.proofs.keeping.replace_and_key.Goals as goal
+use Rattle.range_list.proofs.splicing_last.replace_and_key.Goals as goal
 
 pub returns-clause-items : goal.returns-clause-items
 returns-clause-items g c = λ d.
