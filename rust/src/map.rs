@@ -6,18 +6,18 @@
 mod by_ref;
 mod changes;
 mod combining;
+mod composed;
 mod iter;
 #[cfg(feature = "serde")]
 mod json;
 mod kept;
-mod more;
 mod steps;
 mod traits;
 
+pub use composed::{Keys, Values};
 pub use iter::{Gaps, IntoIter, Iter};
 pub use kept::ByClone;
 pub(crate) use kept::{Copies, Kept};
-pub use more::{Keys, Values};
 
 use crate::any_range::{ends_by, from_first, AnyRange, Overlaps, Within};
 use crate::generated::range_entry::EntryClone;
