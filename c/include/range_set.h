@@ -64,9 +64,9 @@ extern "C" {
 #endif
 
 #define RANGE_SET_VERSION_MAJOR 0
-#define RANGE_SET_VERSION_MINOR 3
+#define RANGE_SET_VERSION_MINOR 4
 #define RANGE_SET_VERSION_PATCH 0
-#define RANGE_SET_VERSION "0.3.0"
+#define RANGE_SET_VERSION "0.4.0"
 
 /* The version of the library that is linked, as RANGE_SET_VERSION is that of the header. */
 const char *range_set_version(void);

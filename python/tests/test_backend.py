@@ -119,13 +119,13 @@ class Written(unittest.TestCase):
     def test_a_wheel(self):
         with mock.patch.object(backend, "compiled", lambda linked, suffix: b"compiled"):
             name = backend.build_wheel(self.folder)
-        self.assertEqual(name, f"range_sets-0.3.0-{backend.tag()}.whl")
+        self.assertEqual(name, f"range_sets-0.4.0-{backend.tag()}.whl")
         with zipfile.ZipFile(self.folder / name) as wheel:
             self.assertIsNone(wheel.testzip())
-            record = wheel.read("range_sets-0.3.0.dist-info/RECORD").decode().splitlines()
+            record = wheel.read("range_sets-0.4.0.dist-info/RECORD").decode().splitlines()
             self.assertEqual([row.split(",")[0] for row in record], wheel.namelist())
             self.assertEqual(wheel.read(f"range_sets/_core{sysconfig.get_config_var('EXT_SUFFIX')}"), b"compiled")
-            self.assertTrue({f"range_sets-0.3.0.dist-info/licenses/LICENSE-{it}" for it in ("MIT", "APACHE")} <= set(wheel.namelist()))
+            self.assertTrue({f"range_sets-0.4.0.dist-info/licenses/LICENSE-{it}" for it in ("MIT", "APACHE")} <= set(wheel.namelist()))
 
     def test_a_source_distribution(self):
         name = backend.build_sdist(self.folder)
@@ -146,7 +146,7 @@ class Written(unittest.TestCase):
             "rust/src/generated/range_c/generated/sets_i64.rs",
         )
         for it in ("pyproject.toml", "backend.py", "README.md", "PKG-INFO", "LICENSE-MIT", *sources):
-            self.assertIn(f"range_sets-0.3.0/{it}", names)
+            self.assertIn(f"range_sets-0.4.0/{it}", names)
 
 
 if __name__ == "__main__":

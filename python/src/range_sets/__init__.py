@@ -38,7 +38,7 @@ from ._maps import RangeMap
 from ._ranges import AnyRangeSet
 from ._sets import MutableRangeSet, RangeSet
 
-__version__ = "0.3.0"
+__version__ = "0.4.0"
 
 __all__ = [
     "AnyRangeSet",
