@@ -1,7 +1,8 @@
 //! The same sets for those who can't let memory run out: an allocation failure is an error.
 //!
 //! A kernel, an embedded program or a server under a limit can't end where memory does. Here every call that may ask
-//! for memory returns a [`Result`], and if it runs out the set is as it was.
+//! for memory returns a [`Result`], and if it runs out the set is as it was. Only `extend` of a set in chunks or a map
+//! keeps the ranges that came before.
 //!
 //! ```
 //! use range_sets::fallible::{AllocError, RangeSet2};
