@@ -17,7 +17,7 @@ HEAD = "Call|Rattle|Rust|C|C++|Python\n---|---|---|---|---|---\n"
 # Sets, sets in chunks and spaces, and maps, by their types.
 RATTLE = {"RangeSetRef": "s", "RangeSet": "s", "ChunkedRangeSet": "c", "ChunkedSpace": "c", "RangeMap": "m"}
 RUST = {**RATTLE, "Map": "m", "$Left": "s", "$Set": "sc"}
-CPP = {"questions": "s", "range_set_view": "s", "range_set": "s", "chunked_range_set": "c"}
+CPP = {"questions": "s", "range_set_view": "s", "range_set": "s", "chunked_range_set": "c", "range_map": "m"}
 PYTHON = {"Kept": "sc", "Operators": "sc", "AnyRangeSet": "sc", "RangeSet": "s", "MutableRangeSet": "c", "RangeMap": "m"}
 # The traits by which a type of Rust or Rattle has a call.
 TRAITS = {"Not": "!", "FromStr": "parse", "Display": "to_string"}
@@ -36,7 +36,7 @@ OTHERWISE = {
     "C": {
         "s": {"negation": "!", "print": "to_string", "get": "iter", "members_next": "members", "parse_by": "parse"},
         "c": {"next": "iter", "of": "from_ranges"},
-        "m": {"range_at": "get_key_value"},
+        "m": {"range_at": "get_key_value", "next": "iter"},
     },
     "C++": {kind: {"size": "ranges_len", "empty": "is_empty", "begin": "iter", "text": "to_string", "negation": "!"} for kind in "sc"},
     "Python": {
@@ -53,6 +53,7 @@ OTHERWISE["Python"]["m"] = {
     "__len__": "len is_empty", "__contains__": "contains_key", "__iter__": "keys", "items": "iter", "__setitem__": "insert",
     "__delitem__": "remove", "range_at": "get_key_value", "find": "where_equal", "update": "insert",
 }
+OTHERWISE["C++"]["m"] = {"size": "len", "empty": "is_empty", "begin": "iter", "range_at": "get_key_value", "contains": "contains_key"}
 OTHERWISE["Rattle"] = {"m": {"range_at": "get_key_value"}}
 # What declares a call in Rattle and Rust: the title of an impl, a public function in it, and the end of it. A macro for both
 # forms of a type of Rust is indented.
@@ -103,11 +104,11 @@ def of_c():
 
 
 def of_cpp():
-    text = (ROOT / "c/include/range_set.hpp").read_text(encoding="utf-8")
+    text = "".join(it.read_text(encoding="utf-8") for it in (ROOT / "c/include").rglob("*.hpp"))
     operators = re.search(r"struct operators \{(.*?)^\};", text, re.M | re.S)[1]
     yield from (("s", OPERATORS[it]) for it in re.findall(r"operator([|&~^-])\(", operators))
     for name, kind in CPP.items():
-        body = re.search(rf"^template <class T(?:, class Set)?> class {name}\b[^;{{]*\{{(.*?)^\}};", text, re.M | re.S)[1]
+        body = re.search(rf"^template <class T(?:, class \w+)*> class {name}\b[^;{{]*\{{(.*?)^\}};", text, re.M | re.S)[1]
         public = re.sub(r"^private:.*?(?=^public:|\Z)", "", body.partition("\npublic:")[2], flags=re.M | re.S)
         yield from ((kind, it) for it in re.findall(r"^    (?!return |friend )[\w:][\w:<>,&* \[\]]*[ &*]([a-z]\w*)\(", public, re.M))
         yield from ((kind, OPERATORS[it] + "_with") for it in re.findall(r"operator([|&^-])=\(", public))

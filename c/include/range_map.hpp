@@ -40,6 +40,7 @@ template <class Key> struct map_calls;
         static constexpr auto remove = range_map_##number##_remove; \
         static constexpr auto remove_from = range_map_##number##_remove_from; \
         static constexpr auto range_at = range_map_##number##_range_at; \
+        static constexpr auto next = range_map_##number##_next; \
         static constexpr auto len = range_map_##number##_len; \
     };
 RANGE_MAP_CALLS(i64, std::int64_t)
@@ -128,11 +129,7 @@ public:
 
         iterator() noexcept = default;
 
-        reference operator*() const noexcept
-        {
-            const auto at = [](key of) { return element::out(static_cast<number>(of)); };
-            return {{at(at_.start), at(at_.end), at_.has_end}, map_->values_.value_of(at_.value)};
-        }
+        reference operator*() const noexcept { return {range_of(at_, at_), map_->values_.value_of(at_.value)}; }
         pointer operator->() const noexcept { return pointer(**this); }
         iterator &operator++() noexcept
         {
@@ -213,11 +210,16 @@ public:
         return values_.value_of(it.value);
     }
     // The longest range around a key whose keys have its value, and that; nothing where it has none.
-    std::optional<value_type> range_at(integer at) const
+    std::optional<value_type> range_at(integer at) const { return found(around(at)); }
+    // The first and the last range that have a value, each with its value, and the range from the start of the first to the end of the
+    // last; nothing if the map is empty. Each end takes at most two searches.
+    std::optional<value_type> first() const { return found(lowest()); }
+    std::optional<value_type> last() const { return found(highest()); }
+    std::optional<range<T>> span() const noexcept
     {
-        const iterator it(this, around(at));
-        if (it == end()) return std::nullopt;
-        return value_type(*it);
+        const auto low = lowest();
+        if (!low.has_value) return std::nullopt;
+        return range_of(low, highest());
     }
     // The ranges that have a key from `start` to below `end`, whole, each with its value.
     std::vector<value_type> overlapping(integer start, integer end) const
@@ -245,8 +247,37 @@ public:
         return range_set<T>{{start, end}} - range_set<T>(taken);
     }
 
+    // The map of what `how` makes of the values that a key has in this map and in another, whose values may be of another type. It is
+    // given the address of each, null if the key has none there, and returns a std::optional. It isn't called if both are null. What it
+    // throws is thrown, as is std::bad_alloc if memory is refused, and neither map changes.
+    //
+    //     const range_map<int, int> nights = {{1, 4, 1}}, more = {{3, 7, 1}};
+    //     nights.combine(more, [](const int *a, const int *b) { return std::optional((a ? *a : 0) + (b ? *b : 0)); });
+    //                                                      // 1..3 1, 3..4 2, 4..7 1
+    //
+    // For each part of the keys on which each map has one value, or none, it searches both maps, and puts in a range if the part gets a
+    // value. There are at most twice as many parts as ranges in both maps, and one more.
+    template <class W, class How> auto combine(const range_map<T, W> &other, How how) const
+    {
+        range_map<T, typename std::invoke_result_t<How &, const V *, const W *>::value_type> made;
+        key at = std::numeric_limits<key>::min();
+        for (bool has_end = true; has_end;) {
+            const auto here = calls::range_at(map_, at), there = calls::range_at(other.map_, at);
+            has_end = here.has_end || there.has_end;
+            const key end = here.has_end && !(there.has_end && there.end < here.end) ? here.end : there.end;
+            if (here.has_value || there.has_value) {
+                const auto value =
+                    with_value(here, [&](const V *a) { return other.with_value(there, [&](const W *b) { return how(a, b); }); });
+                if (value && has_end) made.put(calls::insert, *value, at, end);
+                else if (value) made.put(calls::insert_from, *value, at);
+            }
+            at = end;
+        }
+        return made;
+    }
+
     // The ranges with their values, those that have a key at or above another, and how many ranges there are.
-    iterator begin() const & noexcept { return iterator(this, from(std::numeric_limits<key>::min())); }
+    iterator begin() const & noexcept { return iterator(this, lowest()); }
     iterator begin() const && = delete;
     iterator begin_from(integer at) const & noexcept { return iterator(this, from(key_of(at))); }
     iterator begin_from(integer at) const && = delete;
@@ -259,13 +290,43 @@ public:
     friend bool operator!=(const range_map &a, const range_map &b) { return !(a == b); }
 
 private:
+    template <class, class> friend class range_map;
+    using stretch = typename calls::stretch;
+
     static key key_of(integer at) noexcept { return element::in(at.value); }
-    typename calls::stretch around(integer at) const noexcept { return calls::range_at(map_, key_of(at)); }
-    // The first range with a value that has a key at or above another. One without a value is followed by one that has one.
-    typename calls::stretch from(key at) const noexcept
+    // The range from the start of one to the end of another.
+    static range<T> range_of(const stretch &first, const stretch &last) noexcept
     {
-        const auto it = calls::range_at(map_, at);
-        return it.has_value || !it.has_end ? it : calls::range_at(map_, it.end);
+        const auto at = [](key of) { return element::out(static_cast<number>(of)); };
+        return {at(first.start), at(last.end), last.has_end};
+    }
+
+    stretch around(integer at) const noexcept { return calls::range_at(map_, key_of(at)); }
+    // The first range with a value that has a key at or above another; the first of all, and the last. They have no value if there is none.
+    stretch from(key at) const noexcept
+    {
+        stretch it = {};
+        static_cast<void>(calls::next(map_, at, &it));
+        return it;
+    }
+    stretch lowest() const noexcept { return from(std::numeric_limits<key>::min()); }
+    stretch highest() const noexcept
+    {
+        const auto it = calls::range_at(map_, std::numeric_limits<key>::max());
+        return it.has_value || !it.has_start ? it : calls::range_at(map_, it.start - 1);
+    }
+
+    std::optional<value_type> found(const stretch &it) const
+    {
+        if (!it.has_value) return std::nullopt;
+        return value_type(*iterator(this, it));
+    }
+    // What a call makes of the address of the value there, which is null if there is none.
+    template <class Call> auto with_value(const stretch &it, Call call) const
+    {
+        if (!it.has_value) return call(static_cast<const V *>(nullptr));
+        const V &value = values_.value_of(it.value);
+        return call(&value);
     }
 
     template <class Wanted> range_set<T> keys_where(Wanted wanted) const

@@ -24,6 +24,14 @@ template <class V> static V value(unsigned which)
     else return static_cast<V>(which);
 }
 
+// Which of the three it is, or 3 if there is none.
+template <class V> static unsigned which_of(const V *it)
+{
+    unsigned which = 0;
+    while (which < 3 && !(it != nullptr && *it == value<V>(which))) which++;
+    return which;
+}
+
 template <class T, class V> static void rows()
 {
     using map = range_map<T, V>;
@@ -34,8 +42,11 @@ template <class T, class V> static void rows()
     check(some.size() == 2 && !some.empty() && some.contains(9) && !some.contains(14), "a map of entries");
     check(some.get(10) == a && some.get(11) == b && !some.get(8) && !some.get(14), "get");
     check(some.range_at(13) == item({11, 14, true}, b) && !some.range_at(14), "range_at");
+    check(some.first() == item({9, 11, true}, a) && some.last() == item({11, 14, true}, b), "first, last");
+    check(some.span() == range<T>{9, 14, true} && !map().first() && !map().last() && !map().span(), "span");
     some.insert(14, 17, b).remove(12, 13).insert_from(20, a);
     check(some.range_at(16) == item({13, 17, true}, b) && some.range_at(most) == item({20, 0, false}, a), "ranges that touch are one");
+    check(some.last() == item({20, 0, false}, a) && some.span() == range<T>{9, 0, false}, "a last range without an end");
     check(some.domain() == range_set<T>{{9, 12}, {13, 17}}.insert_from(20), "domain");
     check(some.where_equal(b) == range_set<T>{{11, 12}, {13, 17}} && some.where_equal(c).empty(), "where_equal");
     check(some.gaps(8, 19) == range_set<T>{{8, 9}, {12, 13}, {17, 19}} && some.gaps(9, 9).empty(), "gaps");
@@ -56,10 +67,53 @@ template <class T, class V> static void rows()
     check(copy == moved && other == map({{9, 11, a}, {12, 20, c}, {22, 30, c}}), "a copy of its own");
     other.insert(range<T>{9, 30, true}, b).clear();
     check(other.empty() && other == map() && other.insert(3, 3, a).empty() && other.insert(5, 3, a).empty(), "cleared, and no keys");
+    check(!other.first() && !other.last() && !other.span(), "neither first nor last");
     other.insert(least, static_cast<T>(least + 1), a).insert_from(most, b).remove(5, 5);
     check(
         other.size() == 2 && other.get(least) == a && other.get(most) == b && other.begin()->first.start == least, "the ends of the type");
     check(other.domain().contains(most) && other.range_at(least)->first == range<T>{least, static_cast<T>(least + 1), true}, "there");
+    check(other.first() == item({least, static_cast<T>(least + 1), true}, a) && other.last() == item({most, 0, false}, b)
+              && other.span() == range<T>{least, 0, false},
+        "first and last at the ends of the type");
+    other.remove_from(most);
+    check(other.last() == other.first()
+              && other.insert(static_cast<T>(most - 1), most, c).last() == item({static_cast<T>(most - 1), most, true}, c),
+        "a last range below the last key");
+    other.insert_from(least, c);
+    check(other.first() == other.last() && other.span() == range<T>{least, 0, false}, "a range of all keys");
+}
+
+// Maps that are combined, beside their answers.
+template <class T, class V> static void combined()
+{
+    using map = range_map<T, V>;
+    const V a = value<V>(0), b = value<V>(1), c = value<V>(2);
+    const auto left = [](const V *x, const V *y) { return std::optional<V>(x != nullptr ? *x : *y); };
+    const auto right = [](const V *x, const V *y) { return std::optional<V>(y != nullptr ? *y : *x); };
+    const map some = {{9, 12, a}, {14, 17, b}}, more = {{11, 15, c}, {17, 20, b}};
+    check(some.combine(more, left) == map({{9, 12, a}, {12, 14, c}, {14, 20, b}}), "the left value, and ranges that come to touch");
+    check(some.combine(more, right) == map({{9, 11, a}, {11, 15, c}, {15, 20, b}}), "the right value");
+    check(some.combine(map(), left) == some && map().combine(some, left) == some && some.combine(some, right) == some,
+        "with none, with itself");
+    long calls = 0;
+    const auto none = [&calls](const V *, const V *) -> std::optional<V> {
+        calls++;
+        return std::nullopt;
+    };
+    check(map().combine(map(), none).empty() && calls == 0, "two maps without a value");
+    check(some.combine(more, none).empty() && calls == 6, "once for each part that has a value in one of both");
+    const range_set<T> set = {{10, 12}, {16, 30}};
+    range_map<T, bool> kept;
+    for (const auto &it : set) kept.insert(it, true);
+    const auto within = [](const V *x, const bool *is_kept) {
+        return is_kept != nullptr && x != nullptr ? std::optional<V>(*x) : std::nullopt;
+    };
+    check(some.combine(kept, within) == map({{10, 12, a}, {16, 17, b}}), "values of two types, which both have to be there");
+    const T least = std::numeric_limits<T>::min(), most = std::numeric_limits<T>::max();
+    map low, high;
+    low.insert_from(least, a), high.insert_from(most, b);
+    check(low.combine(high, right) == map(low).insert_from(most, b) && high.combine(low, right) == low, "all keys, and the last one");
+    check(low.combine(map({{3, 5, c}}), right) == map(low).insert(3, 5, c), "ends within all keys");
 }
 
 template <class T, class V> static void made_up()
@@ -69,6 +123,8 @@ template <class T, class V> static void made_up()
         range_map<T, V> map;
         std::vector<std::optional<V>> wanted(keys);
         for (int step = 0; step < 30; step++) {
+            const range_map<T, V> before(map);
+            const std::vector<std::optional<V>> wanted_before(wanted);
             const unsigned start = random_below(keys), end = random_below(keys), which = random_below(4);
             for (unsigned at = start; at < end; at++) wanted[at] = which < 3 ? std::optional<V>(value<V>(which)) : std::nullopt;
             if (which < 3) map.insert(start, end, value<V>(which));
@@ -82,6 +138,19 @@ template <class T, class V> static void made_up()
             }
             check(map.size() == ranges && std::distance(map.begin(), map.end()) == std::ptrdiff_t(ranges), "made up: how many");
             check(map == range_map<T, V>(map), "made up: a copy");
+            const auto both = before.combine(map, [](const V *a, const V *b) {
+                check(a != nullptr || b != nullptr, "made up: a value in one of both");
+                return which_of(a) != which_of(b) ? std::optional(4 * which_of(a) + which_of(b)) : std::nullopt;
+            });
+            for (unsigned at = 0; at < keys; at++) {
+                const auto which_at = [at](const std::vector<std::optional<V>> &of) { return which_of(of[at] ? &*of[at] : nullptr); };
+                const unsigned one = which_at(wanted_before), other = which_at(wanted);
+                check(both.get(at) == (one != other ? std::optional(4 * one + other) : std::nullopt), "made up: combine");
+            }
+            const auto first = map.domain().first(), last = map.domain().last();
+            check(first.has_value() == map.first().has_value() && last.has_value() == map.last().has_value(), "made up: first and last");
+            check(!first || (map.first() == map.range_at(first->start) && map.last() == map.range_at(last->end - 1)), "made up: which");
+            check(!first || map.span() == range<T>{first->start, last->end, true}, "made up: span");
         }
     }
 }
@@ -142,6 +211,7 @@ static void a_million_ranges()
 template <class T, class V> static void both()
 {
     rows<T, V>();
+    combined<T, V>();
     made_up<T, V>();
 }
 
@@ -178,6 +248,10 @@ static void points_in_time()
     check(map.overlapping(day, day + 13h).size() == 2 && map.overlapping(day + 13h, day).empty(), "times that overlap");
     check(map.domain().size() == 3 && map.where_equal("Bob").covered() == 7200u, "times that have a value");
     check(map.gaps(day + 9h, day + 14h) == (range_set<second>{{day + 10h, day + 12h}}), "times that have none");
+    check(map.first()->second == "Ada" && map.last()->first.start == day + 20h && map.span() == range<second>{day + 9h, day, false},
+        "the first and the last time");
+    const auto lengths = map.combine(map, [](const std::string *a, const std::string *) { return std::optional(a->size()); });
+    check(lengths.get(day + 13h) == 3u && lengths.get(day + 21h) == 5u && !lengths.get(day + 15h), "times of two maps");
     check(map.begin()->first.start == day + 9h && map.begin_from(day + 10h)->second == "Bob" && map.remove_from(day).empty(),
         "times in order");
 }
@@ -191,6 +265,7 @@ int main()
     both<long long, const int *>();
     both<unsigned long, double>();
     rows<char32_t, char>();
+    combined<char32_t, char>();
     many_values();
     its_own_values();
     points_in_time();

@@ -1,5 +1,5 @@
-// Tests of chunked_range_set and range_map where memory is refused: each request of each call in turn. It is linked with
-// -Wl,--wrap=malloc,--wrap=realloc, so that it stands before the library's malloc.
+// Tests of chunked_range_set and range_map where memory is refused: each request of each call in turn, the library's, those of `new`, and
+// copies of values that throw. It is linked with -Wl,--wrap=malloc,--wrap=realloc, so that it stands before the library's malloc.
 #include "checking.h"
 #include "range_map.hpp"
 
@@ -40,6 +40,24 @@ void *__wrap_malloc(std::size_t size)
 void *__wrap_realloc(void *memory, std::size_t size)
 {
     return is_met() ? __real_realloc(memory, size) : nullptr;
+}
+
+// Not inline, since gcc takes malloc and `delete` in one function for a fault.
+[[gnu::noinline]] void *operator new(std::size_t size)
+{
+    void *const memory = __wrap_malloc(size > 0 ? size : 1);
+    if (memory == nullptr) throw std::bad_alloc();
+    return memory;
+}
+
+[[gnu::noinline]] void operator delete(void *memory) noexcept
+{
+    std::free(memory);
+}
+
+[[gnu::noinline]] void operator delete(void *memory, std::size_t) noexcept
+{
+    std::free(memory);
 }
 
 // Makes a change again and again, with one request more met each time, until it is done. What is refused is thrown, and leaves the set
@@ -91,6 +109,75 @@ template <class T> static void all()
     }
     grown += refused;
     check(grown > 0, "a map that grows");
+    map other;
+    for (T i = 0; i < 40; i++) other.insert(static_cast<T>(7 * i + 2), static_cast<T>(7 * i + 6), -static_cast<int>(i));
+    const auto either = [](const int *a, const int *b) { return std::optional(a != nullptr ? *a : *b); };
+    until_done(full, "a map of two", [&](map &it) { it = it.combine(other, either); });
+    until_done(full, "a map of itself and none",
+        [&](map &it) { it = it.combine(map(), [](const int *a, const int *) { return std::optional(*a + 1); }); });
+}
+
+// A value whose copies are counted, and throw as if their memory were refused.
+struct fragile {
+    explicit fragile(int of) noexcept : which(of) { alive++; }
+    fragile(const fragile &other) : which(other.which)
+    {
+        if (!is_met()) throw std::bad_alloc();
+        alive++;
+    }
+    fragile &operator=(const fragile &other)
+    {
+        if (!is_met()) throw std::bad_alloc();
+        which = other.which;
+        return *this;
+    }
+    ~fragile() { alive--; }
+    friend bool operator<(const fragile &a, const fragile &b) noexcept { return a.which < b.which; }
+    friend bool operator==(const fragile &a, const fragile &b) noexcept { return a.which == b.which; }
+
+    int which;
+    static long alive;
+};
+long fragile::alive = 0;
+
+// Maps of values whose copies throw, and what asks for them.
+static void copies_that_throw()
+{
+    {
+        using map = range_map<int, fragile>;
+        map few, many, none;
+        for (int i = 0; i < 5; i++) few.insert(10 * i, 10 * i + 8, fragile(i));
+        for (int i = 0; i < 90; i++) many.insert(3 * i, 3 * i + 2, fragile(i % 64));
+        until_done(none, "insert a value", [](map &it) { it.insert(3, 5, fragile(7)); });
+        until_done(many, "insert one into a full list of values", [](map &it) { it.insert(3, 5, fragile(100)); });
+        until_done(none, "a copy of values", [&](map &it) { it = many; });
+        const auto sum = [](const fragile *a, const fragile *b) {
+            return std::optional<fragile>(fragile((a != nullptr ? a->which : 0) + (b != nullptr ? b->which : 0)));
+        };
+        until_done(few, "values of two maps", [&](map &it) { it = it.combine(many, sum); });
+        until_done(few, "values of two maps, as they are", [&](map &it) {
+            it = it.combine(many, [](const fragile *a, const fragile *b) { return std::optional<fragile>(b != nullptr ? *b : *a); });
+        });
+        for (const auto &call : {&map::first, &map::last}) {
+            long met = 0;
+            for (bool thrown = true; thrown; met++) {
+                thrown = false;
+                const long before = fragile::alive;
+                left = met;
+                try {
+                    const auto it = (few.*call)();
+                    left = -1;
+                    check(it && it == few.range_at(it->first.start), "the value of the first or the last range");
+                } catch (const std::bad_alloc &) {
+                    thrown = true;
+                }
+                left = -1;
+                check(fragile::alive == before, "a copy that throws leaves none");
+            }
+            check(met > 1, "copies of the first and the last value");
+        }
+    }
+    check(fragile::alive == 0, "all values are let go");
 }
 
 // How many blocks the library has by the allocator of these.
@@ -140,6 +227,9 @@ template <class V> static void gives_back(V few[5])
         const range_map<std::int64_t, V> none;
         until_done(none, "a map of a list", [&](range_map<std::int64_t, V> &it) { it = {{1, 3, few[0]}, {7, 9, few[1]}}; });
         check(blocks == before, "a list that is refused gives back what it took");
+        const auto first = [](const V *a, const V *b) { return std::optional<V>(a != nullptr ? *a : *b); };
+        until_done(none, "a map of two maps", [&](range_map<std::int64_t, V> &it) { it = map.combine(none, first); });
+        check(blocks == before, "two maps that are refused one give back what they took");
     }
     check(blocks == 0, "all is given back");
     range_set_use_allocator(nullptr);
@@ -155,6 +245,7 @@ int main()
     all<std::uint32_t>();
     all<std::int64_t>();
     all<std::uint64_t>();
+    copies_that_throw();
     std::printf("test_refused: %ld checks, %ld requests refused\n", checks, refused);
     return 0;
 }
