@@ -12,9 +12,8 @@ ghost use Rattle.range_collections.specs.Ranges.{range_items};
 ghost use Rattle.range_collections.specs.Splicing.{IsCut, range_table, spliced};
 ghost use Rattle.range_list.specs.Lists.{joined, place_at, IsPlaceAt};
 
-use range_collections::Comparisons;
+use range_collections::{Comparisons, has_elements};
 use range_list::{Chunks, Itself, Place};
-use range_merge::Compare;
 use std::alloc::AllocError;
 use std::ops::Range;
 
@@ -36,7 +35,7 @@ pub fn set_range<T: Ord + Drop>(
         (2 * (digits (length (joined list.old)) + digits 512) + 1) }
 {
     let Range { start, end } = range;
-    if !count.compare(&start, &end).is_lt() {
+    if !has_elements(&start, &end, count) {
         return Ok(());
     }
     set_between(list, start, end, inside, count)

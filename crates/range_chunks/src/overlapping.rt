@@ -7,7 +7,7 @@ ghost use Rattle.range_list.specs.Lists.{joined, place_at, IsPlaceAt};
 
 use crate::iter::Iter;
 use crate::questions::{place_below, place_up_to};
-use range_collections::Comparisons;
+use range_collections::{Comparisons, has_elements};
 use range_list::{Chunks, Place};
 
 /// The ranges that share an element with the one from the start on, up to the end.
@@ -16,7 +16,7 @@ pub fn overlapping<'a, T: Ord>(list: &'a Chunks<T, bool>, start: &T, end: &T) ->
     ensures { ranges_of result ≡
         filter (overlaps T.cmp start.now end.now) (ranges_of (joined list.now)) }
 {
-    if !start.cmp(end).is_lt() {
+    if !has_elements(start, end, &mut Comparisons::new()) {
         return Iter::nothing();
     }
     let from = place_up_to(list, start, &mut Comparisons::new());

@@ -10,7 +10,7 @@ ghost use Rattle.range_collections.specs.Extent.{HasAllWithin, IsNext};
 ghost use Rattle.range_collections.specs.Intersects.{HasMemberWithin, IsItemBelow};
 ghost use Rattle.range_list.specs.Lists.{joined, place_at, IsPlaceAt};
 
-use range_collections::Comparisons;
+use range_collections::{Comparisons, has_elements};
 use range_list::{Chunks, Itself, Place};
 use range_merge::Compare;
 
@@ -37,7 +37,7 @@ pub fn has_all<T: Ord>(list: &Chunks<T, bool>, start: &T, end: &T, count: &mut C
     ensures comparisons { AddsAtMost count.old count.new
         (digits (length (joined list.now)) + digits 512 + 2) }
 {
-    if !count.compare(start, end).is_lt() {
+    if !has_elements(start, end, count) {
         return true;
     }
     let place = place_up_to(list, start, count);
@@ -52,7 +52,7 @@ pub fn has_some<T: Ord>(list: &Chunks<T, bool>, start: &T, end: &T) -> bool
     requires sorted { IsAscending T.cmp (joined list.now) }
     ensures { IsTrue result ↔ HasMemberWithin T.cmp (joined list.now) start.now end.now }
 {
-    if !start.cmp(end).is_lt() {
+    if !has_elements(start, end, &mut Comparisons::new()) {
         return false;
     }
     let place = place_up_to(list, start, &mut Comparisons::new());

@@ -9,9 +9,8 @@ ghost use Rattle.range_collections.specs.Within.{GivesParts, borrowed_items, wit
 ghost use Rattle.range_list.specs.Lists.{joined};
 
 use crate::questions::{place_below, place_up_to};
-use range_collections::Comparisons;
+use range_collections::{Comparisons, has_elements};
 use range_list::{Chunks, Items};
-use range_merge::Compare;
 use std::alloc::{AllocError, Global};
 use std::iter::FusedIterator;
 use std::marker::Model;
@@ -95,7 +94,7 @@ pub fn parts_within<'a, T: Ord>(
     ensures comparisons { AddsAtMost count.old count.new
         (2 * (digits (length list.now) + digits 512) + 1) }
 {
-    if !count.compare(within.start, within.end).is_lt() {
+    if !has_elements(within.start, within.end, count) {
         return RangesWithin::nothing();
     }
     let from = place_up_to(list, within.start, count);

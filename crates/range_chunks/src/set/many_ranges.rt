@@ -5,7 +5,7 @@ ghost use Rattle.range_collections.specs.Ranges.{range_boundaries, range_items, 
 ghost use Rattle.range_collections.specs.Unions.{GivesUnion, IsAdded};
 
 use crate::set::ChunkedRangeSet;
-use range_collections::{EntryClone, RangeSetRange};
+use range_collections::{Comparisons, EntryClone, RangeSetRange, has_elements};
 use std::alloc::{AllocError, Global};
 use std::ops::Range;
 
@@ -43,7 +43,7 @@ impl<T: EntryClone + Drop> ChunkedRangeSet<T> {
         ensures { IsAdded T.cmp T.is_copy T.is_infallible 0 self.old
             (range_items T.cmp range.now.start range.now.end) self.new result }
     {
-        if !range.start.cmp(&range.end).is_lt() {
+        if !has_elements(&range.start, &range.end, &mut Comparisons::new()) {
             // Brings that the boundaries are sorted.
             let _sorted = &self.list;
             return Ok(());

@@ -2,9 +2,8 @@
 //! One range set in a list of boundaries in chunks: the list is cut around the start and around the
 //! end, and what lies between the cuts gives way to those of the two that are put.
 
-use crate::generated::range_collections::Comparisons;
+use crate::generated::range_collections::{has_elements, Comparisons};
 use crate::generated::range_list::{Chunks, Itself, Place};
-use crate::generated::range_merge::Compare;
 use crate::support::AllocError;
 use core::ops::Range;
 
@@ -30,7 +29,7 @@ pub(crate) fn set_range<T: Ord>(
     count: &mut Comparisons,
 ) -> Result<(), AllocError> {
     let Range { start, end } = range;
-    if !count.compare(&start, &end).is_lt() {
+    if !has_elements(&start, &end, count) {
         return Ok(());
     }
     set_between(list, start, end, inside, count)

@@ -3,7 +3,7 @@
 
 use crate::generated::range_chunks::iter::Iter;
 use crate::generated::range_chunks::questions::{place_below, place_up_to};
-use crate::generated::range_collections::Comparisons;
+use crate::generated::range_collections::{has_elements, Comparisons};
 use crate::generated::range_list::{Chunks, Place};
 
 /// The ranges that share an element with the one from the start on, up to the end.
@@ -20,7 +20,7 @@ pub(crate) fn overlapping<'a, T: Ord>(
     start: &T,
     end: &T,
 ) -> Iter<'a, T> {
-    if !start.cmp(end).is_lt() {
+    if !has_elements(start, end, &mut Comparisons::new()) {
         return Iter::nothing();
     }
     let from = place_up_to(list, start, &mut Comparisons::new());

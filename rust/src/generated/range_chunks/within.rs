@@ -2,9 +2,8 @@
 //! The parts of a range that are in a set in chunks, and those that the set leaves out.
 
 use crate::generated::range_chunks::questions::{place_below, place_up_to};
-use crate::generated::range_collections::Comparisons;
+use crate::generated::range_collections::{has_elements, Comparisons};
 use crate::generated::range_list::{Chunks, Items};
-use crate::generated::range_merge::Compare;
 use crate::support::{AllocError, Global};
 use core::iter::FusedIterator;
 use core::ops::Range;
@@ -79,7 +78,7 @@ pub(crate) fn parts_within<'a, T: Ord>(
     inside: bool,
     count: &mut Comparisons,
 ) -> RangesWithin<'a, T> {
-    if !count.compare(within.start, within.end).is_lt() {
+    if !has_elements(within.start, within.end, count) {
         return RangesWithin::nothing();
     }
     let from = place_up_to(list, within.start, count);

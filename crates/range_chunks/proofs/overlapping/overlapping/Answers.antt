@@ -1,22 +1,23 @@
-use Rattle.std.proofs.Common.{◌≡◌, ◌≤◌, ◌∙◌, sym, ap, false, rules, arith}
+use Rattle.std.proofs.Common.{◌≡◌, ◌≤◌, ◌∙◌, sym, ap, false, arith}
 use Rattle.std.specs.Ordering.{is_lt}
 use Rattle.std.specs.declared.cmp.Ordering.TheVariants.{Less}
 use Rattle.range_collections.specs.Ranges.{ranges_of}
 use Rattle.range_collections.proofs.Overlapping.{overlaps-nothing, overlapping-places}
 use Rattle.range_collections.proofs.Points.{counts_ordered}
+use Rattle.range_collections.proofs.Values.{not_less-from_none}
 use Rattle.range_list.specs.Lists.{joined, place_at}
 use Rattle.range_list.proofs.Placed.{place_at-within}
 use Rattle.range_chunks.proofs.overlapping.overlapping.Goals as goal
 
-pub returns-then-not-is_lt : goal.returns-then-not-is_lt
-returns-then-not-is_lt g c =
-    let off : is_lt (g.T.Ord.cmp c.args.start.now c.args.end.now) ≡ false = search rules in
+pub returns-then-not-has_elements : goal.returns-then-not-has_elements
+returns-then-not-has_elements g c =
+    let off : is_lt (g.T.Ord.cmp c.args.start.now c.args.end.now) ≡ false = not_less-from_none c.has_elements.result _ c.has_elements.ensures.answer c.if-not-has_elements.true in
     ap ranges_of c.nothing.ensures
     ∙ sym (overlaps-nothing g.T.Ord.cmp g.met.T.Ord.total c.args.start.now c.args.end.now off (ranges_of (joined c.args.list.now)))
 
 pub between-requires-clause-ordered : goal.between-requires-clause-ordered
 between-requires-clause-ordered g c =
-    let less : g.T.Ord.cmp c.args.start.now c.args.end.now ≡ Less = search rules in
+    let less : g.T.Ord.cmp c.args.start.now c.args.end.now ≡ Less = c.has_elements.ensures.answer.0 c.if-not-has_elements.false in
     let n = place_at c.args.list.now c.place_up_to-from.result in
     let m = place_at c.args.list.now c.place_below-to.result in
     let ordered : n ≤ m =
@@ -27,7 +28,7 @@ between-requires-clause-ordered g c =
 
 pub returns : goal.returns
 returns g c =
-    let less : g.T.Ord.cmp c.args.start.now c.args.end.now ≡ Less = search rules in
+    let less : g.T.Ord.cmp c.args.start.now c.args.end.now ≡ Less = c.has_elements.ensures.answer.0 c.if-not-has_elements.false in
     let n = place_at c.args.list.now c.place_up_to-from.result in
     let m = place_at c.args.list.now c.place_below-to.result in
     let ordered : n ≤ m =

@@ -2,7 +2,7 @@
 //! The set of many ranges, which are added one by one.
 
 use crate::generated::range_chunks::set::ChunkedRangeSet;
-use crate::generated::range_collections::{EntryClone, RangeSetRange};
+use crate::generated::range_collections::{has_elements, Comparisons, EntryClone, RangeSetRange};
 use crate::support::{AllocError, Global};
 use core::ops::Range;
 
@@ -38,7 +38,7 @@ impl<T: EntryClone> ChunkedRangeSet<T> {
 
     // The same for a range with an end.
     fn add_range(&mut self, range: &Range<T>) -> Result<(), AllocError> {
-        if !range.start.cmp(&range.end).is_lt() {
+        if !has_elements(&range.start, &range.end, &mut Comparisons::new()) {
             // Brings that the boundaries are sorted.
             let _sorted = &self.list;
             return Ok(());
