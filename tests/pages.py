@@ -2,7 +2,7 @@
 """Whether the pages are true of the tree: links lead somewhere, files and names that a page gives are there, a word of the
 model is defined, what CALLING and PROMISES quote of a source stands there, what there is to read for the headline has as
 many lines as PROMISES says, each folder has the lines that ARCHITECTURE gives, each public call stands in CALLING, in PROMISES or
-on the page of its language, and the table of calls is what tools/calls.py writes. And which mutants a change has tried again, by the rows of record_rows.py.
+on the page of its language, the table of calls is what tools/calls.py writes, and each package has the version of CHANGELOG. And which mutants a change has tried again, by the rows of record_rows.py.
 
     tests/pages.py
 
@@ -51,6 +51,10 @@ CPP_CALL = re.compile(r"^    (?! |friend|return|explicit)[\w:<>,& *]*[ &*](?!ope
 CPP_PRIVATE = re.compile(r"^ *private:.*?^\};|^namespace detail \{.*?^\} // namespace detail", re.M | re.S)
 # The same of Python's classes and functions.
 PYTHON_CALL = re.compile(r"^(?:    )?def ([a-z]\w*)", re.M)
+# The newest version in CHANGELOG, where each package has it, and how.
+NEWEST = re.compile(r"^## (\d+\.\d+\.\d+) ", re.M)
+VERSIONED = ("c/Makefile", "c/include/range_set.h", "python/pyproject.toml", "python/src/range_sets/__init__.py", "rust/Cargo.toml")
+VERSION = re.compile(r'^(?:(?:__version__|version|VERSION) = |#define RANGE_SET_VERSION )"?(\d+\.\d+\.\d+)"?$', re.M)
 # What stands in code on a page and is no name of the sources: variables, and words of a clause.
 PLAIN = {"a", "b", "d", "e", "i", "l", "n", "w", "x", "y", "N", "M", "length", "of"}
 
@@ -267,6 +271,15 @@ def calls_beyond_the_crates(paths):
     yield "python/README.md", {name for it in python for name in PYTHON_CALL.findall(read(it))}
 
 
+def wrong_versions(page):
+    """Files that give a package another version than the newest one on the page."""
+    newest = NEWEST.findall(page.read_text(encoding="utf-8"))[:1]
+    for path in VERSIONED:
+        found = VERSION.findall((ROOT / path).read_text(encoding="utf-8"))
+        if found != newest:
+            yield f"{path} has the version {', '.join(found)}"
+
+
 def missing_calls(calls, words):
     """The calls that no page has. A form with a counter goes with the call that it is of."""
     for call in sorted(calls):
@@ -295,6 +308,7 @@ def main():
     checks += [(docs / "PROMISES.md", "lines to read", list(wrong_readings(docs / "PROMISES.md")))]
     checks += [(docs / "ARCHITECTURE.md", "lines of folders", list(wrong_lines(docs / "ARCHITECTURE.md", paths)))]
     checks += [(docs / "PROMISES.md", "words of std", list(wrong_words_of_std(docs / "PROMISES.md")))]
+    checks += [(ROOT / "CHANGELOG.md", "versions", list(wrong_versions(ROOT / "CHANGELOG.md")))]
     shared = [ROOT / it for it in paths if it.endswith("CALLING.md")] + [docs / "PROMISES.md"]
     for crate in PROVED:
         own = [it for it in pages if it.parent == ROOT / "crates" / crate]
