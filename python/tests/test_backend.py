@@ -14,6 +14,7 @@ from unittest import mock
 
 TREE = pathlib.Path(__file__).resolve().parent.parent
 NOWHERE = pathlib.Path("/no/such/folder")
+LICENSES = ("LICENSE-MIT", "LICENSE-APACHE")
 SPEC = importlib.util.spec_from_file_location("backend", TREE / "backend.py")
 backend = importlib.util.module_from_spec(SPEC)
 SPEC.loader.exec_module(backend)
@@ -125,12 +126,15 @@ class Written(unittest.TestCase):
             record = wheel.read("range_sets-0.4.0.dist-info/RECORD").decode().splitlines()
             self.assertEqual([row.split(",")[0] for row in record], wheel.namelist())
             self.assertEqual(wheel.read(f"range_sets/_core{sysconfig.get_config_var('EXT_SUFFIX')}"), b"compiled")
-            self.assertTrue({f"range_sets-0.4.0.dist-info/licenses/LICENSE-{it}" for it in ("MIT", "APACHE")} <= set(wheel.namelist()))
+            for it in LICENSES:
+                self.assertEqual(wheel.read(f"range_sets-0.4.0.dist-info/licenses/{it}"), (TREE.parent / it).read_bytes())
 
     def test_a_source_distribution(self):
         name = backend.build_sdist(self.folder)
         with tarfile.open(self.folder / name) as archive:
             names = set(archive.getnames())
+            for it in LICENSES:
+                self.assertEqual(archive.extractfile(f"range_sets-0.4.0/{it}").read(), (TREE.parent / it).read_bytes())
         sources = (
             "src/range_sets/_core.c",
             "src/range_sets/py.typed",
@@ -145,7 +149,7 @@ class Written(unittest.TestCase):
             "rust/src/lib.rs",
             "rust/src/generated/range_c/generated/sets_i64.rs",
         )
-        for it in ("pyproject.toml", "backend.py", "README.md", "PKG-INFO", "LICENSE-MIT", *sources):
+        for it in ("pyproject.toml", "backend.py", "README.md", "PKG-INFO", *sources):
             self.assertIn(f"range_sets-0.4.0/{it}", names)
 
 
