@@ -124,8 +124,12 @@ runs_the_allocator() {
 }
 
 runs_the_calendar() {
-    g++ -std=c++17 -O2 $strict "$@" c/examples/calendar.cpp "$archive" -o "$work/calendar" && "$work/calendar" | cmp - <(printf '%s\n' \
-        'Ada is busy' '11:15 to 13:00' '14:00 to 17:00' '285 minutes in all' 'two hours from 14:00 on')
+    g++ -std=c++17 -O2 $strict "$@" c/examples/calendar.cpp "$archive" -o "$work/calendar" && prints_the_calendar
+}
+
+prints_the_calendar() {
+    "$work/calendar" | cmp - <(printf '%s\n' 'Ada is busy' '11:15 to 13:00' '14:00 to 17:00' '285 minutes in all' \
+        'two hours from 14:00 on')
 }
 
 # Compiles the statements and calls between backquotes in a page, one after the other, in C and in C++.
@@ -184,6 +188,14 @@ installs() {
         mv "$work/its place" "$prefix" &&
         cmp LICENSE-MIT "$prefix/share/doc/range_set/LICENSE-MIT" &&
         cmp LICENSE-APACHE "$prefix/share/doc/range_set/LICENSE-APACHE"
+}
+
+# Installs the library below a root that a package is made of, whose files may not name it.
+installs_below() {
+    local root=$work/root prefix=$work/usr
+    make -s -C "$work/c" install "${makes[@]}" DESTDIR="$root" PREFIX="$prefix" && [ ! -e "$prefix" ] &&
+        [ -s "$root$prefix/lib/librange_set.so" ] && [ -s "$root$prefix/include/range_set.h" ] &&
+        cmp LICENSE-MIT "$root$prefix/share/doc/range_set/LICENSE-MIT" && ! grep -rFI "$root" "$root"
 }
 
 # Builds the library by cargo, which finds the crates that Debian packages.
@@ -257,7 +269,16 @@ is_found_by_pkg_config() {
         eval "gcc -std=c99 -static c/examples/download.c $found" -o '"$work/found"' && prints_its_lines found && is_small found
 }
 
-# The same by CMake, for each of the two libraries.
+# The calendar in C++ against what was installed, found by pkg-config, with the header for maps.
+is_found_in_cpp() {
+    local found
+    export PKG_CONFIG_PATH="$prefix/lib/pkgconfig"
+    found=$(pkg-config --cflags --libs range_set) &&
+        eval "g++ -std=c++17 -include range_map.hpp c/examples/calendar.cpp $found" -o '"$work/calendar"' &&
+        LD_LIBRARY_PATH="$prefix/lib" prints_the_calendar
+}
+
+# The same example by CMake, for each of the two libraries.
 is_found_by_cmake() {
     rm -rf "$work/by cmake" && mkdir "$work/by cmake" && cp c/examples/download.c "$work/by cmake" && cat >"$work/by cmake/CMakeLists.txt" <<END || return
 cmake_minimum_required(VERSION 3.10)
@@ -447,7 +468,9 @@ step_by g++ g++ "a map of values without an order" says_that_values_need_an_orde
 step_by g++ g++ "the lines in C++ of c/README.md" runs_cpp_page c/README.md
 archive=dist/librange_set.a
 step_by make make "make install" installs
+step_by make make "make install below a DESTDIR" installs_below
 over_install pkg-config pkg-config "a program by pkg-config" is_found_by_pkg_config
+over_install pkg-config pkg-config "a program in C++ by pkg-config" is_found_in_cpp
 over_install cmake cmake "a program by CMake" is_found_by_cmake
 over_install readelf binutils "the shared library" is_shared
 step "what isn't called is dropped" drops_what_is_not_called
