@@ -17,7 +17,7 @@ HEAD = "Call|Rattle|Rust|C|C++|Python\n---|---|---|---|---|---\n"
 # Sets, sets in chunks and spaces, and maps, by their types.
 RATTLE = {"RangeSetRef": "s", "RangeSet": "s", "ChunkedRangeSet": "c", "ChunkedSpace": "c", "RangeMap": "m"}
 RUST = {**RATTLE, "Map": "m", "$Left": "s", "$Set": "sc"}
-CPP = {"questions": "s", "range_set_view": "s", "range_set": "s", "chunked_range_set": "c", "range_map": "m"}
+CPP = {"questions": "sc", "list_questions": "s", "range_set_view": "s", "range_set": "s", "chunked_range_set": "c", "range_map": "m"}
 PYTHON = {"Kept": "sc", "Operators": "sc", "AnyRangeSet": "sc", "RangeSet": "s", "MutableRangeSet": "c", "RangeMap": "m"}
 # The traits by which a type of Rust or Rattle has a call.
 TRAITS = {"Not": "!", "FromStr": "parse", "Display": "to_string"}
@@ -107,11 +107,11 @@ def of_cpp():
     text = "".join(it.read_text(encoding="utf-8") for it in (ROOT / "c/include").rglob("*.hpp"))
     operators = re.search(r"struct operators \{(.*?)^\};", text, re.M | re.S)[1]
     yield from (("s", OPERATORS[it]) for it in re.findall(r"operator([|&~^-])\(", operators))
-    for name, kind in CPP.items():
+    for name, kinds in CPP.items():
         body = re.search(rf"^template <class T(?:, class \w+)*> class {name}\b[^;{{]*\{{(.*?)^\}};", text, re.M | re.S)[1]
-        public = re.sub(r"^private:.*?(?=^public:|\Z)", "", body.partition("\npublic:")[2], flags=re.M | re.S)
-        yield from ((kind, it) for it in re.findall(r"^    (?!return |friend )[\w:][\w:<>,&* \[\]]*[ &*]([a-z]\w*)\(", public, re.M))
-        yield from ((kind, OPERATORS[it] + "_with") for it in re.findall(r"operator([|&^-])=\(", public))
+        public = re.sub(r"^(?:private|protected):.*?(?=^public:|\Z)", "", body.partition("\npublic:")[2], flags=re.M | re.S)
+        yield from ((kind, it) for kind in kinds for it in re.findall(r"^    (?!return |friend )[\w:][\w:<>,&* \[\]]*[ &*]([a-z]\w*)\(", public, re.M))
+        yield from ((kind, OPERATORS[it] + "_with") for kind in kinds for it in re.findall(r"operator([|&^-])=\(", public))
 
 
 def of_python():

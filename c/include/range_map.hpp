@@ -30,7 +30,7 @@ template <class Key> struct map_calls;
 
 #define RANGE_MAP_CALLS(number, Key) \
     template <> struct map_calls<Key> { \
-        using map = range_map_##number; \
+        using owned = range_map_##number; \
         using stretch = range_map_##number##_stretch; \
         static constexpr auto make = range_map_##number##_new; \
         static constexpr auto free = range_map_##number##_free; \
@@ -160,18 +160,18 @@ public:
     };
     using const_iterator = iterator;
 
-    // The map without a value. It takes no memory. Those below begin with it, so that what they throw gives their memory back.
+    // The map without a value. It takes no memory.
     range_map() noexcept = default;
     // Where these overlap the later one's value holds.
-    range_map(std::initializer_list<entry> entries) : range_map()
+    range_map(std::initializer_list<entry> entries)
     {
         for (const entry &it : entries) insert(it.start, it.end, it.value);
     }
     // A copy has the values in its list that a range has.
-    range_map(const range_map &other) : range_map()
+    range_map(const range_map &other)
     {
         if constexpr (detail::is_plain<V>) {
-            if (other.map_.at != nullptr) detail::see_memory(calls::copy(other.map_, &map_));
+            if (other.map().at != nullptr) detail::see_memory(calls::copy(other.map(), &owner_.it));
         } else {
             for (const auto &[keys, value] : other) insert(keys, value);
         }
@@ -182,10 +182,10 @@ public:
         swap(other);
         return *this;
     }
-    ~range_map() { calls::free(&map_); }
+    ~range_map() = default;
     void swap(range_map &other) noexcept
     {
-        std::swap(map_, other.map_);
+        std::swap(owner_, other.owner_);
         std::swap(values_, other.values_);
         std::swap(limit_, other.limit_);
     }
@@ -210,11 +210,11 @@ public:
         return values_.value_of(it.value);
     }
     // The longest range around a key whose keys have its value, and that; nothing where it has none.
-    std::optional<value_type> range_at(integer at) const { return found(around(at)); }
+    std::optional<value_type> range_at(integer at) const { return item(around(at)); }
     // The first and the last range that have a value, each with its value, and the range from the start of the first to the end of the
     // last; nothing if the map is empty. Each end takes at most two searches.
-    std::optional<value_type> first() const { return found(lowest()); }
-    std::optional<value_type> last() const { return found(highest()); }
+    std::optional<value_type> first() const { return item(lowest()); }
+    std::optional<value_type> last() const { return item(highest()); }
     std::optional<range<T>> span() const noexcept
     {
         const auto low = lowest();
@@ -225,8 +225,7 @@ public:
     std::vector<value_type> overlapping(integer start, integer end) const
     {
         std::vector<value_type> found;
-        if (start.value < end.value)
-            for (iterator it = begin_from(start); it != this->end() && it->first.start < end.value; ++it) found.emplace_back(*it);
+        each_within(start, end, [&](const auto &it) { found.emplace_back(it); });
         return found;
     }
 
@@ -243,7 +242,7 @@ public:
     range_set<T> gaps(integer start, integer end) const
     {
         std::vector<range<T>> taken;
-        for (const auto &it : overlapping(start, end)) taken.push_back(it.first);
+        each_within(start, end, [&](const auto &it) { taken.push_back(it.first); });
         return range_set<T>{{start, end}} - range_set<T>(taken);
     }
 
@@ -262,7 +261,7 @@ public:
         range_map<T, typename std::invoke_result_t<How &, const V *, const W *>::value_type> made;
         key at = std::numeric_limits<key>::min();
         for (bool has_end = true; has_end;) {
-            const auto here = calls::range_at(map_, at), there = calls::range_at(other.map_, at);
+            const auto here = calls::range_at(map(), at), there = calls::range_at(other.map(), at);
             has_end = here.has_end || there.has_end;
             const key end = here.has_end && !(there.has_end && there.end < here.end) ? here.end : there.end;
             if (here.has_value || there.has_value) {
@@ -283,7 +282,7 @@ public:
     iterator begin_from(integer at) const && = delete;
     iterator end() const & noexcept { return iterator(); }
     iterator end() const && = delete;
-    std::size_t size() const noexcept { return calls::len(map_); }
+    std::size_t size() const noexcept { return calls::len(map()); }
     bool empty() const noexcept { return size() == 0; }
 
     friend bool operator==(const range_map &a, const range_map &b) { return a.size() == b.size() && std::equal(a.begin(), a.end(), b.begin()); }
@@ -293,6 +292,8 @@ private:
     template <class, class> friend class range_map;
     using stretch = typename calls::stretch;
 
+    typename calls::owned map() const noexcept { return owner_.it; }
+
     static key key_of(integer at) noexcept { return element::in(at.value); }
     // The range from the start of one to the end of another.
     static range<T> range_of(const stretch &first, const stretch &last) noexcept
@@ -301,22 +302,23 @@ private:
         return {at(first.start), at(last.end), last.has_end};
     }
 
-    stretch around(integer at) const noexcept { return calls::range_at(map_, key_of(at)); }
+    stretch around(integer at) const noexcept { return calls::range_at(map(), key_of(at)); }
     // The first range with a value that has a key at or above another; the first of all, and the last. They have no value if there is none.
     stretch from(key at) const noexcept
     {
         stretch it = {};
-        static_cast<void>(calls::next(map_, at, &it));
+        static_cast<void>(calls::next(map(), at, &it));
         return it;
     }
     stretch lowest() const noexcept { return from(std::numeric_limits<key>::min()); }
     stretch highest() const noexcept
     {
-        const auto it = calls::range_at(map_, std::numeric_limits<key>::max());
-        return it.has_value || !it.has_start ? it : calls::range_at(map_, it.start - 1);
+        const auto it = calls::range_at(map(), std::numeric_limits<key>::max());
+        return it.has_value || !it.has_start ? it : calls::range_at(map(), it.start - 1);
     }
 
-    std::optional<value_type> found(const stretch &it) const
+    // The range and its value, or nothing if there is none.
+    std::optional<value_type> item(const stretch &it) const
     {
         if (!it.has_value) return std::nullopt;
         return value_type(*iterator(this, it));
@@ -329,6 +331,12 @@ private:
         return call(&value);
     }
 
+    // Calls for each range that has a key from `start` to below `end`, with its value.
+    template <class Call> void each_within(integer start, integer end, Call call) const
+    {
+        if (!(start.value < end.value)) return;
+        for (iterator it = begin_from(start); it != this->end() && it->first.start < end.value; ++it) call(*it);
+    }
     template <class Wanted> range_set<T> keys_where(Wanted wanted) const
     {
         std::vector<range<T>> found;
@@ -350,12 +358,11 @@ private:
     }
     template <class Call, class... Numbers> range_map &change(Call call, Numbers... numbers)
     {
-        if (map_.at == nullptr) detail::see_memory(calls::make(&map_));
-        detail::see_memory(call(&map_, numbers...));
+        owner_.change(call, numbers...);
         return *this;
     }
 
-    typename calls::map map_ = {};
+    detail::owner<calls> owner_;
     values values_;
     // How long the list of values may grow before it is made anew.
     std::size_t limit_ = 64;

@@ -93,10 +93,19 @@ inline void see_memory(range_set_status status)
     if (status == RANGE_SET_NO_MEMORY) refuse(std::bad_alloc());
 }
 
-// The calls of the header for one of its types of numbers.
+// The calls of the header for one of its types of numbers, and in `chunked` those of sets in chunks, by the same names.
 template <class T> struct calls_of;
 
-#define RANGE_SET_CALL(number, call) static constexpr auto call = range_set_##number##_##call;
+#define RANGE_SET_CALL(kind, call) static constexpr auto call = range_set_##kind##_##call;
+#define RANGE_SET_QUESTIONS(kind) \
+    RANGE_SET_CALL(kind, contains) RANGE_SET_CALL(kind, contains_range) RANGE_SET_CALL(kind, intersects_range) \
+    RANGE_SET_CALL(kind, is_empty) RANGE_SET_CALL(kind, is_all) RANGE_SET_CALL(kind, ranges_len) RANGE_SET_CALL(kind, covered) \
+    RANGE_SET_CALL(kind, range_at) RANGE_SET_CALL(kind, range_from) RANGE_SET_CALL(kind, first) RANGE_SET_CALL(kind, last) \
+    RANGE_SET_CALL(kind, next_member) RANGE_SET_CALL(kind, next_gap) RANGE_SET_CALL(kind, prev_member) RANGE_SET_CALL(kind, prev_gap) \
+    RANGE_SET_CALL(kind, rank) RANGE_SET_CALL(kind, select) RANGE_SET_CALL(kind, first_run)
+// These of a set in chunks change it, or what it remembers.
+#define RANGE_SET_CHANGES(kind) \
+    RANGE_SET_CALL(kind, insert) RANGE_SET_CALL(kind, remove) RANGE_SET_CALL(kind, first_fit) RANGE_SET_CALL(kind, first_fit_aligned)
 #define RANGE_SET_CALLS(number, T) \
     template <> struct calls_of<T> { \
         using value = T; \
@@ -104,43 +113,31 @@ template <class T> struct calls_of;
         using part = range_set_##number##_range; \
         using buffer = range_set_##number##_buffer; \
         using members = range_set_##number##_members; \
-        using chunked = range_set_##number##_chunked; \
+        RANGE_SET_QUESTIONS(number) RANGE_SET_CHANGES(number) \
         RANGE_SET_CALL(number, view) RANGE_SET_CALL(number, from_ranges) RANGE_SET_CALL(number, from_values) \
-        RANGE_SET_CALL(number, contains) RANGE_SET_CALL(number, contains_range) RANGE_SET_CALL(number, intersects_range) \
-        RANGE_SET_CALL(number, is_empty) RANGE_SET_CALL(number, is_all) RANGE_SET_CALL(number, range_at) \
-        RANGE_SET_CALL(number, range_from) RANGE_SET_CALL(number, next_member) RANGE_SET_CALL(number, next_gap) \
-        RANGE_SET_CALL(number, prev_member) RANGE_SET_CALL(number, prev_gap) RANGE_SET_CALL(number, select) \
         RANGE_SET_CALL(number, members_first) RANGE_SET_CALL(number, members_last) RANGE_SET_CALL(number, members_next) \
-        RANGE_SET_CALL(number, members_prev) RANGE_SET_CALL(number, rank) RANGE_SET_CALL(number, get) \
-        RANGE_SET_CALL(number, first) RANGE_SET_CALL(number, last) RANGE_SET_CALL(number, ranges_len) \
-        RANGE_SET_CALL(number, covered) \
+        RANGE_SET_CALL(number, members_prev) RANGE_SET_CALL(number, get) RANGE_SET_CALL(number, split) \
         RANGE_SET_CALL(number, is_disjoint) RANGE_SET_CALL(number, is_subset) RANGE_SET_CALL(number, equal) \
-        RANGE_SET_CALL(number, split) RANGE_SET_CALL(number, combine) RANGE_SET_CALL(number, union_all) \
-        RANGE_SET_CALL(number, negation) RANGE_SET_CALL(number, gaps) RANGE_SET_CALL(number, first_fit) \
-        RANGE_SET_CALL(number, first_fit_aligned) RANGE_SET_CALL(number, first_run) RANGE_SET_CALL(number, print) \
-        RANGE_SET_CALL(number, parse) RANGE_SET_CALL(number, parse_by) RANGE_SET_CALL(number, insert) \
-        RANGE_SET_CALL(number, remove) RANGE_SET_CALL(number, buffer_of) RANGE_SET_CALL(number, chunked_new) RANGE_SET_CALL(number, chunked_of) \
-        RANGE_SET_CALL(number, chunked_free) RANGE_SET_CALL(number, chunked_insert) \
-        RANGE_SET_CALL(number, chunked_insert_from) RANGE_SET_CALL(number, chunked_remove) \
-        RANGE_SET_CALL(number, chunked_remove_from) RANGE_SET_CALL(number, chunked_contains) \
-        RANGE_SET_CALL(number, chunked_contains_range) RANGE_SET_CALL(number, chunked_intersects_range) \
-        RANGE_SET_CALL(number, chunked_is_empty) RANGE_SET_CALL(number, chunked_is_all) \
-        RANGE_SET_CALL(number, chunked_range_at) RANGE_SET_CALL(number, chunked_range_from) \
-        RANGE_SET_CALL(number, chunked_first) RANGE_SET_CALL(number, chunked_last) \
-        RANGE_SET_CALL(number, chunked_prev_member) RANGE_SET_CALL(number, chunked_prev_gap) \
-        RANGE_SET_CALL(number, chunked_select) RANGE_SET_CALL(number, chunked_rank) \
-        RANGE_SET_CALL(number, chunked_covered) RANGE_SET_CALL(number, chunked_next_member) \
-        RANGE_SET_CALL(number, chunked_next_gap) RANGE_SET_CALL(number, chunked_first_fit) \
-        RANGE_SET_CALL(number, chunked_first_fit_aligned) RANGE_SET_CALL(number, chunked_first_run) \
-        RANGE_SET_CALL(number, chunked_next_ranges) RANGE_SET_CALL(number, chunked_overlapping) \
-        RANGE_SET_CALL(number, chunked_ranges_len) RANGE_SET_CALL(number, chunked_boundaries_len) \
-        RANGE_SET_CALL(number, chunked_copy) \
+        RANGE_SET_CALL(number, combine) RANGE_SET_CALL(number, union_all) RANGE_SET_CALL(number, negation) RANGE_SET_CALL(number, gaps) \
+        RANGE_SET_CALL(number, print) RANGE_SET_CALL(number, parse) RANGE_SET_CALL(number, parse_by) RANGE_SET_CALL(number, buffer_of) \
+        struct chunked { \
+            using set = range_set_##number##_chunked; \
+            using owned = set; \
+            static constexpr auto make = range_set_##number##_chunked_new; \
+            RANGE_SET_QUESTIONS(number##_chunked) RANGE_SET_CHANGES(number##_chunked) \
+            RANGE_SET_CALL(number##_chunked, of) RANGE_SET_CALL(number##_chunked, free) RANGE_SET_CALL(number##_chunked, copy) \
+            RANGE_SET_CALL(number##_chunked, insert_from) RANGE_SET_CALL(number##_chunked, remove_from) \
+            RANGE_SET_CALL(number##_chunked, combine) RANGE_SET_CALL(number##_chunked, boundaries_len) \
+            RANGE_SET_CALL(number##_chunked, next_ranges) RANGE_SET_CALL(number##_chunked, overlapping) \
+        }; \
     };
 RANGE_SET_CALLS(i32, std::int32_t)
 RANGE_SET_CALLS(u32, std::uint32_t)
 RANGE_SET_CALLS(i64, std::int64_t)
 RANGE_SET_CALLS(u64, std::uint64_t)
 #undef RANGE_SET_CALLS
+#undef RANGE_SET_CHANGES
+#undef RANGE_SET_QUESTIONS
 #undef RANGE_SET_CALL
 
 // Whether it is an integer type of 32 or 64 bits. One of them may be another than the header's, as long long is where int64_t is long.
@@ -170,8 +167,9 @@ template <class T> struct element<T, std::void_t<typename T::clock, typename T::
     static constexpr T out(number it) noexcept { return T(typename T::duration(static_cast<count>(it))); }
 };
 
-// The calls for a type of elements.
+// The calls for a type of elements, and those of sets in chunks.
 template <class T> struct calls : calls_of<typename element<T>::number> {};
+template <class T> using chunked_calls = typename calls<T>::chunked;
 
 // The number as one of the type. An integer of another type is refused where it doesn't fit.
 template <class T, class Number> constexpr T fitting(const Number &number)
@@ -382,110 +380,144 @@ private:
     typename calls::set set_;
 };
 
-// What both kinds of sets answer.
-template <class T, class Set> class questions {
+// What sets of all kinds answer, by the calls of their kind. An answer takes two searches at most, but `rank`, `select` and `covered`
+// look at each boundary up to it, `first_run` at those from `start` on, and `size` of a set in chunks adds up the chunks.
+template <class T, class Set, class Calls> class questions {
+    using integer = detail::integer<T>;
+    using amount = detail::amount<T>;
+
+public:
+    bool contains(integer value) const noexcept { return Calls::contains(asked(), value); }
+    bool contains_range(integer start, integer end) const noexcept { return Calls::contains_range(asked(), start, end); }
+    bool intersects_range(integer start, integer end) const noexcept { return Calls::intersects_range(asked(), start, end); }
+    bool empty() const noexcept { return Calls::is_empty(asked()); }
+    bool is_all() const noexcept { return Calls::is_all(asked()); }
+
+    // How many ranges there are.
+    std::size_t size() const noexcept { return Calls::ranges_len(asked()); }
+    // How many numbers are members, or nothing where the set has no end. Points in time are counted by their ticks, also by `rank`.
+    std::optional<std::uint64_t> covered() const noexcept { return found<std::uint64_t>(Calls::covered, asked()); }
+    // The range that holds the number, or nothing where it is no member.
+    std::optional<range<T>> range_at(integer value) const noexcept { return found_range<T>(Calls::range_at, asked(), value); }
+    // The range that holds the number, or else the next one above it, or nothing.
+    std::optional<range<T>> range_from(integer value) const noexcept { return found_range<T>(Calls::range_from, asked(), value); }
+    // The first and the last range, or nothing.
+    std::optional<range<T>> first() const noexcept { return found_range<T>(Calls::first, asked()); }
+    std::optional<range<T>> last() const noexcept { return found_range<T>(Calls::last, asked()); }
+
+    // The least number at or above `from` that is a member, that isn't one, or nothing.
+    std::optional<T> next_member(integer from) const noexcept { return found<T>(Calls::next_member, asked(), from); }
+    std::optional<T> next_gap(integer from) const noexcept { return found<T>(Calls::next_gap, asked(), from); }
+    // The greatest number at or below `from` that is a member, that isn't one, or nothing.
+    std::optional<T> prev_member(integer from) const noexcept { return found<T>(Calls::prev_member, asked(), from); }
+    std::optional<T> prev_gap(integer from) const noexcept { return found<T>(Calls::prev_gap, asked(), from); }
+    // How many members are below a number.
+    std::uint64_t rank(integer at) const noexcept { return Calls::rank(asked(), at); }
+    // The member with `k` others below it, or nothing.
+    std::optional<T> select(detail::integer<std::uint64_t> k) const noexcept { return found<T>(Calls::select, asked(), k); }
+    // The least number from which on `count` members in a row lie in `start` to below `end`, or nothing.
+    std::optional<T> first_run(integer start, integer end, amount count) const noexcept
+    {
+        return found<T>(Calls::first_run, asked(), start, end, count);
+    }
+
+protected:
+    // The set of range_set.h.
+    typename Calls::set asked() const noexcept { return static_cast<const Set &>(*this).inner(); }
+};
+
+// What lists answer beside it, which are sets and views.
+template <class T, class Set> class list_questions : public questions<T, Set, calls<T>> {
     using calls = detail::calls<T>;
     using number = typename calls::value;
     using integer = detail::integer<T>;
     using amount = detail::amount<T>;
 
 public:
-    bool contains(integer value) const noexcept { return calls::contains(list(), value); }
-    bool contains_range(integer start, integer end) const noexcept { return calls::contains_range(list(), start, end); }
-    bool intersects_range(integer start, integer end) const noexcept { return calls::intersects_range(list(), start, end); }
-    bool empty() const noexcept { return calls::is_empty(list()); }
-    bool is_all() const noexcept { return calls::is_all(list()); }
-    bool is_disjoint(operand<T> other) const noexcept { return calls::is_disjoint(list(), other.set); }
+    bool is_disjoint(operand<T> other) const noexcept { return calls::is_disjoint(this->asked(), other.set); }
     bool intersects(operand<T> other) const noexcept { return !is_disjoint(other); }
-    bool is_subset(operand<T> other) const noexcept { return calls::is_subset(list(), other.set); }
-    bool is_superset(operand<T> other) const noexcept { return calls::is_subset(other.set, list()); }
+    bool is_subset(operand<T> other) const noexcept { return calls::is_subset(this->asked(), other.set); }
+    bool is_superset(operand<T> other) const noexcept { return calls::is_subset(other.set, this->asked()); }
 
     // Below 0 where this set comes first, above 0 where the other does, and 0 where they are equal. The first boundaries
     // that differ decide, and where there are none, the fewer boundaries. Compares at most the boundaries of the shorter set.
     int compare(operand<T> other) const noexcept
     {
-        const auto set = list(), with = other.set;
+        const auto set = this->asked(), with = other.set;
         const number *const end = set.boundaries + set.len, *const other_end = with.boundaries + with.len;
         const auto [it, that] = std::mismatch(set.boundaries, end, with.boundaries, other_end);
         if (it == end || that == other_end) return static_cast<int>(it != end) - static_cast<int>(that != other_end);
         return *it < *that ? -1 : 1;
     }
 
-    // How many numbers are members, or nothing where the set has no end. Points in time are counted by their ticks, also by `rank`.
-    std::optional<std::uint64_t> covered() const noexcept { return found<std::uint64_t>(calls::covered, list()); }
-    // The range that holds the number, or nothing where it is no member.
-    std::optional<range<T>> range_at(integer value) const noexcept { return found_range<T>(calls::range_at, list(), value); }
-    // The range that holds the number, or else the next one above it, or nothing.
-    std::optional<range<T>> range_from(integer value) const noexcept { return found_range<T>(calls::range_from, list(), value); }
-    std::optional<range<T>> first() const noexcept { return found_range<T>(calls::first, list()); }
-    std::optional<range<T>> last() const noexcept { return found_range<T>(calls::last, list()); }
-
-    // How many ranges there are.
-    std::size_t size() const noexcept { return calls::ranges_len(list()); }
-
     // The numbers from `start` to below `end` that are no members, those that are, and all that are none. The first two pass over
     // the rest of the set by a search, as `week - busy` and `week & busy` do of a week.
     range_set<T> gaps(integer start, integer end) const
     {
+        const auto set = this->asked();
         return range_set<T>::written(
-            list().len + 2, [&](number *out, std::size_t room, auto *gaps) { return calls::gaps(list(), start, end, out, room, gaps); });
+            set.len + 2, [&](number *out, std::size_t room, auto *gaps) { return calls::gaps(set, start, end, out, room, gaps); });
     }
     range_set<T> ranges_within(integer start, integer end) const
     {
         const T window[] = {start, end};
-        return range_set<T>::combine(range_set_view<T>(list()), range_set_view<T>::of(window, 2).value_or(range_set_view<T>()), RANGE_SET_INTERSECTION);
+        return range_set<T>::combine(
+            range_set_view<T>(this->asked()), range_set_view<T>::of(window, 2).value_or(range_set_view<T>()), RANGE_SET_INTERSECTION);
     }
     range_set<T> negation() const
     {
+        const auto set = this->asked();
         return range_set<T>::written(
-            list().len + 1, [&](number *out, std::size_t room, auto *others) { return calls::negation(list(), out, room, others); });
+            set.len + 1, [&](number *out, std::size_t room, auto *others) { return calls::negation(set, out, room, others); });
     }
-
-    // The least number at or above `from` that is a member, that isn't one, or nothing.
-    std::optional<T> next_member(integer from) const noexcept { return found<T>(calls::next_member, list(), from); }
-    std::optional<T> next_gap(integer from) const noexcept { return found<T>(calls::next_gap, list(), from); }
-    // The greatest number at or below `from` that is a member, that isn't one, or nothing.
-    std::optional<T> prev_member(integer from) const noexcept { return found<T>(calls::prev_member, list(), from); }
-    std::optional<T> prev_gap(integer from) const noexcept { return found<T>(calls::prev_gap, list(), from); }
-    // How many members are below a number.
-    std::uint64_t rank(integer at) const noexcept { return calls::rank(list(), at); }
-    // The member with `k` others below it, or nothing.
-    std::optional<T> select(detail::integer<std::uint64_t> k) const noexcept { return found<T>(calls::select, list(), k); }
 
     // The least number from which on `count` numbers lie in `start` to below `end` and none is a member, or nothing.
     std::optional<T> first_fit(integer start, integer end, amount count) const noexcept
     {
-        return found<T>(calls::first_fit, list(), start, end, count);
+        return found<T>(calls::first_fit, this->asked(), start, end, count);
     }
     // The same, but only where the first is a multiple of `align`, above 0 or below.
     std::optional<T> first_fit_aligned(integer start, integer end, amount count, amount align) const noexcept
     {
-        return found<T>(calls::first_fit_aligned, list(), start, end, count, align);
-    }
-    // The least number from which on `count` members in a row lie in `start` to below `end`, or nothing.
-    std::optional<T> first_run(integer start, integer end, amount count) const noexcept
-    {
-        return found<T>(calls::first_run, list(), start, end, count);
+        return found<T>(calls::first_fit_aligned, this->asked(), start, end, count, align);
     }
 
     // The ranges as a text, "0..10, 20..".
     std::string text() const
     {
         std::size_t len = 0;
-        static_cast<void>(calls::print(list(), nullptr, 0, &len));
+        static_cast<void>(calls::print(this->asked(), nullptr, 0, &len));
         std::string text(len, ' ');
-        static_cast<void>(calls::print(list(), text.data(), len, &len));
+        static_cast<void>(calls::print(this->asked(), text.data(), len, &len));
         return text;
     }
+};
 
-private:
-    typename calls::set list() const noexcept { return operand<T>(static_cast<const Set &>(*this)).set; }
+// What owns a set in chunks or a map of range_set.h, by its calls. It is made by its first change: before, there is none, which takes no
+// memory.
+template <class Calls> struct owner {
+    owner() noexcept = default;
+    owner(owner &&other) noexcept { std::swap(it, other.it); }
+    owner &operator=(owner &&other) noexcept
+    {
+        std::swap(it, other.it);
+        return *this;
+    }
+    ~owner() { Calls::free(&it); }
+
+    template <class Call, class... Numbers> void change(Call call, Numbers... numbers)
+    {
+        if (it.at == nullptr) see_memory(Calls::make(&it));
+        see_memory(call(&it, numbers...));
+    }
+
+    typename Calls::owned it = {};
 };
 
 } // namespace detail
 
 // A set that is borrowed.
-template <class T> class range_set_view : detail::operators<T>, public detail::questions<T, range_set_view<T>> {
+template <class T> class range_set_view : detail::operators<T>, public detail::list_questions<T, range_set_view<T>> {
     using calls = detail::calls<T>;
     using number = typename calls::value;
     using integer = detail::integer<T>;
@@ -582,11 +614,15 @@ public:
     typename calls::set set() const noexcept { return set_; }
 
 private:
+    template <class, class, class> friend class detail::questions;
+
+    typename calls::set inner() const noexcept { return set_; }
+
     typename calls::set set_ = {nullptr, 0};
 };
 
 // A set that owns its boundaries.
-template <class T> class range_set : detail::operators<T>, public detail::questions<T, range_set<T>> {
+template <class T> class range_set : detail::operators<T>, public detail::list_questions<T, range_set<T>> {
     using calls = detail::calls<T>;
     using number = typename calls::value;
     using element = detail::element<T>;
@@ -763,8 +799,11 @@ public:
     range_set &operator^=(detail::operand<T> other) { return become(combine(*this, other, RANGE_SET_SYMMETRIC_DIFFERENCE)); }
 
 private:
-    template <class, class> friend class detail::questions;
+    template <class, class, class> friend class detail::questions;
+    template <class, class> friend class detail::list_questions;
     friend class chunked_range_set<T>;
+
+    typename calls::set inner() const noexcept { return in_.set; }
 
     using array = std::unique_ptr<number[]>;
 
@@ -838,9 +877,10 @@ private:
 
 // A set that is changed range by range, and may grow to millions of ranges: a change takes about as long in a large set as in a
 // small one. Threads may share a set that none changes, and make calls of it that are const.
-template <class T> class chunked_range_set {
-    using calls = detail::calls<T>;
-    using number = typename calls::value;
+template <class T> class chunked_range_set : public detail::questions<T, chunked_range_set<T>, detail::chunked_calls<T>> {
+    using calls = detail::chunked_calls<T>;
+    using list = typename detail::calls<T>::set;
+    using number = typename detail::calls<T>::value;
     using element = detail::element<T>;
     using integer = detail::integer<T>;
     using amount = detail::amount<T>;
@@ -858,7 +898,7 @@ public:
         using reference = const range<T> &;
 
         iterator() noexcept = default;
-        iterator(typename calls::chunked set, number from) noexcept : set_(set)
+        iterator(typename calls::set set, number from) noexcept : set_(set)
         {
             read(from);
             show();
@@ -894,8 +934,8 @@ public:
         bool is_there() const noexcept { return at_ < len_; }
         void read(number from) noexcept
         {
-            typename calls::set some = {};
-            static_cast<void>(calls::chunked_next_ranges(set_, from, some_.data(), room, &some));
+            list some = {};
+            static_cast<void>(calls::next_ranges(set_, from, some_.data(), room, &some));
             at_ = 0;
             len_ = some.len;
         }
@@ -908,7 +948,7 @@ public:
             if (it_.has_end) it_.end = element::out(some_[at_ + 1]);
         }
 
-        typename calls::chunked set_ = {};
+        typename calls::set set_ = {};
         range<T> it_ = {};
         std::array<number, room> some_ = {};
         std::size_t at_ = 0, len_ = 0;
@@ -966,13 +1006,13 @@ public:
         range_set<T> owned_;
 
     public:
-        const typename calls::set set;
+        const list set;
     };
 
     // The set without a member. It takes no memory.
     chunked_range_set() noexcept = default;
     // A copy of a set.
-    explicit chunked_range_set(detail::operand<T> from) { detail::see_memory(calls::chunked_of(from.set, &set_)); }
+    explicit chunked_range_set(detail::operand<T> from) { detail::see_memory(calls::of(from.set, &owner_.it)); }
     // The numbers in some of these ranges, as a range_set is made of them.
     chunked_range_set(std::initializer_list<detail::ends<T>> ranges) : chunked_range_set(range_set<T>(ranges)) {}
     template <class Ranges, class = std::enable_if_t<!detail::is_set<T, Ranges>>, class Iterator = detail::iterator_over<Ranges>,
@@ -981,71 +1021,45 @@ public:
     {
     }
     chunked_range_set(const chunked_range_set &other) : chunked_range_set(other.set()) {}
-    chunked_range_set(chunked_range_set &&other) noexcept { swap(other); }
+    chunked_range_set(chunked_range_set &&) noexcept = default;
     chunked_range_set &operator=(chunked_range_set other) noexcept
     {
         swap(other);
         return *this;
     }
-    ~chunked_range_set() { calls::chunked_free(&set_); }
-    void swap(chunked_range_set &other) noexcept { std::swap(set_, other.set_); }
+    ~chunked_range_set() = default;
+    void swap(chunked_range_set &other) noexcept { std::swap(owner_, other.owner_); }
     friend void swap(chunked_range_set &a, chunked_range_set &b) noexcept { a.swap(b); }
 
     // Puts the numbers from `start` to below `end` in, takes them out; or all from `start` on.
-    chunked_range_set &insert(integer start, integer end) { return change(calls::chunked_insert, start, end); }
-    chunked_range_set &remove(integer start, integer end) { return change(calls::chunked_remove, start, end); }
-    chunked_range_set &insert_from(integer start) { return change(calls::chunked_insert_from, start); }
-    chunked_range_set &remove_from(integer start) { return change(calls::chunked_remove_from, start); }
+    chunked_range_set &insert(integer start, integer end) { return change(calls::insert, start, end); }
+    chunked_range_set &remove(integer start, integer end) { return change(calls::remove, start, end); }
+    chunked_range_set &insert_from(integer start) { return change(calls::insert_from, start); }
+    chunked_range_set &remove_from(integer start) { return change(calls::remove_from, start); }
     // The same of a range, which may have no end.
     chunked_range_set &insert(const range<T> &it) { return it.has_end ? insert(it.start, it.end) : insert_from(it.start); }
     chunked_range_set &remove(const range<T> &it) { return it.has_end ? remove(it.start, it.end) : remove_from(it.start); }
     // Takes all numbers out, and gives all memory back.
-    void clear() noexcept { calls::chunked_free(&set_); }
+    void clear() noexcept { calls::free(&owner_.it); }
 
-    bool contains(integer value) const noexcept { return calls::chunked_contains(set_, value); }
-    bool contains_range(integer start, integer end) const noexcept { return calls::chunked_contains_range(set_, start, end); }
-    bool intersects_range(integer start, integer end) const noexcept { return calls::chunked_intersects_range(set_, start, end); }
-    bool empty() const noexcept { return calls::chunked_is_empty(set_); }
-    bool is_all() const noexcept { return calls::chunked_is_all(set_); }
-    // The range that holds a number, that or else the next one above it, the first and the last range, or nothing.
-    std::optional<range<T>> range_at(integer value) const noexcept { return detail::found_range<T>(calls::chunked_range_at, set_, value); }
-    std::optional<range<T>> range_from(integer value) const noexcept { return detail::found_range<T>(calls::chunked_range_from, set_, value); }
-    std::optional<range<T>> first() const noexcept { return detail::found_range<T>(calls::chunked_first, set_); }
-    std::optional<range<T>> last() const noexcept { return detail::found_range<T>(calls::chunked_last, set_); }
-    // The least member at or above a number, the least number that is none, the greatest ones at or below it, or nothing.
-    std::optional<T> next_member(integer from) const noexcept { return detail::found<T>(calls::chunked_next_member, set_, from); }
-    std::optional<T> next_gap(integer from) const noexcept { return detail::found<T>(calls::chunked_next_gap, set_, from); }
-    std::optional<T> prev_member(integer from) const noexcept { return detail::found<T>(calls::chunked_prev_member, set_, from); }
-    std::optional<T> prev_gap(integer from) const noexcept { return detail::found<T>(calls::chunked_prev_gap, set_, from); }
-    // How many members are below a number; the member with `k` members below it; how many there are, or nothing if the set has
-    // no end. They go over the boundaries one by one.
-    std::uint64_t rank(integer at) const noexcept { return calls::chunked_rank(set_, at); }
-    std::optional<T> select(detail::integer<std::uint64_t> k) const noexcept { return detail::found<T>(calls::chunked_select, set_, k); }
-    std::optional<std::uint64_t> covered() const noexcept { return detail::found<std::uint64_t>(calls::chunked_covered, set_); }
     // The least number from which on `count` numbers lie in `start` to below `end` and none is a member, or nothing; and the same
     // where it is a multiple of `align`. The set remembers what it learns of its gaps.
     std::optional<T> first_fit(integer start, integer end, amount count) noexcept
     {
-        return detail::found<T>(calls::chunked_first_fit, &set_, start, end, count);
+        return detail::found<T>(calls::first_fit, &owner_.it, start, end, count);
     }
     std::optional<T> first_fit_aligned(integer start, integer end, amount count, amount align) noexcept
     {
-        return detail::found<T>(calls::chunked_first_fit_aligned, &set_, start, end, count, align);
-    }
-    // The same of members in a row. It remembers nothing.
-    std::optional<T> first_run(integer start, integer end, amount count) const noexcept
-    {
-        return detail::found<T>(calls::chunked_first_run, set_, start, end, count);
+        return detail::found<T>(calls::first_fit_aligned, &owner_.it, start, end, count, align);
     }
 
-    // The ranges, those that have a number at or above another, and how many ranges there are.
-    iterator begin() const & noexcept { return iterator(set_, std::numeric_limits<number>::min()); }
+    // The ranges, and those that have a number at or above another.
+    iterator begin() const & noexcept { return iterator(inner(), std::numeric_limits<number>::min()); }
     iterator begin() const && = delete;
-    iterator begin_from(integer value) const & noexcept { return iterator(set_, value); }
+    iterator begin_from(integer value) const & noexcept { return iterator(inner(), value); }
     iterator begin_from(integer value) const && = delete;
     iterator end() const & noexcept { return iterator(); }
     iterator end() const && = delete;
-    std::size_t size() const noexcept { return calls::chunked_ranges_len(set_); }
 
     // The members one by one.
     struct members_range {
@@ -1064,7 +1078,7 @@ public:
         range_set<T> found;
         for (std::size_t some = 64; status == RANGE_SET_MORE; some *= 8)
             found = range_set<T>::written(some, [&](number *out, std::size_t room, auto *set) {
-                return status = calls::chunked_overlapping(set_, start, end, out, room, set);
+                return status = calls::overlapping(inner(), start, end, out, room, set);
             });
         return found;
     }
@@ -1078,16 +1092,16 @@ public:
     friend chunked_range_set operator-(const listed &a, const listed &b) { return combined(a, b, RANGE_SET_DIFFERENCE); }
     friend chunked_range_set operator^(const listed &a, const listed &b) { return combined(a, b, RANGE_SET_SYMMETRIC_DIFFERENCE); }
     friend chunked_range_set operator~(const chunked_range_set &a) { return chunked_range_set(~a.set()); }
-    chunked_range_set &operator|=(const listed &other) { return *this = combined(*this, other, RANGE_SET_UNION); }
-    chunked_range_set &operator&=(const listed &other) { return *this = combined(*this, other, RANGE_SET_INTERSECTION); }
-    chunked_range_set &operator-=(const listed &other) { return *this = combined(*this, other, RANGE_SET_DIFFERENCE); }
-    chunked_range_set &operator^=(const listed &other) { return *this = combined(*this, other, RANGE_SET_SYMMETRIC_DIFFERENCE); }
+    chunked_range_set &operator|=(const listed &other) { return change(calls::combine, other.set, RANGE_SET_UNION); }
+    chunked_range_set &operator&=(const listed &other) { return change(calls::combine, other.set, RANGE_SET_INTERSECTION); }
+    chunked_range_set &operator-=(const listed &other) { return change(calls::combine, other.set, RANGE_SET_DIFFERENCE); }
+    chunked_range_set &operator^=(const listed &other) { return change(calls::combine, other.set, RANGE_SET_SYMMETRIC_DIFFERENCE); }
 
     // The same set as one list.
     range_set<T> set() const
     {
-        return range_set<T>::written(calls::chunked_boundaries_len(set_), [&](number *out, std::size_t room, auto *set) {
-            return calls::chunked_copy(set_, out, room, set);
+        return range_set<T>::written(calls::boundaries_len(inner()), [&](number *out, std::size_t room, auto *set) {
+            return calls::copy(inner(), out, room, set);
         });
     }
 
@@ -1097,10 +1111,13 @@ public:
     friend std::ostream &operator<<(std::ostream &out, const chunked_range_set &a) { return out << a.set(); }
 
 private:
-    template <class Call, class... Numbers> chunked_range_set &change(Call call, Numbers... numbers)
+    template <class, class, class> friend class detail::questions;
+
+    typename calls::set inner() const noexcept { return owner_.it; }
+
+    template <class Call, class... Operands> chunked_range_set &change(Call call, Operands... operands)
     {
-        if (set_.at == nullptr) detail::see_memory(calls::chunked_new(&set_));
-        detail::see_memory(call(&set_, numbers...));
+        owner_.change(call, operands...);
         return *this;
     }
 
@@ -1109,7 +1126,7 @@ private:
         return chunked_range_set(range_set<T>::combine(range_set_view<T>(a.set), range_set_view<T>(b.set), keep));
     }
 
-    typename calls::chunked set_ = {};
+    detail::owner<calls> owner_;
 };
 
 } // namespace range_sets
