@@ -299,6 +299,12 @@ END
         prints_its_lines "by cmake/build/by_range_set" && prints_its_lines "by cmake/build/by_static" && is_small "by cmake/build/by_static"
 }
 
+# A program in C++ against the headers that were installed, all of them.
+is_found_in_cpp() {
+    g++ -std=c++17 -I"$prefix/include" -include range_map.hpp c/examples/calendar.cpp "$prefix/lib/librange_set.a" -o "$work/found" &&
+        "$work/found" | grep -qx 'Ada is busy'
+}
+
 # The names of the shared library, which is found by its soname.
 is_shared() {
     nm -D --defined-only "$prefix/lib/librange_set.so" | awk '{ print $3 }' | grep -q '^range_set_i64_union\|^range_set_i64_combine$' &&
@@ -473,6 +479,7 @@ over_install pkg-config pkg-config "a program by pkg-config" is_found_by_pkg_con
 over_install pkg-config pkg-config "a program in C++ by pkg-config" is_found_in_cpp
 over_install cmake cmake "a program by CMake" is_found_by_cmake
 over_install readelf binutils "the shared library" is_shared
+over_install g++ g++ "the installed headers in C++" is_found_in_cpp
 step "what isn't called is dropped" drops_what_is_not_called
 step_by make make "make uninstall" uninstalls
 step_by valgrind valgrind "the tests under valgrind" valgrind -q --error-exitcode=9 --leak-check=full "$work/test" 1000

@@ -265,7 +265,7 @@ def calls_beyond_the_crates(paths):
     rust = {name for it in layer for name in re.findall(r"^ *pub fn (\w+)", read(it), re.M)}
     ours = {it for it in C_CALL.findall(read("c/include/range_set.h")) if not re.match(r"[iu](32|64)_", it)}
     python = [f"python/src/range_sets/{it}.py" for it in ("_buffers", "_ranges", "_sets", "_maps", "dask")]
-    cpp = read("c/include/range_set.hpp") + read("c/include/range_map.hpp")
+    cpp = "".join(read(it) for it in paths if it.startswith("c/include/") and it.endswith(".hpp"))
     yield "rust/README.md", rust
     yield "c/README.md", ours | set(CPP_CALL.findall(CPP_PRIVATE.sub("", cpp)))
     yield "python/README.md", {name for it in python for name in PYTHON_CALL.findall(read(it))}

@@ -1,0 +1,180 @@
+// SPDX-License-Identifier: MIT OR Apache-2.0
+// What sets answer, and their operators.
+#ifndef RANGE_SET_QUESTIONS_HPP
+#define RANGE_SET_QUESTIONS_HPP
+
+#include "elements.hpp"
+
+#include <algorithm>
+#include <cstddef>
+#include <cstdint>
+#include <optional>
+#include <ostream>
+#include <string>
+#include <type_traits>
+
+#ifdef __cpp_lib_three_way_comparison
+#include <compare>
+#endif
+
+namespace range_sets {
+
+namespace detail {
+
+// Whether it is a set of either kind.
+template <class T, class Set>
+constexpr bool is_set = std::is_same_v<std::decay_t<Set>, range_set<T>> || std::is_convertible_v<std::decay_t<Set> &, range_set_view<T>>;
+
+// A set of either kind that a call takes. It may be a temporary, which lives until the call has ended.
+template <class T> struct operand {
+    operand(range_set_view<T> from) noexcept : set(from.set()) {}
+    operand(const range_set<T> &from) noexcept : set(from.view().set()) {}
+
+    typename calls<T>::set set;
+};
+
+// The operators, which both kinds of sets have: two of them may be of either kind.
+template <class T> struct operators {
+    friend range_set<T> operator|(operand<T> a, operand<T> b) { return combined(a, b, RANGE_SET_UNION); }
+    friend range_set<T> operator&(operand<T> a, operand<T> b) { return combined(a, b, RANGE_SET_INTERSECTION); }
+    friend range_set<T> operator-(operand<T> a, operand<T> b) { return combined(a, b, RANGE_SET_DIFFERENCE); }
+    friend range_set<T> operator^(operand<T> a, operand<T> b) { return combined(a, b, RANGE_SET_SYMMETRIC_DIFFERENCE); }
+    friend range_set<T> operator~(operand<T> a) { return viewed(a).negation(); }
+    friend bool operator==(operand<T> a, operand<T> b) noexcept { return calls<T>::equal(a.set, b.set); }
+    friend bool operator!=(operand<T> a, operand<T> b) noexcept { return !calls<T>::equal(a.set, b.set); }
+
+    // The order of `compare`, which is that of sets in Rust. No order says which set lies in another: `is_subset` does.
+    friend bool operator<(operand<T> a, operand<T> b) noexcept { return viewed(a).compare(b) < 0; }
+    friend bool operator>(operand<T> a, operand<T> b) noexcept { return viewed(a).compare(b) > 0; }
+    friend bool operator<=(operand<T> a, operand<T> b) noexcept { return viewed(a).compare(b) <= 0; }
+    friend bool operator>=(operand<T> a, operand<T> b) noexcept { return viewed(a).compare(b) >= 0; }
+#ifdef __cpp_lib_three_way_comparison
+    friend std::strong_ordering operator<=>(operand<T> a, operand<T> b) noexcept { return viewed(a).compare(b) <=> 0; }
+#endif
+
+    // Writes what `text` returns, as one text for a width. Where memory for it is refused nothing is written.
+    friend std::ostream &operator<<(std::ostream &out, operand<T> a) { return out << viewed(a).text(); }
+
+private:
+    static range_set_view<T> viewed(operand<T> a) noexcept { return range_set_view<T>(a.set); }
+    static range_set<T> combined(operand<T> a, operand<T> b, unsigned keep) { return range_set<T>::combine(a, b, keep); }
+};
+
+// What sets of all kinds answer, by the calls of their kind. An answer takes two searches at most, but `rank`, `select` and `covered`
+// look at each boundary up to it, `first_run` at those from `start` on, and `size` of a set in chunks adds up the chunks.
+template <class T, class Set, class Calls> class questions {
+    using integer = detail::integer<T>;
+    using amount = detail::amount<T>;
+
+public:
+    bool contains(integer value) const noexcept { return Calls::contains(asked(), value); }
+    bool contains_range(integer start, integer end) const noexcept { return Calls::contains_range(asked(), start, end); }
+    bool intersects_range(integer start, integer end) const noexcept { return Calls::intersects_range(asked(), start, end); }
+    bool empty() const noexcept { return Calls::is_empty(asked()); }
+    bool is_all() const noexcept { return Calls::is_all(asked()); }
+
+    // How many ranges there are.
+    std::size_t size() const noexcept { return Calls::ranges_len(asked()); }
+    // How many numbers are members, or nothing where the set has no end. Points in time are counted by their ticks, also by `rank`.
+    std::optional<std::uint64_t> covered() const noexcept { return found<std::uint64_t>(Calls::covered, asked()); }
+    // The range that holds the number, or nothing where it is no member.
+    std::optional<range<T>> range_at(integer value) const noexcept { return found_range<T>(Calls::range_at, asked(), value); }
+    // The range that holds the number, or else the next one above it, or nothing.
+    std::optional<range<T>> range_from(integer value) const noexcept { return found_range<T>(Calls::range_from, asked(), value); }
+    // The first and the last range, or nothing.
+    std::optional<range<T>> first() const noexcept { return found_range<T>(Calls::first, asked()); }
+    std::optional<range<T>> last() const noexcept { return found_range<T>(Calls::last, asked()); }
+
+    // The least number at or above `from` that is a member, that isn't one, or nothing.
+    std::optional<T> next_member(integer from) const noexcept { return found<T>(Calls::next_member, asked(), from); }
+    std::optional<T> next_gap(integer from) const noexcept { return found<T>(Calls::next_gap, asked(), from); }
+    // The greatest number at or below `from` that is a member, that isn't one, or nothing.
+    std::optional<T> prev_member(integer from) const noexcept { return found<T>(Calls::prev_member, asked(), from); }
+    std::optional<T> prev_gap(integer from) const noexcept { return found<T>(Calls::prev_gap, asked(), from); }
+    // How many members are below a number.
+    std::uint64_t rank(integer at) const noexcept { return Calls::rank(asked(), at); }
+    // The member with `k` others below it, or nothing.
+    std::optional<T> select(detail::integer<std::uint64_t> k) const noexcept { return found<T>(Calls::select, asked(), k); }
+    // The least number from which on `count` members in a row lie in `start` to below `end`, or nothing.
+    std::optional<T> first_run(integer start, integer end, amount count) const noexcept
+    {
+        return found<T>(Calls::first_run, asked(), start, end, count);
+    }
+
+protected:
+    // The set of range_set.h.
+    typename Calls::set asked() const noexcept { return static_cast<const Set &>(*this).inner(); }
+};
+
+// What lists answer beside it, which are sets and views.
+template <class T, class Set> class list_questions : public questions<T, Set, calls<T>> {
+    using calls = detail::calls<T>;
+    using number = typename calls::value;
+    using integer = detail::integer<T>;
+    using amount = detail::amount<T>;
+
+public:
+    bool is_disjoint(operand<T> other) const noexcept { return calls::is_disjoint(this->asked(), other.set); }
+    bool intersects(operand<T> other) const noexcept { return !is_disjoint(other); }
+    bool is_subset(operand<T> other) const noexcept { return calls::is_subset(this->asked(), other.set); }
+    bool is_superset(operand<T> other) const noexcept { return calls::is_subset(other.set, this->asked()); }
+
+    // Below 0 where this set comes first, above 0 where the other does, and 0 where they are equal. The first boundaries
+    // that differ decide, and where there are none, the fewer boundaries. Compares at most the boundaries of the shorter set.
+    int compare(operand<T> other) const noexcept
+    {
+        const auto set = this->asked(), with = other.set;
+        const number *const end = set.boundaries + set.len, *const other_end = with.boundaries + with.len;
+        const auto [it, that] = std::mismatch(set.boundaries, end, with.boundaries, other_end);
+        if (it == end || that == other_end) return static_cast<int>(it != end) - static_cast<int>(that != other_end);
+        return *it < *that ? -1 : 1;
+    }
+
+    // The numbers from `start` to below `end` that are no members, those that are, and all that are none. The first two pass over
+    // the rest of the set by a search, as `week - busy` and `week & busy` do of a week.
+    range_set<T> gaps(integer start, integer end) const
+    {
+        const auto set = this->asked();
+        return range_set<T>::written(
+            set.len + 2, [&](number *out, std::size_t room, auto *gaps) { return calls::gaps(set, start, end, out, room, gaps); });
+    }
+    range_set<T> ranges_within(integer start, integer end) const
+    {
+        const T window[] = {start, end};
+        return range_set<T>::combine(
+            range_set_view<T>(this->asked()), range_set_view<T>::of(window, 2).value_or(range_set_view<T>()), RANGE_SET_INTERSECTION);
+    }
+    range_set<T> negation() const
+    {
+        const auto set = this->asked();
+        return range_set<T>::written(
+            set.len + 1, [&](number *out, std::size_t room, auto *others) { return calls::negation(set, out, room, others); });
+    }
+
+    // The least number from which on `count` numbers lie in `start` to below `end` and none is a member, or nothing.
+    std::optional<T> first_fit(integer start, integer end, amount count) const noexcept
+    {
+        return found<T>(calls::first_fit, this->asked(), start, end, count);
+    }
+    // The same, but only where the first is a multiple of `align`, above 0 or below.
+    std::optional<T> first_fit_aligned(integer start, integer end, amount count, amount align) const noexcept
+    {
+        return found<T>(calls::first_fit_aligned, this->asked(), start, end, count, align);
+    }
+
+    // The ranges as a text, "0..10, 20..".
+    std::string text() const
+    {
+        std::size_t len = 0;
+        static_cast<void>(calls::print(this->asked(), nullptr, 0, &len));
+        std::string text(len, ' ');
+        static_cast<void>(calls::print(this->asked(), text.data(), len, &len));
+        return text;
+    }
+};
+
+} // namespace detail
+
+} // namespace range_sets
+
+#endif
