@@ -197,7 +197,10 @@ public:
     range_map &remove(integer start, integer end) { return change(calls::remove, key_of(start), key_of(end)); }
     range_map &remove_from(integer start) { return change(calls::remove_from, key_of(start)); }
     // The same of a range, which may have no end.
-    range_map &insert(const range<T> &it, const V &value) { return it.has_end ? insert(it.start, it.end, value) : insert_from(it.start, value); }
+    range_map &insert(const range<T> &it, const V &value)
+    {
+        return it.has_end ? insert(it.start, it.end, value) : insert_from(it.start, value);
+    }
     range_map &remove(const range<T> &it) { return it.has_end ? remove(it.start, it.end) : remove_from(it.start); }
     void clear() noexcept { range_map().swap(*this); }
 
@@ -254,14 +257,14 @@ public:
     //     nights.combine(more, [](const int *a, const int *b) { return std::optional((a ? *a : 0) + (b ? *b : 0)); });
     //                                                      // 1..3 1, 3..4 2, 4..7 1
     //
-    // For each part of the keys on which each map has one value, or none, it searches both maps, and puts in a range if the part gets a
-    // value. There are at most twice as many parts as ranges in both maps, and one more.
+    // It takes a search for each range and each gap of both maps, and puts in a range for each part of the keys that gets a value. There
+    // are at most twice as many of these as ranges in both maps.
     template <class W, class How> auto combine(const range_map<T, W> &other, How how) const
     {
         range_map<T, typename std::invoke_result_t<How &, const V *, const W *>::value_type> made;
         key at = std::numeric_limits<key>::min();
+        auto here = calls::range_at(map(), at), there = calls::range_at(other.map(), at);
         for (bool has_end = true; has_end;) {
-            const auto here = calls::range_at(map(), at), there = calls::range_at(other.map(), at);
             has_end = here.has_end || there.has_end;
             const key end = here.has_end && !(there.has_end && there.end < here.end) ? here.end : there.end;
             if (here.has_value || there.has_value) {
@@ -271,6 +274,8 @@ public:
                 else if (value) made.put(calls::insert_from, *value, at);
             }
             at = end;
+            if (here.has_end && here.end == at) here = calls::range_at(map(), at);
+            if (there.has_end && there.end == at) there = calls::range_at(other.map(), at);
         }
         return made;
     }
@@ -285,7 +290,10 @@ public:
     std::size_t size() const noexcept { return calls::len(map()); }
     bool empty() const noexcept { return size() == 0; }
 
-    friend bool operator==(const range_map &a, const range_map &b) { return a.size() == b.size() && std::equal(a.begin(), a.end(), b.begin()); }
+    friend bool operator==(const range_map &a, const range_map &b)
+    {
+        return a.size() == b.size() && std::equal(a.begin(), a.end(), b.begin());
+    }
     friend bool operator!=(const range_map &a, const range_map &b) { return !(a == b); }
 
 private:

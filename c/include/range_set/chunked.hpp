@@ -185,7 +185,7 @@ public:
     // The numbers in some of these ranges, as a range_set is made of them.
     chunked_range_set(std::initializer_list<detail::ends<T>> ranges) : chunked_range_set(range_set<T>(ranges)) {}
     template <class Ranges, class = std::enable_if_t<!detail::is_set<T, Ranges>>, class Iterator = detail::iterator_over<Ranges>,
-              class = std::enable_if_t<detail::is_range<T, detail::item_of<Iterator>> && detail::is_multipass<Iterator>>>
+              class = detail::if_ranges<T, Iterator>>
     explicit chunked_range_set(Ranges &&ranges) : chunked_range_set(range_set<T>(std::forward<Ranges>(ranges)))
     {
     }

@@ -60,9 +60,9 @@ inline void see_memory(range_set_status status)
 
 // Whether it is an integer type of 32 or 64 bits. One of them may be another than the header's, as long long is where int64_t is long.
 template <class T>
-constexpr bool is_number = (std::is_same_v<T, int> || std::is_same_v<T, unsigned> || std::is_same_v<T, long> || std::is_same_v<T, unsigned long>
-                            || std::is_same_v<T, long long> || std::is_same_v<T, unsigned long long> || std::is_same_v<T, char32_t>
-                            || std::is_same_v<T, wchar_t>) && (sizeof(T) == 4 || sizeof(T) == 8);
+constexpr bool is_number = (std::is_same_v<T, int> || std::is_same_v<T, unsigned> || std::is_same_v<T, long>
+                            || std::is_same_v<T, unsigned long> || std::is_same_v<T, long long> || std::is_same_v<T, unsigned long long>
+                            || std::is_same_v<T, char32_t> || std::is_same_v<T, wchar_t>) && (sizeof(T) == 4 || sizeof(T) == 8);
 
 // The header's type of the same width and sign.
 template <class T>

@@ -41,7 +41,8 @@ template <class Items> using iterator_over = decltype(std::begin(std::declval<It
 // Whether a set is made of such items: of ranges, or of pairs.
 template <class T, class Item, class = void> constexpr bool is_range = std::is_same_v<Item, range<T>>;
 template <class T, class Item>
-constexpr bool is_range<T, Item, std::void_t<decltype(std::declval<const Item &>().first), decltype(std::declval<const Item &>().second)>> = true;
+constexpr bool
+    is_range<T, Item, std::void_t<decltype(std::declval<const Item &>().first), decltype(std::declval<const Item &>().second)>> = true;
 
 // Whether one can go twice over what an iterator goes over. Those that make what they lead to say so by C++20's concept alone.
 template <class Iterator, class = void> constexpr bool has_concept = false;
@@ -52,6 +53,9 @@ template <class Iterator, class = void> constexpr bool is_multipass = has_concep
 template <class Iterator>
 constexpr bool is_multipass<Iterator, std::void_t<typename std::iterator_traits<Iterator>::iterator_category>> =
     has_concept<Iterator> || std::is_base_of_v<std::forward_iterator_tag, typename std::iterator_traits<Iterator>::iterator_category>;
+
+// For an iterator over what a set is made of.
+template <class T, class Iterator> using if_ranges = std::enable_if_t<is_range<T, item_of<Iterator>> && is_multipass<Iterator>>;
 
 } // namespace detail
 
@@ -74,14 +78,14 @@ public:
     range_set(std::initializer_list<detail::ends<T>> ranges) : range_set(ranges.begin(), ranges.end()) {}
     // The same of any range of pairs or of ranges: an array, a std::vector, a std::map, a view of C++20.
     template <class Ranges, class = std::enable_if_t<!detail::is_set<T, Ranges>>, class Iterator = detail::iterator_over<Ranges>,
-              class = std::enable_if_t<detail::is_range<T, detail::item_of<Iterator>> && detail::is_multipass<Iterator>>>
+              class = detail::if_ranges<T, Iterator>>
     explicit range_set(Ranges &&ranges) : range_set(std::begin(ranges), std::end(ranges))
     {
     }
     // The same of what stands between two places. It is gone over twice, so the iterators are forward ones or better. Where the
     // second time has more, as by a filter that changes its mind, the rest is left out.
     template <class Iterator, class End, class = decltype(std::declval<Iterator &>() != std::declval<End &>()),
-              class = std::enable_if_t<detail::is_range<T, detail::item_of<Iterator>> && detail::is_multipass<Iterator>>>
+              class = detail::if_ranges<T, Iterator>>
     range_set(Iterator first, End last)
     {
         std::size_t count = 0;
@@ -150,7 +154,8 @@ public:
         const auto count = static_cast<std::size_t>(std::distance(values.begin(), values.end()));
         const auto items = room_for(count);
         std::transform(values.begin(), values.end(), items.get(), [](const auto &it) { return element::in(detail::fitting<T>(it)); });
-        return written(2 * count, [&](number *out, std::size_t room, auto *set) { return calls::from_values(items.get(), count, out, room, set); });
+        return written(
+            2 * count, [&](number *out, std::size_t room, auto *set) { return calls::from_values(items.get(), count, out, room, set); });
     }
     static range_set from_values(std::initializer_list<T> values) { return from_values<std::initializer_list<T>>(values); }
     // The set of a text of ranges, "0..10, 20..", or nothing where it isn't one or a number doesn't fit the type. `fault`, where it
@@ -158,7 +163,9 @@ public:
     // `status`, where it isn't null, says which: RANGE_SET_MALFORMED, RANGE_SET_OUT_OF_RANGE, or of a set RANGE_SET_DONE.
     static std::optional<range_set> parse(std::string_view text, std::size_t *fault = nullptr, range_set_status *status = nullptr)
     {
-        return read(status, [&](number *out, std::size_t room, auto *set) { return calls::parse(text.data(), text.size(), out, room, set, fault); });
+        return read(status, [&](number *out, std::size_t room, auto *set) {
+            return calls::parse(text.data(), text.size(), out, room, set, fault);
+        });
     }
     // The same with another byte in place of the comma, and with numbers alone: "0..10\n15\n" by '\n'. Of a byte that no text has there
     // the status is RANGE_SET_BAD_ARGUMENT.
