@@ -748,6 +748,20 @@ class Interned(unittest.TestCase):
             gc.collect()
             self.assertIsNone(followed())
 
+    def test_a_long_chain_ends(self):
+        """Each map holds an iterator of the one before, and ends with it, however many they are."""
+        for call in (RangeMap.items, RangeMap.keys, RangeMap.values):
+            last = None
+            for _ in range(100_000):
+                made = RangeMap()
+                made.put(0, 5, last)
+                last = call(made)
+            made, followed = RangeMap([((0, 5), last), ((7, 9), "a")]), weakref.ref(made)
+            del last
+            self.assertIsNone(followed())
+            made.remove(0, 5)
+            self.assertEqual(list(made.items()), [((7, 9), "a")])
+
     def test_values_are_released_with_the_map(self):
         for part in (lambda it: it, RangeMap.copy, lambda it: it[3:7]):
             value = Watched("a")

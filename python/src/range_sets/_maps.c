@@ -475,12 +475,15 @@ static int steps_clear(Steps *self)
 
 static void steps_dealloc(Steps *self)
 {
-    PyTypeObject *type = Py_TYPE(self);
     PyObject_GC_UnTrack(self);
+    /* Of a long chain, in which each map holds an iterator of the one before, the rest ends after this call. */
+    Py_TRASHCAN_BEGIN(self, steps_dealloc)
+    PyTypeObject *type = Py_TYPE(self);
     steps_clear(self);
     Py_XDECREF(self->kind);
     type->tp_free(self);
     Py_DECREF(type);
+    Py_TRASHCAN_END
 }
 
 #define METHOD(name) {#name, (PyCFunction)(void (*)(void))steps_##name, METH_FASTCALL, NULL}
