@@ -177,6 +177,9 @@ class EachKind(unittest.TestCase):
             answers.add(expected)
         self.assertTrue(len(answers) > 500 and inf in answers and 0.0 in answers)
         self.assertIsNone(RangeSet([(0.5, None)]).covered())
+        # Numbers in no order, and those of NaN, are of no set: each has some length.
+        for given in ([5, 3], [2**62, -(2**62)], [1 - 2**63, 0], [2**63 - 1, -(2**63)]):
+            self.assertIsInstance(_core.lengths_of_floats(array("q", given * 9)), list)
         for nan in map(of_bits, (2**64 - 1, (2047 << 52) + 1)):
             self.assertRaises(ValueError, RangeSet.from_boundaries, array("d", [0.5, nan]))
             self.assertRaises(ValueError, RangeSet.from_boundaries, array("f", [0.5, nan]))

@@ -227,6 +227,7 @@ class Rows(unittest.TestCase):
         self.assertIs(steps.change(ends, ("a",), object(), kind), False)
         self.assertRaises(TypeError, steps.change, bytes(24), ("a",), kind, kind)
         self.assertRaises(TypeError, steps.part, [3, 5])
+        self.assertRaises(TypeError, steps.part, ends)
         self.assertRaises(TypeError, steps.part, RangeSet([(3, 5)], unsigned=True)._now[0])
         self.assertRaises(TypeError, steps.equals, made)
         for given in ((), (steps, max, None), (made, max, None, None), (RangeMap(unsigned=True)._steps, max, None, None)):

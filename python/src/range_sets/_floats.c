@@ -45,7 +45,8 @@ static void add_length(Sums *sums, double length)
 {
     uint64_t bits;
     memcpy(&bits, &length, sizeof bits);
-    size_t exponent = bits >> MANTISSA;
+    /* Without the sign, which a length has if the numbers aren't those of floats in order. */
+    size_t exponent = bits >> MANTISSA & (EXPONENTS - 1);
     uint64_t part = bits & (((uint64_t)1 << MANTISSA) - 1);
     if (exponent > 0) part |= (uint64_t)1 << MANTISSA;
     sums->low[exponent] += part & UINT32_MAX;

@@ -430,10 +430,11 @@ static bool put_part(Steps *self, Range range, Steps *made)
     return status == RANGE_SET_DONE || raise_status(status, 0) != NULL;
 }
 
-/* Another map with the values of some keys. Is given ranges that are sorted and don't touch. */
+/* Another map with the values of some keys. Is given a list of the library's own, whose ranges are sorted and don't touch. */
 static PyObject *steps_part(Steps *self, PyObject *object)
 {
     List ranges;
+    if (PyBytes_CheckExact(object)) return PyErr_Format(PyExc_TypeError, "expected a list of the library's own");
     Steps *made = read_ranges(self, object, &ranges) ? new_steps(Py_TYPE(self), self->is_signed) : NULL;
     bool fits = made != NULL && settle(self);
     if (fits) take_kind(made, self->kind);
