@@ -26,7 +26,8 @@ impl<T: Ord> ChunkedRangeSet<T> {
         *self = kept.filter(|range| keep(range.as_ref())).collect();
     }
 
-    /// Adds the members of `that`, which is empty then. It inserts range after range.
+    /// Adds the members of `that`, which is empty then. It inserts range after range. If
+    /// something panics meanwhile, the set is empty.
     ///
     /// # Examples
     ///
@@ -40,7 +41,10 @@ impl<T: Ord> ChunkedRangeSet<T> {
     /// assert!(more.is_empty());
     /// ```
     pub fn append(&mut self, that: &mut Self) {
-        self.extend(mem::take(that));
+        // Meanwhile the set is empty, so that a panic between two ranges leaves no part of them.
+        let mut own = mem::take(self);
+        own.extend(mem::take(that));
+        *self = own;
     }
 
     /// Removes the members at and above `at`, and returns the set of them.

@@ -180,7 +180,8 @@ impl<K: Ord + Clone, V: Eq + Clone> RangeMap<K, V> {
         }
     }
 
-    /// Puts in the ranges of `that` with their values, in place of those that were there, and leaves `that` empty.
+    /// Puts in the ranges of `that` with their values, in place of those that were there, and leaves `that` empty. If
+    /// something panics meanwhile, the map is empty.
     ///
     /// # Examples
     ///
@@ -194,7 +195,10 @@ impl<K: Ord + Clone, V: Eq + Clone> RangeMap<K, V> {
     /// assert!(more.is_empty());
     /// ```
     pub fn append(&mut self, that: &mut Self) {
-        self.extend(mem::take(that));
+        // Meanwhile the map is empty, so that a panic between two ranges leaves no part of them.
+        let mut own = mem::take(self);
+        own.extend(mem::take(that));
+        *self = own;
     }
 
     /// Takes away the values of the keys at and above `at`, and returns the map with them. It clones the whole map.

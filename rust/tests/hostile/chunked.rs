@@ -22,7 +22,7 @@ type Call = (
     fn(&mut ChunkedRangeSet<Hostile>, Range<Hostile>),
 );
 
-const CHANGES: [Change; 19] = [
+const CHANGES: [Change; 20] = [
     ("insert", |set, range| set.insert(range), inserted),
     ("remove", |set, range| set.remove(range), removed),
     (
@@ -54,6 +54,11 @@ const CHANGES: [Change; 19] = [
         "into a list and back",
         |set, _| *set = RangeSet2::from(std::mem::take(set)).into(),
         |boundaries, _| boundaries.to_vec(),
+    ),
+    (
+        "split_off",
+        |set, range| drop(set.split_off(&range.start)),
+        |boundaries, range| spliced_from(boundaries, range.start, false),
     ),
     ("clear", |set, _| set.clear(), |_, _| Vec::new()),
     (
@@ -431,5 +436,42 @@ fn drops_that_panic_between_windows_far_apart() {
             asks(&set);
         }
         assert_eq!(LIVE.with(Cell::get), 0);
+    });
+}
+
+/// A set takes two ranges of another one: a panic leaves none of both, both, or nothing.
+#[test]
+fn panics_between_appended_ranges() {
+    fn append(plan: Plan, ranges: u16) -> (bool, Vec<u16>) {
+        let mut set = set(ranges);
+        let more = [12..33, 5_000..5_005].map(|it| Hostile::of(it.start)..Hostile::of(it.end));
+        let mut more = more.into_iter().collect();
+        PLAN.with(|it| it.set(plan));
+        let returned = catch_unwind(AssertUnwindSafe(|| set.append(&mut more))).is_ok();
+        PLAN.with(|it| it.set(Plan::Honest));
+        asks(&set);
+        (returned, read(&set))
+    }
+    without_messages(|| {
+        for plan in [Plan::PanicAtComparison, Plan::PanicAtDrop] {
+            for ranges in [3, 400] {
+                let before = read(&set(ranges));
+                let once = spliced(&before, 12..33, true);
+                let asked = spliced(&once, 5_000..5_005, true);
+                let mut turn = 0;
+                loop {
+                    let (returned, found) = append(plan(turn), ranges);
+                    assert_eq!(LIVE.with(Cell::get), 0);
+                    if returned {
+                        assert_eq!(found, asked);
+                        break;
+                    }
+                    let is_one_of_three = found == before || found == asked || found.is_empty();
+                    assert!(is_one_of_three, "{ranges} ranges, turn {turn}");
+                    turn += 1;
+                }
+                assert!(turn > 1);
+            }
+        }
     });
 }

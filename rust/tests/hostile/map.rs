@@ -24,7 +24,7 @@ struct Change {
     asked: fn(&mut Cells, Range<u16>, u16),
 }
 
-const CHANGES: [Change; 13] = [
+const CHANGES: [Change; 18] = [
     Change {
         name: "insert",
         call: |map, range, value| map.insert(range, value),
@@ -49,6 +49,59 @@ const CHANGES: [Change; 13] = [
         name: "extend",
         call: |map, range, value| map.extend([(range, value)]),
         asked: inserted,
+    },
+    Change {
+        name: "append",
+        call: |map, range, value| {
+            let last = (Hostile::of(90)..Hostile::of(95), Hostile::of(7));
+            map.append(&mut [(range, value), last].into_iter().collect());
+        },
+        asked: |cells, range, value| {
+            put(cells, range, Some(value));
+            put(cells, 90..95, Some(7));
+        },
+    },
+    Change {
+        name: "split_off",
+        call: |map, range, _| drop(map.split_off(&range.start)),
+        asked: |cells, range, _| put(cells, range.start..100, None),
+    },
+    Change {
+        name: "modify",
+        call: |map, range, value| {
+            map.modify(&range.start, |it| *it = value);
+        },
+        asked: |cells, range, value| {
+            let at = usize::from(range.start);
+            if let Some(old) = cells[at] {
+                let is_old = |cell: &&mut Option<u16>| **cell == Some(old);
+                let (below, from) = cells.split_at_mut(at);
+                let around = below.iter_mut().rev().take_while(is_old);
+                for cell in around.chain(from.iter_mut().take_while(is_old)) {
+                    *cell = Some(value);
+                }
+            }
+        },
+    },
+    Change {
+        name: "retain_ranges",
+        call: |map, _, value| map.retain_ranges(|_, it| *it != value),
+        asked: |cells, _, value| {
+            for cell in cells.iter_mut().filter(|cell| **cell == Some(value)) {
+                *cell = None;
+            }
+        },
+    },
+    Change {
+        name: "pop_first",
+        call: |map, _, _| drop(map.pop_first()),
+        asked: |cells, _, _| {
+            if let Some(at) = cells.iter().position(Option::is_some) {
+                let first = cells[at];
+                let range = cells[at..].iter_mut().take_while(|cell| **cell == first);
+                range.for_each(|cell| *cell = None);
+            }
+        },
     },
     Change {
         name: "insert_free",
