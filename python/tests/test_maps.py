@@ -1232,6 +1232,19 @@ class OtherForms(unittest.TestCase):
         self.assertIsNot(copy.deepcopy(made)[0], made[0])
         self.assertIsNone(RangeMap().copy().kind)
 
+    def test_values_that_refer_to_the_map(self):
+        made = RangeMap([((9, 12), "a")])
+        made[0:5] = value = [made]
+        made[20:25] = made
+        self.assertEqual(repr(made), "RangeMap([((0, 5), [RangeMap(...)]), ((9, 12), 'a'), ((20, 25), RangeMap(...))])")
+        other = copy.deepcopy(made)
+        self.assertTrue(other[0][0] is other[20] is other is not made)
+        self.assertTrue(list(other) == list(made) and other[9] == "a" and made[0] is value)
+        named = Named(["x"], [((0, 10), "a")])
+        named.map = named
+        self.assertIs(copy.deepcopy(named).map.map[5], "a")
+        self.assertIsNot(copy.deepcopy(named).map, named)
+
     def test_attributes_of_subclasses(self):
         for kind in (Named, Tagged):
             made = kind(["x"], [((0, 10), "a")])

@@ -2,6 +2,8 @@
 
 from __future__ import annotations
 
+import copy
+import reprlib
 import sys
 from array import array
 from collections import Counter
@@ -495,6 +497,15 @@ class RangeMap(Attributes, Generic[K, V]):
 
     __copy__ = copy
 
+    def __deepcopy__(self, memo: Any) -> Self:
+        ends, values = self._steps.ends_and_values()
+        kind = self._kind
+        # A value may refer to the map, whose copy is the one that is begun.
+        made = memo[id(self)] = self._with_steps(Steps(kind, kind.unsigned))
+        made._steps.change(ends, copy.deepcopy(values, memo), kind, kind)
+        return made._with(copy.deepcopy(self.__getstate__(), memo))
+
+    @reprlib.recursive_repr("RangeMap(...)")
     def __repr__(self) -> str:
         parts = [repr([*self.items()])] if self else []
         if self._kind is UNSIGNED:
