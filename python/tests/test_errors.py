@@ -411,6 +411,7 @@ for count, lasts in itertools.product((0, 1, 3, 400), (0, 1)):
         *(("put", (*it, "x")) for it in ends), *(("remove", it) for it in ends), ("update", (few,)), ("update", (many,)),
         ("update", (wide,)), ("__setitem__", (some, "x")), ("__delitem__", (some,)), ("clear", ()), ("copy", ()), ("__getitem__", (some,)),
         ("domain", ()), ("find", (7,)), ("gaps", (5, 500)), ("combine", (RangeMap(few), lambda a, b: 7)),
+        ("combine", (RangeMap(few), lambda a, b: [a], 5)),
     ]:
         for after in range(5000):
             made, again = before.copy(), before.copy()
@@ -422,7 +423,8 @@ for count, lasts in itertools.product((0, 1, 3, 400), (0, 1)):
                 done = False
             if lasts and not done:
                 # Nobody sees what it left off at.
-                for ask in (lambda it: [*it.items()], len, bool, RangeMap.span, RangeMap.copy, lambda it: it.get(3), lambda it: it.find(7)):
+                for ask in (lambda it: [*it.items()], len, bool, RangeMap.span, RangeMap.copy, lambda it: it.get(3), lambda it: it.find(7),
+                            lambda it: it.combine(it, max)):
                     try:
                         assert ask(made) == ask(again), (name, given, after)
                     except MemoryError:

@@ -7,12 +7,13 @@ import random
 import signal
 import sys
 import threading
+import tracemalloc
 import unittest
 import weakref
 from array import array
 from datetime import date, datetime, timezone
 from ipaddress import IPv4Address, IPv4Network
-from itertools import groupby
+from itertools import groupby, product
 
 from range_sets import MutableRangeSet, RangeMap, RangeSet
 
@@ -557,9 +558,32 @@ class MadeUp(unittest.TestCase):
             self.assertEqual(list(both.items()), self.expected(expected), case)
             self.assertEqual(len(calls), len(set(calls)))
             self.assertEqual(set(calls), {(one[key], other[key]) for key in one if key in other})
+            calls.clear()
             filled = a.combine(b, how, missing=0)
             expected = {key: one.get(key, 0) * 10 + other.get(key, 0) for key in one | other}
             self.assertEqual(list(filled.items()), self.expected(expected), case)
+            self.assertEqual(len(calls), len(set(calls)))
+            self.assertEqual(set(calls), {(one.get(key, 0), other.get(key, 0)) for key in one | other})
+
+    def test_a_combination_of_many_values(self):
+        """Of values that each have one range, and of some that have more."""
+        for values in (3000, 2900, 50, 1):
+            a, b = (
+                RangeMap(((10 * n + first, 10 * n + first + 6), sign * (n % values + 1)) for n in range(3000))
+                for first, sign in ((0, 1), (4, -1))
+            )
+            calls = []
+
+            def how(x, y):
+                calls.append((x, y))
+                return x * 10000 - y
+
+            expected = RangeMap([*a.items(), *b.items()])
+            for n in range(3000):
+                number = n % values + 1
+                expected.put(10 * n + 4, 10 * n + 6, number * 10001)
+            self.assertEqual(a.combine(b, how), expected)
+            self.assertEqual(sorted(calls), sorted((n, -n) for n in range(1, values + 1)))
 
 
 class Depths(unittest.TestCase):
@@ -692,6 +716,70 @@ class Interned(unittest.TestCase):
             self.assertEqual((one.combine(other, max), other.combine(one, max)), (one, one))
         self.assertEqual(RangeMap().combine(RangeMap(), max), RangeMap())
 
+    def test_a_pair_is_combined_once_whatever_changes_meanwhile(self):
+        """The function has each pair of the maps as they were, also if it changes how many ranges have a value."""
+        for change in (
+            lambda: None,
+            lambda: a.clear(),
+            lambda: b.clear(),
+            lambda: a.remove(10, None),
+            lambda: a.update([((40, 45), 2), ((50, 55), 3)]),
+            lambda: (a.combine(b, lambda x, y: y), a.copy().clear()),
+        ):
+            a, b, calls = RangeMap([((0, 5), 1), ((10, 15), 1), ((20, 25), 2), ((30, 35), 1)]), RangeMap([((-5, 22), 10)]), []
+
+            def how(x, y):
+                calls.append((x, y))
+                change()
+                return x + y
+
+            expected = [
+                ((-5, 0), 10),
+                ((0, 5), 11),
+                ((5, 10), 10),
+                ((10, 15), 11),
+                ((15, 20), 10),
+                ((20, 22), 12),
+                ((22, 25), 2),
+                ((30, 35), 1),
+            ]
+            self.assertEqual([*a.combine(b, how).items()], expected)
+            self.assertEqual(calls, [(1, 10), (2, 10)])
+            a, b, calls = RangeMap([((0, 5), 1), ((10, 15), 1), ((20, 25), 2), ((30, 35), 1)]), RangeMap([((-5, 22), 10)]), []
+            self.assertEqual([*a.combine(b, how, 0).items()], expected)
+            self.assertEqual(calls, [(0, 10), (1, 10), (2, 10), (2, 0), (1, 0)])
+
+    def test_values_that_a_combination_reads_end_after_it(self):
+        """They are there until it ends, also if the maps have lost them."""
+        for error in (None, ValueError):
+            a, b = RangeMap([((0, 5), Watched("a")), ((5, 9), Watched("b"))]), RangeMap([((3, 7), Watched("c"))])
+            followed, seen, copies = [weakref.ref(it) for it in (a[0], a[5], b[3])], [], []
+
+            def how(x, y):
+                copies.append(a.copy())
+                copies[-1].clear()
+                a.clear()
+                b.clear()
+                gc.collect()
+                seen.append([it() is not None for it in followed])
+                if error and len(seen) == 2:
+                    raise error
+                return 0
+
+            both = None
+            if error:
+                self.assertRaises(error, a.combine, b, how)
+            else:
+                both = a.combine(b, how)
+                self.assertEqual([*both.items()], [((0, 3), followed[0]()), ((3, 7), 0), ((7, 9), followed[1]())])
+            gc.collect()
+            self.assertEqual(seen, [[True] * 3] * 2)
+            self.assertEqual([it() is None for it in followed], [bool(error), bool(error), True])
+            self.assertEqual([kept(it) for it in (a, b, *copies)], [[]] * 4)
+            del both
+            gc.collect()
+            self.assertEqual([it() for it in followed], [None] * 3)
+
     def test_values_of_one_hash_and_of_some(self):
         class Same:
             def __init__(self, name):
@@ -718,6 +806,14 @@ class Interned(unittest.TestCase):
                 self.assertEqual({key: it[key].name for key in range(60) if key in it}, names)
                 for name in range(90):
                     self.assertEqual([*it.find(Same(name)).members()], sorted(key for key in names if names[key] == name))
+
+    def test_values_that_come_and_go_take_no_more_memory(self):
+        made = RangeMap([((0, 5), 0)])
+        tracemalloc.start()
+        self.addCleanup(tracemalloc.stop)
+        for number in range(5000):
+            made.put(0, 5, -number)
+        self.assertLess(tracemalloc.get_traced_memory()[0], 20000)
 
     def test_a_hash_that_changes(self):
         """A value may be kept twice then, and each of its ranges has it."""
@@ -1011,6 +1107,59 @@ class Meanwhile(unittest.TestCase):
                     call()
                     self.see_whole(made)
 
+    def test_changes_while_maps_are_combined(self):
+        """The function, and a hash or an `==` of what it makes, may change both maps, make more of them, or raise an error."""
+
+        class Odd:
+            def __init__(self, is_one):
+                self.is_one = is_one
+
+            def __hash__(self):
+                run("hash")
+                return 7
+
+            def __eq__(self, other):
+                run("==")
+                return self.is_one
+
+        def run(place):
+            if where == place:
+                change()
+
+        def how(x, y):
+            run("how")
+            return Odd(is_one)
+
+        def more():
+            left.update([((100 + 2 * n, 101 + 2 * n), [n]) for n in range(50)])
+
+        items, others = [((0, 5), [1]), ((5, 9), [2]), ((20, 30), [3])], [((3, 7), [4]), ((25, 40), [5])]
+        for where, is_one, change in product(
+            ("how", "hash", "=="),
+            (False, True),
+            (
+                lambda: left.clear(),
+                lambda: right.clear(),
+                lambda: (left.clear(), more(), right.remove(4, None), gc.collect()),
+                lambda: (more(), left.copy(), left[3:8], left.combine(right, lambda x, y: x), right.combine(left, lambda x, y: [y])),
+                lambda: 1 // 0,
+            ),
+        ):
+            with self.subTest(where=where, is_one=is_one):
+                left, right = RangeMap(items), RangeMap(others)
+                try:
+                    made = left.combine(right, how)
+                except ZeroDivisionError:
+                    self.assertEqual(([*left.items()], [*right.items()]), (items, others))
+                else:
+                    keys = [(0, 3), *([(3, 7)] if is_one else [(3, 5), (5, 7)]), (7, 9), (20, 25), (25, 30), (30, 40)]
+                    self.assertEqual([*made.keys()], keys)
+                    self.assertEqual([it for it in made.values() if not isinstance(it, Odd)], [[1], [2], [3], [5]])
+                    where = None
+                    self.see_whole(made)
+                self.see_whole(left)
+                self.see_whole(right)
+
     def test_changes_while_values_are_dropped(self):
         """The end of a value puts in again what is about to be dropped too, while a hash has that dropped."""
 
@@ -1164,6 +1313,7 @@ class Meanwhile(unittest.TestCase):
         self.addCleanup(setattr, sys, "unraisablehook", hook)
         items = [((0, 5), "a"), ((5, 9), "b"), ((9, 12), "c")]
         some, same = RangeSet([(2, 4), (6, 7), (20, None)]), RangeMap(items)
+        other = RangeMap([((1, 2), "x"), ((4, 6), "x"), ((7, 8), "y"), ((10, 20), "x")])
         packed, dated = pickle.dumps(same), RangeMap([((date(2026, 1, 1), date(2026, 1, 5)), "a"), ((date(2026, 2, 1), None), [1])])
         for change, after in (
             (lambda: made.put(3, 7, "c"), [((0, 3), "a"), ((3, 7), "c"), ((7, 9), "b"), ((9, 12), "c")]),
@@ -1181,6 +1331,7 @@ class Meanwhile(unittest.TestCase):
             (lambda: ([*made.items()], [*made.keys()], [*made.values()], made == same, made._steps.ends_and_values()), items),
             (lambda: pickle.loads(packed), items),
             (lambda: made.combine(same, max), items),
+            (lambda: made.combine(other, lambda a, b: a + b, ""), items),
             (lambda: [*dated.items()], items),
         ):
             made = RangeMap(items)

@@ -1,91 +1,42 @@
 /* What is made of two maps. It is tested, not proved. */
 #include "_maps.h"
 
-/* Values that meet: their numbers in both maps, or NONE for none, and they themselves, which are kept, or NULL. */
+/* The numbers of the values that meet in both maps, or NONE for none. */
 typedef struct {
-    size_t left, right;
-    PyObject *mine, *theirs;
-    /* The number of what is made of both. */
-    size_t made;
+    size_t of[2];
 } Pair;
 
 typedef struct {
-    /* The longest ranges whose keys have one value or none in each map, and one in either, with the place of the pair of these. */
+    const Steps *maps[2];
+    /* What is made: of two values by a function, and of one alone with what stands for the other, or NULL if it stays. */
+    Steps *made;
+    PyObject *how, *missing;
+    /* The longest ranges whose keys have one value or none in each map, and one in either; and their pairs. The number is that of what
+     * is made of the pair; before that it is NONE if no other piece has the pair. */
     Change *pieces;
-    size_t len;
     Pair *pairs;
-    size_t pairs_len, pairs_room;
-    /* The place of each pair of two values, by these; and of those that a value of one map makes with none. */
-    Numbers both;
-    size_t *alone[2];
+    size_t len;
+    /* The first piece of each pair that more may have. */
+    Numbers firsts;
+    /* By the number of a value of a map the one that it has in the map that is made, or NONE if it wasn't asked for. */
+    size_t *own[2];
 } Meeting;
 
 static void forget(Meeting *meeting)
 {
-    for (size_t i = 0; i < meeting->pairs_len; i++) {
-        Py_XDECREF(meeting->pairs[i].mine);
-        Py_XDECREF(meeting->pairs[i].theirs);
-    }
     PyMem_Free(meeting->pieces);
     PyMem_Free(meeting->pairs);
-    PyMem_Free(meeting->both.slots);
-    PyMem_Free(meeting->alone[0]);
-    PyMem_Free(meeting->alone[1]);
+    PyMem_Free(meeting->firsts.slots);
+    PyMem_Free(meeting->own[0]);
+    PyMem_Free(meeting->own[1]);
 }
 
-/* Makes room for a pair. */
-static bool make_room(Meeting *meeting)
-{
-    size_t room = meeting->pairs_room == 0 ? 4 : 2 * meeting->pairs_room;
-    if (meeting->pairs_len < meeting->pairs_room) return true;
-    Pair *pairs = PyMem_Realloc(meeting->pairs, room * sizeof *pairs);
-    if (pairs == NULL) return PyErr_NoMemory() != NULL;
-    meeting->pairs = pairs;
-    if (!make_numbers(&meeting->both, room)) return false;
-    meeting->pairs_room = room;
-    return true;
-}
-
-/* The place of a pair, or NONE if it is new. */
-static size_t place_of(const Meeting *meeting, size_t left, size_t right, uint64_t hash)
-{
-    if (right == NONE) return meeting->alone[0][left];
-    if (left == NONE) return meeting->alone[1][right];
-    size_t slot = first_slot(&meeting->both, hash), place;
-    for (; (place = next_number(&meeting->both, hash, &slot)) != NONE; slot++) {
-        if (meeting->pairs[place].left == left && meeting->pairs[place].right == right) break;
-    }
-    return place;
-}
-
-static PyObject *kept(const Steps *self, size_t number)
-{
-    return number == NONE ? NULL : Py_NewRef(self->values.places[number].value);
-}
-
-/* Notes the values that the keys of a range have in both maps. */
-static bool note(Meeting *meeting, Range range, const Steps *self, size_t left, const Steps *other, size_t right)
-{
-    uint64_t hash = left * 0xD1B54A32D192ED03u + right;
-    size_t place = place_of(meeting, left, right, hash);
-    if (place == NONE) {
-        if (!make_room(meeting)) return false;
-        place = meeting->pairs_len++;
-        meeting->pairs[place] = (Pair){left, right, kept(self, left), kept(other, right), NONE};
-        if (right == NONE) meeting->alone[0][left] = place;
-        else if (left == NONE) meeting->alone[1][right] = place;
-        else add_number(&meeting->both, hash, place);
-    }
-    meeting->pieces[meeting->len++] = (Change){range, place};
-    return true;
-}
-
-/* As many places of pairs as a map has numbers, none of which is noted. */
+/* NONE for each number of a value of a map. */
 static size_t *none_of(const Steps *self)
 {
-    size_t *places = PyMem_Malloc(self->values.room * sizeof *places);
-    for (size_t i = 0; places != NULL && i < self->values.room; i++) places[i] = NONE;
-    return places;
+    size_t *numbers = PyMem_Malloc(self->values.room * sizeof *numbers);
+    for (size_t i = 0; numbers != NULL && i < self->values.room; i++) numbers[i] = NONE;
+    return numbers;
 }
 
 /* The stretch from a key on, which may have no value: of a walk, and the range that it gave last. */
@@ -95,50 +46,92 @@ static Stretch stretch_on(const Steps *self, Walk *walk, Stretch *next, uint64_t
     return next->has_value && next->start == at ? *next : (Stretch){.end = next->start, .has_end = next->has_value};
 }
 
-/* Goes over both maps. It runs no code of Python. */
-static bool meet(const Steps *self, const Steps *other, Meeting *meeting)
+static bool has_one_range(const Steps *self, size_t number)
 {
+    return number != NONE && self->values.places[number].ranges == 1;
+}
+
+/* Goes over both maps. It runs no code of Python. */
+static bool meet(Meeting *meeting)
+{
+    const Steps *self = meeting->maps[0], *other = meeting->maps[1];
     Walk of_mine = {ALL(self)}, of_theirs = of_mine;
     uint64_t at = LEAST(self);
     Stretch a = {.end = at, .has_end = true}, b = a, next = a, other_next = a;
     /* Each end of a range begins one piece at most. */
-    meeting->pieces = PyMem_Malloc(2 * (self->len + other->len) * sizeof *meeting->pieces);
-    meeting->alone[0] = none_of(self);
-    meeting->alone[1] = none_of(other);
-    if (meeting->pieces == NULL || meeting->alone[0] == NULL || meeting->alone[1] == NULL) return PyErr_NoMemory() != NULL;
+    size_t most = 2 * (self->len + other->len);
+    meeting->pieces = PyMem_Malloc(most * sizeof *meeting->pieces);
+    meeting->pairs = PyMem_Malloc(most * sizeof *meeting->pairs);
+    meeting->own[0] = none_of(self);
+    meeting->own[1] = none_of(other);
+    if (meeting->pieces == NULL || meeting->pairs == NULL || meeting->own[0] == NULL || meeting->own[1] == NULL)
+        return PyErr_NoMemory() != NULL;
     while (a.has_end || b.has_end) {
         if (a.has_end && a.end == at) a = stretch_on(self, &of_mine, &next, at);
         if (b.has_end && b.end == at) b = stretch_on(other, &of_theirs, &other_next, at);
         bool is_mine = !b.has_end || (a.has_end && is_reversed((Range){b.end, a.end, true}, self->is_signed));
         const Stretch *first = is_mine ? &a : &b;
-        Range range = {at, first->end, first->has_end};
-        if ((a.has_value || b.has_value)
-            && !note(meeting, range, self, a.has_value ? a.value : NONE, other, b.has_value ? b.value : NONE)) return false;
+        if (a.has_value || b.has_value) {
+            Pair pair = {{a.has_value ? a.value : NONE, b.has_value ? b.value : NONE}};
+            bool is_once = has_one_range(self, pair.of[0]) && has_one_range(other, pair.of[1]);
+            meeting->pieces[meeting->len] = (Change){{at, first->end, first->has_end}, is_once ? NONE : 0};
+            meeting->pairs[meeting->len++] = pair;
+        }
         at = first->end;
     }
     return true;
 }
 
-/* What is made of two values by a function. Of one alone it is that, unless another one stands for the one that is missing. */
-static PyObject *made_of(PyObject *mine, PyObject *theirs, PyObject *how, PyObject *missing)
+/* Finds the number in the map that is made of the value of a map that stays. */
+static bool keep_own(Meeting *meeting, int side, size_t number, size_t *found)
 {
-    PyObject *both[] = {mine == NULL ? missing : mine, theirs == NULL ? missing : theirs};
-    if (both[0] != NULL && both[1] != NULL) return PyObject_Vectorcall(how, both, 2, NULL);
-    return Py_NewRef(both[0] == NULL ? both[1] : both[0]);
+    const Value *it = &meeting->maps[side]->values.places[number];
+    size_t *own = &meeting->own[side][number];
+    if (*own == NONE && !find_or_add(&meeting->made->values, it->value, it->hash, own)) return false;
+    *found = *own;
+    return true;
 }
 
-/* Makes a value of each pair, and leaves its number with the pieces that have the pair. They are kept until they are let go. */
-static bool make_values(Steps *made, Meeting *meeting, PyObject *how, PyObject *missing)
+/* Makes a value of a pair. */
+static bool make_value(Meeting *meeting, Pair pair, size_t *number)
 {
-    for (size_t i = 0; i < meeting->pairs_len; i++) {
-        Pair *pair = &meeting->pairs[i];
-        PyObject *value = made_of(pair->mine, pair->theirs, how, missing);
-        bool is_kept = value != NULL && keep_value(&made->values, value, &pair->made);
-        Py_XDECREF(value);
-        if (!is_kept) return false;
+    PyObject *both[2];
+    for (int i = 0; i < 2; i++)
+        both[i] = pair.of[i] == NONE ? meeting->missing : meeting->maps[i]->values.places[pair.of[i]].value;
+    PyObject *value = PyObject_Vectorcall(meeting->how, both, 2, NULL);
+    Py_hash_t hash;
+    bool is_kept = value != NULL && hash_of(value, &hash) && find_or_add(&meeting->made->values, value, hash, number);
+    Py_XDECREF(value);
+    return is_kept;
+}
+
+/* The same, unless a piece before has the pair. Two of one hash that begin alike are one pair. */
+static bool make_once(Meeting *meeting, size_t piece)
+{
+    Pair pair = meeting->pairs[piece];
+    size_t *number = &meeting->pieces[piece].number, first;
+    uint64_t hash = pair.of[0] * 0xD1B54A32D192ED03u + pair.of[1];
+    size_t slot = first_slot(&meeting->firsts, hash);
+    for (; (first = next_number(&meeting->firsts, hash, &slot)) != NONE; slot++) {
+        if (meeting->pairs[first].of[0] != pair.of[0]) continue;
+        *number = meeting->pieces[first].number;
+        return true;
     }
-    for (size_t i = 0; i < meeting->len; i++) meeting->pieces[i].number = meeting->pairs[meeting->pieces[i].number].made;
-    return true;
+    return make_value(meeting, pair, number) && add_number(&meeting->firsts, hash, piece);
+}
+
+/* Leaves with each piece the number of what is made of its pair, in order and once for each pair. */
+static bool make_values(Meeting *meeting)
+{
+    bool fits = true;
+    for (size_t i = 0; fits && i < meeting->len; i++) {
+        Pair pair = meeting->pairs[i];
+        size_t *number = &meeting->pieces[i].number;
+        int side = pair.of[0] == NONE;
+        if (meeting->missing == NULL && pair.of[!side] == NONE) fits = keep_own(meeting, side, pair.of[side], number);
+        else fits = *number == NONE ? make_value(meeting, pair, number) : make_once(meeting, i);
+    }
+    return fits;
 }
 
 /* Another map of what a function makes of the values of both, once for each pair that meets. Is given the other map, the function, and
@@ -146,28 +139,32 @@ static bool make_values(Steps *made, Meeting *meeting, PyObject *how, PyObject *
 PyObject *steps_combine(Steps *self, PyObject *const *args, Py_ssize_t n)
 {
     if (!has_arguments(n, 4)) return NULL;
-    Steps *other = (Steps *)args[0];
+    Steps *other = (Steps *)args[0], *made;
     if (!Py_IS_TYPE(args[0], Py_TYPE(self)) || other->is_signed != self->is_signed)
         return PyErr_Format(PyExc_TypeError, "expected another map of the kind");
-    PyObject *missing = args[2] == args[3] ? NULL : args[2];
-    Meeting meeting = {0};
-    Steps *made = new_steps(Py_TYPE(self), self->is_signed);
-    /* The function may run any code, which can't reach the map before it is whole. */
-    if (made != NULL) PyObject_GC_UnTrack(made);
-    bool fits = made != NULL && settle(self) && settle(other);
+    made = new_steps(Py_TYPE(self), self->is_signed);
+    if (made == NULL) return NULL;
+    Meeting meeting = {{self, other}, made, args[1], args[2] == args[3] ? NULL : args[2]};
+    /* The function may run any code, which can't reach the map before it is whole, and drops no value of the others. */
+    PyObject_GC_UnTrack(made);
+    self->values.readers++;
+    other->values.readers++;
+    bool fits = settle(self) && settle(other);
     if (fits) {
         made->kind = Py_NewRef(self->kind);
         made->is_plain = self->is_plain;
-        fits = meet(self, other, &meeting);
+        fits = meet(&meeting) && make_values(&meeting);
     }
-    fits = fits && make_values(made, &meeting, args[1], missing);
     if (fits) {
         range_set_status status = put_in_order(made, meeting.pieces, meeting.len);
         fits = status == RANGE_SET_DONE || raise_status(status, 0) != NULL;
     }
-    for (size_t i = 0; fits && i < meeting.pairs_len; i++) let_go(&made->values, meeting.pairs[i].made);
     forget(&meeting);
+    self->values.readers--;
+    other->values.readers--;
     if (fits) PyObject_GC_Track(made);
     else Py_CLEAR(made);
+    drop_unused(self);
+    drop_unused(other);
     return (PyObject *)made;
 }

@@ -270,11 +270,6 @@ bool read_range(PyObject *start, PyObject *end, bool is_signed, Range *range)
            && (end == Py_None || read_number(end, is_signed, &range->end));
 }
 
-bool is_reversed(Range range, bool is_signed)
-{
-    return range.has_end && (is_signed ? (int64_t)range.start >= (int64_t)range.end : range.start >= range.end);
-}
-
 /* One boundary if the range has no end, and none if it is empty or reversed. */
 PyObject *core_range_list(PyObject *module, PyObject *const *args, Py_ssize_t n)
 {

@@ -49,7 +49,10 @@ bool read_range(PyObject *start, PyObject *end, bool is_signed, Range *range);
 Range range_in(const List *list, size_t place);
 
 /* Whether a range has no number. */
-bool is_reversed(Range range, bool is_signed);
+static inline bool is_reversed(Range range, bool is_signed)
+{
+    return range.has_end && (is_signed ? (int64_t)range.start >= (int64_t)range.end : range.start >= range.end);
+}
 
 /* Whether the list is sorted. */
 range_set_status check_list(const List *list);

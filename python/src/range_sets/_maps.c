@@ -169,6 +169,11 @@ bool settle(Steps *self)
     return true;
 }
 
+void drop_unused(Steps *self)
+{
+    if (self->undo_len == 0) drop_left(&self->values);
+}
+
 /* Does all changes or none. A single one is whole by itself. Out of a map that had nothing all is taken again, and what it has is
  * counted once, if it isn't put in order. */
 static bool change_all(Steps *self, const Change *changes, size_t count)
@@ -260,8 +265,7 @@ static PyObject *steps_change(Steps *self, PyObject *const *args, Py_ssize_t n)
     }
     PyMem_Free(changes);
     Py_XDECREF(before);
-    /* What is put back needs its values. */
-    if (self->undo_len == 0) drop_left(&self->values);
+    drop_unused(self);
     return Py_XNewRef(answer);
 }
 

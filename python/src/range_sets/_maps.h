@@ -67,6 +67,9 @@ range_set_status put_in_order(Steps *self, const Change *changes, size_t count);
 /* Goes back to what the map was before changes that were refused memory midway. */
 bool settle(Steps *self);
 
+/* Drops the values that have no range any more, unless those are to be put back. */
+void drop_unused(Steps *self);
+
 /* A key as Python has it, and the value of a stretch that has one, which is borrowed. */
 PyObject *as_python(const Steps *self, uint64_t bits);
 PyObject *value_of(const Steps *self, const Stretch *it);

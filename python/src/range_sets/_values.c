@@ -18,24 +18,30 @@ size_t next_number(const Numbers *self, uint64_t hash, size_t *slot)
     }
 }
 
-void add_number(Numbers *self, uint64_t hash, size_t number)
+/* Puts a number in, for which there is room. */
+static void put_number(Numbers *self, uint64_t hash, size_t number)
 {
     size_t slot = first_slot(self, hash);
     while (self->slots[slot].number != NONE) slot = (slot + 1) & (self->room - 1);
     self->slots[slot].hash = hash;
     self->slots[slot].number = number;
+    self->used++;
 }
 
-bool make_numbers(Numbers *self, size_t room)
+bool add_number(Numbers *self, uint64_t hash, size_t number)
 {
-    Numbers made = {PyMem_Malloc(2 * room * sizeof *made.slots), 2 * room};
-    if (made.slots == NULL) return PyErr_NoMemory() != NULL;
-    for (size_t i = 0; i < made.room; i++) made.slots[i].number = NONE;
-    for (size_t i = 0; i < self->room; i++) {
-        if (self->slots[i].number != NONE) add_number(&made, self->slots[i].hash, self->slots[i].number);
+    if (2 * self->used == self->room) {
+        Numbers made = {.room = self->room == 0 ? 8 : 2 * self->room};
+        made.slots = PyMem_Malloc(made.room * sizeof *made.slots);
+        if (made.slots == NULL) return PyErr_NoMemory() != NULL;
+        for (size_t i = 0; i < made.room; i++) made.slots[i].number = NONE;
+        for (size_t i = 0; i < self->room; i++) {
+            if (self->slots[i].number != NONE) put_number(&made, self->slots[i].hash, self->slots[i].number);
+        }
+        PyMem_Free(self->slots);
+        *self = made;
     }
-    PyMem_Free(self->slots);
-    *self = made;
+    put_number(self, hash, number);
     return true;
 }
 
@@ -50,6 +56,7 @@ static void take_number(Numbers *self, uint64_t hash, size_t number)
         free = at;
     }
     self->slots[free].number = NONE;
+    self->used--;
 }
 
 /* ---- Values ---- */
@@ -62,7 +69,6 @@ static bool make_room(Values *self)
     Value *places = PyMem_Realloc(self->places, room * sizeof *places);
     if (places == NULL) return PyErr_NoMemory() != NULL;
     self->places = places;
-    if (!make_numbers(&self->numbers, room)) return false;
     self->room = room;
     for (size_t i = room; i-- > used; self->free = i) places[i] = (Value){.next = self->free};
     return true;
@@ -72,9 +78,9 @@ size_t add_value(Values *self, PyObject *value, Py_hash_t hash)
 {
     if (!make_room(self)) return NONE;
     size_t number = self->free;
+    if (!add_number(&self->numbers, (uint64_t)hash, number)) return NONE;
     self->free = self->places[number].next;
     self->places[number] = (Value){.value = Py_NewRef(value), .hash = hash};
-    add_number(&self->numbers, (uint64_t)hash, number);
     self->turns++;
     return number;
 }
@@ -90,25 +96,36 @@ int are_one(PyObject *a, PyObject *b)
     return is_one;
 }
 
+bool hash_of(PyObject *value, Py_hash_t *hash)
+{
+    *hash = PyObject_Hash(value);
+    if (*hash != -1) return true;
+    if (!PyErr_ExceptionMatches(PyExc_TypeError)) return false;
+    PyErr_Clear();
+    return true;
+}
+
 /* If an `==` puts a value in or takes one out, the search begins anew, as in a dict. */
-bool find_value(Values *self, PyObject *value, Py_hash_t *hash, size_t *number)
+bool find_value(Values *self, PyObject *value, Py_hash_t hash, size_t *number)
 {
     *number = NONE;
-    *hash = PyObject_Hash(value);
-    if (*hash == -1) {
-        if (!PyErr_ExceptionMatches(PyExc_TypeError)) return false;
-        PyErr_Clear();
-    }
-    size_t slot = first_slot(&self->numbers, (uint64_t)*hash), found;
-    while (*number == NONE && (found = next_number(&self->numbers, (uint64_t)*hash, &slot)) != NONE) {
+    size_t slot = first_slot(&self->numbers, (uint64_t)hash), found;
+    while (*number == NONE && (found = next_number(&self->numbers, (uint64_t)hash, &slot)) != NONE) {
         uint64_t seen = self->turns;
         int is_one = are_one(self->places[found].value, value);
         if (is_one < 0) return false;
-        if (self->turns != seen) slot = first_slot(&self->numbers, (uint64_t)*hash);
+        if (self->turns != seen) slot = first_slot(&self->numbers, (uint64_t)hash);
         else if (is_one) *number = found;
         else slot++;
     }
     return true;
+}
+
+bool find_or_add(Values *self, PyObject *value, Py_hash_t hash, size_t *number)
+{
+    if (!find_value(self, value, hash, number)) return false;
+    if (*number == NONE) *number = add_value(self, value, hash);
+    return *number != NONE;
 }
 
 size_t keep_again(Values *self, size_t number)
@@ -120,10 +137,9 @@ size_t keep_again(Values *self, size_t number)
 bool keep_value(Values *self, PyObject *value, size_t *number)
 {
     Py_hash_t hash;
-    if (!find_value(self, value, &hash, number)) return false;
-    if (*number == NONE) *number = add_value(self, value, hash);
-    if (*number != NONE) keep_again(self, *number);
-    return *number != NONE;
+    bool is_there = hash_of(value, &hash) && find_or_add(self, value, hash, number);
+    if (is_there) keep_again(self, *number);
+    return is_there;
 }
 
 static void see_left(Values *self, size_t number)
@@ -149,7 +165,7 @@ void count_ranges(Values *self, size_t number, size_t by)
 
 void drop_left(Values *self)
 {
-    while (self->left != NONE) {
+    while (self->left != NONE && self->readers == 0) {
         size_t number = self->left;
         Value *it = &self->places[number];
         self->left = it->next;
@@ -177,6 +193,7 @@ bool copy_values(const Values *self, Values *other)
     *other = *self;
     other->places = memcpy(places, self->places, places_size);
     other->numbers.slots = memcpy(slots, self->numbers.slots, slots_size);
+    other->readers = 0;
     /* The calls are about to put theirs into this table alone. */
     for (size_t i = 0; i < other->room; i++) {
         if (places[i].value == NULL) continue;

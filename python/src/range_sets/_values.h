@@ -19,14 +19,11 @@ typedef struct {
         /* NONE in a free slot. */
         size_t number;
     } *slots;
-    size_t room;
+    size_t room, used;
 } Numbers;
 
-/* Makes room for a power of two of numbers. False where there is no memory. */
-bool make_numbers(Numbers *self, size_t room);
-
-/* Adds a number, for which there is room. */
-void add_number(Numbers *self, uint64_t hash, size_t number);
+/* Adds a number. False where there is no memory. */
+bool add_number(Numbers *self, uint64_t hash, size_t number);
 
 /* The slot from which a hash is searched, and the next number of the hash from a slot on, or NONE. It moves on to the number's slot. */
 size_t first_slot(const Numbers *self, uint64_t hash);
@@ -56,18 +53,26 @@ typedef struct {
     size_t free, left;
     /* How many values were put in and taken out. */
     uint64_t turns;
+    /* How many calls read values by their numbers: until these end, no value is dropped. */
+    size_t readers;
 } Values;
 
 /* Whether two values are one: identical, or of one type and equal. Their `==` may run any code; -1 where it raises an error. */
 int are_one(PyObject *a, PyObject *b);
 
-/* Finds a value and its hash; its number is NONE if it isn't there. False where its code raises an error. */
-bool find_value(Values *self, PyObject *value, Py_hash_t *hash, size_t *number);
+/* The hash of a value, or -1 if it has none. False where its code raises an error. */
+bool hash_of(PyObject *value, Py_hash_t *hash);
+
+/* Finds a value by its hash; its number is NONE if it isn't there. False where an `==` raises an error. */
+bool find_value(Values *self, PyObject *value, Py_hash_t hash, size_t *number);
 
 /* Puts a value in that isn't there, and returns its number; NONE where there is no memory. */
 size_t add_value(Values *self, PyObject *value, Py_hash_t hash);
 
-/* Finds a value or puts it in, and keeps it until it is let go; and keeps one that is kept once more. */
+/* Finds a value by its hash, or puts it in. */
+bool find_or_add(Values *self, PyObject *value, Py_hash_t hash, size_t *number);
+
+/* The same, and keeps it until it is let go; and keeps one that is kept once more. */
 bool keep_value(Values *self, PyObject *value, size_t *number);
 size_t keep_again(Values *self, size_t number);
 void let_go(Values *self, size_t number);

@@ -36,7 +36,7 @@ PyObject *steps_find(Steps *self, PyObject *value)
 {
     Py_hash_t hash;
     size_t number;
-    if (!find_value(&self->values, value, &hash, &number) || !settle(self)) return NULL;
+    if (!hash_of(value, &hash) || !find_value(&self->values, value, hash, &number) || !settle(self)) return NULL;
     if (number != NONE) return keys_of(self, ALL(self), number);
     PyObject *bytes = PyBytes_FromStringAndSize(NULL, 0);
     return bytes == NULL ? NULL : list_over(bytes, 0, self->is_signed);
