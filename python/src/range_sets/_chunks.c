@@ -257,9 +257,9 @@ static PyObject *near_in_chunks(const Chunks *self, const List *of)
             items = longer;
         }
     }
-    PyObject *bytes = items == NULL ? PyErr_NoMemory() : PyBytes_FromStringAndSize((const char *)items, 8 * len);
+    PyObject *found = items == NULL ? PyErr_NoMemory() : list_of(items, len, self->is_signed);
     PyMem_Free(items);
-    return bytes == NULL ? NULL : list_over(bytes, len, self->is_signed);
+    return found;
 }
 
 static PyObject *list_now(Chunks *self)
@@ -366,7 +366,7 @@ static Py_ssize_t chunks_len(Chunks *self)
 static int chunks_bool(Chunks *self)
 {
     if (!settle(self)) return -1;
-    if (HANDLE(self) != NULL) return ASK_OF(self, next_member, self->is_signed ? INT64_MIN : 0, NULL);
+    if (HANDLE(self) != NULL) return ASK_OF(self, next_member, least_of(self->is_signed), NULL);
     Py_ssize_t len = chunks_len(self);
     return len < 0 ? -1 : len > 0;
 }

@@ -62,11 +62,6 @@ PyObject *core_print(PyObject *module, PyObject *object)
  * seven bits a byte, the lowest first, with the eighth bit set in each byte but the last. */
 enum { VERSION = 1, HEAD = 2, LONGEST = 10 };
 
-static uint64_t least_of(bool is_signed)
-{
-    return is_signed ? (uint64_t)INT64_MIN : 0;
-}
-
 static size_t write_distances(const List *list, unsigned char *out)
 {
     const uint64_t *numbers = list->items;

@@ -51,6 +51,12 @@ PyObject *list_over(PyObject *bytes, size_t len, bool is_signed)
     return boundaries_in(bytes, (uint64_t *)PyBytes_AS_STRING(bytes), len, is_signed);
 }
 
+PyObject *list_of(const uint64_t *numbers, size_t len, bool is_signed)
+{
+    PyObject *bytes = PyBytes_FromStringAndSize((const char *)numbers, 8 * len);
+    return bytes == NULL ? NULL : list_over(bytes, len, is_signed);
+}
+
 PyObject *list_or_error(PyObject *bytes, size_t len, bool is_signed, range_set_status status)
 {
     if (status == RANGE_SET_DONE) return list_over(bytes, len, is_signed);
@@ -72,8 +78,7 @@ static PyObject *part_of(Boundaries *self, Py_ssize_t start, Py_ssize_t end, boo
     if (len == self->len) return Py_NewRef(self);
     if (!is_kept || 16 * len >= PyBytes_GET_SIZE(self->bytes))
         return boundaries_in(Py_NewRef(self->bytes), self->items + start, len, self->is_signed);
-    PyObject *copy = PyBytes_FromStringAndSize((const char *)(self->items + start), 8 * len);
-    return copy == NULL ? NULL : list_over(copy, len, self->is_signed);
+    return list_of(self->items + start, len, self->is_signed);
 }
 
 static void boundaries_dealloc(Boundaries *self)
@@ -101,7 +106,7 @@ static Py_ssize_t boundaries_len(Boundaries *self)
 static PyObject *boundaries_item(Boundaries *self, Py_ssize_t at)
 {
     if (at < 0 || at >= self->len) return PyErr_Format(PyExc_IndexError, "there is no such boundary");
-    return self->is_signed ? PyLong_FromLongLong((int64_t)self->items[at]) : PyLong_FromUnsignedLongLong(self->items[at]);
+    return as_python(self->items[at], self->is_signed);
 }
 
 static PyObject *boundaries_subscript(Boundaries *self, PyObject *at)
@@ -245,6 +250,11 @@ bool borrow(PyObject *object, List *list, bool pairs, bool writable)
     return false;
 }
 
+PyObject *as_python(uint64_t bits, bool is_signed)
+{
+    return is_signed ? PyLong_FromLongLong((int64_t)bits) : PyLong_FromUnsignedLongLong(bits);
+}
+
 bool read_number(PyObject *object, bool is_signed, uint64_t *bits)
 {
     PyObject *number = PyNumber_Index(object);
@@ -259,11 +269,11 @@ bool read_number(PyObject *object, bool is_signed, uint64_t *bits)
 bool read_range(PyObject *start, PyObject *end, bool is_signed, Range *range)
 {
     range->has_end = end != Py_None;
-    range->start = is_signed ? (uint64_t)INT64_MIN : 0;
+    range->start = least_of(is_signed);
     if (end == Py_Ellipsis) {
         if (!read_number(start, is_signed, &range->start)) return false;
         range->end = range->start + 1;
-        range->has_end = range->start != (is_signed ? INT64_MAX : UINT64_MAX);
+        range->has_end = range->end != least_of(is_signed);
         return true;
     }
     return (start == Py_None || read_number(start, is_signed, &range->start))
@@ -276,8 +286,7 @@ PyObject *core_range_list(PyObject *module, PyObject *const *args, Py_ssize_t n)
     Range range;
     if (!has_arguments(n, 3) || !read_range(args[0], args[1], args[2] == Py_False, &range)) return NULL;
     Py_ssize_t len = is_reversed(range, args[2] == Py_False) ? 0 : 1 + range.has_end;
-    PyObject *bytes = PyBytes_FromStringAndSize((const char *)(uint64_t[]){range.start, range.end}, 8 * len);
-    return bytes == NULL ? NULL : list_over(bytes, len, args[2] == Py_False);
+    return list_of((uint64_t[]){range.start, range.end}, len, args[2] == Py_False);
 }
 
 range_set_status check_list(const List *list)

@@ -41,6 +41,13 @@ bool borrow_own(PyObject *object, List *list);
 
 bool has_arguments(Py_ssize_t n, Py_ssize_t wanted);
 
+/* The least number, and a number as Python has it. */
+static inline uint64_t least_of(bool is_signed)
+{
+    return is_signed ? (uint64_t)INT64_MIN : 0;
+}
+PyObject *as_python(uint64_t bits, bool is_signed);
+
 /* Reads a number of 64 bits, and a range. A start None is the least number, an end None is none, and `...` says that it is one number. */
 bool read_number(PyObject *object, bool is_signed, uint64_t *bits);
 bool read_range(PyObject *start, PyObject *end, bool is_signed, Range *range);
@@ -64,7 +71,8 @@ PyObject *joined(const List *a, const List *b, unsigned keep);
 void cut_to(List *list, Range range);
 void cut_to_span(List *list, const List *of);
 
-/* The first numbers of some bytes, which it takes over, as a list. They are sorted. */
+/* A list of a copy of numbers that are sorted; and of the first ones of some bytes, which it takes over. */
+PyObject *list_of(const uint64_t *numbers, size_t len, bool is_signed);
 PyObject *list_over(PyObject *bytes, size_t len, bool is_signed);
 PyObject *list_or_error(PyObject *bytes, size_t len, bool is_signed, range_set_status status);
 

@@ -271,11 +271,6 @@ static PyObject *steps_change(Steps *self, PyObject *const *args, Py_ssize_t n)
 
 /* ---- Questions ---- */
 
-PyObject *as_python(const Steps *self, uint64_t bits)
-{
-    return self->is_signed ? PyLong_FromLongLong((int64_t)bits) : PyLong_FromUnsignedLongLong(bits);
-}
-
 PyObject *value_of(const Steps *self, const Stretch *it)
 {
     return self->values.places[it->value].value;
@@ -284,8 +279,8 @@ PyObject *value_of(const Steps *self, const Stretch *it)
 /* Its start, its end or None, and its value or what stands for none: owned ones, since a new tuple may run the collector. */
 static PyObject *in_python(const Steps *self, const Stretch *it, PyObject *nothing)
 {
-    PyObject *end = it->has_end ? as_python(self, it->end) : Py_NewRef(Py_None);
-    PyObject *start = as_python(self, it->has_start ? it->start : LEAST(self));
+    PyObject *end = it->has_end ? as_python(it->end, self->is_signed) : Py_NewRef(Py_None);
+    PyObject *start = as_python(it->has_start ? it->start : LEAST(self), self->is_signed);
     return Py_BuildValue("(NNN)", start, end, Py_NewRef(it->has_value ? value_of(self, it) : nothing));
 }
 
@@ -553,7 +548,7 @@ PyObject *core_ends_and_values(PyObject *module, PyObject *const *args, Py_ssize
         fits = read_plain(PyTuple_GET_ITEM(pairs, i), is_signed, &range);
         if (!fits || is_reversed(range, is_signed)) continue;
         ends[0] = range.start;
-        ends[1] = range.has_end ? range.end : is_signed ? (uint64_t)INT64_MIN : 0;
+        ends[1] = range.has_end ? range.end : least_of(is_signed);
         PyTuple_SET_ITEM(values, count++, Py_NewRef(PyTuple_GET_ITEM(PyTuple_GET_ITEM(pairs, i), 1)));
     }
     if (fits && _PyBytes_Resize(&bytes, 16 * count) == 0 && _PyTuple_Resize(&values, count) == 0) {

@@ -34,7 +34,7 @@ typedef struct {
 
 typedef range_map_u64_stretch Stretch;
 
-#define LEAST(self) ((self)->is_signed ? (uint64_t)INT64_MIN : 0)
+#define LEAST(self) least_of((self)->is_signed)
 #define MOST(self) (LEAST(self) - 1)
 #define ALL(self) ((Range){LEAST(self), 0, false})
 
@@ -70,8 +70,7 @@ bool settle(Steps *self);
 /* Drops the values that have no range any more, unless those are to be put back. */
 void drop_unused(Steps *self);
 
-/* A key as Python has it, and the value of a stretch that has one, which is borrowed. */
-PyObject *as_python(const Steps *self, uint64_t bits);
+/* The value of a stretch that has one, which is borrowed. */
 PyObject *value_of(const Steps *self, const Stretch *it);
 
 /* Methods that go over ranges. */

@@ -450,7 +450,7 @@ class RangeMap(Attributes, Generic[K, V]):
             if depth:
                 ends += start, end
                 depths.append(depth)
-        return _made(found, _packed(ends, found), depths)
+        return _made(RangeMap, found, _packed(ends, found), tuple(depths))
 
     def combine(self, other: RangeMap[K, V], how: Callable[[V, V], V], missing: V = _NOTHING) -> RangeMap[K, V]:
         """The map of what `how` makes of the values of both maps. Where one alone has a value, it stays, or with `missing` this stands
@@ -521,12 +521,12 @@ class RangeMap(Attributes, Generic[K, V]):
 
 def _remade(cls: type[M], ends: bytes, values: tuple[Any, ...], name: str | None, order: str) -> M:
     """The map of a pickle."""
-    made, kind = cls.__new__(cls), kind_of(name) or NO_KIND
-    numbers = array(code_of(kind.unsigned), ends)
+    kind = kind_of(name) or NO_KIND
     if order != sys.byteorder:
+        numbers = array(code_of(kind.unsigned), ends)
         numbers.byteswap()
-    made._begin(kind)
-    made._steps.change(numbers.tobytes(), values, kind, kind)
+        ends = numbers.tobytes()
+    made = _made(cls, kind, ends, values)
     if not all(kind is not NO_KIND and (it is None or kind.least <= it <= kind.most) for it in made._span() or ()):
         raise ValueError(f"the bytes are no map of the kind {kind.name}")
     return made
@@ -540,10 +540,10 @@ def _restored(cls: type[M], items: Any, kind: KindLike) -> M:
     return made
 
 
-def _made(kind: Kind, ends: bytes, values: list[Any]) -> RangeMap[Any, Any]:
-    made: RangeMap[Any, Any] = RangeMap.__new__(RangeMap)
+def _made(cls: type[M], kind: Kind, ends: bytes, values: tuple[Any, ...]) -> M:
+    made = cls.__new__(cls)
     made._begin(kind)
-    made._steps.change(ends, tuple(values), kind, kind)
+    made._steps.change(ends, values, kind, kind)
     return made
 
 

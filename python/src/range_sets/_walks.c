@@ -19,9 +19,9 @@ static PyObject *keys_of(const Steps *self, Range range, size_t number)
         if (longer == NULL) PyMem_Free(items);
         items = longer;
     }
-    PyObject *bytes = items == NULL ? PyErr_NoMemory() : PyBytes_FromStringAndSize((const char *)items, 8 * len);
+    PyObject *found = items == NULL ? PyErr_NoMemory() : list_of(items, len, self->is_signed);
     PyMem_Free(items);
-    return bytes == NULL ? NULL : list_over(bytes, len, self->is_signed);
+    return found;
 }
 
 /* Is given a start and an end. */
@@ -37,9 +37,7 @@ PyObject *steps_find(Steps *self, PyObject *value)
     Py_hash_t hash;
     size_t number;
     if (!hash_of(value, &hash) || !find_value(&self->values, value, hash, &number) || !settle(self)) return NULL;
-    if (number != NONE) return keys_of(self, ALL(self), number);
-    PyObject *bytes = PyBytes_FromStringAndSize(NULL, 0);
-    return bytes == NULL ? NULL : list_over(bytes, 0, self->is_signed);
+    return number == NONE ? list_of(NULL, 0, self->is_signed) : keys_of(self, ALL(self), number);
 }
 
 /* ---- Many ranges ---- */
@@ -132,8 +130,8 @@ static PyObject *items_next(Items *self)
     if (!self->has_keys) return value;
     bool is_plain = steps->is_plain;
     PyObject *kind = Py_NewRef(steps->kind);
-    PyObject *start = key_of(is_plain, kind, as_python(steps, it.start)), *end = NULL;
-    if (start != NULL) end = it.has_end ? key_of(is_plain, kind, as_python(steps, it.end)) : Py_NewRef(Py_None);
+    PyObject *start = key_of(is_plain, kind, as_python(it.start, steps->is_signed)), *end = NULL;
+    if (start != NULL) end = it.has_end ? key_of(is_plain, kind, as_python(it.end, steps->is_signed)) : Py_NewRef(Py_None);
     Py_DECREF(kind);
     PyObject *keys = pair_of(start, end, !is_plain);
     return value == NULL ? keys : pair_of(keys, value, !is_plain || PyObject_IS_GC(value));
