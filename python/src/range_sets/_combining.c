@@ -1,20 +1,15 @@
 /* What is made of two maps. It is tested, not proved. */
 #include "_maps.h"
 
-/* The numbers of the values that meet in both maps, or NONE for none. */
-typedef struct {
-    size_t of[2];
-} Pair;
-
 typedef struct {
     const Steps *maps[2];
     /* What is made: of two values by a function, and of one alone with what stands for the other, or NULL if it stays. */
     Steps *made;
     PyObject *how, *missing;
-    /* The longest ranges whose keys have one value or none in each map, and one in either; and their pairs. The number is that of what
-     * is made of the pair; before that it is NONE if no other piece has the pair. */
+    /* The longest ranges whose keys have one value or none in each map, and one in either; and the numbers of these, or NONE. That of a
+     * piece is the one of what is made of its pair; before that it is NONE if no other piece has the pair. */
     Change *pieces;
-    Pair *pairs;
+    size_t (*pairs)[2];
     size_t len;
     /* The first piece of each pair that more may have. */
     Numbers firsts;
@@ -72,10 +67,11 @@ static bool meet(Meeting *meeting)
         bool is_mine = !b.has_end || (a.has_end && is_reversed((Range){b.end, a.end, true}, self->is_signed));
         const Stretch *first = is_mine ? &a : &b;
         if (a.has_value || b.has_value) {
-            Pair pair = {{a.has_value ? a.value : NONE, b.has_value ? b.value : NONE}};
-            bool is_once = has_one_range(self, pair.of[0]) && has_one_range(other, pair.of[1]);
-            meeting->pieces[meeting->len] = (Change){{at, first->end, first->has_end}, is_once ? NONE : 0};
-            meeting->pairs[meeting->len++] = pair;
+            size_t *pair = meeting->pairs[meeting->len];
+            pair[0] = a.has_value ? a.value : NONE;
+            pair[1] = b.has_value ? b.value : NONE;
+            bool is_once = has_one_range(self, pair[0]) && has_one_range(other, pair[1]);
+            meeting->pieces[meeting->len++] = (Change){{at, first->end, first->has_end}, is_once ? NONE : 0};
         }
         at = first->end;
     }
@@ -93,11 +89,11 @@ static bool keep_own(Meeting *meeting, int side, size_t number, size_t *found)
 }
 
 /* Makes a value of a pair. */
-static bool make_value(Meeting *meeting, Pair pair, size_t *number)
+static bool make_value(Meeting *meeting, const size_t *pair, size_t *number)
 {
     PyObject *both[2];
     for (int i = 0; i < 2; i++)
-        both[i] = pair.of[i] == NONE ? meeting->missing : meeting->maps[i]->values.places[pair.of[i]].value;
+        both[i] = pair[i] == NONE ? meeting->missing : meeting->maps[i]->values.places[pair[i]].value;
     PyObject *value = PyObject_Vectorcall(meeting->how, both, 2, NULL);
     Py_hash_t hash;
     bool is_kept = value != NULL && hash_of(value, &hash) && find_or_add(&meeting->made->values, value, hash, number);
@@ -108,12 +104,12 @@ static bool make_value(Meeting *meeting, Pair pair, size_t *number)
 /* The same, unless a piece before has the pair. Two of one hash that begin alike are one pair. */
 static bool make_once(Meeting *meeting, size_t piece)
 {
-    Pair pair = meeting->pairs[piece];
+    const size_t *pair = meeting->pairs[piece];
     size_t *number = &meeting->pieces[piece].number, first;
-    uint64_t hash = pair.of[0] * 0xD1B54A32D192ED03u + pair.of[1];
+    uint64_t hash = pair[0] * 0xD1B54A32D192ED03u + pair[1];
     size_t slot = first_slot(&meeting->firsts, hash);
     for (; (first = next_number(&meeting->firsts, hash, &slot)) != NONE; slot++) {
-        if (meeting->pairs[first].of[0] != pair.of[0]) continue;
+        if (meeting->pairs[first][0] != pair[0]) continue;
         *number = meeting->pieces[first].number;
         return true;
     }
@@ -125,10 +121,10 @@ static bool make_values(Meeting *meeting)
 {
     bool fits = true;
     for (size_t i = 0; fits && i < meeting->len; i++) {
-        Pair pair = meeting->pairs[i];
+        const size_t *pair = meeting->pairs[i];
         size_t *number = &meeting->pieces[i].number;
-        int side = pair.of[0] == NONE;
-        if (meeting->missing == NULL && pair.of[!side] == NONE) fits = keep_own(meeting, side, pair.of[side], number);
+        int side = pair[0] == NONE;
+        if (meeting->missing == NULL && pair[!side] == NONE) fits = keep_own(meeting, side, pair[side], number);
         else fits = *number == NONE ? make_value(meeting, pair, number) : make_once(meeting, i);
     }
     return fits;
