@@ -252,7 +252,7 @@ MUTANTS = [
     Mutant("a set in chunks that is split keeps all", "chunked/taking.rs", "self.remove(at.clone()..);", "", "composed"),
     Mutant("a set in chunks has a part after a panic in append", "chunked/taking.rs",
            "let mut own = mem::take(self);\n        own.extend(mem::take(that));\n        *self = own;", "self.extend(mem::take(that));", "hostile"),
-    Mutant("a map has a part after a panic in append", "map/more.rs",
+    Mutant("a map has a part after a panic in append", "map/composed.rs",
            "let mut own = mem::take(self);\n        own.extend(mem::take(that));\n        *self = own;", "self.extend(mem::take(that));", "hostile"),
     Mutant("a set in chunks by value has no end from the back", "iter.rs", "self.0.len() % 2 == 1;", "false;", "composed"),
     Mutant("from the front the highest chunk is lost", "chunked/iter.rs",
