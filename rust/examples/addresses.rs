@@ -1,4 +1,5 @@
-//! Addresses of a network that are free: blocks are put in and taken out, and they are text, in ranges and in blocks.
+//! Addresses of a network that are free: blocks are put in and taken out, and they are text, in
+//! ranges and in blocks.
 
 use range_sets::{NextValue, RangeSet2};
 use std::error::Error;

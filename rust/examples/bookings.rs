@@ -1,4 +1,5 @@
-//! Bookings of a room, a floor plan and a version table: a program written for range-collections 0.4.6.
+//! Bookings of a room, a floor plan and a version table: a program written for range-collections
+//! 0.4.6.
 //!
 //! Only its `use` lines were changed, from `range_collections::` to `range_sets::`.
 

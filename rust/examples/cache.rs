@@ -1,4 +1,5 @@
-//! A cache of the parts of a file: which bytes are here, which a reader still waits for, and an index that a later run reads.
+//! A cache of the parts of a file: which bytes are here, which a reader still waits for, and an
+//! index that a later run reads.
 
 use range_sets::{RangeSet, RangeSetRef};
 use std::error::Error;
@@ -18,7 +19,8 @@ impl Cache {
         Cache { length, here }
     }
 
-    /// Notes that a part has come. A server may send more than there is, so what lies beyond the file's end is dropped.
+    /// Notes that a part has come. A server may send more than there is, so what lies beyond the
+    /// file's end is dropped.
     fn put(&mut self, part: Range<u64>) {
         self.here.insert(part);
         self.here &= Bytes::from(..self.length);
@@ -38,7 +40,8 @@ impl Cache {
             .collect()
     }
 
-    /// How many of a hundred bytes are here. A set without an end has no count, and `put` leaves none.
+    /// How many of a hundred bytes are here. A set without an end has no count, and `put` leaves
+    /// none.
     fn percent(&self) -> u128 {
         self.here.covered().unwrap_or(0) * 100 / u128::from(self.length.max(1))
     }
@@ -48,8 +51,8 @@ impl Cache {
         serde_json::to_string(&(self.length, &self.here))
     }
 
-    /// Reads an index. A damaged one is refused, since bytes that never came could count as here: its boundaries have to be
-    /// strictly sorted, and no range may go past the file's end.
+    /// Reads an index. A damaged one is refused, since bytes that never came could count as here:
+    /// its boundaries have to be strictly sorted, and no range may go past the file's end.
     fn of_index(text: &str) -> Result<Self, Box<dyn Error>> {
         let (length, boundaries): (u64, Vec<u64>) = serde_json::from_str(text)?;
         let here = RangeSetRef::new(&boundaries).ok_or("the boundaries aren't strictly sorted")?;

@@ -1,4 +1,5 @@
-//! When several people can meet: what each has booked in minutes of a week, and the first hour that suits all.
+//! When several people can meet: what each has booked in minutes of a week, and the first hour that
+//! suits all.
 
 use range_sets::RangeSet2;
 use std::collections::BTreeMap;

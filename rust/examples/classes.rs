@@ -1,4 +1,5 @@
-//! Character classes, as patterns have them: made from ranges, combined, negated, and written in brackets.
+//! Character classes, as patterns have them: made from ranges, combined, negated, and written in
+//! brackets.
 
 use range_sets::{Countable, RangeSet2};
 
@@ -25,7 +26,8 @@ fn shown(c: char) -> String {
     }
 }
 
-/// The class in brackets. A range has its last character, and one without an end the greatest of all.
+/// The class in brackets. A range has its last character, and one without an end the greatest of
+/// all.
 fn pattern(class: &Class) -> String {
     let mut text = String::from("[");
     for range in class {

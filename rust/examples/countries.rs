@@ -1,5 +1,5 @@
-//! Which country an address belongs to, by a table of 100,000 blocks, as registries of addresses publish them. The table is made
-//! here: its countries mean nothing.
+//! Which country an address belongs to, by a table of 100,000 blocks, as registries of addresses
+//! publish them. The table is made here: its countries mean nothing.
 
 use range_sets::RangeMap;
 use std::error::Error;

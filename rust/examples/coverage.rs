@@ -1,4 +1,5 @@
-//! How deep a genome is covered by a million reads: how many of them have each base. The reads are made here.
+//! How deep a genome is covered by a million reads: how many of them have each base. The reads are
+//! made here.
 
 use range_sets::RangeMap;
 use std::ops::Range;
@@ -6,7 +7,8 @@ use std::ops::Range;
 const READS: usize = 1_000_000;
 const BASES: u64 = 5_000_000;
 
-/// The places of reads of 100 to 200 bases, in no order. The middle of the genome is read twice as often as the rest.
+/// The places of reads of 100 to 200 bases, in no order. The middle of the genome is read twice as
+/// often as the rest.
 fn reads() -> Vec<Range<u32>> {
     let mut random = 1u64;
     let mut below = |n: u64| {

@@ -1,5 +1,5 @@
-//! A file of a million pieces that come in random order: which are here, which one to ask for next, and what a player may
-//! read already.
+//! A file of a million pieces that come in random order: which are here, which one to ask for next,
+//! and what a player may read already.
 
 use range_sets::ChunkedRangeSet;
 use std::ops::Range;

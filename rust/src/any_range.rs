@@ -27,7 +27,8 @@ use std::net::{Ipv4Addr, Ipv6Addr};
 /// | [`RangeSetRange`] | nothing more | the range itself |
 /// | `&(a..b)` | [`Clone`] | a clone of the range |
 ///
-/// An empty or a reversed range, as `5..=3`, has no values. It is implemented for these, and for nothing else.
+/// An empty or a reversed range, as `5..=3`, has no values. It is implemented for these, and for
+/// nothing else.
 ///
 /// # Examples
 ///
@@ -66,8 +67,8 @@ impl<T: Clone> AnyRange<T> for &Range<T> {}
 
 /// What becomes a [`RangeSetRange`] by `into`, as what a set is collected of.
 ///
-/// It is implemented for all that does, and for nothing else: for ranges of std, for `&(a..b)`, and for a range of your own
-/// with a `From` for it.
+/// It is implemented for all that does, and for nothing else: for ranges of std, for `&(a..b)`, and
+/// for a range of your own with a `From` for it.
 ///
 /// # Examples
 ///
@@ -118,8 +119,9 @@ impl<T> Sealed for &Range<T> {}
 
 /// An element type whose values have a next one, so that `a..=b` is a range of it.
 ///
-/// It is implemented for whole numbers, `NonZero` numbers without a sign, `char` and [`Duration`], and with the feature
-/// `std` for `Ipv4Addr` and `Ipv6Addr`. It is tested, and no contract is proved of it.
+/// It is implemented for whole numbers, `NonZero` numbers without a sign, `char` and [`Duration`],
+/// and with the feature `std` for `Ipv4Addr` and `Ipv6Addr`. It is tested, and no contract is
+/// proved of it.
 ///
 /// # Examples
 ///

@@ -21,8 +21,8 @@ use smallvec::SmallVec;
 
 /// An array type: its length is the number of boundaries that a set keeps in itself.
 ///
-/// It is implemented for `[T; N]` at every length `N`, and for nothing else. A set with more boundaries than that
-/// keeps them in an allocation.
+/// It is implemented for `[T; N]` at every length `N`, and for nothing else. A set with more
+/// boundaries than that keeps them in an allocation.
 ///
 /// # Examples
 ///
@@ -81,9 +81,11 @@ pub enum Sorting {
     Fallible,
 }
 
-/// What a set asks of its list. Each call is one of the generated code's, which names the length of the array.
+/// What a set asks of its list. Each call is one of the generated code's, which names the length of
+/// the array.
 ///
-/// A list that comes out of a call, or that a call has changed, is strictly sorted where those that went in were.
+/// A list that comes out of a call, or that a call has changed, is strictly sorted where those that
+/// went in were.
 pub trait List: Sized {
     type Item;
 
@@ -111,7 +113,8 @@ pub trait List: Sized {
         Ok(list)
     }
 
-    /// The boundaries of the union of ranges. Those that don't come in order are sorted in this way.
+    /// The boundaries of the union of ranges. Those that don't come in order are sorted in this
+    /// way.
     fn of_ranges(
         ranges: impl Iterator<Item = RangeSetRange<Self::Item>>,
         sorting: Sorting,
@@ -192,7 +195,8 @@ pub trait List: Sized {
         P: Copier<Self::Item>,
         O: MergeOperation;
 
-    /// Leaves the boundaries at which an operation with an owned list switches. An error gives that list back.
+    /// Leaves the boundaries at which an operation with an owned list switches. An error gives that
+    /// list back.
     fn merge_owned<O>(&mut self, that: Self, op: &O) -> Result<(), (AllocError, Self)>
     where
         Self::Item: Ord,
@@ -246,7 +250,8 @@ pub trait List: Sized {
     /// Takes the last range out.
     fn take_last(&mut self) -> Option<RangeSetRange<Self::Item>>;
 
-    /// Leaves the ranges for which `keep` is true. The list is left empty if `keep` or a drop panics.
+    /// Leaves the ranges for which `keep` is true. The list is left empty if `keep` or a drop
+    /// panics.
     fn retain(&mut self, keep: impl FnMut(RangeSetRange<&Self::Item>) -> bool);
 }
 

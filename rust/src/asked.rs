@@ -48,8 +48,8 @@ macro_rules! questions {
                 self.proved().is_all()
             }
 
-            /// Returns `true` if every value of a range [of any kind](AnyRange) is a member. It is so for an
-            /// empty or a reversed range.
+            /// Returns `true` if every value of a range [of any kind](AnyRange) is a member. It is
+            /// so for an empty or a reversed range.
             ///
             /// It makes *O*(log *n*) comparisons.
             ///
@@ -72,8 +72,8 @@ macro_rules! questions {
                 }
             }
 
-            /// Returns `true` if some value of a range [of any kind](AnyRange) is a member. An empty or a
-            /// reversed range has none.
+            /// Returns `true` if some value of a range [of any kind](AnyRange) is a member. An
+            /// empty or a reversed range has none.
             ///
             /// It makes *O*(log *n*) comparisons.
             ///
@@ -136,9 +136,11 @@ macro_rules! questions {
                 self.proved().next_member(from)
             }
 
-            /// Returns the lowest value at or above `from` that is no member, or `None` if there is none.
+            /// Returns the lowest value at or above `from` that is no member, or `None` if there is
+            /// none.
             ///
-            /// It is `from` itself if that is no member, else the end of the range that has it. It makes
+            /// It is `from` itself if that is no member, else the end of the range that has it. It
+            /// makes
             /// *O*(log *n*) comparisons.
             ///
             /// # Examples
@@ -161,8 +163,8 @@ macro_rules! questions {
 
             /// Returns the greatest member at or below `from`, or `None` if there is none.
             ///
-            /// It is `from` itself if that is a member, else the value just below the end of the range before.
-            /// It makes *O*(log *n*) comparisons.
+            /// It is `from` itself if that is a member, else the value just below the end of the
+            /// range before. It makes *O*(log *n*) comparisons.
             ///
             /// # Examples
             ///
@@ -182,10 +184,11 @@ macro_rules! questions {
                 self.proved().prev_member(from)
             }
 
-            /// Returns the greatest value at or below `from` that is no member, or `None` if there is none.
+            /// Returns the greatest value at or below `from` that is no member, or `None` if there
+            /// is none.
             ///
-            /// It is `from` itself if that is no member, else the value just below the start of the range that
-            /// has it. It makes *O*(log *n*) comparisons.
+            /// It is `from` itself if that is no member, else the value just below the start of the
+            /// range that has it. It makes *O*(log *n*) comparisons.
             ///
             /// # Examples
             ///
@@ -235,8 +238,8 @@ macro_rules! questions {
                 self.proved().last().map(RangeSetRange::from_proved)
             }
 
-            /// Returns the range from the start of the lowest range to the end of the highest, or `None` if
-            /// the set is empty.
+            /// Returns the range from the start of the lowest range to the end of the highest, or
+            /// `None` if the set is empty.
             ///
             /// # Examples
             ///
@@ -251,10 +254,12 @@ macro_rules! questions {
                 self.proved().span().map(RangeSetRange::from_proved)
             }
 
-            /// Returns an iterator over the parts of a range that aren't in the set, from the lowest on.
+            /// Returns an iterator over the parts of a range that aren't in the set, from the
+            /// lowest on.
             ///
-            /// None of them is empty. It makes *O*(log *n*) comparisons, and none for a step, if the ends are
-            /// references. The range may be of any kind: [`Within`] says what its parts are.
+            /// None of them is empty. It makes *O*(log *n*) comparisons, and none for a step, if
+            /// the ends are references. The range may be of any kind: [`Within`] says what its
+            /// parts are.
             ///
             /// # Examples
             ///
@@ -272,10 +277,12 @@ macro_rules! questions {
                 within.parts_of(self, false)
             }
 
-            /// Returns an iterator over the parts of a range that are in the set, from the lowest on.
+            /// Returns an iterator over the parts of a range that are in the set, from the lowest
+            /// on.
             ///
-            /// None of them is empty. It makes *O*(log *n*) comparisons, and none for a step, if the ends are
-            /// references. The range may be of any kind: [`Within`] says what its parts are.
+            /// None of them is empty. It makes *O*(log *n*) comparisons, and none for a step, if
+            /// the ends are references. The range may be of any kind: [`Within`] says what its
+            /// parts are.
             /// [`overlapping`](Self::overlapping) gives ranges that aren't cut.
             ///
             /// # Examples
@@ -290,7 +297,8 @@ macro_rules! questions {
                 within.parts_of(self, true)
             }
 
-            /// Returns how many values are members, or `None` if the set has no end. A set without an end has
+            /// Returns how many values are members, or `None` if the set has no end. A set without
+            /// an end has
             /// [`rank`](Self::rank) of the greatest value members, and that value.
             ///
             /// It looks at each boundary.
@@ -335,7 +343,8 @@ macro_rules! questions {
                 self.proved().rank(value)
             }
 
-            /// Returns the member with `k` members below it, or `None` if there are no more than `k`.
+            /// Returns the member with `k` members below it, or `None` if there are no more than
+            /// `k`.
             ///
             /// It takes time for each boundary up to the answer.
             ///
@@ -356,12 +365,12 @@ macro_rules! questions {
                 self.proved().select(k)
             }
 
-            /// Returns the least value of the range from which on `count` values of it are free, that is, not
-            /// members, and which is a multiple of `align`.
+            /// Returns the least value of the range from which on `count` values of it are free,
+            /// that is, not members, and which is a multiple of `align`.
             ///
-            /// Multiples are counted from the number 0, in both directions, and from the first value of a type
-            /// without numbers below it. It is `None` if there is none, or if `align` is 0. It takes time for
-            /// each boundary up to the answer.
+            /// Multiples are counted from the number 0, in both directions, and from the first
+            /// value of a type without numbers below it. It is `None` if there is none, or if
+            /// `align` is 0. It takes time for each boundary up to the answer.
             ///
             /// # Examples
             ///
@@ -389,11 +398,11 @@ macro_rules! questions {
                     .first_fit_aligned(within.ended(), count, align)
             }
 
-            /// Returns the least value of the range from which on `count` values of it are members: where so
-            /// many fit, in a set of what is free.
+            /// Returns the least value of the range from which on `count` values of it are members:
+            /// where so many fit, in a set of what is free.
             ///
-            /// It is `None` if there are no such values, and for a `count` of 0 the start of a range that isn't
-            /// reversed. It takes time for each boundary up to the answer.
+            /// It is `None` if there are no such values, and for a `count` of 0 the start of a
+            /// range that isn't reversed. It takes time for each boundary up to the answer.
             ///
             /// # Examples
             ///

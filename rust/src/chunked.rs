@@ -19,10 +19,11 @@ use core::mem;
 
 /// A set that is changed one range at a time, and may grow to millions of ranges.
 ///
-/// A [`RangeSet`](crate::RangeSet) keeps its boundaries in one list, so a change moves all that come after it. Here they lie in chunks
-/// of at most 512, and a change moves those of one chunk, and now and then the list of chunks. Take a `RangeSet` for
-/// operations on whole sets, views and text, and up to some 10,000 ranges; take this one for the pieces of a download
-/// or the blocks of an allocator beyond that. [`ChunkedSpace`](crate::ChunkedSpace) is faster where room between the
+/// A [`RangeSet`](crate::RangeSet) keeps its boundaries in one list, so a change moves all that
+/// come after it. Here they lie in chunks of at most 512, and a change moves those of one chunk,
+/// and now and then the list of chunks. Take a `RangeSet` for operations on whole sets, views and
+/// text, and up to some 10,000 ranges; take this one for the pieces of a download or the blocks of
+/// an allocator beyond that. [`ChunkedSpace`](crate::ChunkedSpace) is faster where room between the
 /// ranges is looked for again and again.
 ///
 /// # Examples
@@ -51,8 +52,9 @@ use core::mem;
 ///
 /// # Comparisons
 ///
-/// Among *c* chunks a search makes at most as many comparisons as *c* has binary digits, and ten more. A question with
-/// one value is one search. A change, or a question with a range, is two, and one comparison of the range's ends.
+/// Among *c* chunks a search makes at most as many comparisons as *c* has binary digits, and ten
+/// more. A question with one value is one search. A change, or a question with a range, is two, and
+/// one comparison of the range's ends.
 ///
 /// # Memory
 ///
@@ -66,10 +68,11 @@ use core::mem;
 pub struct ChunkedRangeSet<T: Ord>(proved::ChunkedRangeSet<T>);
 
 impl<T: Ord> ChunkedRangeSet<T> {
-    /// Returns the least number of the range from which on `len` numbers of it are free, that is, not members.
+    /// Returns the least number of the range from which on `len` numbers of it are free, that is,
+    /// not members.
     ///
-    /// It is `None` if there is no such stretch. It takes time for each boundary up to the answer; for repeated
-    /// searches there is [`ChunkedSpace::first_fit`](crate::ChunkedSpace::first_fit).
+    /// It is `None` if there is no such stretch. It takes time for each boundary up to the answer;
+    /// for repeated searches there is [`ChunkedSpace::first_fit`](crate::ChunkedSpace::first_fit).
     ///
     /// # Examples
     ///
@@ -132,7 +135,8 @@ impl<T: Ord> ChunkedRangeSet<T> {
         self.0.boundaries_len()
     }
 
-    /// Returns an iterator over the ranges, from the lowest on. It also runs from the highest range down.
+    /// Returns an iterator over the ranges, from the lowest on. It also runs from the highest range
+    /// down.
     ///
     /// # Examples
     ///
@@ -155,8 +159,9 @@ impl<T: Ord> ChunkedRangeSet<T> {
     #[allow(unsafe_code)]
     #[inline(always)]
     pub(crate) fn over(set: &proved::ChunkedRangeSet<T>) -> &Self {
-        // SAFETY: the struct is a proved set and nothing else (`repr(transparent)`), so a pointer to the one is a
-        // pointer to the other. Every proved set is a valid value: nothing more is asked of it.
+        // SAFETY: the struct is a proved set and nothing else (`repr(transparent)`), so a pointer
+        // to the one is a pointer to the other. Every proved set is a valid value: nothing more is
+        // asked of it.
         unsafe { &*(set as *const proved::ChunkedRangeSet<T> as *const Self) }
     }
 
@@ -185,7 +190,8 @@ impl<T: Ord> ChunkedRangeSet<T> {
     }
 }
 
-/// A set that is being changed. A drop of it means that something panicked: its boundaries are counted anew.
+/// A set that is being changed. A drop of it means that something panicked: its boundaries are
+/// counted anew.
 struct Changing<'a, T: Ord>(&'a mut proved::ChunkedRangeSet<T>);
 
 impl<T: Ord> Drop for Changing<'_, T> {

@@ -6,7 +6,8 @@ use crate::support;
 use alloc::vec::Vec;
 use core::iter;
 
-/// An item made of each, in chunks as long as theirs. Where they have the same size, they lie where those were.
+/// An item made of each, in chunks as long as theirs. Where they have the same size, they lie where
+/// those were.
 pub(crate) fn of_items<T, U, M: Mark>(items: Chunks<T, M>, item: impl Fn(T) -> U) -> Chunks<U, M> {
     let chunks = items.chunks.into_iter().map(|chunk| Chunk {
         first: item(chunk.first),

@@ -13,13 +13,14 @@ use std::net::{Ipv4Addr, Ipv6Addr};
 
 /// An element type that has a least value.
 ///
-/// "All values", `..end`, `!` and `combine` ask for it: they need a boundary below which there is nothing. Other calls
-/// ask for [`Ord`], and those that copy boundaries for [`Clone`].
+/// "All values", `..end`, `!` and `combine` ask for it: they need a boundary below which there is
+/// nothing. Other calls ask for [`Ord`], and those that copy boundaries for [`Clone`].
 ///
-/// It is implemented for whole numbers, `NonZero` numbers without a sign, `char`, [`String`], `&str`, [`Vec`],
-/// slices, [`Option`] and [`Duration`], and with the feature `std` for `Ipv4Addr` and `Ipv6Addr`. What the impls here
-/// say is tested, and no contract is proved of it. Floats have no order of their own: a wrapper with `Ord`, as
-/// `OrderedFloat` of the crate ordered-float, can be an element.
+/// It is implemented for whole numbers, `NonZero` numbers without a sign, `char`, [`String`],
+/// `&str`, [`Vec`], slices, [`Option`] and [`Duration`], and with the feature `std` for `Ipv4Addr`
+/// and `Ipv6Addr`. What the impls here say is tested, and no contract is proved of it. Floats have
+/// no order of their own: a wrapper with `Ord`, as `OrderedFloat` of the crate ordered-float, can
+/// be an element.
 ///
 /// # Examples
 ///
@@ -169,9 +170,11 @@ impl FromPlace for Duration {
 /// How many nanoseconds a second has.
 const NANOS: u128 = 1_000_000_000;
 
-/// An element type whose values are lengths too, as [`first_fit`](crate::RangeSetRef::first_fit) asks for one.
+/// An element type whose values are lengths too, as [`first_fit`](crate::RangeSetRef::first_fit)
+/// asks for one.
 ///
-/// It is implemented for all [`Unsigned`] types, for whole numbers with a sign and for [`Duration`], and it is tested.
+/// It is implemented for all [`Unsigned`] types, for whole numbers with a sign and for
+/// [`Duration`], and it is tested.
 ///
 /// # Examples
 ///
@@ -278,8 +281,9 @@ macro_rules! addresses {
 addresses! {
     /// The addresses from 0.0.0.0 on, in the order of their numbers.
     ///
-    /// A block up to the greatest address has no end: 224.0.0.0/3 is `insert(first..)` or `insert(first..=last)`. The set
-    /// that has it has no end either, so its [`covered`](crate::RangeSetRef::covered) is `None`. Its size is the
+    /// A block up to the greatest address has no end: 224.0.0.0/3 is `insert(first..)` or
+    /// `insert(first..=last)`. The set that has it has no end either, so its
+    /// [`covered`](crate::RangeSetRef::covered) is `None`. Its size is the
     /// [`rank`](crate::RangeSetRef::rank) of the greatest address, plus 1.
     ///
     /// # Examples

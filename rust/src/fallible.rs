@@ -1,8 +1,8 @@
 //! The same sets for those who can't let memory run out: an allocation failure is an error.
 //!
-//! A kernel, an embedded program or a server under a limit can't end where memory does. Here every call that may ask
-//! for memory returns a [`Result`], and if it runs out the set is as it was. Only `extend` of a set in chunks or a map
-//! keeps the ranges that came before.
+//! A kernel, an embedded program or a server under a limit can't end where memory does. Here every
+//! call that may ask for memory returns a [`Result`], and if it runs out the set is as it was. Only
+//! `extend` of a set in chunks or a map keeps the ranges that came before.
 //!
 //! ```
 //! use range_sets::fallible::{AllocError, RangeSet2};
@@ -26,14 +26,16 @@
 //! ```
 //!
 //! [`RangeSet`] here has the calls of [`crate::RangeSet`] under the same names. It dereferences to [`RangeSetRef`] for
-//! the questions, none of which takes memory, and a set goes either way by `into` without a copy. A view has operations
-//! of its own, which end the process: [`RangeSet::copied`] makes a set of it first.
+//! the questions, none of which takes memory, and a set goes either way by `into` without a copy. A
+//! view has operations of its own, which end the process: [`RangeSet::copied`] makes a set of it
+//! first.
 //!
 //! Copies are made by [`EntryClone`] in place of `Clone`, which has no answer for a failure.
 //!
 //! [`RangeSetRef`]: crate::RangeSetRef
 
-/// A second form of a type, over the first: it has the first's questions, and goes either way by `into`.
+/// A second form of a type, over the first: it has the first's questions, and goes either way by
+/// `into`.
 macro_rules! second_form {
     ([$($generics:tt)*] $form:ident of $first:ident, $puts:literal) => {
         impl<$($generics)*> $form<T> {
@@ -113,7 +115,8 @@ pub use chunked::ChunkedRangeSet;
 pub use map::{ByMapValue, InsertError, MapValue, RangeMap};
 pub use space::ChunkedSpace;
 
-/// It is implemented for numbers, `char`, references to texts and slices, `String`, `Vec` and `Option`.
+/// It is implemented for numbers, `char`, references to texts and slices, `String`, `Vec` and
+/// `Option`.
 ///
 /// # Examples
 ///

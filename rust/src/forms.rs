@@ -1,8 +1,8 @@
 //! The two forms of a type: its calls end the process if memory runs out, or they return an error.
 //!
-//! A macro writes the calls of both from one text. [`both_forms`] passes it what differs: the module
-//! of the form, the trait that copies elements, and words for the documentation. `$ok` ends a line
-//! of an example that may fail, and `$end` ends the example.
+//! A macro writes the calls of both from one text. [`both_forms`] passes it what differs: the
+//! module of the form, the trait that copies elements, and words for the documentation. `$ok` ends
+//! a line of an example that may fail, and `$end` ends the example.
 
 /// Calls a macro for each form.
 macro_rules! both_forms {

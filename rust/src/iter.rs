@@ -54,7 +54,8 @@ pub use crate::generated::range_collections::Members;
 /// ```
 pub use crate::generated::range_collections::RangesWithin;
 
-/// Gives an iterator over ranges between references `cloned` and `copied`, as those over references have them.
+/// Gives an iterator over ranges between references `cloned` and `copied`, as those over references
+/// have them.
 macro_rules! owned_ranges {
     ($($iter:ident<'a, $T:ident $(, $others:ident)*> { $range:ident: $clone:expr })*) => {$(
         impl<'a, $T: Clone $(, $others)*> $iter<'a, $T $(, $others)*> {
@@ -86,7 +87,8 @@ macro_rules! shown {
     )*};
 }
 
-/// Has an iterator give what becomes of the items of the one in it: from both ends, and again from a clone.
+/// Has an iterator give what becomes of the items of the one in it: from both ends, and again from
+/// a clone.
 macro_rules! wraps {
     ($([$($generics:tt)*] $iter:ty: $item:ty $(= $of:expr)?;)*) => {$(
         impl<$($generics)*> Iterator for $iter {
@@ -170,7 +172,8 @@ shown! {
 
 /// An iterator over the ranges of a set, from the lowest on.
 ///
-/// It also runs from the highest range down, and knows how many are left. [`RangeSetRef::iter`] makes it.
+/// It also runs from the highest range down, and knows how many are left. [`RangeSetRef::iter`]
+/// makes it.
 ///
 /// [`RangeSetRef::iter`]: crate::RangeSetRef::iter
 ///

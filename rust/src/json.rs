@@ -1,4 +1,5 @@
-//! Sets as sequences of boundaries, by serde. A range is a pair of ends, a tracker its limit and its set.
+//! Sets as sequences of boundaries, by serde. A range is a pair of ends, a tracker its limit and
+//! its set.
 
 use crate::array::{Array, List};
 use crate::chunked::ChunkedRangeSet;
@@ -50,11 +51,11 @@ macro_rules! sequences {
             }
         }
 
-        /// Reads a sequence of boundaries in any order. Of those that come twice one stays, so no list of
-        /// elements is refused.
+        /// Reads a sequence of boundaries in any order. Of those that come twice one stays, so no
+        /// list of elements is refused.
         ///
-        /// To refuse a damaged list, read a `Vec` and use [`RangeSetRef::new`], which returns `None` for
-        /// boundaries that aren't strictly sorted.
+        /// To refuse a damaged list, read a `Vec` and use [`RangeSetRef::new`], which returns
+        /// `None` for boundaries that aren't strictly sorted.
         ///
         #[doc = $errors!("Those of the format, and one if memory for the set runs out.")]
         /// # Examples
@@ -89,7 +90,8 @@ macro_rules! sequences {
 
         /// Reads a sequence of boundaries in any order, as a `RangeSet` does.
         ///
-        /// To refuse a damaged list, read a `Vec`, use [`RangeSetRef::new`], and make the set of that view.
+        /// To refuse a damaged list, read a `Vec`, use [`RangeSetRef::new`], and make the set of
+        /// that view.
         ///
         #[doc = $errors!("Those of the format, and one if memory for the set runs out.")]
         /// # Examples
@@ -120,7 +122,8 @@ macro_rules! sequences {
             }
         }
 
-        /// Reads a sequence of boundaries in any order and with repeats, as a `ChunkedRangeSet` does.
+        /// Reads a sequence of boundaries in any order and with repeats, as a `ChunkedRangeSet`
+        /// does.
         impl<'de, T: Deserialize<'de> + Countable + Copy> Deserialize<'de>
             for $form::ChunkedSpace<T>
         {
@@ -133,7 +136,8 @@ macro_rules! sequences {
 
 both_forms!(sequences);
 
-/// A pair of the ends, as in [`pairs`](crate::pairs): `[0,10]`, or `[20,null]` for a range without an end.
+/// A pair of the ends, as in [`pairs`](crate::pairs): `[0,10]`, or `[20,null]` for a range without
+/// an end.
 ///
 /// # Examples
 ///
@@ -169,8 +173,8 @@ macro_rules! trackers {
             }
         }
 
-        /// Reads a pair of a limit and a sequence of boundaries in any order. More of them than the limit are an error, and
-        /// so is a limit that `new` refuses.
+        /// Reads a pair of a limit and a sequence of boundaries in any order. More of them than the
+        /// limit are an error, and so is a limit that `new` refuses.
         impl<'de> Deserialize<'de> for $tracker {
             fn deserialize<D: Deserializer<'de>>(deserializer: D) -> Result<Self, D::Error> {
                 let (limit, set) = <(usize, RangeSet2<u64>)>::deserialize(deserializer)?;
@@ -226,7 +230,8 @@ impl<'de, T: Deserialize<'de> + Ord, A: Array<Item = T>> Visitor<'de> for Bounda
     }
 }
 
-/// Passes over the rest of a sequence, since a format may take what isn't read for a fault. Then memory was refused.
+/// Passes over the rest of a sequence, since a format may take what isn't read for a fault. Then
+/// memory was refused.
 pub(crate) fn passed_over<'de, T, S: SeqAccess<'de>>(
     mut items: S,
     refused: AllocError,

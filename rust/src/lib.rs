@@ -1,4 +1,5 @@
-//! Sets of ranges of any ordered type: free addresses, busy hours, downloaded bytes, character classes.
+//! Sets of ranges of any ordered type: free addresses, busy hours, downloaded bytes, character
+//! classes.
 //!
 //! ```
 //! use range_sets::RangeSet2;

@@ -32,8 +32,8 @@ use core::ops::Range;
 
 /// A map from ranges to values, which is changed range by range.
 ///
-/// Each key has the value of the last range that was put around it, or none. Ranges that touch and have equal values are
-/// one, so two maps are equal exactly if each key has equal values in both.
+/// Each key has the value of the last range that was put around it, or none. Ranges that touch and
+/// have equal values are one, so two maps are equal exactly if each key has equal values in both.
 ///
 /// # Examples
 ///
@@ -53,13 +53,15 @@ use core::ops::Range;
 ///
 /// # Time
 ///
-/// Among *n* ranges a search makes *O*(log *n*) comparisons. [`get`](Map::get) is one search, a change is two, and
+/// Among *n* ranges a search makes *O*(log *n*) comparisons. [`get`](Map::get) is one search, a
+/// change is two, and
 /// [`insert_free`](Map::insert_free) three, since the first finds whether the range is free. The ranges lie in chunks, as
 /// those of a [`ChunkedRangeSet`](crate::ChunkedRangeSet) do, so a change moves those of one chunk.
 ///
 /// # Memory
 ///
-/// A value is cloned only if a range becomes two, or into a new map. A call that is refused memory ends the process, as std's collections do.
+/// A value is cloned only if a range becomes two, or into a new map. A call that is refused memory
+/// ends the process, as std's collections do.
 /// [`fallible::RangeMap`](crate::fallible::RangeMap) returns an error instead.
 ///
 /// # Panics in keys and values
@@ -67,8 +69,9 @@ use core::ops::Range;
 /// If a comparison, a clone or a drop panics, the map is as it was, changed as asked, or empty.
 pub type RangeMap<K, V> = Map<K, V, ByClone>;
 
-/// A map from ranges to values. Its names are [`RangeMap`] and [`fallible::RangeMap`](crate::fallible::RangeMap), which
-/// say how values are copied: by `Clone`, or by a copy that may fail.
+/// A map from ranges to values. Its names are [`RangeMap`] and
+/// [`fallible::RangeMap`](crate::fallible::RangeMap), which say how values are copied: by `Clone`,
+/// or by a copy that may fail.
 pub struct Map<K: Ord, V: Eq, C>(proved::RangeMap<K, Kept<V, C>>);
 
 /// A filter by a closure.
@@ -114,7 +117,8 @@ impl<K: Ord, V: Eq, C> Map<K, V, C> {
         self.0.get(key).map(|kept| &kept.value)
     }
 
-    /// Returns the longest range around `key` whose keys have its value, and that, or `None` if it has none.
+    /// Returns the longest range around `key` whose keys have its value, and that, or `None` if it
+    /// has none.
     ///
     /// # Examples
     ///
@@ -147,7 +151,8 @@ impl<K: Ord, V: Eq, C> Map<K, V, C> {
         self.0.contains_key(key)
     }
 
-    /// Returns `true` if no key of a range [of any kind](AnyRange) has a value. It is so for an empty or a reversed range.
+    /// Returns `true` if no key of a range [of any kind](AnyRange) has a value. It is so for an
+    /// empty or a reversed range.
     ///
     /// # Examples
     ///
@@ -166,7 +171,8 @@ impl<K: Ord, V: Eq, C> Map<K, V, C> {
         }
     }
 
-    /// Returns how many ranges have a value, where those that touch and have equal values are one. It looks at each.
+    /// Returns how many ranges have a value, where those that touch and have equal values are one.
+    /// It looks at each.
     ///
     /// # Examples
     ///
@@ -195,8 +201,8 @@ impl<K: Ord, V: Eq, C> Map<K, V, C> {
         self.0.is_empty()
     }
 
-    /// Returns an iterator over the ranges that have a value, from the lowest on, each with its value. It also runs from
-    /// the highest range down.
+    /// Returns an iterator over the ranges that have a value, from the lowest on, each with its
+    /// value. It also runs from the highest range down.
     ///
     /// # Examples
     ///
@@ -211,11 +217,11 @@ impl<K: Ord, V: Eq, C> Map<K, V, C> {
         Iter::new(self.0.iter())
     }
 
-    /// Returns an iterator over the ranges that share a key with a range [of any kind](Overlaps), from the lowest on, each
-    /// with its value. They aren't cut.
+    /// Returns an iterator over the ranges that share a key with a range [of any kind](Overlaps),
+    /// from the lowest on, each with its value. They aren't cut.
     ///
-    /// It makes *O*(log *n*) comparisons, and none for a step. If neither the range nor the map has an end, it takes a step
-    /// for each range before.
+    /// It makes *O*(log *n*) comparisons, and none for a step. If neither the range nor the map has
+    /// an end, it takes a step for each range before.
     ///
     /// # Examples
     ///
@@ -238,11 +244,11 @@ impl<K: Ord, V: Eq, C> Map<K, V, C> {
         })
     }
 
-    /// Returns an iterator over the parts of a range [of any kind](Within) whose keys have no value, from the lowest on.
-    /// None of them is empty, and no two touch.
+    /// Returns an iterator over the parts of a range [of any kind](Within) whose keys have no
+    /// value, from the lowest on. None of them is empty, and no two touch.
     ///
-    /// If the ends are references it makes *O*(log *n*) comparisons, and none for a step, and it also runs from the
-    /// highest part down.
+    /// If the ends are references it makes *O*(log *n*) comparisons, and none for a step, and it
+    /// also runs from the highest part down.
     ///
     /// # Examples
     ///
@@ -265,7 +271,8 @@ impl<K: Ord, V: Eq, C> Map<K, V, C> {
         Gaps::new(self.0.gaps(within))
     }
 
-    /// Takes away each value that `keep` returns `false` for. It takes no memory and copies nothing.
+    /// Takes away each value that `keep` returns `false` for. It takes no memory and copies
+    /// nothing.
     ///
     /// `keep` is called once for each range, from the lowest on. [`retain_ranges`](Map::retain_ranges) shows it the range
     /// too.
@@ -310,8 +317,8 @@ impl<K: Ord, V: Eq, C> Map<K, V, C> {
         Map(proved::RangeMap { steps })
     }
 
-    /// Changes the map, which is taken out meanwhile, since a change is made step by step. If something panics between,
-    /// the map is empty.
+    /// Changes the map, which is taken out meanwhile, since a change is made step by step. If
+    /// something panics between, the map is empty.
     #[inline(always)]
     fn changed<R>(&mut self, change: impl FnOnce(&mut proved::RangeMap<K, Kept<V, C>>) -> R) -> R {
         let mut taken = mem::replace(&mut self.0, proved::RangeMap::new(Global));

@@ -1,4 +1,5 @@
-//! What a call does if memory runs out: here it ends the process, as std does. The calls of `fallible` don't.
+//! What a call does if memory runs out: here it ends the process, as std does. The calls of
+//! `fallible` don't.
 
 use crate::generated::range_merge::Copier;
 pub(crate) use crate::support::AllocError;
@@ -21,8 +22,8 @@ pub(crate) fn out_of_memory<T>() -> ! {
     handle_alloc_error(Layout::new::<T>())
 }
 
-/// The value of a call that asked for room for `items` items. As std's lists do, it panics if no list can have as many, and
-/// ends the process if there is no memory for them.
+/// The value of a call that asked for room for `items` items. As std's lists do, it panics if no
+/// list can have as many, and ends the process if there is no memory for them.
 pub(crate) fn expect_room<T, R>(result: Result<R, AllocError>, items: Option<usize>) -> R {
     match (result, items.map(Layout::array::<T>)) {
         (Ok(value), _) => value,

@@ -75,8 +75,8 @@ macro_rules! multiranges {
         impl<T: WholeNumber + RangeSetEntry + NextValue, A: Array<Item = T>> $form::RangeSet<A> {
             /// Reads a multirange of PostgreSQL, or one range, as the server writes it.
             ///
-            /// Ends are open or closed: `(0,10]` is 1 to 10. A range without a start begins at the type's
-            /// least number. Ranges may come in any order, overlap, or be `empty`.
+            /// Ends are open or closed: `(0,10]` is 1 to 10. A range without a start begins at the
+            /// type's least number. Ranges may come in any order, overlap, or be `empty`.
             ///
             /// # Errors
             ///
@@ -104,8 +104,8 @@ macro_rules! multiranges {
 both_forms!(multiranges);
 
 impl<T: WholeNumber + FromPlace> RangeSetRef<T> {
-    /// Returns the set as a multirange of PostgreSQL, which the server reads. A start at the least number of a type with
-    /// a sign is left out.
+    /// Returns the set as a multirange of PostgreSQL, which the server reads. A start at the least
+    /// number of a type with a sign is left out.
     ///
     /// # Examples
     ///
@@ -122,8 +122,8 @@ impl<T: WholeNumber + FromPlace> RangeSetRef<T> {
 }
 
 impl<T: WholeNumber + RangeSetEntry + NextValue> ChunkedRangeSet<T> {
-    /// Reads a multirange of PostgreSQL, or one range, as [`RangeSet::from_multirange`](crate::RangeSet::from_multirange)
-    /// does.
+    /// Reads a multirange of PostgreSQL, or one range, as
+    /// [`RangeSet::from_multirange`](crate::RangeSet::from_multirange) does.
     ///
     /// # Errors
     ///
@@ -185,7 +185,8 @@ where
     }
 }
 
-/// The boundaries of the union of a text's ranges. Running out of memory is apart from the text's errors.
+/// The boundaries of the union of a text's ranges. Running out of memory is apart from the text's
+/// errors.
 fn read<L: List>(text: &str, sorting: Sorting) -> Result<Result<L, AllocError>, MultirangeError>
 where
     L::Item: WholeNumber + RangeSetEntry + NextValue,

@@ -1,7 +1,7 @@
 //! Sets as sequences of pairs, by serde: `[[0,10],[20,null]]`.
 //!
-//! A set itself is written as the list of its boundaries, `[0,10,20]`. This module is for those who read ranges in it. Name
-//! it at a field:
+//! A set itself is written as the list of its boundaries, `[0,10,20]`. This module is for those who
+//! read ranges in it. Name it at a field:
 //!
 //! ```text
 //! #[derive(Serialize, Deserialize)]
@@ -11,8 +11,9 @@
 //! }
 //! ```
 //!
-//! A range without an end is `[20,null]`. What is read may come in any order, overlap, touch or be empty. As everywhere, a
-//! reversed range is empty. [`fallible::pairs`](crate::fallible::pairs) reads sets of `fallible`.
+//! A range without an end is `[20,null]`. What is read may come in any order, overlap, touch or be
+//! empty. As everywhere, a reversed range is empty. [`fallible::pairs`](crate::fallible::pairs)
+//! reads sets of `fallible`.
 //!
 //! # Examples
 //!
@@ -24,8 +25,8 @@
 //! pairs::serialize(&have, &mut serde_json::Serializer::new(&mut json))?;
 //! assert_eq!(json, b"[[0,10],[20,null]]");
 //!
-//! let read: RangeSet2<u64> = pairs::deserialize(&mut serde_json::Deserializer::from_slice(&json))?;
-//! assert_eq!(read, have);
+//! let read: RangeSet2<u64> = pairs::deserialize(&mut
+//! serde_json::Deserializer::from_slice(&json))?; assert_eq!(read, have);
 //! # Ok::<(), serde_json::Error>(())
 //! ```
 

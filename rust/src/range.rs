@@ -13,10 +13,12 @@ use core::ops::{
 
 /// One range of a set: with an end, or without one.
 ///
-/// The start is in the range, and the end is not. So these are the only two kinds of ranges that a set is made of. All
-/// other ranges of std become one of them by `from`, as the [calls that take any range](crate::AnyRange) have it.
+/// The start is in the range, and the end is not. So these are the only two kinds of ranges that a
+/// set is made of. All other ranges of std become one of them by `from`, as the [calls that take
+/// any range](crate::AnyRange) have it.
 ///
-/// Ranges are ordered by their starts, and those of one start by their ends. No end is above all ends.
+/// Ranges are ordered by their starts, and those of one start by their ends. No end is above all
+/// ends.
 ///
 /// # Examples
 ///
@@ -132,7 +134,8 @@ impl<T> RangeSetRange<T> {
         }
     }
 
-    /// Returns how many values the range has, or `None` if it has no end. The ends are values or references to values.
+    /// Returns how many values the range has, or `None` if it has no end. The ends are values or
+    /// references to values.
     ///
     /// It is the [place](Countable::place) of the end less that of the start.
     ///
@@ -236,7 +239,8 @@ impl<T> RangeSetRange<T> {
     }
 }
 
-/// An end whose values are counted: a value, or a reference to one. The compiler finds the type `U` of the value.
+/// An end whose values are counted: a value, or a reference to one. The compiler finds the type `U`
+/// of the value.
 pub trait CountableEnd<U> {
     #[doc(hidden)]
     fn place(&self) -> u128;
@@ -254,7 +258,8 @@ impl<U: Countable> CountableEnd<U> for &U {
     }
 }
 
-/// An end that is compared with a value: a value, or a reference to one. The compiler finds out which.
+/// An end that is compared with a value: a value, or a reference to one. The compiler finds out
+/// which.
 pub trait ComparableEnd<U: ?Sized, By> {
     #[doc(hidden)]
     fn is_above(&self, value: &U) -> bool;
@@ -308,7 +313,8 @@ impl<T: RangeSetEntry> From<RangeFull> for RangeSetRange<T> {
     }
 }
 
-/// From the start up to the value after the last one, and without an end if that is the greatest one.
+/// From the start up to the value after the last one, and without an end if that is the greatest
+/// one.
 ///
 /// # Examples
 ///
@@ -321,7 +327,8 @@ impl<T: RangeSetEntry> From<RangeFull> for RangeSetRange<T> {
 impl<T: NextValue> From<RangeInclusive<T>> for RangeSetRange<T> {
     #[inline]
     fn from(range: RangeInclusive<T>) -> Self {
-        // A range that was iterated to its end is empty too. What it then has as its ends isn't promised.
+        // A range that was iterated to its end is empty too. What it then has as its ends isn't
+        // promised.
         let is_empty = range.is_empty();
         let (start, last) = range.into_inner();
         if is_empty {
@@ -335,7 +342,8 @@ impl<T: NextValue> From<RangeInclusive<T>> for RangeSetRange<T> {
     }
 }
 
-/// From the least value up to the value after the last one, and without an end if that is the greatest one.
+/// From the least value up to the value after the last one, and without an end if that is the
+/// greatest one.
 impl<T: RangeSetEntry + NextValue> From<RangeToInclusive<T>> for RangeSetRange<T> {
     #[inline]
     fn from(range: RangeToInclusive<T>) -> Self {

@@ -25,8 +25,8 @@ use smallvec::SmallVec;
 /// `A` is an array type: a `RangeSet<[i64; 4]>` keeps up to four boundaries, which are two ranges, in itself, and more
 /// in an allocation. [`RangeSet2`] is the usual size.
 ///
-/// A set dereferences to [`RangeSetRef`], which has all the questions and the operations that make a new set. What
-/// changes a set stands here.
+/// A set dereferences to [`RangeSetRef`], which has all the questions and the operations that make
+/// a new set. What changes a set stands here.
 ///
 /// # Examples
 ///
@@ -44,13 +44,13 @@ use smallvec::SmallVec;
 ///
 /// # Ranges
 ///
-/// A start is in its range, an end isn't. A range may have no end, so `!` always has an answer. Ranges that overlap or
-/// touch become one. An empty or a reversed range has no members.
+/// A start is in its range, an end isn't. A range may have no end, so `!` always has an answer.
+/// Ranges that overlap or touch become one. An empty or a reversed range has no members.
 ///
 /// # Memory
 ///
-/// If memory runs out, a call ends the process, as std's collections do. The calls of [`fallible`] answer a
-/// `Result`.
+/// If memory runs out, a call ends the process, as std's collections do. The calls of [`fallible`]
+/// answer a `Result`.
 ///
 /// [`fallible`]: crate::fallible
 pub struct RangeSet<A: Array> {

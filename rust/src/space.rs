@@ -10,12 +10,13 @@ use core::ops::Deref;
 
 /// A space whose values are taken and freed range by range, as an allocator's addresses.
 ///
-/// It is a [`ChunkedRangeSet`] of what is taken that also remembers how long the gaps are, for some 512 of them at a
-/// time. So [`first_fit`](Self::first_fit) passes over those that are too short. What it remembers of gaps stays until
-/// one of their neighbours is freed; they are read again by the next search that comes by.
+/// It is a [`ChunkedRangeSet`] of what is taken that also remembers how long the gaps are, for some
+/// 512 of them at a time. So [`first_fit`](Self::first_fit) passes over those that are too short.
+/// What it remembers of gaps stays until one of their neighbours is freed; they are read again by
+/// the next search that comes by.
 ///
-/// It dereferences to the set, for all its questions. Blocks that touch become one range: where each must
-/// be told from the next, keep a second set of the values at which they start.
+/// It dereferences to the set, for all its questions. Blocks that touch become one range: where
+/// each must be told from the next, keep a second set of the values at which they start.
 ///
 /// # Examples
 ///
@@ -100,7 +101,8 @@ impl<T: Countable + Copy> ChunkedSpace<T> {
         self.as_set().is_empty()
     }
 
-    /// Returns how many values are taken, or `None` if what is taken has no end. It looks at each boundary.
+    /// Returns how many values are taken, or `None` if what is taken has no end. It looks at each
+    /// boundary.
     ///
     /// # Examples
     ///
@@ -129,7 +131,8 @@ impl<T: Countable + Copy> ChunkedSpace<T> {
         self.as_set().iter()
     }
 
-    /// Returns an iterator over the parts of a range [of any kind](Within) that are free, from the lowest on.
+    /// Returns an iterator over the parts of a range [of any kind](Within) that are free, from the
+    /// lowest on.
     ///
     /// # Examples
     ///

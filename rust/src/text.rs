@@ -34,7 +34,8 @@ pub use crate::generated::range_collections::ParseError;
 /// | `char` | `'a'..'z'`, as in Rust: `'\''..'\u{e000}'` |
 /// | `Ipv4Addr`, `Ipv6Addr`, with the feature `std` | `10.0.0.0..10.1.0.0`, `2001:db8::..` |
 ///
-/// It is implemented for these, and for nothing else. The text of whole numbers is proved, the others are tested.
+/// It is implemented for these, and for nothing else. The text of whole numbers is proved, the
+/// others are tested.
 ///
 /// # Examples
 ///
@@ -95,8 +96,8 @@ where
     }
 }
 
-/// As `0..10, 20..`. A width is that of the whole text, with the fill and the alignment that a text has; other flags change
-/// nothing.
+/// As `0..10, 20..`. A width is that of the whole text, with the fill and the alignment that a text
+/// has; other flags change nothing.
 impl<T: TextEntry> fmt::Display for RangeSetRef<T> {
     fn fmt(&self, f: &mut fmt::Formatter<'_>) -> fmt::Result {
         T::write_set(self, f)
@@ -124,7 +125,8 @@ fn fill(f: &mut fmt::Formatter<'_>, n: usize) -> fmt::Result {
     (0..n).try_for_each(|_| f.write_char(fill))
 }
 
-/// How many bytes a text has. No memory is taken for it, since a set of `fallible` is written here too.
+/// How many bytes a text has. No memory is taken for it, since a set of `fallible` is written here
+/// too.
 fn len_of(text: &impl fmt::Display) -> Result<usize, fmt::Error> {
     struct Bytes(usize);
 

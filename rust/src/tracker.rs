@@ -1,8 +1,8 @@
 //! Which parts of a file have come: offsets under a limit.
 //!
-//! Pieces of a file, or of a stream, come in any order. A [`Tracker`] knows which offsets are there and which are
-//! missing, and never keeps more boundaries than its limit, so that a peer who sends pieces far apart can't make it
-//! grow. A refusal is an error, and leaves the tracker as it was.
+//! Pieces of a file, or of a stream, come in any order. A [`Tracker`] knows which offsets are there
+//! and which are missing, and never keeps more boundaries than its limit, so that a peer who sends
+//! pieces far apart can't make it grow. A refusal is an error, and leaves the tracker as it was.
 
 mod calls;
 
@@ -98,8 +98,8 @@ impl From<Tracker> for RangeSet2<u64> {
     }
 }
 
-/// Which offsets are there, of a file with many gaps: a [`Tracker`] whose boundaries lie in chunks, so
-/// that a piece takes about as long among a million ranges as among a few.
+/// Which offsets are there, of a file with many gaps: a [`Tracker`] whose boundaries lie in chunks,
+/// so that a piece takes about as long among a million ranges as among a few.
 ///
 /// Offsets are the numbers below `u64::MAX`: a range without an end, as `20..`, ends there.
 ///
@@ -120,8 +120,8 @@ impl From<Tracker> for RangeSet2<u64> {
 pub struct ChunkedTracker(range_chunked_tracker::ChunkedTracker);
 
 impl ChunkedTracker {
-    /// Returns a tracker without offsets that keeps at most `limit` boundaries, two for each range. It
-    /// asks for the memory of one range.
+    /// Returns a tracker without offsets that keeps at most `limit` boundaries, two for each range.
+    /// It asks for the memory of one range.
     ///
     /// # Errors
     ///

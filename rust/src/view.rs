@@ -10,8 +10,9 @@ use crate::generated::range_collections as proved;
 
 /// A borrowed set of values: a slice of strictly sorted boundaries behind a reference.
 ///
-/// It stands to [`RangeSet`] as `str` to `String`: `&set` is one, and all that can be asked of a set is asked of it.
-/// A value is a member if an odd number of boundaries is at or below it. Nothing is copied to make one.
+/// It stands to [`RangeSet`] as `str` to `String`: `&set` is one, and all that can be asked of a
+/// set is asked of it. A value is a member if an odd number of boundaries is at or below it.
+/// Nothing is copied to make one.
 ///
 /// [`RangeSet`]: crate::RangeSet
 ///
@@ -118,8 +119,9 @@ impl<T> RangeSetRef<T> {
     #[allow(unsafe_code)]
     #[inline(always)]
     pub(crate) const fn over(boundaries: &[T]) -> &Self {
-        // SAFETY: the struct is a slice and nothing else (`repr(transparent)`), so a pointer to the one is a pointer to
-        // the other, of the same length. Every slice is a valid value: what reads it asks nothing of its order.
+        // SAFETY: the struct is a slice and nothing else (`repr(transparent)`), so a pointer to the
+        // one is a pointer to the other, of the same length. Every slice is a valid value: what
+        // reads it asks nothing of its order.
         unsafe { &*(boundaries as *const [T] as *const Self) }
     }
 

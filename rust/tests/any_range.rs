@@ -213,7 +213,8 @@ impl Part for (Bound<&u8>, Bound<&u8>) {
     }
 }
 
-/// Looks at the parts of a range, which has the values of `within`. A clone of what is left goes on as the iterator does.
+/// Looks at the parts of a range, which has the values of `within`. A clone of what is left goes on
+/// as the iterator does.
 fn each_part<'a, R>(set: &'a RangeSet2<u8>, range: R, within: Bitmap)
 where
     R: Within<'a, u8> + Clone,

@@ -1,5 +1,5 @@
-//! What each call asks of an element: no more than range-collections 0.4.6 does. That these functions compile is the
-//! test; they are called so that each also runs.
+//! What each call asks of an element: no more than range-collections 0.4.6 does. That these
+//! functions compile is the test; they are called so that each also runs.
 
 use range_sets::range_set::{Iter, RangeSetEntry, RangeSetRange};
 use range_sets::{Array, RangeSet, RangeSet2, RangeSetRef};

@@ -283,7 +283,8 @@ fn operations_with_a_view_as_of_a_range_set() {
     }
 }
 
-/// Ranges in a few places of a set of many chunks: some close together, some long, the last one endless or not.
+/// Ranges in a few places of a set of many chunks: some close together, some long, the last one
+/// endless or not.
 #[test]
 fn operations_with_few_ranges_far_apart_as_of_a_range_set() {
     const PLACES: u64 = 100_000;
@@ -309,7 +310,8 @@ fn operations_with_few_ranges_far_apart_as_of_a_range_set() {
     }
 }
 
-/// Operation after operation with a few ranges anywhere in a set of some chunks, both with an end and without.
+/// Operation after operation with a few ranges anywhere in a set of some chunks, both with an end
+/// and without.
 #[test]
 fn operations_with_short_views_as_of_a_range_set() {
     for seed in (1..9u64).step_by(one_in()) {

@@ -1,4 +1,5 @@
-//! Sets of elements that own memory, that have no default, no text or no copy, and whose order is one of their own.
+//! Sets of elements that own memory, that have no default, no text or no copy, and whose order is
+//! one of their own.
 
 mod common;
 
@@ -249,7 +250,8 @@ fn a_wild_order() {
     });
 }
 
-/// A number with a fraction, in the total order of such numbers. The crate ordered-float has such wrappers.
+/// A number with a fraction, in the total order of such numbers. The crate ordered-float has such
+/// wrappers.
 #[derive(Clone, Copy, PartialEq)]
 struct Level(f64);
 

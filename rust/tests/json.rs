@@ -32,7 +32,8 @@ fn what_is_written_is_read_back() {
     }
 }
 
-/// Sets in chunks and spaces are written as a set is, and read from a list in any order, or one that is sorted alone.
+/// Sets in chunks and spaces are written as a set is, and read from a list in any order, or one
+/// that is sorted alone.
 #[test]
 fn sets_in_chunks_and_spaces() {
     for (a, _) in pairs().step_by(11) {

@@ -1,4 +1,5 @@
-//! Ranges of every kind that std has, between values and between references, wherever a call takes one.
+//! Ranges of every kind that std has, between values and between references, wherever a call takes
+//! one.
 
 use range_sets::tracker::{ChunkedTracker, Tracker};
 use range_sets::{ChunkedRangeSet, ChunkedSpace, RangeMap, RangeSet2, RangeSetRange, RangeSetRef};
@@ -33,7 +34,8 @@ fn is_member(boundaries: &[u8], value: u8) -> bool {
         == 1
 }
 
-/// The parts of the values that are wanted, value by value. One up to the greatest value has no end, unless the range has.
+/// The parts of the values that are wanted, value by value. One up to the greatest value has no
+/// end, unless the range has.
 fn parts(within: &impl RangeBounds<u8>, is_wanted: impl Fn(u8) -> bool) -> Vec<Part> {
     let (mut found, mut start) = (Vec::new(), None);
     for value in 0..=255 {
@@ -67,7 +69,8 @@ fn of_bounds((start, end): (Bound<&u8>, Bound<&u8>)) -> Part {
     }
 }
 
-/// Asks each type for its gaps, its parts and the ranges that are met. A view may give its parts in another form.
+/// Asks each type for its gaps, its parts and the ranges that are met. A view may give its parts in
+/// another form.
 macro_rules! ask {
     ($boundaries:expr, $range:expr, $of_view:expr) => {{
         let (boundaries, range): (&[u8], _) = ($boundaries, $range);

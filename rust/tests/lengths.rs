@@ -154,7 +154,8 @@ impl Serializer for Strict {
     }
 }
 
-/// The ranges from 0 on, of which every second number is in: none, one, or as many as fill several chunks.
+/// The ranges from 0 on, of which every second number is in: none, one, or as many as fill several
+/// chunks.
 fn ranges(len: u32) -> impl Iterator<Item = std::ops::Range<u32>> {
     (0..len).map(|n| 2 * n..2 * n + 1)
 }

@@ -1,5 +1,5 @@
-//! What collections of Rust have: operators with borrowed sets, iterators that are cloned and shown, room, whole ranges taken
-//! out.
+//! What collections of Rust have: operators with borrowed sets, iterators that are cloned and
+//! shown, room, whole ranges taken out.
 
 mod common;
 
@@ -70,7 +70,8 @@ fn operators_with_borrowed_sets() {
     }
 }
 
-/// Clones an iterator at each step, from both ends: the clone gives what the iterator gives, and is shown as that.
+/// Clones an iterator at each step, from both ends: the clone gives what the iterator gives, and is
+/// shown as that.
 fn clones_alike<I>(ranges: I)
 where
     I: DoubleEndedIterator + ExactSizeIterator + Clone + Debug,

@@ -138,7 +138,8 @@ fn other_elements_keep_the_room() {
 /// The most keys of a chunk.
 const CHUNK: usize = 128;
 
-/// The chunks' memory is given back, and the room for the list of them stays: it isn't asked for again.
+/// The chunks' memory is given back, and the room for the list of them stays: it isn't asked for
+/// again.
 #[test]
 fn a_map_that_is_cleared_keeps_the_room_for_its_list_of_chunks() {
     const RANGES: usize = 20_000;

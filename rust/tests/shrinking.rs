@@ -19,8 +19,8 @@ fn in_any_order(count: u64, seed: u64) -> Vec<u64> {
     numbers
 }
 
-/// A set of `ranges` ranges shrinks to a twentieth of them: the bytes that it holds then, for each range that is left, are
-/// at most `most`.
+/// A set of `ranges` ranges shrinks to a twentieth of them: the bytes that it holds then, for each
+/// range that is left, are at most `most`.
 fn shrinks(ranges: u64, made: impl FnOnce(&[u64]) -> ChunkedRangeSet<u64>, most: isize) {
     let (up, down) = (in_any_order(ranges, 7), in_any_order(ranges, 9));
     let before = held();
@@ -89,7 +89,8 @@ fn a_set_that_grows_by_operations_is_dense() {
     assert!(held <= 60 * 60_000, "{held} bytes for 60000 ranges");
 }
 
-/// What a space remembers takes little beside its ranges, however often it is searched and changed, and goes with them.
+/// What a space remembers takes little beside its ranges, however often it is searched and changed,
+/// and goes with them.
 #[test]
 fn what_a_space_remembers_is_little() {
     let before = held();

@@ -7,8 +7,8 @@ use range_sets::{fallible, ChunkedRangeSet, ChunkedSpace, Countable, FromPlace, 
 use std::cell::Cell;
 use std::ops::Range;
 
-/// Below which number the ends of a sequence's ranges lie, how long these are at most, how many changes there are, and
-/// of how many one frees.
+/// Below which number the ends of a sequence's ranges lie, how long these are at most, how many
+/// changes there are, and of how many one frees.
 struct Shape {
     limit: u64,
     longest: u64,
@@ -240,7 +240,8 @@ fn first_two(space: &mut ChunkedSpace<Counted>) -> (Option<u64>, usize) {
     (first.map(|at| at.0), ASKED.with(Cell::get) - before)
 }
 
-/// Of 100,000 gaps of one number each some 200 bounds are remembered, of which a change forgets one or two.
+/// Of 100,000 gaps of one number each some 200 bounds are remembered, of which a change forgets one
+/// or two.
 #[test]
 fn what_is_remembered_is_not_read_again() {
     let mut space: ChunkedSpace<Counted> = ChunkedSpace::new();
@@ -276,7 +277,8 @@ fn first_even(space: &mut ChunkedSpace<Counted>) -> (Option<u64>, usize) {
     (first.map(|at| at.0), ASKED.with(Cell::get) - before)
 }
 
-/// What is learned of a part for another multiple doesn't take the place of what is known of the whole.
+/// What is learned of a part for another multiple doesn't take the place of what is known of the
+/// whole.
 #[test]
 fn what_is_remembered_of_the_whole_stays() {
     let mut space: ChunkedSpace<Counted> = ChunkedSpace::new();
@@ -294,7 +296,8 @@ fn what_is_remembered_of_the_whole_stays() {
     assert!(first == Some(200_000) && again < 3_000, "{again}");
 }
 
-/// What is known of the multiples of 2 holds of those of 4 and 8 too, so a search for these leaves it.
+/// What is known of the multiples of 2 holds of those of 4 and 8 too, so a search for these leaves
+/// it.
 #[test]
 fn what_is_remembered_of_multiples_is_not_read_again() {
     let mut space: ChunkedSpace<Counted> = ChunkedSpace::new();

@@ -1,5 +1,5 @@
-//! The tables of rows that the proved calls are tested with: each row that Rust has a call for. What
-//! the words of a row are, each table says in its first lines.
+//! The tables of rows that the proved calls are tested with: each row that Rust has a call for.
+//! What the words of a row are, each table says in its first lines.
 
 use range_sets::{
     fallible::EntryClone, Connective, Expected, FromPlace, ParseError, RangeSet, RangeSet2,
@@ -25,7 +25,8 @@ const TABLES: [(&str, &str); 33] = tables!(
     "union_all"
 );
 
-/// The tables whose rows end with how many comparisons a call may make, which no call of Rust counts.
+/// The tables whose rows end with how many comparisons a call may make, which no call of Rust
+/// counts.
 const COUNTED: [&str; 3] = ["contains", "operations", "split"];
 
 /// An element whose values are words of a row.

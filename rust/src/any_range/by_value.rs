@@ -1,5 +1,5 @@
-//! The parts of a range that are in a set or not, in ranges between values; and ranges of any kind where one is asked for
-//! that has an end, or by reference.
+//! The parts of a range that are in a set or not, in ranges between values; and ranges of any kind
+//! where one is asked for that has an end, or by reference.
 
 use super::sealed::Sealed;
 use super::NextValue;
@@ -18,7 +18,8 @@ use core::ops::{Range, RangeFrom, RangeFull, RangeInclusive, RangeTo, RangeToInc
 
 /// What has parts between values.
 pub trait Parted<T> {
-    /// The first part at or above a value whose values are members where `inside` is true, or else no members.
+    /// The first part at or above a value whose values are members where `inside` is true, or else
+    /// no members.
     fn part_from(&self, from: &T, inside: bool) -> Option<RangeSetRange<T>>;
 }
 
@@ -71,8 +72,8 @@ impl Parted<u64> for ChunkedTracker {
     }
 }
 
-/// The parts of a range that are in a set or a map or not, in ranges between values, from the lowest on. It takes no
-/// memory, and a step is two searches.
+/// The parts of a range that are in a set or a map or not, in ranges between values, from the
+/// lowest on. It takes no memory, and a step is two searches.
 ///
 /// `gaps` and `ranges_within` make it.
 ///
@@ -134,10 +135,11 @@ shown! {
     [T: Ord + Clone + fmt::Debug, S: Parted<T> + ?Sized] PartsOf<'_, T, S>;
 }
 
-/// A range, of any kind that std has, between values or references to values, that a call looks for.
+/// A range, of any kind that std has, between values or references to values, that a call looks
+/// for.
 ///
-/// It is implemented for what [`AnyRange`](crate::AnyRange) is, and for `&a..&b`, `&a..` and `&(a..b)`, and for nothing
-/// else.
+/// It is implemented for what [`AnyRange`](crate::AnyRange) is, and for `&a..&b`, `&a..` and
+/// `&(a..b)`, and for nothing else.
 ///
 /// # Examples
 ///
@@ -167,7 +169,8 @@ impl<T> Overlaps<T> for RangeFrom<&T> {
     }
 }
 
-/// What [`start`](RangeSetRange::start) and [`end`](RangeSetRange::end) of a range between references give.
+/// What [`start`](RangeSetRange::start) and [`end`](RangeSetRange::end) of a range between
+/// references give.
 impl<T> Overlaps<T> for Range<&&T> {
     fn found<R>(self, find: impl FnOnce(RangeSetRange<&T>) -> R) -> R {
         find((*self.start..*self.end).into())
@@ -180,8 +183,8 @@ impl<T> Overlaps<T> for &Range<T> {
     }
 }
 
-/// A range, of any kind that std has, in which values in a row are looked for. One without an end goes up to the type's
-/// greatest value, which is never in a row.
+/// A range, of any kind that std has, in which values in a row are looked for. One without an end
+/// goes up to the type's greatest value, which is never in a row.
 ///
 /// It is implemented for what [`AnyRange`](crate::AnyRange) is, and for nothing else.
 ///

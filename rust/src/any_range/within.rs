@@ -17,9 +17,11 @@ use core::fmt;
 use core::iter::{FusedIterator, Map};
 use core::ops::{Bound, Range, RangeFrom, RangeFull, RangeInclusive, RangeTo, RangeToInclusive};
 
-/// A range, of any kind that std has, within which a set or a map is looked at. `S` is the set, if it isn't a view.
+/// A range, of any kind that std has, within which a set or a map is looked at. `S` is the set, if
+/// it isn't a view.
 ///
-/// Its ends are values, or references to values. What lies in it is returned as ranges of the same kind, if they can say it:
+/// Its ends are values, or references to values. What lies in it is returned as ranges of the same
+/// kind, if they can say it:
 ///
 /// | Range | Asks of the element | A part is |
 /// |---|---|---|
@@ -35,7 +37,8 @@ use core::ops::{Bound, Range, RangeFrom, RangeFull, RangeInclusive, RangeTo, Ran
 /// | `&a..=&b` | nothing more | `(Bound<&T>, Bound<&T>)` |
 /// | `..&b`, `..=&b`, `..` | [`RangeSetEntry`], a least value | `(Bound<&T>, Bound<&T>)` |
 ///
-/// For others `..` is as `a..` with the least value. It is implemented for these, and for nothing else.
+/// For others `..` is as `a..` with the least value. It is implemented for these, and for nothing
+/// else.
 ///
 /// # Examples
 ///
@@ -82,7 +85,8 @@ where
     }
 }
 
-/// What [`start`](RangeSetRange::start) and [`end`](RangeSetRange::end) of a range between references give.
+/// What [`start`](RangeSetRange::start) and [`end`](RangeSetRange::end) of a range between
+/// references give.
 impl<'a: 'b, 'b, T: 'a, S: ?Sized, P: Iterator> Within<'a, T, S> for Range<&'b &'a T>
 where
     Range<&'a T>: Within<'a, T, S, Parts = P>,

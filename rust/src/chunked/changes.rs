@@ -28,8 +28,8 @@ macro_rules! changes {
                 Self::of_proved(proved::ChunkedRangeSet::new(Global))
             }
 
-            /// Returns the set of the values that lie in one of the ranges at least, which stand in any
-            /// order.
+            /// Returns the set of the values that lie in one of the ranges at least, which stand in
+            /// any order.
             ///
             #[doc = $errors!("`collect` does the same." or "If memory runs out.")]
             /// # Examples
@@ -72,8 +72,8 @@ macro_rules! changes {
                 Self::from_ranges(values.into_iter().map(RangeSetRange::of_value))
             }
 
-            /// Adds the values of a range [of any kind](AnyRange). An empty or a reversed range changes
-            /// nothing.
+            /// Adds the values of a range [of any kind](AnyRange). An empty or a reversed range
+            /// changes nothing.
             ///
             /// Of two equal boundaries the set's own stays.
             ///
@@ -99,8 +99,8 @@ macro_rules! changes {
                 })
             }
 
-            /// Removes the values of a range [of any kind](AnyRange). An empty or a reversed range changes
-            /// nothing.
+            /// Removes the values of a range [of any kind](AnyRange). An empty or a reversed range
+            /// changes nothing.
             ///
             /// It takes memory only if it cuts a range in two, or ends one that had no end.
             ///
@@ -124,8 +124,8 @@ macro_rules! changes {
                 })
             }
 
-            /// Adds the values of a range, as [`insert`](Self::insert) does. Returns `true` if one of them
-            /// wasn't a member.
+            /// Adds the values of a range, as [`insert`](Self::insert) does. Returns `true` if one
+            /// of them wasn't a member.
             ///
             #[doc = $errors!("If memory runs out. The set is then as it was.")]
             /// # Examples
@@ -149,8 +149,8 @@ macro_rules! changes {
                 })
             }
 
-            /// Removes the values of a range, as [`remove`](Self::remove) does. Returns `true` if one of
-            /// them was a member.
+            /// Removes the values of a range, as [`remove`](Self::remove) does. Returns `true` if
+            /// one of them was a member.
             ///
             #[doc = $errors!("If memory runs out. The set is then as it was.")]
             /// # Examples
@@ -174,7 +174,8 @@ macro_rules! changes {
                 })
             }
 
-            /// Removes the first range and returns it, or `None` if the set is empty. It takes no memory.
+            /// Removes the first range and returns it, or `None` if the set is empty. It takes no
+            /// memory.
             ///
             /// # Examples
             ///
@@ -190,7 +191,8 @@ macro_rules! changes {
                 self.changed(|set| set.pop_first()).map(RangeSetRange::from_proved)
             }
 
-            /// Removes the last range and returns it, or `None` if the set is empty. It takes no memory.
+            /// Removes the last range and returns it, or `None` if the set is empty. It takes no
+            /// memory.
             ///
             /// # Examples
             ///

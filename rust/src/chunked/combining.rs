@@ -12,7 +12,8 @@ use alloc::vec;
 use alloc::vec::Vec;
 use core::mem;
 
-/// What the elements' `Clone` copies changes the window aside: the chunks' own calls copy by `EntryClone`.
+/// What the elements' `Clone` copies changes the window aside: the chunks' own calls copy by
+/// `EntryClone`.
 macro_rules! combined {
     (ends, $set:ident.intersection_with($that:ident)) => {{
         let changed = $set.aside($set.window($that), |set| set.intersection_with($that));
@@ -31,9 +32,9 @@ macro_rules! operations {
         $form:ident, $Clone:ident, $must_use:meta, $errors:ident,
         $at:literal, $from:literal, $ok:literal, $end:literal
     ) => {
-        /// These go over the boundaries between the first one of `that` and its last one, or up to the end if `that` has
-        /// a range without an end, and copy what stays of them. If `that` has few ranges, those between two that lie far
-        /// apart stay where they are.
+        /// These go over the boundaries between the first one of `that` and its last one, or up to
+        /// the end if `that` has a range without an end, and copy what stays of them. If `that` has
+        /// few ranges, those between two that lie far apart stay where they are.
         impl<T: Ord + $Clone> $form::ChunkedRangeSet<T> {
             /// Adds the members of `that`.
             ///
@@ -138,8 +139,8 @@ impl<T: Ord + Clone> ChunkedRangeSet<T> {
         set
     }
 
-    /// Makes the change of each part of `that` in the part's window. All is made aside first. The last window is
-    /// changed first, so that the earlier ones stay where they are.
+    /// Makes the change of each part of `that` in the part's window. All is made aside first. The
+    /// last window is changed first, so that the earlier ones stay where they are.
     fn change_apart(
         &mut self,
         that: &RangeSetRef<T>,
@@ -149,7 +150,8 @@ impl<T: Ord + Clone> ChunkedRangeSet<T> {
         let made: Vec<_> = parts
             .map(|(window, part)| (window, self.aside(window, |set| change(set, part))))
             .collect();
-        // While several windows change the set is empty, so that a drop that panics leaves no part of the change.
+        // While several windows change the set is empty, so that a drop that panics leaves no part
+        // of the change.
         let mut own = mem::take(self);
         for (window, set) in made.into_iter().rev() {
             own.replace(window, set);
@@ -157,8 +159,8 @@ impl<T: Ord + Clone> ChunkedRangeSet<T> {
         *self = own;
     }
 
-    /// The parts of `that` between whose windows a whole chunk lies at least, if the window of all has more chunks
-    /// than `that` has boundaries.
+    /// The parts of `that` between whose windows a whole chunk lies at least, if the window of all
+    /// has more chunks than `that` has boundaries.
     fn parts<'a>(&self, that: &'a RangeSetRef<T>) -> Vec<(Window, &'a RangeSetRef<T>)> {
         let (whole, boundaries) = (self.window(that), that.boundaries());
         let chunks = whole.1.chunk.saturating_sub(whole.0.chunk);

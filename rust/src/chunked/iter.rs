@@ -80,8 +80,8 @@ pub use crate::generated::range_chunks::Gaps;
 /// ```
 pub use crate::generated::range_chunks::RangesWithin;
 
-/// An iterator over the ranges of a set in chunks that was taken by value. `into_iter` makes it. It knows how many are
-/// left.
+/// An iterator over the ranges of a set in chunks that was taken by value. `into_iter` makes it. It
+/// knows how many are left.
 ///
 /// # Examples
 ///
@@ -113,7 +113,8 @@ impl<T> IntoIter<T> {
 
 ranges_by_value!([T] IntoIter<T>);
 
-/// The boundaries of a set that was taken by value: of the lowest chunk, of those between, and of the highest one.
+/// The boundaries of a set that was taken by value: of the lowest chunk, of those between, and of
+/// the highest one.
 struct IntoBoundaries<T> {
     left: usize,
     rest: vec::IntoIter<T>,

@@ -7,8 +7,8 @@ use crate::range_set::RangeSetRef;
 use core::mem;
 
 impl<T: Ord> ChunkedRangeSet<T> {
-    /// Keeps the ranges that `keep` returns `true` for, and removes the others. It is called once for each range, from the
-    /// lowest on.
+    /// Keeps the ranges that `keep` returns `true` for, and removes the others. It is called once
+    /// for each range, from the lowest on.
     ///
     /// It makes the set anew by `collect`. If `keep` panics, the set is empty.
     ///
@@ -49,7 +49,8 @@ impl<T: Ord> ChunkedRangeSet<T> {
 
     /// Removes the members at and above `at`, and returns the set of them.
     ///
-    /// It is a clone without the members below, by [`intersection_with`](Self::intersection_with), and a
+    /// It is a clone without the members below, by [`intersection_with`](Self::intersection_with),
+    /// and a
     /// [`remove`](Self::remove).
     ///
     /// # Examples
@@ -72,8 +73,8 @@ impl<T: Ord> ChunkedRangeSet<T> {
         above
     }
 
-    /// Returns an iterator over the ranges of the set that share a value with a range [of any kind](Overlaps), from the
-    /// lowest on. They aren't cut. A step is a search.
+    /// Returns an iterator over the ranges of the set that share a value with a range [of any
+    /// kind](Overlaps), from the lowest on. They aren't cut. A step is a search.
     ///
     /// If neither the range nor the set has an end, it takes a step for each range before.
     ///

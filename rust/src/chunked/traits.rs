@@ -1,4 +1,5 @@
-//! What a set in chunks is by std's traits: a collection, a value, something that is compared, a text.
+//! What a set in chunks is by std's traits: a collection, a value, something that is compared, a
+//! text.
 
 use super::{ChunkedRangeSet, IntoIter, Iter};
 use crate::any_range::{IntoRange, NextValue};
@@ -108,8 +109,8 @@ macro_rules! traits {
             }
         }
 
-        /// As `ChunkedRangeSet{0..10, 20..}`, by the elements' own `Debug`. Flags as those of `{:#?}` hold as
-        /// for std's sets.
+        /// As `ChunkedRangeSet{0..10, 20..}`, by the elements' own `Debug`. Flags as those of
+        /// `{:#?}` hold as for std's sets.
         impl<T: Ord + fmt::Debug> fmt::Debug for $form::ChunkedRangeSet<T> {
             fn fmt(&self, f: &mut fmt::Formatter<'_>) -> fmt::Result {
                 f.write_str("ChunkedRangeSet")?;
@@ -188,8 +189,8 @@ impl<T: Ord, A: Array<Item = T>> From<ChunkedRangeSet<T>> for RangeSet<A> {
 
 /// Two sets are equal if they have the same members.
 ///
-/// A set in chunks stands at the right: at the left it is compared with its own type alone, so that the compiler finds the
-/// type of `collect` beside it.
+/// A set in chunks stands at the right: at the left it is compared with its own type alone, so that
+/// the compiler finds the type of `collect` beside it.
 ///
 /// # Examples
 ///
@@ -213,7 +214,8 @@ impl<T: Ord, A: Array<Item = T>> PartialEq<ChunkedRangeSet<T>> for RangeSet<A> {
 /// use range_sets::{ChunkedRangeSet, RangeSet2};
 ///
 /// let busy = ChunkedRangeSet::from(9..11);
-/// assert_eq!(RangeSet2::from(&busy) | RangeSet2::from(15..18), [9..11, 15..18].into_iter().collect::<RangeSet2<_>>());
+/// assert_eq!(RangeSet2::from(&busy) | RangeSet2::from(15..18), [9..11,
+/// 15..18].into_iter().collect::<RangeSet2<_>>());
 /// ```
 impl<T: Ord + Clone, A: Array<Item = T>> From<&ChunkedRangeSet<T>> for RangeSet<A> {
     fn from(set: &ChunkedRangeSet<T>) -> Self {

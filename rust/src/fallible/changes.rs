@@ -106,7 +106,8 @@ macro_rules! with_owned {
             ///
             /// # Errors
             ///
-            /// If memory runs out. The set is then as it was, and the other one comes back as it was.
+            /// If memory runs out. The set is then as it was, and the other one comes back as it
+            /// was.
             ///
             /// # Examples
             ///
@@ -139,7 +140,8 @@ with_owned! {
 }
 
 impl<T: EntryClone> RangeSetRange<&T> {
-    /// Returns the range of copies of both ends: [`cloned`](Self::cloned) for those who can't let memory run out.
+    /// Returns the range of copies of both ends: [`cloned`](Self::cloned) for those who can't let
+    /// memory run out.
     ///
     /// # Errors
     ///

@@ -11,8 +11,8 @@ use core::ops::Deref;
 
 /// A set that is changed one range at a time, and whose calls return an error if memory runs out.
 ///
-/// It dereferences to [`crate::ChunkedRangeSet`] for the questions, none of which takes memory, and a set goes either
-/// way by `into` without a copy.
+/// It dereferences to [`crate::ChunkedRangeSet`] for the questions, none of which takes memory, and
+/// a set goes either way by `into` without a copy.
 ///
 /// # Examples
 ///
@@ -99,7 +99,8 @@ impl<T: Ord> ChunkedRangeSet<T> {
     }
 }
 
-/// The set with the boundaries of a `RangeSet`, which are moved. If memory runs out, they are dropped.
+/// The set with the boundaries of a `RangeSet`, which are moved. If memory runs out, they are
+/// dropped.
 impl<T: Ord, A: Array<Item = T>> TryFrom<RangeSet<A>> for ChunkedRangeSet<T> {
     type Error = AllocError;
 

@@ -15,8 +15,8 @@ use core::fmt;
 /// assert_eq!(InsertError::NotFree("Bob").to_string(), "a key of the range has a value");
 /// ```
 pub use crate::generated::range_map::InsertError;
-/// It is implemented for all types that have [`EntryClone`](crate::fallible::EntryClone): numbers, `char`, references to
-/// texts and slices, `String`, `Vec` and `Option`.
+/// It is implemented for all types that have [`EntryClone`](crate::fallible::EntryClone): numbers,
+/// `char`, references to texts and slices, `String`, `Vec` and `Option`.
 ///
 /// # Examples
 ///
@@ -45,9 +45,11 @@ pub use crate::generated::range_map::InsertError;
 /// ```
 pub use crate::generated::range_map::MapValue;
 
-/// A map from ranges to values, which is changed range by range, and whose calls return an error where memory is refused.
+/// A map from ranges to values, which is changed range by range, and whose calls return an error
+/// where memory is refused.
 ///
-/// Where it is, the map is as it was. It has the questions of [`crate::RangeMap`], none of which takes memory.
+/// Where it is, the map is as it was. It has the questions of [`crate::RangeMap`], none of which
+/// takes memory.
 ///
 /// # Examples
 ///
@@ -76,8 +78,8 @@ impl<V: MapValue> Copies<V> for ByMapValue {
 
 /// Calls in place of traits, whose calls return no error.
 impl<K: Ord, V: MapValue> RangeMap<K, V> {
-    /// Returns the map of the ranges with their values, which stand in any order: where they overlap, the later one's
-    /// value holds.
+    /// Returns the map of the ranges with their values, which stand in any order: where they
+    /// overlap, the later one's value holds.
     ///
     /// # Errors
     ///
@@ -126,7 +128,8 @@ impl<K: Ord, V: MapValue> RangeMap<K, V> {
     ///
     /// # Errors
     ///
-    /// If memory or a copy of a value is refused. The map then has the ranges before the one that was refused.
+    /// If memory or a copy of a value is refused. The map then has the ranges before the one that
+    /// was refused.
     ///
     /// # Examples
     ///
@@ -148,14 +151,16 @@ impl<K: Ord, V: MapValue> RangeMap<K, V> {
     }
 }
 
-/// The same map: its calls end the process where memory is refused. Each value is moved, and none is copied.
+/// The same map: its calls end the process where memory is refused. Each value is moved, and none
+/// is copied.
 impl<K: Ord, V: Eq> From<RangeMap<K, V>> for map::RangeMap<K, V> {
     fn from(map: RangeMap<K, V>) -> Self {
         map.copied_by()
     }
 }
 
-/// The same map: its calls return an error where memory is refused. Each value is moved, and none is copied.
+/// The same map: its calls return an error where memory is refused. Each value is moved, and none
+/// is copied.
 impl<K: Ord, V: Eq> From<map::RangeMap<K, V>> for RangeMap<K, V> {
     fn from(map: map::RangeMap<K, V>) -> Self {
         map.copied_by()

@@ -1,5 +1,5 @@
-//! Sets as sequences of pairs, by serde: `[[0,10],[20,null]]`. It is [`crate::pairs`] for the sets here, and a refusal of
-//! memory for a set is an error of the format.
+//! Sets as sequences of pairs, by serde: `[[0,10],[20,null]]`. It is [`crate::pairs`] for the sets
+//! here, and a refusal of memory for a set is an error of the format.
 //!
 //! # Examples
 //!

@@ -8,9 +8,11 @@ use crate::space;
 use crate::support::Global;
 use core::ops::Deref;
 
-/// A space whose values are taken and freed range by range, and whose changes return an error if memory runs out.
+/// A space whose values are taken and freed range by range, and whose changes return an error if
+/// memory runs out.
 ///
-/// It dereferences to [`crate::ChunkedSpace`] for the questions, and goes either way by `into` without a copy.
+/// It dereferences to [`crate::ChunkedSpace`] for the questions, and goes either way by `into`
+/// without a copy.
 ///
 /// # Examples
 ///

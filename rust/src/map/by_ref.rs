@@ -1,4 +1,5 @@
-//! Maps of references, so that keys and values are copied by their own `Clone` alone, and only into the result.
+//! Maps of references, so that keys and values are copied by their own `Clone` alone, and only into
+//! the result.
 
 use super::{steps, Kept, Map, RangeMap};
 use crate::generated::range_entry::EntryClone;

@@ -20,8 +20,8 @@ macro_rules! changes {
         $at:literal, $from:literal, $ok:literal, $end:literal
     ) => {
         impl<K: Ord, V: Eq + $Value> $form::RangeMap<K, V> {
-            /// Gives each key of a range [of any kind](AnyRange) the value, in place of the one that it
-            /// had. An empty or a reversed range changes nothing.
+            /// Gives each key of a range [of any kind](AnyRange) the value, in place of the one
+            /// that it had. An empty or a reversed range changes nothing.
             ///
             /// A value is copied only if the range lies within another one, which becomes two.
             ///
@@ -44,8 +44,8 @@ macro_rules! changes {
                 $form::given::<K, _, _>(self.try_insert(range.into(), value))
             }
 
-            /// Gives each key of a range [of any kind](AnyRange) the value if none of them has one, and
-            /// else gives the value back. It copies nothing.
+            /// Gives each key of a range [of any kind](AnyRange) the value if none of them has one,
+            /// and else gives the value back. It copies nothing.
             ///
             #[doc = $errors!("# Errors\n\nThe value, if a key has one." or "If a key has a value, or \
                 memory is refused. The map is then as it was, and the error has the value.")]
@@ -68,11 +68,11 @@ macro_rules! changes {
                 $form::if_free::<K, _>(self.try_insert_free(range.into(), value))
             }
 
-            /// Takes the value of each key of a range [of any kind](AnyRange) away. An empty or a reversed
-            /// range changes nothing.
+            /// Takes the value of each key of a range [of any kind](AnyRange) away. An empty or a
+            /// reversed range changes nothing.
             ///
-            /// It takes memory, and copies a value, only if the range lies within another one, which
-            /// becomes two.
+            /// It takes memory, and copies a value, only if the range lies within another one,
+            /// which becomes two.
             ///
             #[doc = $errors!("If memory or a copy of a value is refused. The map is then as it was.")]
             /// # Examples

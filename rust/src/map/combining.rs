@@ -113,8 +113,8 @@ fn depth_of<K: Ord + Clone>(ranges: &[Range<K>]) -> Result<RangeMap<K, usize>, A
     Ok(Map(proved::RangeMap { steps }))
 }
 
-/// What each form makes, or why it can't. A map of clones is made of references to keys and values, so that these are
-/// copied by their own `Clone` alone, and only into the result.
+/// What each form makes, or why it can't. A map of clones is made of references to keys and values,
+/// so that these are copied by their own `Clone` alone, and only into the result.
 macro_rules! made {
     (ends, $map:ident.try_combine($that:ident, $op:ident)) => {{
         let op = RefCell::new($op);
@@ -211,11 +211,11 @@ macro_rules! operations {
                 $form::given::<K, _, _>(made!($form, self.try_combine(that, op)))
             }
 
-            /// Gives each key of a range [of any kind](AnyRange) what `op` makes of its value, or of none.
-            /// An empty or a reversed range changes nothing.
+            /// Gives each key of a range [of any kind](AnyRange) what `op` makes of its value, or
+            /// of none. An empty or a reversed range changes nothing.
             ///
-            /// It makes the map anew: it takes time for each step, and copies the values outside of the
-            /// range.
+            /// It makes the map anew: it takes time for each step, and copies the values outside of
+            /// the range.
             ///
             #[doc = $errors!("If memory, a copy or `op` fails. The map is then as it was.")]
             /// # Examples
@@ -260,7 +260,8 @@ macro_rules! operations {
                 $form::given::<K, _, _>(made!($form, self.try_union_with_left(that: by_ref)))
             }
 
-            /// Returns the map with the values of both. Where both have one, that of the other map stays.
+            /// Returns the map with the values of both. Where both have one, that of the other map
+            /// stays.
             ///
             #[doc = $errors!("If memory, or a copy of a key or of a value, is refused.")]
             /// # Examples
@@ -364,8 +365,8 @@ macro_rules! operations {
         }
 
         impl<K: Ord + $Clone> $form::RangeMap<K, usize> {
-            /// Returns the map that gives each key the number of the ranges that have it, if some do. They
-            /// may come in any order.
+            /// Returns the map that gives each key the number of the ranges that have it, if some
+            /// do. They may come in any order.
             ///
             /// It takes *O*(*n* log *n*) time. `Range::try_from` makes a range of std of a set's.
             ///

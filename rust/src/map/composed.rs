@@ -1,5 +1,5 @@
-//! Calls of a map that are made of others: its first and last range, its keys and values, ranges taken out, two maps in
-//! one.
+//! Calls of a map that are made of others: its first and last range, its keys and values, ranges
+//! taken out, two maps in one.
 
 use super::{Iter, Map, RangeMap};
 use crate::any_range::AnyRange;
@@ -40,7 +40,8 @@ impl<K: Ord, V: Eq, C> Map<K, V, C> {
         self.iter().next_back()
     }
 
-    /// Returns the range from the first key that has a value to the end of the last range, or `None` if the map is empty.
+    /// Returns the range from the first key that has a value to the end of the last range, or
+    /// `None` if the map is empty.
     ///
     /// # Examples
     ///
@@ -57,7 +58,8 @@ impl<K: Ord, V: Eq, C> Map<K, V, C> {
         Some(RangeSetRange::of_ends(start, end))
     }
 
-    /// Returns an iterator over the ranges that have a value, from the lowest on and from the highest down.
+    /// Returns an iterator over the ranges that have a value, from the lowest on and from the
+    /// highest down.
     ///
     /// # Examples
     ///
@@ -72,8 +74,8 @@ impl<K: Ord, V: Eq, C> Map<K, V, C> {
         self.iter().map(|(range, _)| range)
     }
 
-    /// Returns an iterator over the values, from that of the lowest range on and from that of the highest down. A value
-    /// comes as often as it has ranges.
+    /// Returns an iterator over the values, from that of the lowest range on and from that of the
+    /// highest down. A value comes as often as it has ranges.
     ///
     /// # Examples
     ///
@@ -87,8 +89,8 @@ impl<K: Ord, V: Eq, C> Map<K, V, C> {
         self.iter().map(|(_, value)| value)
     }
 
-    /// Takes away the value of each range that `keep` returns `false` for, as [`retain`](Map::retain) does. It takes memory
-    /// for the answers.
+    /// Takes away the value of each range that `keep` returns `false` for, as
+    /// [`retain`](Map::retain) does. It takes memory for the answers.
     ///
     /// # Examples
     ///
@@ -117,8 +119,8 @@ pub type Keys<'a, K, V, C> =
 pub type Values<'a, K, V, C> =
     iter::Map<Iter<'a, K, V, C>, fn((RangeSetRange<&'a K>, &'a V)) -> &'a V>;
 
-/// These are made of [`insert`](RangeMap::insert), [`remove`](RangeMap::remove) and [`iter`](Map::iter), and clone the keys
-/// and values that they take out or change.
+/// These are made of [`insert`](RangeMap::insert), [`remove`](RangeMap::remove) and
+/// [`iter`](Map::iter), and clone the keys and values that they take out or change.
 impl<K: Ord + Clone, V: Eq + Clone> RangeMap<K, V> {
     /// Takes away the value of the first range, and returns both, or `None` if the map is empty.
     ///
@@ -154,8 +156,8 @@ impl<K: Ord + Clone, V: Eq + Clone> RangeMap<K, V> {
         Some((range, value))
     }
 
-    /// Changes the value of `key`, and with it that of the longest range around it whose keys have it. Returns `false` if
-    /// the key has no value.
+    /// Changes the value of `key`, and with it that of the longest range around it whose keys have
+    /// it. Returns `false` if the key has no value.
     ///
     /// There is no `get_mut`: the range becomes one with a neighbour that has the new value.
     ///
@@ -180,8 +182,8 @@ impl<K: Ord + Clone, V: Eq + Clone> RangeMap<K, V> {
         }
     }
 
-    /// Puts in the ranges of `that` with their values, in place of those that were there, and leaves `that` empty. If
-    /// something panics meanwhile, the map is empty.
+    /// Puts in the ranges of `that` with their values, in place of those that were there, and
+    /// leaves `that` empty. If something panics meanwhile, the map is empty.
     ///
     /// # Examples
     ///
@@ -201,7 +203,8 @@ impl<K: Ord + Clone, V: Eq + Clone> RangeMap<K, V> {
         *self = own;
     }
 
-    /// Takes away the values of the keys at and above `at`, and returns the map with them. It clones the whole map.
+    /// Takes away the values of the keys at and above `at`, and returns the map with them. It
+    /// clones the whole map.
     ///
     /// # Examples
     ///

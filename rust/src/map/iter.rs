@@ -23,7 +23,8 @@ shown! {
     [K: fmt::Debug, V, C] Gaps<'_, K, V, C>;
 }
 
-/// An iterator over the ranges of a map that have a value, each with it, from the lowest on and from the highest down.
+/// An iterator over the ranges of a map that have a value, each with it, from the lowest on and
+/// from the highest down.
 /// [`Map::iter`] makes it.
 ///
 /// # Examples
@@ -54,7 +55,8 @@ fn with_value<'a, K, V, C>(
     (RangeSetRange::from_proved(range), &kept.value)
 }
 
-/// An iterator over the parts of a range whose keys have no value, from both ends. [`Map::gaps`] makes it.
+/// An iterator over the parts of a range whose keys have no value, from both ends. [`Map::gaps`]
+/// makes it.
 ///
 /// # Examples
 ///
@@ -75,7 +77,8 @@ impl<'a, K, V, C> Gaps<'a, K, V, C> {
     }
 }
 
-/// An iterator over the ranges of a map that was taken by value, each with its value. `into_iter` makes it.
+/// An iterator over the ranges of a map that was taken by value, each with its value. `into_iter`
+/// makes it.
 ///
 /// A key at which one range ends and another one starts is cloned.
 ///

@@ -33,8 +33,8 @@ macro_rules! triples {
         @$Value:ident, $form:ident, $Clone:ident, $must_use:meta, $errors:ident,
         $at:literal, $from:literal, $ok:literal, $end:literal
     ) => {
-        /// Reads a sequence of triples in any order. Where ranges overlap the later one's value holds, and
-        /// a reversed range is empty.
+        /// Reads a sequence of triples in any order. Where ranges overlap the later one's value
+        /// holds, and a reversed range is empty.
         ///
         #[doc = $errors!("Those of the format, and one if memory for the map runs out.")]
         /// # Examples

@@ -7,7 +7,8 @@ use crate::generated::range_map::step::Step;
 use alloc::vec;
 use core::iter::FusedIterator;
 
-/// The steps with a key and a value made of each. Where they have the same size, they lie where those were.
+/// The steps with a key and a value made of each. Where they have the same size, they lie where
+/// those were.
 pub(super) fn of_others<K, V, L, W>(
     steps: Chunks<Step<K, V>, ()>,
     key: impl Fn(K) -> L,

@@ -102,7 +102,8 @@ impl<K: Ord + Hash, V: Eq + Hash, C> Hash for Map<K, V, C> {
     }
 }
 
-/// As `{9..12: "Ada", 20..: "Eve"}`, by the `Debug` of keys and values. Flags as those of `{:#?}` hold as for std's maps.
+/// As `{9..12: "Ada", 20..: "Eve"}`, by the `Debug` of keys and values. Flags as those of `{:#?}`
+/// hold as for std's maps.
 impl<K: Ord + fmt::Debug, V: Eq + fmt::Debug, C> fmt::Debug for Map<K, V, C> {
     fn fmt(&self, f: &mut fmt::Formatter<'_>) -> fmt::Result {
         f.debug_map().entries(self).finish()

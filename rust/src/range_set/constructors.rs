@@ -17,14 +17,15 @@ macro_rules! constructors {
         $at:literal, $from:literal, $ok:literal, $end:literal
     ) => {
         impl<T, A: Array<Item = T>> $form::RangeSet<A> {
-            /// Returns the set with these boundaries, or `None` if they aren't strictly sorted. It takes
-            /// no memory.
+            /// Returns the set with these boundaries, or `None` if they aren't strictly sorted. It
+            /// takes no memory.
             ///
             /// [`from_unsorted`](Self::from_unsorted) sorts them. The empty set is
             /// [`empty`](Self::empty), which takes no list.
             ///
-            /// The array type doesn't follow from the boundaries, nor from ranges that are collected. A
-            /// line that makes a set of them names it: `let set: RangeSet<[i32; 4]> = ..`, or `RangeSet2`.
+            /// The array type doesn't follow from the boundaries, nor from ranges that are
+            /// collected. A line that makes a set of them names it: `let set: RangeSet<[i32; 4]> =
+            /// ..`, or `RangeSet2`.
             ///
             /// # Examples
             ///
@@ -45,8 +46,8 @@ macro_rules! constructors {
                 Some(Self::of_list(A::list(boundaries)))
             }
 
-            /// Returns the set whose boundaries are the distinct ones of these, in order. Of equal ones
-            /// the first stays.
+            /// Returns the set whose boundaries are the distinct ones of these, in order. Of equal
+            /// ones the first stays.
             ///
             #[doc = $errors!("If there is no room for the boundaries, or none to sort them: more \
                 than 20 take a list of their places.")]
@@ -115,11 +116,11 @@ macro_rules! constructors {
 
             /// Returns the set of the values that lie in one of the ranges at least.
             ///
-            /// The ranges are of any kind that [becomes one](IntoRange) by `into`, as those of std do, and
-            /// `&Range` by its `Clone`. They stand in any order, and may overlap, touch or be empty.
-            /// Those that come in the order of their starts are appended one after the other. From the
-            /// first that doesn't on, starts and ends are sorted, which takes *O*(*n* log *n*)
-            /// comparisons.
+            /// The ranges are of any kind that [becomes one](IntoRange) by `into`, as those of std
+            /// do, and `&Range` by its `Clone`. They stand in any order, and may overlap, touch or
+            /// be empty. Those that come in the order of their starts are appended one after the
+            /// other. From the first that doesn't on, starts and ends are sorted, which takes
+            /// *O*(*n* log *n*) comparisons.
             ///
             #[doc = $errors!("`collect` does the same." or "If memory runs out.")]
             /// # Examples
@@ -191,7 +192,8 @@ macro_rules! constructors {
                 $form::given::<T, _, _>(joined.map(Self::of_list))
             }
 
-            /// Returns the set of the members of each of the sets, or of every value if there is no set.
+            /// Returns the set of the members of each of the sets, or of every value if there is no
+            /// set.
             ///
             /// It copies the first set, and cuts it to one after the other.
             ///

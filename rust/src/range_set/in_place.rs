@@ -1,4 +1,5 @@
-//! What changes a set. Of two equal boundaries the set's own stays. All memory is asked for before anything changes.
+//! What changes a set. Of two equal boundaries the set's own stays. All memory is asked for before
+//! anything changes.
 
 use crate::any_range::AnyRange;
 use crate::array::{Array, List};
@@ -13,8 +14,8 @@ macro_rules! changes {
         $at:literal, $from:literal, $ok:literal, $end:literal
     ) => {
         impl<T: Ord, A: Array<Item = T>> $form::RangeSet<A> {
-            /// Adds the values of a range [of any kind](AnyRange). An empty or a reversed range changes
-            /// nothing.
+            /// Adds the values of a range [of any kind](AnyRange). An empty or a reversed range
+            /// changes nothing.
             ///
             /// It makes *O*(log *n*) comparisons, and moves the boundaries after the range at most.
             ///
@@ -37,8 +38,8 @@ macro_rules! changes {
                 $form::given::<T, _, _>(self.list.set_range(range.into(), true))
             }
 
-            /// Adds the values of a range, as [`insert`](Self::insert) does. Returns `true` if one of them
-            /// wasn't a member.
+            /// Adds the values of a range, as [`insert`](Self::insert) does. Returns `true` if one
+            /// of them wasn't a member.
             ///
             #[doc = $errors!("If memory runs out. The set is then as it was.")]
             /// # Examples
@@ -58,8 +59,8 @@ macro_rules! changes {
                 $form::given::<T, _, _>(self.list.set_range(range, true).map(|()| changes))
             }
 
-            /// Takes the values of a range [of any kind](AnyRange) out. An empty or a reversed range
-            /// changes nothing.
+            /// Takes the values of a range [of any kind](AnyRange) out. An empty or a reversed
+            /// range changes nothing.
             ///
             /// It makes *O*(log *n*) comparisons, and moves the boundaries after the range at most.
             ///
@@ -80,8 +81,8 @@ macro_rules! changes {
                 $form::given::<T, _, _>(self.list.set_range(range.into(), false))
             }
 
-            /// Takes the values of a range out, as [`remove`](Self::remove) does. Returns `true` if one of
-            /// them was a member.
+            /// Takes the values of a range out, as [`remove`](Self::remove) does. Returns `true` if
+            /// one of them was a member.
             ///
             #[doc = $errors!("If memory runs out. The set is then as it was.")]
             /// # Examples

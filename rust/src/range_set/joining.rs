@@ -7,8 +7,8 @@ use crate::memory::AllocError;
 use crate::view::RangeSetRef;
 use alloc::vec::Vec;
 
-/// The boundaries of the union of copies of sets, by halves: each set is copied once, and then lists are joined in
-/// place.
+/// The boundaries of the union of copies of sets, by halves: each set is copied once, and then
+/// lists are joined in place.
 pub(crate) fn union_of_sets<T, L, S, P>(
     sets: impl IntoIterator<Item = S>,
     copier: &P,

@@ -1,4 +1,5 @@
-//! `|`, `&`, `^`, `-` and `!` on sets and on references to sets, and `|=`, `&=`, `^=`, `-=` with either.
+//! `|`, `&`, `^`, `-` and `!` on sets and on references to sets, and `|=`, `&=`, `^=`, `-=` with
+//! either.
 
 use crate::array::{Array, List};
 use crate::entry::RangeSetEntry;

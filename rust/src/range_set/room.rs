@@ -9,8 +9,8 @@ macro_rules! room {
         $at:literal, $from:literal, $ok:literal, $end:literal
     ) => {
         impl<T, A: Array<Item = T>> $form::RangeSet<A> {
-            /// Returns an empty set with room for `room` boundaries, two for each range. It may have
-            /// room for more.
+            /// Returns an empty set with room for `room` boundaries, two for each range. It may
+            /// have room for more.
             ///
             #[doc = $errors!("# Panics\n\nIf they take more than `isize::MAX` bytes, as \
                 [`Vec::with_capacity`](alloc::vec::Vec::with_capacity) does." or "If memory runs out.")]
@@ -43,8 +43,8 @@ macro_rules! room {
                 self.list.capacity()
             }
 
-            /// Makes room for `more` boundaries more, two for each range. Changes keep it, and need no
-            /// other room until the set has grown by as many.
+            /// Makes room for `more` boundaries more, two for each range. Changes keep it, and need
+            /// no other room until the set has grown by as many.
             ///
             #[doc = $errors!("# Panics\n\nIf all boundaries would then take more than `isize::MAX` \
                 bytes, as [`Vec::reserve`](alloc::vec::Vec::reserve) does."
@@ -64,8 +64,8 @@ macro_rules! room {
                 $form::room::<T, _>(self.list.reserve(boundaries), items)
             }
 
-            /// Gives back the room that the boundaries don't need. They come to lie in the set itself
-            /// where they fit. If the allocator refuses a smaller room, it stays.
+            /// Gives back the room that the boundaries don't need. They come to lie in the set
+            /// itself where they fit. If the allocator refuses a smaller room, it stays.
             ///
             /// # Examples
             ///

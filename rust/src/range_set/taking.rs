@@ -30,8 +30,8 @@ macro_rules! taking {
                 self.list.clear();
             }
 
-            /// Takes the lowest range out and returns it, or `None` if the set is empty. It moves the
-            /// other boundaries, and takes no memory.
+            /// Takes the lowest range out and returns it, or `None` if the set is empty. It moves
+            /// the other boundaries, and takes no memory.
             ///
             /// # Examples
             ///
@@ -47,8 +47,8 @@ macro_rules! taking {
                 self.list.take_first()
             }
 
-            /// Takes the highest range out and returns it, or `None` if the set is empty. It takes no
-            /// memory.
+            /// Takes the highest range out and returns it, or `None` if the set is empty. It takes
+            /// no memory.
             ///
             /// # Examples
             ///
@@ -63,8 +63,8 @@ macro_rules! taking {
                 self.list.take_last()
             }
 
-            /// Keeps the ranges for which `keep` returns `true`, and takes the others out. It is called
-            /// once for each, from the lowest on. It takes no memory.
+            /// Keeps the ranges for which `keep` returns `true`, and takes the others out. It is
+            /// called once for each, from the lowest on. It takes no memory.
             ///
             /// If it panics, the set is empty.
             ///

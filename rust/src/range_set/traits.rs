@@ -69,7 +69,8 @@ macro_rules! traits {
             }
         }
 
-        /// Two sets are equal if they have the same members. The other one may be any set or a view.
+        /// Two sets are equal if they have the same members. The other one may be any set or a
+        /// view.
         impl<T: PartialEq, A: Array<Item = T>, R: AsRef<RangeSetRef<T>>> PartialEq<R>
             for $form::RangeSet<A>
         {
@@ -99,8 +100,8 @@ macro_rules! traits {
             }
         }
 
-        /// As `RangeSet{0..10, 20..}`, by the elements' own `Debug`. Flags as those of `{:#?}` and `{:x?}`
-        /// hold as for std's sets.
+        /// As `RangeSet{0..10, 20..}`, by the elements' own `Debug`. Flags as those of `{:#?}` and
+        /// `{:x?}` hold as for std's sets.
         impl<T: fmt::Debug, A: Array<Item = T>> fmt::Debug for $form::RangeSet<A> {
             fn fmt(&self, f: &mut fmt::Formatter<'_>) -> fmt::Result {
                 f.write_str("RangeSet")?;
@@ -115,13 +116,14 @@ macro_rules! traits {
             }
         }
 
-        /// Reads the union of the ranges of a text: in any order, with commas between them, and with white
-        /// space around each.
+        /// Reads the union of the ranges of a text: in any order, with commas between them, and
+        /// with white space around each.
         ///
         /// # Errors
         ///
-        /// The error has the byte where the text stops being one of ranges, and what was expected there; or
-        /// it says that a number is past those of its type. In [`fallible`](crate::fallible) it may be
+        /// The error has the byte where the text stops being one of ranges, and what was expected
+        /// there; or it says that a number is past those of its type. In
+        /// [`fallible`](crate::fallible) it may be
         /// [`ParseError::OutOfMemory`].
         ///
         /// # Examples
@@ -139,7 +141,8 @@ macro_rules! traits {
         /// # Ok::<(), ParseError>(())
         /// ```
         ///
-        /// A set is compared with sets of all sizes and with views, so beside `==` the type is named:
+        /// A set is compared with sets of all sizes and with views, so beside `==` the type is
+        /// named:
         ///
         /// ```
         #[doc = concat!("use ", $at, "::RangeSet2;")]

@@ -35,8 +35,8 @@ macro_rules! changes {
                 $form::ChunkedRangeSet::new().into()
             }
 
-            /// Returns the space where the values are taken that lie in one of the ranges at least, which
-            /// stand in any order.
+            /// Returns the space where the values are taken that lie in one of the ranges at least,
+            /// which stand in any order.
             ///
             #[doc = $errors!("`collect` does the same." or "If memory runs out.")]
             /// # Examples
@@ -59,8 +59,8 @@ macro_rules! changes {
                 $form::given::<T, _, _>(taken.map(Self::of_proved))
             }
 
-            /// Takes the values of a range [of any kind](AnyRange). An empty or a reversed range changes
-            /// nothing.
+            /// Takes the values of a range [of any kind](AnyRange). An empty or a reversed range
+            /// changes nothing.
             ///
             #[doc = $errors!("If memory runs out. The same values are then taken as before.")]
             /// # Examples
@@ -78,8 +78,8 @@ macro_rules! changes {
                 $form::given::<T, _, _>(set_taken(self.proved_mut(), range.into(), true))
             }
 
-            /// Frees the values of a range [of any kind](AnyRange). An empty or a reversed range changes
-            /// nothing.
+            /// Frees the values of a range [of any kind](AnyRange). An empty or a reversed range
+            /// changes nothing.
             ///
             /// It takes memory only if it cuts a range in two, or ends one that had no end.
             ///
@@ -99,8 +99,8 @@ macro_rules! changes {
                 $form::given::<T, _, _>(set_taken(self.proved_mut(), range.into(), false))
             }
 
-            /// Takes the values of a range, as [`insert`](Self::insert) does. Returns `true` if one of them
-            /// was free.
+            /// Takes the values of a range, as [`insert`](Self::insert) does. Returns `true` if one
+            /// of them was free.
             ///
             #[doc = $errors!("If memory runs out. The same values are then taken as before.")]
             /// # Examples
@@ -121,8 +121,8 @@ macro_rules! changes {
                 $form::given::<T, _, _>(result.map(|()| changes))
             }
 
-            /// Frees the values of a range, as [`remove`](Self::remove) does. Returns `true` if one of them
-            /// was taken.
+            /// Frees the values of a range, as [`remove`](Self::remove) does. Returns `true` if one
+            /// of them was taken.
             ///
             #[doc = $errors!("If memory runs out. The same values are then taken as before.")]
             /// # Examples
@@ -159,14 +159,14 @@ macro_rules! changes {
                 self.proved_mut().clear();
             }
 
-            /// Returns the least number of the range from which on `len` numbers of it are free, or `None` if
-            /// there is no such stretch. The type's greatest number is never in one, as a range leaves its
-            /// end out.
+            /// Returns the least number of the range from which on `len` numbers of it are free, or
+            /// `None` if there is no such stretch. The type's greatest number is never in one, as a
+            /// range leaves its end out.
             ///
-            /// Up to the answer it takes one step for some 512 gaps that it remembers to be too short, and
-            /// reads the others: after a load all of them, after changes those nearby. Without memory it
-            /// remembers less. Among a million ranges it takes 61 microseconds to free one and to place one
-            /// lowest, by bench/README.md.
+            /// Up to the answer it takes one step for some 512 gaps that it remembers to be too
+            /// short, and reads the others: after a load all of them, after changes those nearby.
+            /// Without memory it remembers less. Among a million ranges it takes 61 microseconds to
+            /// free one and to place one lowest, by bench/README.md.
             ///
             /// # Examples
             ///
@@ -186,9 +186,9 @@ macro_rules! changes {
                 self.first_fit_count(within, len.count()?)
             }
 
-            /// Returns the least value of the range from which on `count` values of it are free, or `None` if
-            /// there is no such stretch. It costs what [`first_fit`](Self::first_fit) does, and leaves out the
-            /// type's greatest value too.
+            /// Returns the least value of the range from which on `count` values of it are free, or
+            /// `None` if there is no such stretch. It costs what [`first_fit`](Self::first_fit)
+            /// does, and leaves out the type's greatest value too.
             ///
             /// # Examples
             ///
@@ -204,15 +204,15 @@ macro_rules! changes {
                 self.proved_mut().first_fit_count(within.ended(), count)
             }
 
-            /// Returns the least multiple of `align` in the range from which on `count` values of it are
-            /// free.
+            /// Returns the least multiple of `align` in the range from which on `count` values of
+            /// it are free.
             ///
             /// It is `None` if there is none, or if `align` is 0. Multiples are those of
             /// [`RangeSetRef::first_fit_aligned`](crate::RangeSetRef::first_fit_aligned).
             ///
-            /// It costs what [`first_fit`](Self::first_fit) does. Of gaps that are long enough, but hold no
-            /// such value, it remembers that for the last `align` alone: calls that alternate between two read
-            /// those gaps again.
+            /// It costs what [`first_fit`](Self::first_fit) does. Of gaps that are long enough, but
+            /// hold no such value, it remembers that for the last `align` alone: calls that
+            /// alternate between two read those gaps again.
             ///
             /// # Examples
             ///

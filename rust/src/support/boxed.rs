@@ -1,4 +1,5 @@
-//! What the exports for C need: boxes that C keeps as addresses, and slices of the pointers and lengths that C passes.
+//! What the exports for C need: boxes that C keeps as addresses, and slices of the pointers and
+//! lengths that C passes.
 
 use super::{AllocFailed, Global};
 use core::alloc::Layout;
@@ -7,8 +8,8 @@ use core::ops::{Deref, DerefMut};
 use core::ptr::NonNull;
 use core::slice;
 
-/// A value in memory of its own. Unlike std's box it may be made twice of one address, as long as both are only read: so
-/// two threads of C may ask one set.
+/// A value in memory of its own. Unlike std's box it may be made twice of one address, as long as
+/// both are only read: so two threads of C may ask one set.
 pub struct Box<T>(NonNull<T>);
 
 impl<T> Box<T> {
@@ -21,7 +22,8 @@ impl<T> Box<T> {
         match memory {
             None => Err(AllocFailed { value }),
             Some(at) => {
-                // SAFETY: the memory is for one value of the type, and nothing else has its address.
+                // SAFETY: the memory is for one value of the type, and nothing else has its
+                // address.
                 unsafe { at.as_ptr().write(value) };
                 Ok(Box(at))
             }
@@ -34,7 +36,8 @@ impl<T> Deref for Box<T> {
 
     #[inline(always)]
     fn deref(&self) -> &T {
-        // SAFETY: a box has a value until it is dropped, and whoever has the box sees that none changes it meanwhile.
+        // SAFETY: a box has a value until it is dropped, and whoever has the box sees that none
+        // changes it meanwhile.
         unsafe { self.0.as_ref() }
     }
 }
@@ -49,12 +52,14 @@ impl<T> DerefMut for Box<T> {
 
 impl<T> Drop for Box<T> {
     fn drop(&mut self) {
-        // SAFETY: std's allocator gave the memory, for this type. The value is dropped with std's box.
+        // SAFETY: std's allocator gave the memory, for this type. The value is dropped with std's
+        // box.
         drop(unsafe { alloc::boxed::Box::from_raw(self.0.as_ptr()) });
     }
 }
 
-/// A box as its address, and its allocator. It owns what the box did, and a drop leaves that where it is.
+/// A box as its address, and its allocator. It owns what the box did, and a drop leaves that where
+/// it is.
 pub struct Parts<T, A> {
     pub ptr: *mut T,
     pub alloc: A,
@@ -73,7 +78,8 @@ impl<T> Parts<T, Global> {
     /// Makes the box again.
     #[inline(always)]
     pub fn into_box(self) -> Box<T> {
-        // SAFETY: the contracts of the exports ask for a set or map here, so the address is that of a box.
+        // SAFETY: the contracts of the exports ask for a set or map here, so the address is that of
+        // a box.
         Box(unsafe { NonNull::new_unchecked(self.ptr) })
     }
 }
@@ -92,7 +98,8 @@ pub unsafe fn items_at<'a, T>(items: *const T, len: usize) -> &'a [T] {
 ///
 /// # Safety
 ///
-/// It is the address of `len` items, or of none, and nothing else uses them while the slice is used.
+/// It is the address of `len` items, or of none, and nothing else uses them while the slice is
+/// used.
 #[inline(always)]
 pub unsafe fn room_at<'a, T>(items: *mut T, len: usize) -> &'a mut [T] {
     unsafe { slice::from_raw_parts_mut(items, len) }

@@ -10,8 +10,9 @@ use core::ptr;
 
 /// Copies numbers and characters, where no bound of the type says that they are such.
 ///
-/// Not of other items without a drop, though their bits could be moved: a merge that reads short runs compares copies
-/// while the items are there. A comparison that took a `&mut` out of a `Cell` in a copy would leave it in the item.
+/// Not of other items without a drop, though their bits could be moved: a merge that reads short
+/// runs compares copies while the items are there. A comparison that took a `&mut` out of a `Cell`
+/// in a copy would leave it in the item.
 pub struct ByBits<K>(PhantomData<K>);
 
 impl<K> ByBits<K> {
@@ -23,7 +24,8 @@ impl<K> ByBits<K> {
 
     #[inline(always)]
     fn copied(&self, item: &K) -> K {
-        // SAFETY: `K` is a type of numbers or `char`, or there were no `ByBits` of it. These are `Copy`.
+        // SAFETY: `K` is a type of numbers or `char`, or there were no `ByBits` of it. These are
+        // `Copy`.
         unsafe { ptr::read(item) }
     }
 }
@@ -59,8 +61,8 @@ impl<K: Ord + Clone> EntryClone for ByValue<K> {
     }
 }
 
-/// Whether `K` is one of std's types of whole numbers, or `char`: those that are plain by their `EntryClone`. Or one of
-/// these by value.
+/// Whether `K` is one of std's types of whole numbers, or `char`: those that are plain by their
+/// `EntryClone`. Or one of these by value.
 ///
 /// The answer is known when the call is compiled.
 #[inline(always)]
@@ -74,7 +76,8 @@ pub fn is_number<K>() -> bool {
     is_one_of!(u8 u16 u32 u64 u128 usize i8 i16 i32 i64 i128 isize char)
 }
 
-/// The id of `K`, by `'static` for each of its lifetimes. Numbers have none, so no other type has an id of theirs.
+/// The id of `K`, by `'static` for each of its lifetimes. Numbers have none, so no other type has
+/// an id of theirs.
 #[inline(always)]
 fn id<K>() -> TypeId {
     trait Id {
@@ -94,7 +97,8 @@ fn id<K>() -> TypeId {
     }
 
     let of: &dyn Id = &PhantomData::<K>;
-    // SAFETY: the two types differ in a lifetime alone, and the call reads nothing that ends with it: there is no item.
+    // SAFETY: the two types differ in a lifetime alone, and the call reads nothing that ends with
+    // it: there is no item.
     let of = unsafe { mem::transmute::<&dyn Id, &(dyn Id + 'static)>(of) };
     of.id()
 }

@@ -1,4 +1,5 @@
-//! Copies of elements that Rattle's sources don't know: std's own texts and lists, numbers other than 0, addresses and durations.
+//! Copies of elements that Rattle's sources don't know: std's own texts and lists, numbers other
+//! than 0, addresses and durations.
 
 use super::AllocError;
 use crate::generated::range_entry::EntryClone;

@@ -1,4 +1,5 @@
-//! std's trait of errors, and where there is no std one in its place, so that the generated code reads the same.
+//! std's trait of errors, and where there is no std one in its place, so that the generated code
+//! reads the same.
 
 #[cfg(feature = "std")]
 pub use std::error::Error;

@@ -1,6 +1,8 @@
 //! Merges in place, where the list lies.
 //!
-//! In Rattle a gap in a list is filled with blank items, which ask for a default value. Here nothing lies in a gap, so that any element will do: the merge runs over [`Slot`]s of lists that are [`Opened`].
+//! In Rattle a gap in a list is filled with blank items, which ask for a default value. Here
+//! nothing lies in a gap, so that any element will do: the merge runs over [`Slot`]s of lists that
+//! are [`Opened`].
 
 use super::by_bits::ByBits;
 use super::opened::{Given, Opened};
@@ -22,9 +24,12 @@ pub struct InPlaceMergeState<K, const N: usize>(PhantomData<K>);
 pub struct InPlaceMergeStateRef<K, P, const N: usize>(PhantomData<(K, P)>);
 
 impl<K, const N: usize> InPlaceMergeState<K, N> {
-    /// Leaves in `a` the items at which the connective of `op` changes between two strictly sorted lists. Of two equal items it is the one of `a` that stays.
+    /// Leaves in `a` the items at which the connective of `op` changes between two strictly sorted
+    /// lists. Of two equal items it is the one of `a` that stays.
     ///
-    /// It asks for room in `a` for the items of `b`, which stays, before it changes anything. Numbers it merges as [`merged_plainly`] does. If that fails, `a` is as it was and `b` comes back.
+    /// It asks for room in `a` for the items of `b`, which stays, before it changes anything.
+    /// Numbers it merges as [`merged_plainly`] does. If that fails, `a` is as it was and `b` comes
+    /// back.
     pub fn merge<O: MergeOperation, C: Compare<K>>(
         a: &mut SmallVec<K, N>,
         mut b: SmallVec<K, N>,
@@ -50,9 +55,13 @@ impl<K, const N: usize> InPlaceMergeState<K, N> {
 }
 
 impl<K, P: Copier<K>, const N: usize> InPlaceMergeStateRef<K, P, N> {
-    /// Leaves in `a` the items at which the connective of `op` changes between two strictly sorted lists: its own, and copies of those of `b`. Of two equal items it is the one of `a` that stays.
+    /// Leaves in `a` the items at which the connective of `op` changes between two strictly sorted
+    /// lists: its own, and copies of those of `b`. Of two equal items it is the one of `a` that
+    /// stays.
     ///
-    /// It asks for room in `a` for the items of `b`, which stays, and, unless copies never fail, for a copy of each item of `b`, before it changes anything. Plain data it merges as [`merged_plainly`] does. Where one is refused, `a` is as it was.
+    /// It asks for room in `a` for the items of `b`, which stays, and, unless copies never fail,
+    /// for a copy of each item of `b`, before it changes anything. Plain data it merges as
+    /// [`merged_plainly`] does. Where one is refused, `a` is as it was.
     pub fn merge<O: MergeOperation, C: Compare<K>>(
         a: &mut SmallVec<K, N>,
         b: &[K],

@@ -1,4 +1,5 @@
-//! What the generated code takes from Rattle's library and Rust's hasn't: lists whose growth may be refused, and the words of the allocator.
+//! What the generated code takes from Rattle's library and Rust's hasn't: lists whose growth may be
+//! refused, and the words of the allocator.
 //!
 //! Written by hand and not proved.
 

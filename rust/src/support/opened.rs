@@ -12,9 +12,13 @@ use core::slice;
 
 /// A borrowed list whose items are moved within its room.
 ///
-/// The items before `front` and those from `back` up to `len` are there; between them lies a gap without items. While the list is open its own length is 0, so whatever happens, as a panic in a comparison, no item is dropped twice: [`close`](Self::close) sets the length, and a drop without it drops all items and leaves the list empty.
+/// The items before `front` and those from `back` up to `len` are there; between them lies a gap
+/// without items. While the list is open its own length is 0, so whatever happens, as a panic in a
+/// comparison, no item is dropped twice: [`close`](Self::close) sets the length, and a drop without
+/// it drops all items and leaves the list empty.
 pub struct Opened<'a, K, const N: usize> {
-    // A pointer, and no reference: it would be the only way to the items, which lie in the list itself where they are few.
+    // A pointer, and no reference: it would be the only way to the items, which lie in the list
+    // itself where they are few.
     list: *mut smallvec::SmallVec<[K; N]>,
     items: *mut Slot<K>,
     room: usize,
@@ -29,7 +33,8 @@ impl<'a, K, const N: usize> Opened<'a, K, N> {
     #[inline]
     pub fn over(list: &'a mut SmallVec<K, N>) -> Self {
         let list: *mut _ = list.as_inner_mut();
-        // SAFETY: the list is borrowed for as long as this value lives, and none of its items is within a length of 0.
+        // SAFETY: the list is borrowed for as long as this value lives, and none of its items is
+        // within a length of 0.
         let (len, room, items) = unsafe {
             let len = (*list).len();
             (*list).set_len(0);
@@ -60,7 +65,8 @@ impl<'a, K, const N: usize> Opened<'a, K, N> {
         unsafe { (*list).set_len(len) };
     }
 
-    /// Makes one gap of the places from `from` up to `to` and the gap that is there, and drops the items in it.
+    /// Makes one gap of the places from `from` up to `to` and the gap that is there, and drops the
+    /// items in it.
     #[inline(always)]
     fn clear(&mut self, from: usize, to: usize) {
         assert!(from <= to && to <= self.len, "out of range");
@@ -121,7 +127,8 @@ impl<K, const N: usize> Indexed<Slot<K>> for Opened<'_, K, N> {
     #[inline(always)]
     fn at(&self, i: usize) -> &Slot<K> {
         assert!(self.back <= i && i < self.len, "out of range");
-        // SAFETY: the place is within the room. It has an item, as those from `back` up to `len` have.
+        // SAFETY: the place is within the room. It has an item, as those from `back` up to `len`
+        // have.
         unsafe { &*self.items.add(i) }
     }
 }
@@ -134,7 +141,8 @@ impl<K, const N: usize> GrowsByGap<Slot<K>> for Opened<'_, K, N> {
         }
         self.clear(to, from);
         assert!(self.back == from && n <= self.len - from, "out of range");
-        // SAFETY: the items from `from` on are there, those before it down to `to` aren't, and all are within the room.
+        // SAFETY: the items from `from` on are there, those before it down to `to` aren't, and all
+        // are within the room.
         unsafe { ptr::copy(self.items.add(from), self.items.add(to), n) };
         self.front = to + n;
         self.back = from + n;
@@ -198,7 +206,8 @@ impl<K, const N: usize> Drop for Opened<'_, K, N> {
     }
 }
 
-/// A borrowed list whose items are taken from its front. What isn't taken is dropped, and the list is left empty.
+/// A borrowed list whose items are taken from its front. What isn't taken is dropped, and the list
+/// is left empty.
 ///
 /// A merge borrows it, so that what is left is dropped once the merge's own list is closed.
 pub struct Given<'a, K, const N: usize> {
@@ -229,7 +238,8 @@ impl<'a, K, const N: usize> Given<'a, K, N> {
     fn skip_to(&mut self, at: usize) {
         assert!(self.front <= at && at <= self.len, "out of range");
         let front = mem::replace(&mut self.front, at);
-        // SAFETY: the items from the former front on are there, and they lie before the new one by now.
+        // SAFETY: the items from the former front on are there, and they lie before the new one by
+        // now.
         unsafe { drop_items(self.items, front, at) };
     }
 }
@@ -255,7 +265,8 @@ impl<K, const N: usize> Exchanges<Slot<K>> for &mut Given<'_, K, N> {
         assert!(at <= self.len && n <= self.len - at, "out of range");
         self.skip_to(at);
         self.front = at + n;
-        // SAFETY: the items are there, and lie before the front by now. The slots are those of a gap in another list.
+        // SAFETY: the items are there, and lie before the front by now. The slots are those of a
+        // gap in another list.
         unsafe { ptr::copy_nonoverlapping(self.items.add(at), others.as_mut_ptr(), n) };
     }
 }

@@ -40,7 +40,8 @@ impl Log2Down for usize {
 
 /// `checked_next_multiple_of`, since 1.73.
 pub trait NextMultipleUp: Sized {
-    /// The least multiple of `by` that is this number or more, or `None` if that is too large or `by` is 0.
+    /// The least multiple of `by` that is this number or more, or `None` if that is too large or
+    /// `by` is 0.
     fn next_multiple_up(self, by: Self) -> Option<Self>;
 }
 

@@ -32,12 +32,14 @@ impl<K> Slot<K> {
     /// The items of a slice as slots with an item each.
     #[inline(always)]
     pub fn slots(items: &[K]) -> &[Slot<K>] {
-        // SAFETY: a slot lies in memory as its item does, and nothing is written through a shared reference.
+        // SAFETY: a slot lies in memory as its item does, and nothing is written through a shared
+        // reference.
         unsafe { &*(items as *const [K] as *const [Slot<K>]) }
     }
 }
 
-/// Compares slots by the items in them. A merge compares those that are unread, each of which has one.
+/// Compares slots by the items in them. A merge compares those that are unread, each of which has
+/// one.
 pub struct BySlots<'c, C>(pub &'c mut C);
 
 impl<K, C: Compare<K>> Compare<Slot<K>> for BySlots<'_, C> {

@@ -84,7 +84,8 @@ impl<T, const N: usize> SmallVec<T, N> {
         self.0.dedup();
     }
 
-    /// Gives back the room that the items don't need. They come to lie inline where they fit, and what the allocator doesn't take back stays.
+    /// Gives back the room that the items don't need. They come to lie inline where they fit, and
+    /// what the allocator doesn't take back stays.
     #[inline]
     pub fn shrink_to_fit(&mut self) {
         if self.0.spilled() {
@@ -131,7 +132,8 @@ pub fn append_both<T, const N: usize>(
     list.reserve(2)?;
     let list = &mut list.0;
     let len = list.len();
-    // SAFETY: there is room for two more, and both are there before anything else looks at the list.
+    // SAFETY: there is room for two more, and both are there before anything else looks at the
+    // list.
     unsafe {
         let after = list.as_mut_ptr().add(len);
         list.set_len(len + 2);

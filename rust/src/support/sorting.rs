@@ -12,8 +12,8 @@ const FEW: usize = 20;
 pub trait SortIn {
     /// Sorts the items. Equal ones stay in the order in which they stood.
     ///
-    /// Numbers, and up to 20 items, take no memory; more items take room for as many indices. If that fails, the items are as
-    /// they were.
+    /// Numbers, and up to 20 items, take no memory; more items take room for as many indices. If
+    /// that fails, the items are as they were.
     fn sort_in(&mut self, alloc: Global) -> Result<(), AllocError>;
 }
 

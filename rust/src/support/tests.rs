@@ -1,4 +1,5 @@
-//! Tests of what the generated code stands on: lists that are open for changes, and the stable sort.
+//! Tests of what the generated code stands on: lists that are open for changes, and the stable
+//! sort.
 
 extern crate std;
 
@@ -61,7 +62,8 @@ impl Compare<Item> for ByKey {
     }
 }
 
-/// Copies an item of the right side, before the merge or as it is taken, and panics at the copy with this number.
+/// Copies an item of the right side, before the merge or as it is taken, and panics at the copy
+/// with this number.
 struct Copying {
     late: bool,
     made: Cell<usize>,
@@ -144,7 +146,8 @@ fn seen<const N: usize>(items: &SmallVec<Item, N>) -> alloc::vec::Vec<(u32, u8)>
     items.iter().map(|item| (item.key, item.side)).collect()
 }
 
-/// A merge of two lists in place, with the right one owned and with it borrowed. Every item is dropped once.
+/// A merge of two lists in place, with the right one owned and with it borrowed. Every item is
+/// dropped once.
 fn merges_in_place<O: MergeOperation, const N: usize>(a: u32, b: u32, op: &O) {
     let there = Rc::new(Cell::new(0));
     let mut cmp = ByKey {
@@ -191,8 +194,8 @@ fn merges_in_place_give_the_changes_and_drop_every_item_once() {
     }
 }
 
-/// Merges made-up lists by a call that panics at its first step, at its second, and so on, until it ends. Each item is
-/// dropped once. `panicked` looks at the left list after a panic.
+/// Merges made-up lists by a call that panics at its first step, at its second, and so on, until it
+/// ends. Each item is dropped once. `panicked` looks at the left list after a panic.
 #[cfg(panic = "unwind")]
 fn drop_every_item_once(
     mut seed: u64,
@@ -294,7 +297,8 @@ impl From<Wrapped> for u32 {
     }
 }
 
-/// Merges interleaved lists by comparisons that panic in turn. What goes `apart` leaves the left as it was, else empty.
+/// Merges interleaved lists by comparisons that panic in turn. What goes `apart` leaves the left as
+/// it was, else empty.
 #[cfg(panic = "unwind")]
 fn is_left_by_a_panic<K>(below: u32, room: usize, apart: bool)
 where

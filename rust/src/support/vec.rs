@@ -142,8 +142,8 @@ impl<T> Vec<T> {
         self.0.retain(keep);
     }
 
-    /// Drops the items of a range, and moves the later ones down. If a drop panics, the others are dropped too, and the
-    /// list is as if none had.
+    /// Drops the items of a range, and moves the later ones down. If a drop panics, the others are
+    /// dropped too, and the list is as if none had.
     #[inline(always)]
     pub fn drain(&mut self, range: impl RangeBounds<usize>) {
         self.0.drain(range);

@@ -66,8 +66,8 @@ macro_rules! calls {
                 self.0.limit
             }
 
-            /// Records that no offset is there. It is a [`forget`](Self::forget) of all, which needs no
-            /// memory.
+            /// Records that no offset is there. It is a [`forget`](Self::forget) of all, which
+            /// needs no memory.
             ///
             /// # Examples
             ///
@@ -88,8 +88,8 @@ macro_rules! calls {
                 );
             }
 
-            /// Returns a copy of the tracker, with the same limit. `clone` does the same, and ends the
-            /// process if memory runs out.
+            /// Returns a copy of the tracker, with the same limit. `clone` does the same, and ends
+            /// the process if memory runs out.
             ///
             /// # Errors
             ///
@@ -111,13 +111,13 @@ macro_rules! calls {
                 self.copied()
             }
 
-            /// Records that the offsets of a range [of any kind](AnyRange) are there. An empty or a reversed
-            /// range changes nothing.
+            /// Records that the offsets of a range [of any kind](AnyRange) are there. An empty or a
+            /// reversed range changes nothing.
             ///
             /// # Errors
             ///
-            /// If the tracker would keep more boundaries than the limit, or if memory runs out. It is then as
-            /// it was.
+            /// If the tracker would keep more boundaries than the limit, or if memory runs out. It
+            /// is then as it was.
             ///
             /// # Examples
             ///
@@ -134,13 +134,13 @@ macro_rules! calls {
                 self.0.record(ended(range))
             }
 
-            /// Records that the offsets of a range [of any kind](AnyRange) aren't there. An empty or a
-            /// reversed range changes nothing.
+            /// Records that the offsets of a range [of any kind](AnyRange) aren't there. An empty
+            /// or a reversed range changes nothing.
             ///
             /// # Errors
             ///
-            /// If the tracker would keep more boundaries than the limit, or if memory runs out. It is then as
-            /// it was.
+            /// If the tracker would keep more boundaries than the limit, or if memory runs out. It
+            /// is then as it was.
             ///
             /// # Examples
             ///
@@ -157,8 +157,8 @@ macro_rules! calls {
                 self.0.forget(ended(range))
             }
 
-            /// Takes each command in turn, goes on after a refusal, and puts each answer at its command's
-            /// place.
+            /// Takes each command in turn, goes on after a refusal, and puts each answer at its
+            /// command's place.
             ///
             /// # Panics
             ///
@@ -184,8 +184,8 @@ macro_rules! calls {
                 self.0.run(commands, replies);
             }
 
-            /// Returns `true` if every offset of the range is there. It is so for an empty or a reversed
-            /// range.
+            /// Returns `true` if every offset of the range is there. It is so for an empty or a
+            /// reversed range.
             ///
             /// # Examples
             ///
@@ -202,8 +202,8 @@ macro_rules! calls {
                 self.0.has(ended(range))
             }
 
-            /// Returns the set of the offsets below `len` that aren't there. [`gaps`](Self::gaps) takes no
-            /// memory.
+            /// Returns the set of the offsets below `len` that aren't there. [`gaps`](Self::gaps)
+            /// takes no memory.
             ///
             /// # Errors
             ///
@@ -223,8 +223,8 @@ macro_rules! calls {
                 self.missing_below(len)
             }
 
-            /// Returns an iterator over the parts of a range [of any kind](Within) that aren't there, from the
-            /// lowest on. It takes no memory.
+            /// Returns an iterator over the parts of a range [of any kind](Within) that aren't
+            /// there, from the lowest on. It takes no memory.
             ///
             /// # Examples
             ///
@@ -240,8 +240,8 @@ macro_rules! calls {
                 within.parts_of(self.there(), false)
             }
 
-            /// Returns an iterator over the ranges of the offsets that are there, from the lowest on. Each has
-            /// an end.
+            /// Returns an iterator over the ranges of the offsets that are there, from the lowest
+            /// on. Each has an end.
             ///
             /// # Examples
             ///

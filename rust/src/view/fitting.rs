@@ -1,4 +1,5 @@
-//! Where values in a row are free, that is, no members, or where members are in a row. Nothing here takes memory.
+//! Where values in a row are free, that is, no members, or where members are in a row. Nothing here
+//! takes memory.
 
 use crate::any_range::Ended;
 use crate::entry::Length;
@@ -6,10 +7,11 @@ use crate::generated::range_collections::Countable;
 use crate::view::RangeSetRef;
 
 impl<T: Ord> RangeSetRef<T> {
-    /// Returns the least number of the range from which on `len` numbers of it are free, that is, not members.
+    /// Returns the least number of the range from which on `len` numbers of it are free, that is,
+    /// not members.
     ///
-    /// It is `None` if there is no such stretch. It takes time for each boundary up to the answer; for repeated
-    /// searches there is [`ChunkedSpace`](crate::ChunkedSpace::first_fit).
+    /// It is `None` if there is no such stretch. It takes time for each boundary up to the answer;
+    /// for repeated searches there is [`ChunkedSpace`](crate::ChunkedSpace::first_fit).
     ///
     /// # Examples
     ///
@@ -31,10 +33,11 @@ impl<T: Ord> RangeSetRef<T> {
         self.first_fit_count(within, len.count()?)
     }
 
-    /// Returns the least value of the range from which on `count` values of it are free, that is, not members.
+    /// Returns the least value of the range from which on `count` values of it are free, that is,
+    /// not members.
     ///
-    /// It is `None` if there are no such values, and for a `count` of 0 the start of a range that isn't reversed. It takes
-    /// time for each boundary up to the answer.
+    /// It is `None` if there are no such values, and for a `count` of 0 the start of a range that
+    /// isn't reversed. It takes time for each boundary up to the answer.
     ///
     /// # Examples
     ///

@@ -19,13 +19,14 @@ macro_rules! operations {
         @[$($generics:tt)*], $Left:ty, $form:ident, $Clone:ident, $must_use:meta, $errors:ident,
         $at:literal, $from:literal, $ok:literal, $end:literal
     ) => {
-        /// The result holds copies of both sides' boundaries: of two that are equal, this set's. Its inline
-        /// size is that of `B`, which a caller names or which follows from the use of the result.
+        /// The result holds copies of both sides' boundaries: of two that are equal, this set's.
+        /// Its inline size is that of `B`, which a caller names or which follows from the use of
+        /// the result.
         ///
-        /// An operation makes at most two comparisons for each binary digit of the length of each run,
-        /// where a run is a longest stretch of one side's boundaries with none of the other's between. So a
-        /// range beside 4,096 boundaries takes some seventy comparisons at most, and two sets with *n*
-        /// boundaries in all take 2 *n* at most.
+        /// An operation makes at most two comparisons for each binary digit of the length of each
+        /// run, where a run is a longest stretch of one side's boundaries with none of the other's
+        /// between. So a range beside 4,096 boundaries takes some seventy comparisons at most, and
+        /// two sets with *n* boundaries in all take 2 *n* at most.
         impl<$($generics)*> $Left {
             /// Returns the set of the members of one of the two sets, or of both.
             ///
@@ -99,7 +100,8 @@ macro_rules! operations {
                 $form::given::<T, _, _>(list.map($form::RangeSet::of_list))
             }
 
-            /// Returns the set of the members of one of the two sets that aren't members of the other.
+            /// Returns the set of the members of one of the two sets that aren't members of the
+            /// other.
             ///
             #[doc = $errors!("If memory runs out or a copy fails.")]
             /// # Examples
@@ -128,8 +130,8 @@ macro_rules! operations {
 
             /// Returns the result of any of the sixteen operations on two sets.
             ///
-            /// The operation may have members where both sets have none, as [`Connective::NOT_LEFT`] does.
-            /// Those are values from the least one on.
+            /// The operation may have members where both sets have none, as
+            /// [`Connective::NOT_LEFT`] does. Those are values from the least one on.
             ///
             #[doc = $errors!("If memory runs out or a copy fails.")]
             /// # Examples

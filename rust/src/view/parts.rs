@@ -41,10 +41,12 @@ impl<T> RangeSetRef<T> {
 }
 
 impl<T: Ord> RangeSetRef<T> {
-    /// Splits the set at a value: the left part has the same members below it, the right part the same from it on.
+    /// Splits the set at a value: the left part has the same members below it, the right part the
+    /// same from it on.
     ///
-    /// Both are the shortest such slices of this set's boundaries. The left part may have members from `at` on, and the
-    /// right part below it. It makes *O*(log *n*) comparisons and copies nothing.
+    /// Both are the shortest such slices of this set's boundaries. The left part may have members
+    /// from `at` on, and the right part below it. It makes *O*(log *n*) comparisons and copies
+    /// nothing.
     ///
     /// # Examples
     ///
@@ -62,8 +64,8 @@ impl<T: Ord> RangeSetRef<T> {
         (Self::of_proved(left), Self::of_proved(right))
     }
 
-    /// Returns an iterator over the ranges of the set that share a value with a range [of any kind](Overlaps), from the
-    /// lowest on. They aren't cut.
+    /// Returns an iterator over the ranges of the set that share a value with a range [of any
+    /// kind](Overlaps), from the lowest on. They aren't cut.
     ///
     /// It makes *O*(log *n*) comparisons, and none for a step.
     ///

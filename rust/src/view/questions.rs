@@ -133,7 +133,8 @@ impl<T: Ord> RangeSetRef<T> {
     ///
     /// # Panics
     ///
-    /// Panics if the operation has members where both sets have none, as [`merge_len`](Self::merge_len) does.
+    /// Panics if the operation has members where both sets have none, as
+    /// [`merge_len`](Self::merge_len) does.
     ///
     /// # Examples
     ///
@@ -155,8 +156,8 @@ impl<T: Ord> RangeSetRef<T> {
     ///
     /// # Panics
     ///
-    /// Panics if the operation has members where both sets have none. Those have no list of boundaries without a least
-    /// value: see [`combine`](Self::combine).
+    /// Panics if the operation has members where both sets have none. Those have no list of
+    /// boundaries without a least value: see [`combine`](Self::combine).
     ///
     /// # Examples
     ///
@@ -175,17 +176,20 @@ impl<T: Ord> RangeSetRef<T> {
             .merge_len(that.proved(), &op, &mut Comparisons::new())
     }
 
-    /// Writes the boundaries of an operation's result to the front of `out`, and returns how many there are.
+    /// Writes the boundaries of an operation's result to the front of `out`, and returns how many
+    /// there are.
     ///
     /// What lies after them in `out` stays.
     ///
     /// # Errors
     ///
-    /// If `out` is too short, the error has the length that is needed, and what `out` then holds isn't specified.
+    /// If `out` is too short, the error has the length that is needed, and what `out` then holds
+    /// isn't specified.
     ///
     /// # Panics
     ///
-    /// Panics if the operation has members where both sets have none, as [`merge_len`](Self::merge_len) does.
+    /// Panics if the operation has members where both sets have none, as
+    /// [`merge_len`](Self::merge_len) does.
     ///
     /// # Examples
     ///
@@ -215,7 +219,8 @@ impl<T: Ord> RangeSetRef<T> {
             .merge_into(that.proved(), &op, out, &mut Comparisons::new())
     }
 
-    /// Panics where the generated merges would ask for what these two sets and this operation don't have.
+    /// Panics where the generated merges would ask for what these two sets and this operation don't
+    /// have.
     fn check_merge(&self, that: &RangeSetRef<T>, op: Connective) {
         assert!(
             !op.neither,

@@ -10,8 +10,9 @@ thread_local! {
     static HELD: Cell<isize> = const { Cell::new(0) };
 }
 
-/// How many more bytes this thread asked for than it gave back. It is below zero in a thread that gives back what another
-/// one asked for, such as its own name, so only two counts of one thread can be compared.
+/// How many more bytes this thread asked for than it gave back. It is below zero in a thread that
+/// gives back what another one asked for, such as its own name, so only two counts of one thread
+/// can be compared.
 pub fn held() -> isize {
     HELD.with(Cell::get)
 }

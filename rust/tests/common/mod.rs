@@ -5,7 +5,8 @@ pub mod counting;
 
 use range_sets::{Array, RangeSet, RangeSetRef};
 
-/// A set as its members among 0 to 63, bit by bit. The highest bit also stands for all values above.
+/// A set as its members among 0 to 63, bit by bit. The highest bit also stands for all values
+/// above.
 pub type Bitmap = u64;
 
 /// The strictly sorted list of the places at which a bitmap switches.
@@ -92,7 +93,8 @@ impl Random {
     }
 }
 
-/// Of how many cases one is tried: of each, or of as many as RANGE_SETS_ONE_IN says, for a processor that is emulated.
+/// Of how many cases one is tried: of each, or of as many as RANGE_SETS_ONE_IN says, for a
+/// processor that is emulated.
 pub fn one_in() -> usize {
     std::env::var("RANGE_SETS_ONE_IN").map_or(1, |it| it.parse().expect("it is a number"))
 }

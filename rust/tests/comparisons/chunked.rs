@@ -7,7 +7,8 @@ type Set = ChunkedRangeSet<Counted>;
 
 const RANGES: u32 = 2000;
 
-/// A set of many ranges, and how many comparisons a search may make: its chunks have at least 128 boundaries.
+/// A set of many ranges, and how many comparisons a search may make: its chunks have at least 128
+/// boundaries.
 fn many() -> (Set, usize) {
     let mut set = ChunkedRangeSet::new();
     ranges(RANGES).for_each(|range| set.insert(range));

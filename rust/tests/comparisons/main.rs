@@ -96,7 +96,8 @@ fn digits(n: usize) -> usize {
 /// A call on a set or a map by the ends of a range, or by one of them.
 type Call<S> = fn(&mut S, Counted, Counted);
 
-/// Makes each call on a set or a map from some places among `$n` ranges to others, with at most `$at_most` comparisons.
+/// Makes each call on a set or a map from some places among `$n` ranges to others, with at most
+/// `$at_most` comparisons.
 macro_rules! each {
     ($set:expr, $n:expr, $at_most:expr; |$it:ident, $from:ident, $to:ident| $($call:expr;)*) => {
         $crate::make_each($set, $n, $at_most, &[$((stringify!($call), |$it, $from, $to| {

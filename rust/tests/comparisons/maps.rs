@@ -1,4 +1,5 @@
-//! Maps: their searches and changes, and how often an operation on two maps compares keys and asks what it makes of them.
+//! Maps: their searches and changes, and how often an operation on two maps compares keys and asks
+//! what it makes of them.
 
 use super::{count, digits, each, ranges, Counted};
 use range_sets::{RangeMap, RangeSet2};
@@ -11,8 +12,8 @@ const RANGES: u32 = 2000;
 
 const KEYS: usize = 2 * RANGES as usize;
 
-/// A map of `RANGES` ranges, each with its own value, and how many comparisons a search may make: its chunks have at least
-/// 32 keys.
+/// A map of `RANGES` ranges, each with its own value, and how many comparisons a search may make:
+/// its chunks have at least 32 keys.
 fn many() -> (Map, usize) {
     let map: Map = ranges(RANGES).zip(0..).collect();
     (map, digits(KEYS / 32 + 1) + 7)

@@ -111,7 +111,8 @@ fn owned_by(owners: &[Owner]) -> (RangeSet2<Counted>, RangeSet2<Counted>) {
     (of(Owner::Right), of(Owner::Left))
 }
 
-/// The binary digits of the lengths of the runs, added up. A boundary that both have is a run of its own.
+/// The binary digits of the lengths of the runs, added up. A boundary that both have is a run of
+/// its own.
 fn weight(owners: &[Owner]) -> usize {
     let mut runs: Vec<usize> = Vec::new();
     let mut before = Owner::Both;
@@ -125,7 +126,8 @@ fn weight(owners: &[Owner]) -> usize {
     runs.into_iter().map(digits).sum()
 }
 
-/// Calls of each operation on two such sets make at most twice their weight in comparisons, also those that stop.
+/// Calls of each operation on two such sets make at most twice their weight in comparisons, also
+/// those that stop.
 fn within_the_weight(owners: &[Owner]) {
     let (a, b) = owned_by(owners);
     each_operation(&a, &b, 2 * weight(owners));

@@ -66,7 +66,8 @@ fn two_searches() {
     }
 }
 
-/// A range without an end is one boundary beside many. Where it is asked first whether something changes, that is a search.
+/// A range without an end is one boundary beside many. Where it is asked first whether something
+/// changes, that is a search.
 #[test]
 fn ranges_without_an_end() {
     let (set, search) = many();
@@ -155,8 +156,8 @@ const MANY: u32 = 100_000;
 
 type Place = fn(u32) -> u32;
 
-/// Orders of the places, and how many comparisons each range may make that comes so. Two sorts are one of all starts
-/// and one of all ends.
+/// Orders of the places, and how many comparisons each range may make that comes so. Two sorts are
+/// one of all starts and one of all ends.
 fn orders() -> [(&'static str, Place, usize); 3] {
     let sorts = 2 * digits(MANY as usize);
     [
@@ -206,7 +207,8 @@ fn many_ranges_in_any_order() {
     }
 }
 
-/// A text's numbers are read without a comparison, and its ranges joined by eight each, and the sorts.
+/// A text's numbers are read without a comparison, and its ranges joined by eight each, and the
+/// sorts.
 #[test]
 fn many_ranges_of_a_text() {
     for (order, place, a_range) in orders() {
@@ -229,7 +231,8 @@ fn many_ranges_of_a_text() {
     }
 }
 
-/// A sort's comparisons, which may be some more than binary digits, and one for each item and the next.
+/// A sort's comparisons, which may be some more than binary digits, and one for each item and the
+/// next.
 fn sorts(name: &str, order: &str, made: usize) {
     let at_most = MANY as usize * (digits(MANY as usize) + 5);
     assert!(

@@ -6,7 +6,8 @@ use range_sets::{fallible, Array, Connective, RangeSet, RangeSetRef};
 
 pub type Call<A> = CallOn<RangeSet<A>, A>;
 
-/// Everything that compares or clones. Where a call is refused or panics, what its first set then has is read.
+/// Everything that compares or clones. Where a call is refused or panics, what its first set then
+/// has is read.
 pub fn calls<A: Array<Item = Hostile>>() -> Vec<(&'static str, Call<A>)> {
     fn fallibly<A: Array<Item = Hostile>, R>(
         set: &mut RangeSet<A>,

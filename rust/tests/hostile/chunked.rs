@@ -1,5 +1,5 @@
-//! Sets in chunks whose elements' orders lie, and whose comparisons and drops panic: each element is dropped once, and a
-//! change that panics leaves the set as it was, changed as asked, or empty.
+//! Sets in chunks whose elements' orders lie, and whose comparisons and drops panic: each element
+//! is dropped once, and a change that panics leaves the set as it was, changed as asked, or empty.
 
 use crate::common::one_in;
 use crate::element::{Hostile, Plan, LIVE, PLAN};
@@ -169,8 +169,8 @@ fn fallibly(
     }
 }
 
-/// The boundaries with those of a range, by definition: those outside of it stay, and its own are there if they change
-/// anything.
+/// The boundaries with those of a range, by definition: those outside of it stay, and its own are
+/// there if they change anything.
 fn spliced(boundaries: &[u16], range: Range<u16>, inside: bool) -> Vec<u16> {
     if range.is_empty() {
         return boundaries.to_vec();
@@ -254,8 +254,9 @@ fn call_by(
     found
 }
 
-/// How many ranges the set has, and a range that is put in or taken out: within one chunk, from one into another, across whole ones, of
-/// all chunks, from a boundary, up to one, in no range, reversed. A set that grows in order has chunks of 256 boundaries.
+/// How many ranges the set has, and a range that is put in or taken out: within one chunk, from one
+/// into another, across whole ones, of all chunks, from a boundary, up to one, in no range,
+/// reversed. A set that grows in order has chunks of 256 boundaries.
 #[allow(clippy::reversed_empty_ranges)]
 const CASES: [(u16, Range<u16>); 16] = [
     (0, 5..8),
@@ -357,7 +358,8 @@ fn a_comparison_that_panics_changes_nothing() {
     });
 }
 
-/// The boundaries of a set without an end, an odd number, give way to fewer or more, within a chunk.
+/// The boundaries of a set without an end, an odd number, give way to fewer or more, within a
+/// chunk.
 #[test]
 fn drops_that_panic_up_to_the_end_of_a_set() {
     without_messages(|| {
@@ -413,7 +415,8 @@ fn a_set_whose_change_panicked_is_of_use() {
     });
 }
 
-/// Two ranges far apart change two windows: a drop that panics leaves none of both changes, all, or nothing.
+/// Two ranges far apart change two windows: a drop that panics leaves none of both changes, all, or
+/// nothing.
 #[test]
 fn drops_that_panic_between_windows_far_apart() {
     without_messages(|| {

@@ -1,5 +1,5 @@
-//! Made-up changes of one set, one after the other, each with a panic at some place or none: the set is as a bitmap says,
-//! and after a panic as it was, changed as asked, or empty.
+//! Made-up changes of one set, one after the other, each with a panic at some place or none: the
+//! set is as a bitmap says, and after a panic as it was, changed as asked, or empty.
 
 use crate::changes::{changes, fallible_changes, members, Changes};
 use crate::common::{boundaries, one_in, Random};

@@ -1,5 +1,6 @@
-//! Orders that lie, and comparisons, clones and drops that panic: answers may be wrong, but each element is dropped once
-//! and every set stays one that can be read. A change that panics leaves the set as it was, changed as asked, or empty.
+//! Orders that lie, and comparisons, clones and drops that panic: answers may be wrong, but each
+//! element is dropped once and every set stays one that can be read. A change that panics leaves
+//! the set as it was, changed as asked, or empty.
 #![cfg(panic = "unwind")]
 
 mod calls;
@@ -38,7 +39,8 @@ fn sides() -> Vec<(Vec<u8>, Vec<u8>)> {
     ]
 }
 
-/// Makes a call by a plan, reads what is left, and looks that all elements were dropped. Whether the call returned.
+/// Makes a call by a plan, reads what is left, and looks that all elements were dropped. Whether
+/// the call returned.
 fn call_by<A: Array<Item = Hostile>>(
     plan: Plan,
     call: Call<A>,
@@ -105,7 +107,8 @@ fn clones_that_panic() {
     });
 }
 
-/// Ranges whose ends lie among the boundaries of the sides: on one, between two, before and after all, reversed.
+/// Ranges whose ends lie among the boundaries of the sides: on one, between two, before and after
+/// all, reversed.
 const RANGES: [(u8, u8); 6] = [(8, 33), (2, 14), (3, 4), (0, 63), (9, 11), (9, 3)];
 
 /// Makes each change with each panic in turn. The set is as it was, changed as asked, or empty.

@@ -1,5 +1,6 @@
-//! Maps whose keys' orders and values' equalities lie, and whose comparisons, clones and drops panic: each key and value is
-//! dropped once, and a change that panics leaves the map as it was, changed as asked, or empty.
+//! Maps whose keys' orders and values' equalities lie, and whose comparisons, clones and drops
+//! panic: each key and value is dropped once, and a change that panics leaves the map as it was,
+//! changed as asked, or empty.
 
 use crate::common::one_in;
 use crate::element::{Hostile, Plan, LIVE, PLAN};
@@ -105,8 +106,9 @@ const CHANGES: [Change; 18] = [
     },
     Change {
         name: "insert_free",
-        // Rust doesn't drop what a function returns if the drop of an argument panics, so a value that comes back would leak
-        // by no fault of the map: here the call is made with a range that is free.
+        // Rust doesn't drop what a function returns if the drop of an argument panics, so a value
+        // that comes back would leak by no fault of the map: here the call is made with a range
+        // that is free.
         call: |map, range, value| {
             let (start, end) = (*range.start.0, *range.end.0);
             if map.is_free(range) {
@@ -224,7 +226,8 @@ fn inserted(cells: &mut Cells, range: Range<u16>, value: u16) {
     put(cells, range, Some(value));
 }
 
-/// The keys of `ranges` ranges, each of which takes half of ten numbers, and each second one touches the next with another value.
+/// The keys of `ranges` ranges, each of which takes half of ten numbers, and each second one
+/// touches the next with another value.
 fn cells(ranges: u16) -> Cells {
     let mut cells = [None; 100];
     for i in 0..ranges {
@@ -274,8 +277,9 @@ fn call_by(
     found
 }
 
-/// How many ranges the map has, and a range that is put in or taken out with its value: the first one, within a range, with the value
-/// that is there, over one, over some, over all, between two, from a start, up to an end, in no range, reversed.
+/// How many ranges the map has, and a range that is put in or taken out with its value: the first
+/// one, within a range, with the value that is there, over one, over some, over all, between two,
+/// from a start, up to an end, in no range, reversed.
 #[allow(clippy::reversed_empty_ranges)]
 const CASES: [(u16, (Range<u16>, u16)); 13] = [
     (0, (5..8, 0)),

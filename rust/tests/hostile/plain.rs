@@ -1,5 +1,6 @@
-//! Elements without a drop, which a merge may hold copies of: in long lists short runs of them are read item by item, and
-//! a change in place is made in a list of its own or, where the set has room, over the set's by a copy of it.
+//! Elements without a drop, which a merge may hold copies of: in long lists short runs of them are
+//! read item by item, and a change in place is made in a list of its own or, where the set has
+//! room, over the set's by a copy of it.
 
 use crate::common::one_in;
 use crate::element::{before_clone, compare, Plan, PLAN};
@@ -61,7 +62,8 @@ fn numbers(set: &Set) -> Vec<u16> {
     set.boundaries().iter().map(|it| it.0).collect()
 }
 
-/// Two lists of 70 boundaries or more, whose runs are so long by turns; every tenth boundary is in both.
+/// Two lists of 70 boundaries or more, whose runs are so long by turns; every tenth boundary is in
+/// both.
 fn sides(runs: &[u16]) -> (Vec<u16>, Vec<u16>) {
     let (mut left, mut right) = (vec![], vec![]);
     let (mut next, mut turn) = (1, 0);
@@ -153,8 +155,8 @@ fn with_room(set: &Set, room: usize) -> Set {
     set
 }
 
-/// Makes each call with each panic in turn. A change in place leaves such a set as it was; one that has room, and so is
-/// written over, may be empty.
+/// Makes each call with each panic in turn. A change in place leaves such a set as it was; one that
+/// has room, and so is written over, may be empty.
 fn panic_in_turn(plan: fn(usize) -> Plan, at_least: usize) {
     let mut panicked = 0;
     let mut attempt = |turn, name: &str, call: &mut dyn FnMut()| {

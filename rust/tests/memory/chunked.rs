@@ -1,4 +1,5 @@
-//! Memory refused at each request in turn: a change of a set in chunks answers an error, and leaves the set as it was.
+//! Memory refused at each request in turn: a change of a set in chunks answers an error, and leaves
+//! the set as it was.
 
 use crate::refusing::{each_refusal, refusing, unrefused, Refusal, LARGEST};
 use range_sets::fallible::{AllocError, ChunkedRangeSet, RangeSet2};
@@ -32,8 +33,9 @@ const REMOVE_CHANGED: Change = |set, range| set.remove_changed(range).map(drop);
 const UNION: Change = |set, range| set.union_with(&range_sets::RangeSet2::from(range));
 const DIFFERENCE: Change = |set, range| set.difference_with(&range_sets::RangeSet2::from(range));
 
-/// How many ranges a set has, a change, and whether it asks for memory: where the set grows, and its list of chunks or the
-/// chunk has no room, or the chunk is full. A chunk has at most 512 boundaries, and room for a power of two.
+/// How many ranges a set has, a change, and whether it asks for memory: where the set grows, and
+/// its list of chunks or the chunk has no room, or the chunk is full. A chunk has at most 512
+/// boundaries, and room for a power of two.
 struct Row {
     name: &'static str,
     change: Change,

@@ -1,4 +1,5 @@
-//! Memory refused at each request in turn: every fallible call answers an error, and leaves its set as it was.
+//! Memory refused at each request in turn: every fallible call answers an error, and leaves its set
+//! as it was.
 
 mod chunked;
 #[path = "../common/mod.rs"]
@@ -620,7 +621,8 @@ fn a_list_that_grows_asks_seldom() {
     assert_eq!(set.unwrap().boundaries().len(), 1000);
 }
 
-/// Boundaries are sorted themselves. A list of their places would have eight bytes for each of one byte.
+/// Boundaries are sorted themselves. A list of their places would have eight bytes for each of one
+/// byte.
 #[test]
 fn unsorted_boundaries_are_sorted_where_they_lie() {
     const BYTES: usize = 10_000;

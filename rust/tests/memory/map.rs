@@ -1,4 +1,5 @@
-//! Memory refused at each request in turn: a change of a map answers an error, and leaves the map as it was.
+//! Memory refused at each request in turn: a change of a map answers an error, and leaves the map
+//! as it was.
 
 use crate::refusing::{each_refusal, refusing, unrefused, Refusal};
 use range_sets::fallible::{AllocError, InsertError, MapValue, RangeMap};
@@ -32,7 +33,8 @@ struct Row {
     change: Change,
     ranges: u32,
     range: Range<u32>,
-    /// Whether it asks for memory: if there are more steps after it than there is room for, or a range becomes two.
+    /// Whether it asks for memory: if there are more steps after it than there is room for, or a
+    /// range becomes two.
     asks: bool,
 }
 

@@ -1,11 +1,13 @@
-//! Memory refused at each request in turn while a set or a map is read: what is read is whole, or there is an error.
+//! Memory refused at each request in turn while a set or a map is read: what is read is whole, or
+//! there is an error.
 
 use crate::refusing::{refusing, Refusal};
 use range_sets::fallible::{self, ChunkedRangeSet, ChunkedSpace, RangeMap, RangeSet2};
 use serde_json::{from_str, Deserializer, Result};
 use std::fmt::Debug;
 
-/// Refuses each request of a call alone, since the error takes memory itself. Whether one of them made an error.
+/// Refuses each request of a call alone, since the error takes memory itself. Whether one of them
+/// made an error.
 fn is_refused<T: PartialEq + Debug>(read: impl Fn() -> Result<T>) -> bool {
     let whole = read().expect("no memory is refused");
     let mut is_refused = false;

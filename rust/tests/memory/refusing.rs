@@ -1,4 +1,5 @@
-//! An allocator that refuses a thread's requests, and calls of which each request is refused in turn.
+//! An allocator that refuses a thread's requests, and calls of which each request is refused in
+//! turn.
 
 use crate::common::one_in;
 use std::alloc::{GlobalAlloc, Layout, System};
@@ -39,7 +40,8 @@ pub fn is_refused(size: usize) -> bool {
     refused
 }
 
-// SAFETY: what is answered is the system's answer to the same request, and null is the answer to a refused one.
+// SAFETY: what is answered is the system's answer to the same request, and null is the answer to a
+// refused one.
 unsafe impl GlobalAlloc for Refusing {
     unsafe fn alloc(&self, layout: Layout) -> *mut u8 {
         if is_refused(layout.size()) {
@@ -82,8 +84,9 @@ pub fn unrefused<R>(run: impl FnOnce() -> R) -> R {
     result
 }
 
-/// Refuses the requests of a call in turn, each or one in some: that one alone, and that one with all after it, until none
-/// is refused. The call gives the boundaries of its result. How many requests it makes.
+/// Refuses the requests of a call in turn, each or one in some: that one alone, and that one with
+/// all after it, until none is refused. The call gives the boundaries of its result. How many
+/// requests it makes.
 pub fn refusals<T, S, E>(
     one_in: usize,
     name: &str,

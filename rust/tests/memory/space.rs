@@ -1,5 +1,5 @@
-//! Memory refused at each request in turn: a change of a space answers an error and leaves it as it was, and a search that
-//! can't remember what it learned finds the same place.
+//! Memory refused at each request in turn: a change of a space answers an error and leaves it as it
+//! was, and a search that can't remember what it learned finds the same place.
 
 use crate::refusing::{each_refusal, refusing, unrefused, Refusal};
 use range_sets::fallible::{AllocError, ChunkedSpace};
