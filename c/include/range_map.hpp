@@ -288,7 +288,7 @@ public:
     iterator end() const & noexcept { return iterator(); }
     iterator end() const && = delete;
     std::size_t size() const noexcept { return calls::len(map()); }
-    bool empty() const noexcept { return size() == 0; }
+    bool empty() const noexcept { return begin() == end(); }
 
     friend bool operator==(const range_map &a, const range_map &b)
     {
