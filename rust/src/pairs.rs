@@ -25,8 +25,9 @@
 //! pairs::serialize(&have, &mut serde_json::Serializer::new(&mut json))?;
 //! assert_eq!(json, b"[[0,10],[20,null]]");
 //!
-//! let read: RangeSet2<u64> = pairs::deserialize(&mut
-//! serde_json::Deserializer::from_slice(&json))?; assert_eq!(read, have);
+//! let mut written = serde_json::Deserializer::from_slice(&json);
+//! let read: RangeSet2<u64> = pairs::deserialize(&mut written)?;
+//! assert_eq!(read, have);
 //! # Ok::<(), serde_json::Error>(())
 //! ```
 

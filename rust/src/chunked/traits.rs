@@ -214,8 +214,8 @@ impl<T: Ord, A: Array<Item = T>> PartialEq<ChunkedRangeSet<T>> for RangeSet<A> {
 /// use range_sets::{ChunkedRangeSet, RangeSet2};
 ///
 /// let busy = ChunkedRangeSet::from(9..11);
-/// assert_eq!(RangeSet2::from(&busy) | RangeSet2::from(15..18), [9..11,
-/// 15..18].into_iter().collect::<RangeSet2<_>>());
+/// let both = RangeSet2::from(&busy) | RangeSet2::from(15..18);
+/// assert_eq!(both, [9..11, 15..18].into_iter().collect::<RangeSet2<_>>());
 /// ```
 impl<T: Ord + Clone, A: Array<Item = T>> From<&ChunkedRangeSet<T>> for RangeSet<A> {
     fn from(set: &ChunkedRangeSet<T>) -> Self {
