@@ -1,6 +1,6 @@
 #!/usr/bin/env python3
-"""Which mutants a change has tried again, as rows over a repository of two crates; what is read of a record; which edits are
-refused; and whether the mutants of each crate can be read, and those on record are there. It needs no toolchain.
+"""Which mutants a change has tried again, as rows over a repository of two crates; what is read of a record, and of what a check
+says; which edits are refused; and whether the mutants of each crate can be read, and those on record are there. It needs no toolchain.
 
     tests/record_rows.py
 
@@ -11,6 +11,7 @@ import sys
 import tempfile
 from pathlib import Path
 
+import mutants
 import record
 from edits import BadEdit, edits_of
 
@@ -265,6 +266,22 @@ RECORDS = [
     ("no text", "", {}),
     ("bytes", "\0\xff\n", {}),
 ]
+# What a check says of a function with a mutant, and the goals of it that are known to be open.
+OPEN = "note: src/one.rt:9:5: it is not proved that what the function ensures holds when it returns (`returns-clause-first`)"
+INIT = "note: src/one.rt:9:5: it is not proved that the loop's invariant holds at first (`loop-init`)"
+FALSE = INIT.replace("loop-init", "returns-clause-second") + f"; the facts known there {mutants.FALSE}"
+ANSWER = "./proofs/one/first/Answers.antt:3:5: error: `returns-clause-first`: "
+GONE, OTHER = f"{ANSWER}`Held` has no field `held`", f"{ANSWER}as printed, the two types differ"
+SAID = [
+    ("a goal that the search leaves open", [OPEN], {"returns-clause-first"}),
+    ("a loop's goal", [INIT], set()),
+    ("a goal that values make false", [OPEN, FALSE], {"returns-clause-second"}),
+    ("an answer that doesn't fit", [OTHER, OPEN], {"returns-clause-first"}),
+    ("an answer that names what is gone", [GONE, OPEN], set()),
+    ("a goal that values make false beside it", [GONE, FALSE], {"returns-clause-second"}),
+    ("an answer of which a line alone names what is gone", [GONE, OTHER, OPEN], {"returns-clause-first"}),
+    ("another function's answer", [GONE.replace("one/first", "two/second"), OPEN], {"returns-clause-first"}),
+]
 # Mutants of a file that can't be read: an old text and a new one of it.
 BAD = [
     ("a line that isn't read", "It adds one.", "It adds one.\nmore(n)"),
@@ -340,6 +357,11 @@ def rows():
             yield f"{name}: {', '.join(sorted(wanted)) or 'none'} is tried", found == wanted
             if name in FIRST_TRIED:
                 yield f"{name}: what is tried first", its_own(root, before, path, old, new) == FIRST_TRIED[name]
+        crate = laid(root, "app/mutants/one.edits", "function: app::one::first", "function: app::two::third")
+        elsewhere, file = record.Repository(root).sums("app", edits_of(crate)), crate / "src/two.rt"
+        file.write_text(file.read_text(encoding="utf-8").replace("    4\n", "    5\n"), encoding="utf-8")
+        found = record.Repository(root).sums("app", edits_of(crate))
+        yield "the body of a function in a file that its mutant leaves", found["first_is_wrong"] != elsewhere["first_is_wrong"]
         for name, old, new in BAD:
             yield f"an edit with {name} is refused", amiss(laid(root, "app/mutants/one.edits", old, new)) != ""
         crate = laid(root)
@@ -354,6 +376,10 @@ def rows():
         yield "a record that would say nothing", not (crate / "mutants/record").exists() and record.read(crate, BY) == {}
         (crate / "mutants/stray.edit").write_text("", encoding="utf-8")
         yield "a file that is none of edits is refused", amiss(crate) != ""
+    for name, lines, wanted in SAID:
+        tried = mutants.Tried(mutants.read_said(Path("app"), [*lines, "fn app::one::first: no proof"])["app::one::first"])
+        tried.first()
+        yield f"what is open: {name}", tried.open == wanted
     used = record.with_its_names(["use A.{◌+◌, ◌-◌, x}", "a + b"])
     yield "of an import the operators that stand in the rest", used == "a + b\nuse A. ◌+◌"
     yield from ((f"every tenth: {name}", holds) for name, holds in of_every_tenth())
