@@ -401,6 +401,8 @@ refuse_after = ctypes.CDLL(os.environ["LD_PRELOAD"]).refuse_after
 refused = 0
 few = [((2, 4), "c"), ((3, 7), "d"), ((28, None), "a"), ((20, 30), "c")]
 many = [((9 * n, 9 * n + 3), n % 3) for n in range(120)]
+# Each of these wants room in a chunk of its own.
+apart = [((2, 4), "c"), ((3902, 3904), "d")]
 # The first takes all values away, which are put back.
 wide = [((5, None), "w"), *many]
 some = RangeSet([(2, 4), (6, 7), (2500, 2509), (29990, None)])
@@ -409,8 +411,8 @@ for count, lasts in itertools.product((0, 1, 3, 400), (0, 1)):
     before = RangeMap([((10 * n, 10 * n + 6), 7 * n) for n in range(count)])
     for name, given in [
         *(("put", (*it, "x")) for it in ends), *(("remove", it) for it in ends), ("update", (few,)), ("update", (many,)),
-        ("update", (wide,)), ("__setitem__", (some, "x")), ("__delitem__", (some,)), ("clear", ()), ("copy", ()), ("__getitem__", (some,)),
-        ("domain", ()), ("find", (7,)), ("gaps", (5, 500)), ("combine", (RangeMap(few), lambda a, b: 7)),
+        ("update", (wide,)), ("update", (apart,)), ("__setitem__", (some, "x")), ("__delitem__", (some,)), ("clear", ()), ("copy", ()),
+        ("__getitem__", (some,)), ("domain", ()), ("find", (7,)), ("gaps", (5, 500)), ("combine", (RangeMap(few), lambda a, b: 7)),
         ("combine", (RangeMap(few), lambda a, b: [a], 5)),
     ]:
         for after in range(5000):
@@ -433,7 +435,8 @@ for count, lasts in itertools.product((0, 1, 3, 400), (0, 1)):
             if done:
                 break
             refused += 1
-            for it in (made.copy(), made):
+            # The first of these calls goes back.
+            for it in (made.copy() if after % 2 else RangeMap().combine(made, max), made):
                 assert (len(it), [*it.items()], it.kind) == (count, [*before.items()], before.kind), (name, given, after)
             for it in (made, again):
                 getattr(it, name)(*given)
