@@ -52,7 +52,7 @@ template <class T, class V> static void rows()
     check(some.gaps(8, 19) == range_set<T>{{8, 9}, {12, 13}, {17, 19}} && some.gaps(9, 9).empty(), "gaps");
     check(some.overlapping(10, 14) == std::vector<item>{{{9, 11, true}, a}, {{11, 12, true}, b}, {{13, 17, true}, b}}, "overlapping");
     check(some.overlapping(17, 20).empty() && some.overlapping(14, 10).empty() && some.overlapping(30, 40).size() == 1
-              && some.overlapping(16, 15).empty(),
+              && some.overlapping(16, 15).empty() && some.overlapping(10, 10).empty(),
         "overlapping none");
     std::size_t count = 0;
     for (const auto &[keys, found] : some) count += keys.has_end && some.get(keys.end - 1) == found;
@@ -236,6 +236,25 @@ static void its_own_values()
     }
 }
 
+// A value that counts its copies.
+struct copied {
+    static long copies;
+    int number;
+    explicit copied(int of) : number(of) {}
+    copied(const copied &other) : number(other.number) { copies++; }
+    copied &operator=(const copied &) = default;
+    friend bool operator<(const copied &a, const copied &b) { return a.number < b.number; }
+};
+long copied::copies = 0;
+
+// The list of values is made anew when it has doubled, so each value is copied a few times.
+static void few_copies()
+{
+    range_map<int, copied> map;
+    for (int i = 0; i < 2000; i++) map.insert(10 * i, 10 * i + 5, copied(i));
+    check(map.size() == 2000 && copied::copies < 8 * 2000, "few copies of values");
+}
+
 // A map of times.
 static void points_in_time()
 {
@@ -268,6 +287,7 @@ int main()
     combined<char32_t, char>();
     many_values();
     its_own_values();
+    few_copies();
     points_in_time();
     a_million_ranges();
     std::printf("test_maps: %ld checks\n", checks);
