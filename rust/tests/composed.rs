@@ -399,6 +399,8 @@ fn a_space_says_what_changed() {
         !space.insert_changed(250..) && space.remove_changed(..=10) && space.remove_changed(39..)
     );
     assert_eq!(space.to_string(), "11..25, 30..39");
+    space.extend([3..3, 5..9]);
+    assert_eq!(space.to_string(), "5..9, 11..25, 30..39");
 }
 
 #[test]
@@ -412,8 +414,10 @@ fn trackers_of_sets() {
             assert!((&file).into_iter().copied().eq(set.iter().copied()));
             let refused = Err(TrackError::TooMany { boundaries: 4 });
             assert_eq!($tracker::from_set(3, &set), refused);
-            let endless = $tracker::from_set(9, &RangeSet2::from(5..)).unwrap();
+            let mut endless = $tracker::from_set(9, &RangeSet2::from(5..)).unwrap();
             assert_eq!(endless.to_string(), format!("5..{}", u64::MAX));
+            endless.clear();
+            assert_eq!(endless.to_string(), "");
 
             assert!(file == $tracker::from_set(4, &set).unwrap());
             assert!(file != $tracker::from_set(5, &set).unwrap());
