@@ -88,7 +88,7 @@ impl Kind for u8 {
 
 /// Shared.
 #[inline]
-pub fn shared(n: usize) -> usize
+pub fn common(n: usize) -> usize
     requires small { n < 8 }
 
     // As its name says.
@@ -122,7 +122,7 @@ pub deepest : 1 ≡ 1
 deepest = refl
 """,
     "crates/low/proofs/Uncited.antt": "pub uncited : 2 ≡ 2\nuncited = refl\n",
-    "crates/low/proofs/shared/Answers.antt": "use Rattle.low.proofs.shared.Goals as goal\n",
+    "crates/low/proofs/common/Answers.antt": "use Rattle.low.proofs.common.Goals as goal\n",
     "crates/app/src/lib.rt": """mod one;
 mod two;
 
@@ -147,14 +147,14 @@ pub fn first(n: usize) -> usize
 }
 """,
     "crates/app/src/two.rt": """//! Two.
-use low::shared;
+use low::common;
 use low::Kind;
 
 #[tactic(auto)]
 pub fn second(n: usize) -> usize
     ensures is_second { result ≡ n }
 {
-    shared(n)
+    common(n)
 }
 
 fn third<K: Kind>(n: K) -> usize {
@@ -174,8 +174,8 @@ new: second(n) + 1
     "crates/app/mutants/two.edits": """mutant: second_is_wrong
 It is none.
 function: app::two::second
-old: shared(n)
-new: shared(0)
+old: common(n)
+new: common(0)
 add: src/three.rt
 line: //! Three.
 """,
@@ -235,7 +235,7 @@ CHANGES = [
     ("what a cited lemma's statement means", "low/proofs/Deeper.antt", "deeper n = n", "deeper n = n + 0", BOTH),
     ("the proof of a lemma below that", "low/proofs/Deeper.antt", "deepest = refl", "deepest = refl-1", set()),
     ("a lemma below that none cites", "low/proofs/Uncited.antt", "2 ≡ 2", "3 ≡ 3", set()),
-    ("a function's proof below", "low/proofs/shared/Answers.antt", "as goal", "as its", set()),
+    ("a function's proof below", "low/proofs/common/Answers.antt", "as goal", "as its", set()),
     ("the libraries of a crate below", "../crates.txt", "low: smallvec", "low: smallvec itoa", BOTH),
     ("the libraries of another crate", "../crates.txt", "beside: low", "beside: low app", set()),
 ]

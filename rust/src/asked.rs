@@ -399,7 +399,7 @@ macro_rules! questions {
             }
 
             /// Returns the least value of the range from which on `count` values of it are members:
-            /// where so many fit, in a set of what is free.
+            /// where they fit, in a set of what is free.
             ///
             /// It is `None` if there are no such values, and for a `count` of 0 the start of a
             /// range that isn't reversed. It takes time for each boundary up to the answer.
