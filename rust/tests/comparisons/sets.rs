@@ -2,8 +2,9 @@
 
 use super::{count, digits, each, ranges, set, Counted};
 use range_sets::fallible::{AllocError, EntryClone};
-use range_sets::{ChunkedRangeSet, RangeSet2, WholeNumber};
+use range_sets::{ChunkedRangeSet, RangeSet2, RangeSetRange, WholeNumber};
 use std::fmt::Write;
+use std::iter;
 
 type Set = RangeSet2<Counted>;
 
@@ -205,6 +206,28 @@ fn many_ranges_in_any_order() {
             "{order}: {calls:?} comparisons, and {at_most} are allowed"
         );
     }
+}
+
+/// A range behind one without an end is compared with its start alone, not searched for.
+#[test]
+fn many_ranges_behind_one_without_an_end() {
+    let at_most = 8 * 2 * MANY as usize;
+    let ranges = || {
+        let range = |i| RangeSetRange::from(Counted(10 * i)..Counted(10 * i + 5));
+        let endless = RangeSetRange::from(Counted(10 * MANY)..);
+        let behind = (MANY + 1..2 * MANY).map(range);
+        (0..MANY)
+            .map(range)
+            .chain(iter::once(endless))
+            .chain(behind)
+    };
+    let mut made = Set::empty();
+    let calls = count(|| made = Set::from_ranges(ranges()));
+    assert_eq!(made.boundaries().len(), 2 * MANY as usize + 1);
+    assert!(
+        calls <= at_most,
+        "{calls} comparisons, and {at_most} are allowed"
+    );
 }
 
 /// A text's numbers are read without a comparison, and its ranges joined by eight each, and the
