@@ -282,8 +282,7 @@ macro_rules! questions {
             ///
             /// None of them is empty. It makes *O*(log *n*) comparisons, and none for a step, if
             /// the ends are references. The range may be of any kind: [`Within`] says what its
-            /// parts are.
-            /// [`overlapping`](Self::overlapping) gives ranges that aren't cut.
+            /// parts are. [`overlapping`](Self::overlapping) gives ranges that aren't cut.
             ///
             /// # Examples
             ///
@@ -298,8 +297,7 @@ macro_rules! questions {
             }
 
             /// Returns how many values are members, or `None` if the set has no end. A set without
-            /// an end has
-            /// [`rank`](Self::rank) of the greatest value members, and that value.
+            /// an end has [`rank`](Self::rank) of the greatest value members, and that value.
             ///
             /// It looks at each boundary.
             ///

@@ -192,7 +192,8 @@ shown! {
 /// assert!(ranges.next().is_none());
 /// ```
 ///
-/// [`copied`](Self::copied) and [`cloned`](Self::cloned) give ranges between values, not references:
+/// [`copied`](Self::copied) and [`cloned`](Self::cloned) give ranges between values, not
+/// references:
 ///
 /// ```
 /// use range_sets::RangeSet2;

@@ -1,7 +1,7 @@
 //! Maps from ranges to values.
 //!
-//! [`Map`] is one type with two names: [`RangeMap`], whose calls end the process if memory runs out, and
-//! [`fallible::RangeMap`](crate::fallible::RangeMap), whose calls return an error.
+//! [`Map`] is one type with two names: [`RangeMap`], whose calls end the process if memory runs
+//! out, and [`fallible::RangeMap`](crate::fallible::RangeMap), whose calls return an error.
 
 mod by_ref;
 mod changes;
@@ -54,9 +54,9 @@ use core::ops::Range;
 /// # Time
 ///
 /// Among *n* ranges a search makes *O*(log *n*) comparisons. [`get`](Map::get) is one search, a
-/// change is two, and
-/// [`insert_free`](Map::insert_free) three, since the first finds whether the range is free. The ranges lie in chunks, as
-/// those of a [`ChunkedRangeSet`](crate::ChunkedRangeSet) do, so a change moves those of one chunk.
+/// change is two, and [`insert_free`](Map::insert_free) three, since the first finds whether the
+/// range is free. The ranges lie in chunks, as those of a
+/// [`ChunkedRangeSet`](crate::ChunkedRangeSet) do, so a change moves those of one chunk.
 ///
 /// # Memory
 ///
@@ -274,8 +274,8 @@ impl<K: Ord, V: Eq, C> Map<K, V, C> {
     /// Takes away each value that `keep` returns `false` for. It takes no memory and copies
     /// nothing.
     ///
-    /// `keep` is called once for each range, from the lowest on. [`retain_ranges`](Map::retain_ranges) shows it the range
-    /// too.
+    /// `keep` is called once for each range, from the lowest on.
+    /// [`retain_ranges`](Map::retain_ranges) shows it the range too.
     ///
     /// # Examples
     ///

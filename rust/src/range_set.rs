@@ -22,8 +22,8 @@ use smallvec::SmallVec;
 
 /// A set of values of an ordered type, as the ranges that they make up.
 ///
-/// `A` is an array type: a `RangeSet<[i64; 4]>` keeps up to four boundaries, which are two ranges, in itself, and more
-/// in an allocation. [`RangeSet2`] is the usual size.
+/// `A` is an array type: a `RangeSet<[i64; 4]>` keeps up to four boundaries, which are two ranges,
+/// in itself, and more in an allocation. [`RangeSet2`] is the usual size.
 ///
 /// A set dereferences to [`RangeSetRef`], which has all the questions and the operations that make
 /// a new set. What changes a set stands here.

@@ -35,8 +35,8 @@ use core::ops::Deref;
 /// # Memory
 ///
 /// If memory runs out for a change, the process ends, as in std's collections;
-/// [`fallible::ChunkedSpace`](crate::fallible::ChunkedSpace) returns an error instead. A search never fails: without
-/// memory it remembers less.
+/// [`fallible::ChunkedSpace`](crate::fallible::ChunkedSpace) returns an error instead. A search
+/// never fails: without memory it remembers less.
 pub struct ChunkedSpace<T: Countable + Copy>(proved::ChunkedSpace<T>);
 
 impl<T: Countable + Copy> ChunkedSpace<T> {

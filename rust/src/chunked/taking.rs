@@ -50,8 +50,7 @@ impl<T: Ord> ChunkedRangeSet<T> {
     /// Removes the members at and above `at`, and returns the set of them.
     ///
     /// It is a clone without the members below, by [`intersection_with`](Self::intersection_with),
-    /// and a
-    /// [`remove`](Self::remove).
+    /// and a [`remove`](Self::remove).
     ///
     /// # Examples
     ///

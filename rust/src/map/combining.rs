@@ -184,8 +184,8 @@ macro_rules! operations {
         impl<K: Ord + $Clone, V: Eq + $Value> $form::RangeMap<K, V> {
             /// Returns the map that gives each key what `op` makes of its values in both maps.
             ///
-            /// `op` is called once for each step of either map at which one has a value, and with at least
-            /// one value.
+            /// `op` is called once for each step of either map at which one has a value, and with
+            /// at least one value.
             ///
             #[doc = $errors!("If memory or a copy of a key is refused, or `op` returns an error.")]
             /// # Examples

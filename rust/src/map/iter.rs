@@ -24,8 +24,7 @@ shown! {
 }
 
 /// An iterator over the ranges of a map that have a value, each with it, from the lowest on and
-/// from the highest down.
-/// [`Map::iter`] makes it.
+/// from the highest down. [`Map::iter`] makes it.
 ///
 /// # Examples
 ///

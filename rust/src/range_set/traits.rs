@@ -123,8 +123,7 @@ macro_rules! traits {
         ///
         /// The error has the byte where the text stops being one of ranges, and what was expected
         /// there; or it says that a number is past those of its type. In
-        /// [`fallible`](crate::fallible) it may be
-        /// [`ParseError::OutOfMemory`].
+        /// [`fallible`](crate::fallible) it may be [`ParseError::OutOfMemory`].
         ///
         /// # Examples
         ///

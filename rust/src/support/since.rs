@@ -58,7 +58,8 @@ impl NextMultipleUp for u128 {
 /// Whether `select_unpredictable` is std's, which takes no branch.
 pub const SELECTS: bool = cfg!(range_sets_select);
 
-/// `std::hint::select_unpredictable`, since 1.88: the one or the other, by no branch if the compiler sees it so.
+/// `std::hint::select_unpredictable`, since 1.88: the one or the other, by no branch if the
+/// compiler sees it so.
 // clippy looks at the version that the crate asks for, and not at that of the `cfg`.
 #[cfg(range_sets_select)]
 #[allow(clippy::incompatible_msrv)]

@@ -10,8 +10,8 @@ use crate::range_set::{RangeSet2, RangeSetRef};
 use crate::text::{padded, Ranges};
 use core::fmt;
 
-/// `$ok` ends the call of `new` in an example, and `$fails` in code. `$Set` is the set of what is missing, `$There` has
-/// the gaps, and `$iter` the iterator over ranges.
+/// `$ok` ends the call of `new` in an example, and `$fails` in code. `$Set` is the set of what is
+/// missing, `$There` has the gaps, and `$iter` the iterator over ranges.
 macro_rules! calls {
     (
         $Tracker:ident, $name:literal, $ok:literal, [$($fails:tt)?],
