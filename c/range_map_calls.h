@@ -1,43 +1,14 @@
-/* The calls for maps from ranges of one type of numbers. It is included once for each type. */
-
-/* Before each include NUMBER is the type of the keys, MAP and STRETCH are the header's structs for it, NAME(call) is the name of a call
- * of the header, and EXPORT(call) that of the export that it stands before, whose keys are WIDE and whose map is HELD: `new` and `copy`
- * are given no map first, {NULL}, and the others a map. */
+/* The calls for maps from ranges of one type of numbers, by the names of each_type.h: NAME(call) is a call of the header, and EXPORT(call)
+ * the export that it stands before, whose map is HELD and whose keys are KEY, up to GREATEST. `new` and `copy` are given no map first,
+ * {NULL}, and the others a map. */
+#include "range_map_exports.h"
+#include "range_map_passed_on.h"
 
 range_set_status NAME(new)(MAP *map)
 {
     if (map == NULL) return RANGE_SET_BAD_ARGUMENT;
     map->at = NULL;
     return EXPORT(new)((HELD *)map) ? RANGE_SET_DONE : RANGE_SET_NO_MEMORY;
-}
-
-void NAME(free)(MAP *map)
-{
-    if (map != NULL && map->at != NULL) EXPORT(free)((HELD *)map);
-}
-
-range_set_status NAME(insert)(MAP *map, NUMBER start, NUMBER end, uint64_t value)
-{
-    if (map == NULL || map->at == NULL) return RANGE_SET_BAD_ARGUMENT;
-    return EXPORT(insert)((HELD *)map, start, end, value) ? RANGE_SET_DONE : RANGE_SET_NO_MEMORY;
-}
-
-range_set_status NAME(remove)(MAP *map, NUMBER start, NUMBER end)
-{
-    if (map == NULL || map->at == NULL) return RANGE_SET_BAD_ARGUMENT;
-    return EXPORT(remove)((HELD *)map, start, end) ? RANGE_SET_DONE : RANGE_SET_NO_MEMORY;
-}
-
-range_set_status NAME(insert_from)(MAP *map, NUMBER start, uint64_t value)
-{
-    if (map == NULL || map->at == NULL) return RANGE_SET_BAD_ARGUMENT;
-    return EXPORT(insert_from)((HELD *)map, start, value) ? RANGE_SET_DONE : RANGE_SET_NO_MEMORY;
-}
-
-range_set_status NAME(remove_from)(MAP *map, NUMBER start)
-{
-    if (map == NULL || map->at == NULL) return RANGE_SET_BAD_ARGUMENT;
-    return EXPORT(remove_from)((HELD *)map, start) ? RANGE_SET_DONE : RANGE_SET_NO_MEMORY;
 }
 
 bool NAME(get)(MAP map, NUMBER key, uint64_t *value)
@@ -49,10 +20,10 @@ bool NAME(get)(MAP map, NUMBER key, uint64_t *value)
 }
 
 /* The longest range around a key, which may be one that is too wide for the type. */
-static STRETCH NAME(around)(MAP map, WIDE key)
+static STRETCH NAME(around)(MAP map, KEY key)
 {
     STRETCH it = {0, 0, 0, false, false, false};
-    WIDE start = 0, end = 0;
+    KEY start = 0, end = 0;
     if (map.at != NULL) it.has_value = EXPORT(range_at)((HELD *)&map, key, &start, &it.has_start, &end, &it.has_end, &it.value);
     it.start = (NUMBER)start, it.end = (NUMBER)end;
     return it;
@@ -66,7 +37,7 @@ STRETCH NAME(range_at)(MAP map, NUMBER key)
 size_t NAME(next_ranges)(MAP map, NUMBER from, STRETCH *out, size_t room)
 {
     enum { SOME = 32 };
-    WIDE ends[2 * SOME], at = from;
+    KEY ends[2 * SOME], at = from;
     uint64_t values[SOME];
     size_t len = 0, some, found, i;
     if (map.at == NULL || room == 0 || !is_array(out, room, sizeof *out)) return 0;
@@ -122,8 +93,3 @@ size_t NAME(len)(MAP map)
 {
     return map.at != NULL ? EXPORT(len)((HELD *)&map) : 0;
 }
-
-#undef NUMBER
-#undef MAP
-#undef STRETCH
-#undef NAME

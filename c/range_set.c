@@ -11,12 +11,13 @@
 #include <string.h>
 
 #ifdef RANGE_SET_PLAIN
-#define EXPORTED(name) plain_##name
+#define EXPORTED(name) GLUE(plain_, name, )
 #else
-#define EXPORTED(name) proved_##name
+#define EXPORTED(name) GLUE(proved_, name, )
 #endif
 
-/* A function that isn't inlined, so that what calls it last needs no frame; and one that is, for its constant arguments. */
+/* APART: the function isn't inlined, so that a function which ends by calling it needs no frame. WITHIN: it is, since some arguments are
+ * constant. */
 #ifdef __GNUC__
 #define APART __attribute__((noinline))
 #define WITHIN inline __attribute__((always_inline))
@@ -77,10 +78,10 @@ static void release(void *context, void *memory, size_t size)
     free(memory);
 }
 
-/* What sets in chunks and maps have their memory from: malloc, where there is no function. */
+/* The allocator of sets in chunks and maps. Without functions it stands for malloc. */
 static range_set_allocator heap;
 
-/* Before memory of an allocator stands its size, in as many bytes as keep each alignment that an export asks for. */
+/* Memory of an allocator begins with its own size. These bytes keep every alignment that an export asks for. */
 enum { HEAD = 16 };
 
 void range_set_use_allocator(const range_set_allocator *allocator)
@@ -133,8 +134,14 @@ void range_heap_free(void *memory)
     heap.release(heap.context, memory, size);
 }
 
-/* What stands from `from` to below `to` in a text, between two separators: `len` bytes at `text`, of which `status` and `told` are what
- * check_text says. Of a number alone these bytes are the range from it on, in `from_on`, which has two numbers. */
+/* What check_text returns. For bytes that aren't UTF-8 it returns 3, and they are refused as a malformed text. */
+enum { TEXT_OF_RANGES = 0, TEXT_MALFORMED = 1, TEXT_OUT_OF_RANGE = 2 };
+
+/* The boundaries of a range with an end. */
+enum { PER_RANGE = 2 };
+
+/* A part of a text between two separators, from index `from` to below `to`. It is read as the `len` bytes at `text`, for which check_text
+ * returned `status` and wrote `told`. A number alone is read as the range from it on, which is in `from_on`, and `told` is PER_RANGE. */
 typedef struct part {
     size_t from, to, len, told;
     const char *text;
@@ -143,7 +150,7 @@ typedef struct part {
     char from_on[32];
 } part;
 
-/* How many bytes of blanks stand before a range. */
+/* How many bytes before a range are blanks. */
 static size_t blanks_before(const char *text, size_t len)
 {
     size_t at = 0;
@@ -156,8 +163,8 @@ static bool is_digit(char it)
     return it >= '0' && it <= '9';
 }
 
-/* Makes the part the range from its number on, which ends where it stops being a text of ranges. More than DIGITS digits after the
- * zeros fit no type, so the others are left out. */
+/* Has a part that is a number alone read as the range from that number on. The number ends where the part stops being a text of ranges.
+ * A number of more than DIGITS digits after the zeros fits no type, so the other digits are left out. */
 static void take_alone(part *it)
 {
     enum { DIGITS = 24 };
@@ -178,97 +185,19 @@ static range_set_status refused_at(range_set_status status, size_t at, size_t *f
     return status;
 }
 
-#define NUMBER int32_t
-#define COUNT uint32_t
-#define MOST INT32_MAX
-#define SET range_set_i32
-#define RANGE range_set_i32_range
-#define BUFFER range_set_i32_buffer
-#define OWNED range_set_i32_owned
-#define CHUNKED range_set_i32_chunked
-#define NAME(call) range_set_i32_##call
-#define EXPORT(call) EXPORTED(range_set_i32_##call)
-#include "range_set_calls.h"
-
-#define NUMBER uint32_t
-#define COUNT uint32_t
-#define MOST UINT32_MAX
-#define SET range_set_u32
-#define RANGE range_set_u32_range
-#define BUFFER range_set_u32_buffer
-#define OWNED range_set_u32_owned
-#define CHUNKED range_set_u32_chunked
-#define NAME(call) range_set_u32_##call
-#define EXPORT(call) EXPORTED(range_set_u32_##call)
-#include "range_set_calls.h"
-
-#define NUMBER int64_t
-#define COUNT uint64_t
-#define MOST INT64_MAX
-#define SET range_set_i64
-#define RANGE range_set_i64_range
-#define BUFFER range_set_i64_buffer
-#define OWNED range_set_i64_owned
-#define CHUNKED range_set_i64_chunked
-#define NAME(call) range_set_i64_##call
-#define EXPORT(call) EXPORTED(range_set_i64_##call)
-#include "range_set_calls.h"
-
-#define NUMBER uint64_t
-#define COUNT uint64_t
-#define MOST UINT64_MAX
-#define SET range_set_u64
-#define RANGE range_set_u64_range
-#define BUFFER range_set_u64_buffer
-#define OWNED range_set_u64_owned
-#define CHUNKED range_set_u64_chunked
-#define NAME(call) range_set_u64_##call
-#define EXPORT(call) EXPORTED(range_set_u64_##call)
-#include "range_set_calls.h"
+/* A call of the header, and the export that it stands before. */
+#define NAME(call) CALL(call)
+#define EXPORT(call) EXPORTED(CALL(call))
+#define CALLS "range_set_calls.h"
+#include "each_type.h"
+#undef NAME
+#undef EXPORT
 
 /* Maps with keys of 32 bits are kept as maps with keys of 64. */
-#define EXPORT(call) EXPORTED(range_map_i64_##call)
-#define WIDE int64_t
-#define GREATEST INT64_MAX
-#define HELD range_map_i64
-
-#define NUMBER int64_t
-#define MAP range_map_i64
-#define STRETCH range_map_i64_stretch
-#define NAME(call) range_map_i64_##call
-#include "range_map_exports.h"
-#include "range_map_calls.h"
-
-#define NUMBER int32_t
-#define MAP range_map_i32
-#define STRETCH range_map_i32_stretch
-#define NAME(call) range_map_i32_##call
-#include "range_map_calls.h"
-
-#undef EXPORT
-#undef WIDE
-#undef GREATEST
-#undef HELD
-
-#define EXPORT(call) EXPORTED(range_map_u64_##call)
-#define WIDE uint64_t
-#define GREATEST UINT64_MAX
-#define HELD range_map_u64
-
-#define NUMBER uint64_t
-#define MAP range_map_u64
-#define STRETCH range_map_u64_stretch
-#define NAME(call) range_map_u64_##call
-#include "range_map_exports.h"
-#include "range_map_calls.h"
-
-#define NUMBER uint32_t
-#define MAP range_map_u32
-#define STRETCH range_map_u32_stretch
-#define NAME(call) range_map_u32_##call
-#include "range_map_calls.h"
-
-#undef EXPORT
-#undef WIDE
-#undef GREATEST
-#undef HELD
+#define KEY GLUE(NUMBER_, WIDE, )
+#define GREATEST GLUE(MOST_, WIDE, )
+#define HELD GLUE(range_map_, WIDE, )
+#define NAME(call) MAP_CALL(call)
+#define EXPORT(call) EXPORTED(GLUE(range_map_, WIDE, _##call))
+#define CALLS "range_map_calls.h"
+#include "each_type.h"

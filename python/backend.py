@@ -34,7 +34,7 @@ C, DIST, RUST = (
     next((it for it in (HERE / name, HERE.parent / name) if it.is_dir()), HERE.parent / name) for name in ("c", "dist", "rust")
 )
 # The layer in C, which the library of dist/ has in it: its headers, and what is compiled before what cargo builds.
-HEADERS = ["include/range_set.h", *(f"range_{it}.h" for it in ("set_calls", "set_exports", "map_calls", "map_exports"))]
+HEADERS = ["include/range_set.h", *sorted(it.name for it in C.glob("*.h"))]
 LAYER = "range_set.c"
 LICENSES = ["LICENSE-MIT", "LICENSE-APACHE"]
 # The platform of the proved library.

@@ -338,67 +338,97 @@ def of_many(count):
     table([f"{count:,} ranges", "Time"], rows)
 
 
+class ByHand:
+    """What numpy answers over a list of boundaries, and over the values of the ranges that they bound."""
+
+    def __init__(self, numpy, flat, values=None):
+        self.numpy, self.flat, self.values = numpy, flat, values
+        # How many members lie before each range.
+        self.before = numpy.concatenate(([0], numpy.cumsum(flat[1::2] - flat[::2])))
+
+    def places(self, numbers):
+        """How many boundaries are at or below each number."""
+        return self.numpy.searchsorted(self.flat, numbers, side="right")
+
+    def contains(self, numbers):
+        return self.places(numbers) % 2 == 1
+
+    def rank(self, numbers):
+        at = self.places(numbers)
+        return self.before[at // 2] + self.numpy.where(at % 2 == 1, numbers - self.flat[at - 1], 0)
+
+    def overlaps(self, starts, ends):
+        return self.contains(starts) | (self.places(ends - 1) > self.places(starts))
+
+    def get(self, numbers):
+        at = self.places(numbers)
+        return self.numpy.where(at % 2 == 1, self.values[at // 2 % len(self.values)], None)
+
+
+def beside_numpy(numpy, head, *calls):
+    """Prints a row for each call: how long it takes, and how long what numpy does by hand. Both have to give the same."""
+    rows = []
+    for label, call, by_hand in calls:
+        (taken, answer), (beside, expected) = least(call), least(by_hand)
+        if not numpy.array_equal(answer, expected):
+            sys.exit("bench: the answers differ")
+        rows.append([label, shown(taken), shown(beside)])
+    table([head, "RangeSet", "numpy by hand"], rows)
+
+
+def of_arrays(numpy, count):
+    """Questions of many numbers at once."""
+    made_up_by = numpy.random.default_rng(5)
+    flat, values = numpy.arange(0, 20 * count, 10), numpy.arange(count).astype(object) % 7
+    many, names = RangeSet.from_boundaries(flat), RangeMap(((20 * at, 20 * at + 10), at % 7) for at in range(count))
+    asked = made_up_by.integers(0, 20 * count, count)
+    ends, ordered, by_hand = asked + 100, numpy.sort(asked), ByHand(numpy, flat, values)
+    copied, flat_copied, packed, packed_flat = RangeSet.from_boundaries(flat), flat.copy(), pickle.dumps(many), pickle.dumps(flat)
+    far = numpy.unique(made_up_by.integers(-(2**63), 2**63 - 1, 2 * count))
+    packed_far, packed_flat_far = pickle.dumps(RangeSet.from_boundaries(far)), pickle.dumps(far)
+    beside_numpy(
+        numpy,
+        f"{count:,} ranges and numbers",
+        ("members, in order", lambda: many.contains(ordered), lambda: by_hand.contains(ordered)),
+        ("members, in any order", lambda: many.contains(asked), lambda: by_hand.contains(asked)),
+        ("`rank`", lambda: many.rank(asked), lambda: by_hand.rank(asked)),
+        ("`covered_within`", lambda: many.covered_within(asked, ends), lambda: by_hand.rank(ends) - by_hand.rank(asked)),
+        ("`overlaps`", lambda: many.overlaps(asked, ends), lambda: by_hand.overlaps(asked, ends)),
+        (
+            "which windows have members, `overlaps`, in order",
+            lambda: many.overlaps(ordered, ordered + 5),
+            lambda: by_hand.overlaps(ordered, ordered + 5),
+        ),
+        ("`get` of a map", lambda: names.get(asked), lambda: by_hand.get(asked)),
+        ("`==`", lambda: many == copied, lambda: numpy.array_equal(flat, flat_copied)),
+        ("`pickle.loads`", lambda: numpy.asarray(pickle.loads(packed)), lambda: pickle.loads(packed_flat)),
+        ("of ranges far apart", lambda: numpy.asarray(pickle.loads(packed_far)), lambda: pickle.loads(packed_flat_far)),
+    )
+
+
+def of_tables(numpy, count):
+    """Sets of many floats, and of smaller whole numbers."""
+    floats, small = numpy.sort(numpy.random.default_rng(6).random(count)), numpy.arange(0, 10 * count, 10, dtype="i4")
+    of_floats, by_hand = RangeSet.from_boundaries(floats), ByHand(numpy, floats)
+    beside_numpy(
+        numpy,
+        f"{count:,} floats, {count:,} numbers",
+        ("`covered` of a set of floats", of_floats.covered, lambda: math.fsum(floats[1::2] - floats[::2])),
+        ("`asarray` of it", lambda: numpy.asarray(of_floats), lambda: floats.copy()),
+        ("its members", lambda: of_floats.contains(floats), lambda: by_hand.contains(floats)),
+        ("a set of a table of floats", lambda: numpy.asarray(RangeSet(floats.reshape(-1, 2))), lambda: floats.copy()),
+        ("of a table of int32", lambda: numpy.asarray(RangeSet(small.reshape(-1, 2))), lambda: small.astype("i8")),
+    )
+
+
 def asked_over_arrays(count):
     """Questions of many numbers, and sets of ten times as many others, beside numpy."""
     try:
         numpy = importlib.import_module("numpy")
     except ImportError:
         return
-    made_up_by = numpy.random.default_rng(5)
-    flat = numpy.arange(0, 20 * count, 10)
-    many, asked = RangeSet.from_boundaries(flat), made_up_by.integers(0, 20 * count, count)
-    copied, flat_copied, packed, packed_flat = RangeSet.from_boundaries(flat), flat.copy(), pickle.dumps(many), pickle.dumps(flat)
-    ends, ordered, floats = asked + 100, numpy.sort(asked), numpy.sort(made_up_by.random(10 * count))
-    of_floats, below = RangeSet.from_boundaries(floats), numpy.concatenate(([0], numpy.cumsum(flat[1::2] - flat[::2])))
-    small = numpy.arange(0, 100 * count, 10, dtype="i4")
-    far = numpy.unique(made_up_by.integers(-(2**63), 2**63 - 1, 2 * count))
-    packed_far, packed_flat_far = pickle.dumps(RangeSet.from_boundaries(far)), pickle.dumps(far)
-    names, values = RangeMap(((20 * at, 20 * at + 10), at % 7) for at in range(count)), numpy.arange(count).astype(object) % 7
-
-    def found(numbers, boundaries=flat):
-        return numpy.searchsorted(boundaries, numbers, side="right")
-
-    def rank(numbers):
-        at = found(numbers)
-        return below[at // 2] + numpy.where(at % 2 == 1, numbers - flat[at - 1], 0)
-
-    def meets(numbers):
-        return (found(numbers) % 2 == 1) | (found(numbers + 4) > found(numbers))
-
-    def gotten(numbers):
-        at = found(numbers)
-        return numpy.where(at % 2 == 1, values[at // 2 % count], None)
-
-    def compared(head, *calls):
-        rows = []
-        for label, call, by_hand in calls:
-            (taken, answer), (beside, expected) = least(call), least(by_hand)
-            if not numpy.array_equal(answer, expected):
-                sys.exit("bench: the answers differ")
-            rows.append([label, shown(taken), shown(beside)])
-        table([head, "RangeSet", "numpy by hand"], rows)
-
-    compared(
-        f"{count:,} ranges and numbers",
-        ("members, in order", lambda: many.contains(ordered), lambda: found(ordered) % 2 == 1),
-        ("members, in any order", lambda: many.contains(asked), lambda: found(asked) % 2 == 1),
-        ("`rank`", lambda: many.rank(asked), lambda: rank(asked)),
-        ("`covered_within`", lambda: many.covered_within(asked, ends), lambda: rank(ends) - rank(asked)),
-        ("`overlaps`", lambda: many.overlaps(asked, ends), lambda: (found(asked) % 2 == 1) | (found(ends - 1) > found(asked))),
-        ("which windows have members, `overlaps`, in order", lambda: many.overlaps(ordered, ordered + 5), lambda: meets(ordered)),
-        ("`get` of a map", lambda: names.get(asked), lambda: gotten(asked)),
-        ("`==`", lambda: many == copied, lambda: numpy.array_equal(flat, flat_copied)),
-        ("`pickle.loads`", lambda: numpy.asarray(pickle.loads(packed)), lambda: pickle.loads(packed_flat)),
-        ("of ranges far apart", lambda: numpy.asarray(pickle.loads(packed_far)), lambda: pickle.loads(packed_flat_far)),
-    )
-    compared(
-        f"{10 * count:,} floats, {10 * count:,} numbers",
-        ("`covered` of a set of floats", of_floats.covered, lambda: math.fsum(floats[1::2] - floats[::2])),
-        ("`asarray` of it", lambda: numpy.asarray(of_floats), lambda: floats.copy()),
-        ("its members", lambda: of_floats.contains(floats), lambda: found(floats, floats) % 2 == 1),
-        ("a set of a table of floats", lambda: numpy.asarray(RangeSet(floats.reshape(-1, 2))), lambda: floats.copy()),
-        ("of a table of int32", lambda: numpy.asarray(RangeSet(small.reshape(-1, 2))), lambda: small.astype("i8")),
-    )
+    of_arrays(numpy, count)
+    of_tables(numpy, 10 * count)
 
 
 def alone(count):

@@ -4,9 +4,10 @@
     tests/c_mutants.py              all of them
     tests/c_mutants.py WORD..       those whose names have one of the words
 
-A mutant is one replacement in one file of the layer or in the header, whose text must be there exactly once, and the test that must see it: "test", the
-tests of every call, or "test_refused", where each request for memory is refused in turn. The layer is linked with the proved object
-of dist/. The last line is 'N passed, M failed, K skipped', and the status is 77 where a tool is missing.
+A mutant is one replacement in the files of the layer for sets, in those for maps, in what both share or in the header, whose text must
+be there exactly once, and the test that must see it: "test", the tests of every call, or "test_refused", where each request for memory
+is refused in turn. The layer is linked with the proved object of dist/. The last line is 'N passed, M failed, K skipped', and the status
+is 77 where a tool is missing.
 """
 
 import os
@@ -21,19 +22,20 @@ from pathlib import Path
 ROOT = Path(__file__).resolve().parent.parent
 C = ROOT / "c"
 LIBRARY = ROOT / "dist" / "librange_set.a"
-SOURCES = [C / name for name in ("range_set.c", "range_set_calls.h", "range_set_exports.h", "range_map_calls.h", "range_map_exports.h", "include/range_set.h")]
+SOURCES = [C / "range_set.c", *sorted(C.glob("*.h")), C / "include/range_set.h"]
 SKIPPED = 77
 # The arguments of each test: how many made-up cases each type has.
 TESTS = {"test": ["100"], "test_refused": []}
 WRAPPED = "-Wl,--wrap=malloc,--wrap=realloc"
 # A test that runs for this many seconds goes round in circles.
 LONGEST = 120
-SETS, MAPS, LAYER, HEADER = "range_set_calls.h", "range_map_calls.h", "range_set.c", "range_set.h"
+# The files of a mutant: the one that has its text is changed.
+SETS, MAPS, LAYER, HEADER = "range_set_*.h", "range_map_*.h", "range_set.c", "range_set.h"
 BAD = "return RANGE_SET_BAD_ARGUMENT;\n"
 COMPILED = ["cc", "-std=c99", "-O0", "-w", f"-I{C / 'include'}", "-c"]
-# The type whose calls are those of a mutant, by its file: the tests begin with it. Other types have the layer as it is, which is
+# The type whose calls are those of a mutant, by its files: the tests begin with it. Other types have the layer as it is, which is
 # compiled once.
-FIRST = {SETS: "range_set_i32", MAPS: "range_map_i64"}
+FIRST = {SETS: "i32", MAPS: "i64"}
 
 
 @dataclass
@@ -92,10 +94,10 @@ WRITING = [
     Mutant("combine takes any right side", SETS, " || !NAME(is_apart)(b, out, room, result)) return", ") return"),
     Mutant("combine takes any left side", SETS, "(!NAME(is_apart)(a, out, room, result) || ", "("),
     Mutant("negation takes any buffer", SETS,
-           f"    if (!NAME(is_apart)(set, out, room, result)) {BAD}    return NAME(written)(EXPORT(negation)",
-           "    return NAME(written)(EXPORT(negation)"),
-    Mutant("gaps take any buffer", SETS, f"    if (!NAME(is_apart)(set, out, room, result)) {BAD}    return NAME(written)(EXPORT(gaps)",
-           "    return NAME(written)(EXPORT(gaps)"),
+           f"    if (!NAME(is_apart)(set, out, room, result)) {BAD}    return NAME(write_result)(EXPORT(negation)",
+           "    return NAME(write_result)(EXPORT(negation)"),
+    Mutant("gaps take any buffer", SETS, f"    if (!NAME(is_apart)(set, out, room, result)) {BAD}    return NAME(write_result)(EXPORT(gaps)",
+           "    return NAME(write_result)(EXPORT(gaps)"),
     Mutant("neither is left out", SETS,
            "    if (keep & RANGE_SET_NEITHER) return EXPORT(combine_from)(LIST(a), LIST(b), keep & 15u, ROOM(out, room));\n", ""),
     Mutant("union_all takes any sets", SETS, "if (!is_array(sets, count, sizeof *sets) || ", "if ("),
@@ -108,15 +110,15 @@ WRITING = [
            "is_array(out, room, sizeof *out) || !NAME(is_result)(result, out, room)\n        || overlap(sets",
            "is_array(out, room, sizeof *out) || overlap(sets"),
     Mutant("union_all asks for no room", SETS,
-           "    if (needed > room) return NAME(written)(needed, out, room, result);\n    for (i", "    for (i"),
+           "    if (needed > room) return NAME(write_result)(needed, out, room, result);\n    for (i", "    for (i"),
     Mutant("union_all loses a range without an end", SETS,
-           "is_open = NAME(joins_open)(is_open, &open, list + closed);", ""),
+           "is_open = NAME(join_open)(is_open, &open, list + closed);", ""),
     Mutant("only the last range without an end counts", SETS, "(&before, is_open, start, 1, RANGE_SET_UNION", "(&before, false, start, 1, RANGE_SET_UNION"),
-    Mutant("an open range loses its start", SETS, "return 2 * count + is_open;", "return 2 * count;"),
-    Mutant("from_values asks for no room", SETS, "    if (2 * count > room) return NAME(written)(2 * count, out, room, result);\n", ""),
+    Mutant("an open range loses its start", SETS, "(write_result)(2 * count + is_open,", "(write_result)(2 * count,"),
+    Mutant("from_values asks for no room", SETS, "    if (2 * count > room) return NAME(write_result)(2 * count, out, room, result);\n", ""),
     Mutant("from_values writes into the numbers", SETS, "|| !NAME(is_result)(result, values, count) ", ""),
     Mutant("from_values writes over the numbers", SETS, " || overlap(values, count * sizeof *values, out, room * sizeof *out))", ")"),
-    Mutant("the greatest number is lost", SETS, "has_greatest |= value == greatest;", ""),
+    Mutant("the greatest number is lost", SETS, "has_greatest |= value == MOST;", ""),
 ]
 
 # Texts.
@@ -140,7 +142,7 @@ TEXTS = [
     Mutant("a fault may lie in the text", SETS, "&& !overlap(fault, fault_size, text, text_len) ", ""),
     Mutant("a fault may lie in the buffer", SETS, " && !overlap(fault, fault_size, out, size)", ""),
     Mutant("a fault may lie in the result", SETS, "\n           && !overlap(fault, fault_size, result, sizeof *result);", ";"),
-    Mutant("parse asks for no room", SETS, "        if (told > room) return NAME(written)(told, out, room, result);\n", ""),
+    Mutant("parse asks for no room", SETS, "        if (told > room) return NAME(write_result)(told, out, room, result);\n", ""),
     Mutant("a number that doesn't fit is malformed", SETS, "            status = RANGE_SET_OUT_OF_RANGE;\n",
            "            status = RANGE_SET_MALFORMED;\n"),
     Mutant("a malformed text is out of range", SETS, "default: return refused_at(RANGE_SET_MALFORMED, told, fault);",
@@ -148,7 +150,7 @@ TEXTS = [
     Mutant("where a text stops isn't written", LAYER, "if (fault != NULL) *fault = at;", "(void)fault, (void)at;"),
     Mutant("where a text stops is written to null", LAYER, "if (fault != NULL) *fault = at;", "*fault = at;"),
     Mutant("a number that doesn't fit is anywhere", SETS,
-           "case 2: return NAME(check_parts)(text, text_len, ',', &told, fault);", "case 2: return RANGE_SET_OUT_OF_RANGE;"),
+           "case TEXT_OUT_OF_RANGE: return NAME(check_parts)(text, text_len, ',', &told, fault);", "case 2: return RANGE_SET_OUT_OF_RANGE;"),
     Mutant("the range of a number that doesn't fit begins at its blanks", SETS,
            "it.from + blanks_before(text + it.from, it.to - it.from);", "it.from;"),
     Mutant("blanks are ASCII", LAYER, " || (unsigned char)text[at] > '~'", ""),
@@ -163,24 +165,26 @@ TEXTS = [
            "        if (it.to < text_len && text[it.to] != separator) return refused_at(RANGE_SET_MALFORMED, it.to, fault);\n", ""),
     Mutant("a part may have commas", SETS, " && text[it->to] != ',';)", ";)"),
     Mutant("a comma alone separates", SETS, "text[it->to] != separator && text", "text"),
-    Mutant("a number alone has room in one number", SETS, "    it->told = 2;\n", ""),
+    Mutant("a number alone has room in one number", SETS, "    it->told = PER_RANGE;\n", ""),
     Mutant("parse_by takes any pointer", SETS, "\n        || !NAME(are_apart)(text, text_len, out, room, result, fault))", ")"),
     Mutant("a separator isn't ASCII", SETS, "(unsigned char)separator > 127 || ", ""),
     Mutant("a separator is a digit", SETS, "is_digit(separator) || ", ""),
     *(Mutant(f"a separator is {it}", SETS, f" || separator == '{it}'", "") for it in "+-."),
     Mutant("parse_by reads what it refuses", SETS, "    if (status != RANGE_SET_DONE) return status;\n    if (needed > room)", "    if (needed > room)"),
     Mutant("parse_by asks for no room", SETS,
-           "    if (needed > room) return NAME(written)(needed, out, room, result);\n    for (; it", "    for (; it"),
+           "    if (needed > room) return NAME(write_result)(needed, out, room, result);\n    for (; it", "    for (; it"),
     Mutant("the greatest number alone has an end", SETS, "if (it.is_alone && start != MOST) range", "if (it.is_alone) range"),
     Mutant("a number alone has no end", SETS, "count = 1, opens = false;", "count = 1;"),
     Mutant("a number alone is two", SETS, "range[1] = start + 1, count", "range[1] = start + 2, count"),
-    Mutant("parse_by loses a range without an end", SETS, "        if (opens) is_open = NAME(joins_open)(is_open, &open, &start);\n", ""),
+    Mutant("parse_by takes any part with a dot", SETS, "if (is_checked && memchr", "if (memchr"),
+    Mutant("a range after a number alone is a number", SETS, ", it->is_alone = false;", ";"),
+    Mutant("parse_by loses a range without an end", SETS, "        if (opens) is_open = NAME(join_open)(is_open, &open, &start);\n", ""),
     Mutant("a number stands alone before others", SETS,
-           " && EXPORT(check_text)(it->text + it->told, it->len - it->told, &more) == 0 && more == 0", ""),
-    Mutant("a number stands alone before a range", SETS, " && more == 0\n                   && is_digit", " && is_digit"),
-    Mutant("a sign stands alone", SETS, "\n                   && is_digit(it->text[it->told - 1]);", ";"),
-    Mutant("a number alone always fits", SETS, "    it->status = EXPORT(check_text)(it->text, it->len, &it->told);\n    it->told = 2;",
-           "    it->status = 0;\n    it->told = 2;"),
+           " && EXPORT(check_text)(it->text + it->told, it->len - it->told, &more) == TEXT_OF_RANGES\n                   && more == 0", ""),
+    Mutant("a number stands alone before a range", SETS, " && more == 0 && is_digit", " && is_digit"),
+    Mutant("a sign stands alone", SETS, " && is_digit(it->text[it->told - 1]);", ";"),
+    Mutant("a number alone always fits", SETS, "    it->status = EXPORT(check_text)(it->text, it->len, &it->told);\n    it->told = PER_RANGE;",
+           "    it->status = TEXT_OF_RANGES;\n    it->told = PER_RANGE;"),
     Mutant("zeros are digits of a number alone", LAYER, "    while (end - number > 1 && *number == '0') number++;\n", ""),
     Mutant("zeros after a sign are digits", LAYER, "    if (!is_digit(*number)) it->from_on[it->len++] = *number++;\n", ""),
     Mutant("zero alone is no number", LAYER, "while (end - number > 1 && *number", "while (end - number > 0 && *number"),
@@ -232,10 +236,10 @@ IN_PLACE = [
     Mutant("a change without room is done", SETS,
            "        buffer->needed = len;\n        return RANGE_SET_NO_ROOM;",
            "        buffer->needed = len;\n        return RANGE_SET_DONE;"),
-    Mutant("insert takes any buffer", SETS, f"    if (!NAME(is_buffer)(buffer)) {BAD}    return NAME(changed)(buffer, EXPORT(insert)",
-           "    return NAME(changed)(buffer, EXPORT(insert)"),
-    Mutant("remove takes any buffer", SETS, f"    if (!NAME(is_buffer)(buffer)) {BAD}    return NAME(changed)(buffer, EXPORT(remove)",
-           "    return NAME(changed)(buffer, EXPORT(remove)"),
+    Mutant("insert takes any buffer", SETS, f"    if (!NAME(is_buffer)(buffer)) {BAD}    return NAME(set_len)(buffer, EXPORT(insert)",
+           "    return NAME(set_len)(buffer, EXPORT(insert)"),
+    Mutant("remove takes any buffer", SETS, f"    if (!NAME(is_buffer)(buffer)) {BAD}    return NAME(set_len)(buffer, EXPORT(remove)",
+           "    return NAME(set_len)(buffer, EXPORT(remove)"),
     Mutant("combine_with takes any buffer", SETS, "if (!NAME(is_buffer)(buffer) || (keep", "if ((keep"),
     Mutant("combine_with takes neither", SETS, "(keep & RANGE_SET_NEITHER) != 0 || ", ""),
     Mutant("another set may lie in the buffer's struct", SETS,
@@ -305,6 +309,12 @@ def held(file, prefix, handle, call):
     ]
 
 
+# What no set in chunks answers as the empty list does.
+QUESTIONS = [
+    "contains", "contains_range", "intersects_range", "is_empty", "is_all", "range_at", "range_from", "first", "last", "next_member",
+    "next_gap", "prev_member", "prev_gap", "rank", "select", "covered", "first_run", "ranges_len",
+]
+
 # Sets in chunks and maps.
 HELD = [
     Mutant("chunked_new writes to null", SETS, f"    if (set == NULL) {BAD}", ""),
@@ -325,14 +335,14 @@ HELD = [
     Mutant("chunked_clear clears null", SETS,
            "if (set != NULL && set->at != NULL) EXPORT(chunked_clear)(set);", "EXPORT(chunked_clear)(set);"),
     *(mutant for call in ("insert", "remove", "insert_from", "remove_from") for mutant in held(SETS, "chunked_", "set", call)),
-    Mutant("only what is no set is empty", SETS, "set.at == NULL || EXPORT(chunked_is_empty)(&set);", "set.at == NULL;"),
-    Mutant("no set in chunks contains nothing", SETS, ": end <= start;", ": false;"),
+    *(Mutant(f"no set in chunks is asked: {call}", SETS, f"if (set.at == NULL) return NAME({call})(", f"if (false) return NAME({call})(")
+      for call in QUESTIONS),
     Mutant("ranges in chunks are written anywhere", SETS,
            f"    if (!is_array(out, room, sizeof *out) || !NAME(is_result)(result, out, room)) {BAD}    if (set.at", "    if (set.at"),
-    Mutant("no set has ranges", SETS, "    if (set.at == NULL) return NAME(written)(0, out, room, result);\n", ""),
+    Mutant("no set has ranges", SETS, "    if (set.at == NULL) return NAME(write_result)(0, out, room, result);\n", ""),
     Mutant("more ranges follow, and none is announced", SETS, "return RANGE_SET_MORE;", "return RANGE_SET_DONE;"),
     Mutant("more ranges follow each full buffer", SETS,
-           "    if (!NAME(has_more)(&set, from, end)) return NAME(written)(len, out, room, result);\n", ""),
+           "    if (!NAME(has_more)(&set, from, end)) return NAME(write_result)(len, out, room, result);\n", ""),
     Mutant("more ranges follow the last one", SETS, " || (last.has_end && from >= last.end)) return false;", ") return false;"),
     Mutant("no range follows below an end", SETS, " || EXPORT(chunked_intersects_range)(set, from, *end);", ";"),
     Mutant("the last range follows wherever the end lies", SETS, "end == NULL || last.start < *end || ", "true || "),
@@ -341,15 +351,26 @@ HELD = [
     Mutant("a range without an end has no room in the last number", SETS,
            "if (len < room && NAME(chunked_range_from)", "if (len + 1 < room && NAME(chunked_range_from)"),
     Mutant("ranges in chunks need no length", SETS,
-           "    if (room < 2) return NAME(written)(NAME(listed_len)(set, start, end), out, room, result);\n", ""),
+           "    if (room < 2) return NAME(write_result)(NAME(write_ranges_len)(set, start, end), out, room, result);\n", ""),
     Mutant("the length is that of the first ranges", SETS, "        len += part.len;\n", "        len = part.len;\n"),
     Mutant("chunked_copy takes any buffer", SETS,
-           f"    if (!is_array(out, room, sizeof *out) || !NAME(is_result)(result, out, room)) {BAD}    return NAME(written)(set.at",
-           "    return NAME(written)(set.at"),
-    Mutant("gaps in chunks go on past the end", SETS, "|| to > end) to = end;", ") to = end;"),
-    Mutant("gaps in chunks are written anywhere", SETS, "if (len + 2 <= room) out[len] = from", "out[len] = from"),
+           f"    if (!is_array(out, room, sizeof *out) || !NAME(is_result)(result, out, room)) {BAD}    return NAME(write_result)(set.at",
+           "    return NAME(write_result)(set.at"),
+    Mutant("gaps in chunks go on past the end", SETS, "if (some[i] > start && some[i] < end)", "if (some[i] > start)"),
+    Mutant("gaps in chunks begin before the start", SETS, "if (some[i] > start && some[i] < end)", "if (some[i] < end)"),
+    Mutant("gaps in chunks leave out the one at the start", SETS,
+           "    if (start < end && !NAME(chunked_contains)(set, start)) len = NAME(append_number)(start, out, room, len);\n", ""),
+    Mutant("the last gap in chunks has no end", SETS, "    if (len % 2 == 1) len = NAME(append_number)(end, out, room, len);\n", ""),
+    Mutant("gaps in chunks are written anywhere", SETS, "if (len < room) out[len] = number;", "out[len] = number;"),
     Mutant("gaps in chunks take any buffer", SETS,
-           f"    if (!is_array(out, room, sizeof *out) || !NAME(is_result)(result, out, room)) {BAD}    for (; from", "    for (; from"),
+           f"    if (!is_array(out, room, sizeof *out) || !NAME(is_result)(result, out, room)) {BAD}    if (start < end && !", "    if (start < end && !"),
+    Mutant("a difference from one range is a union", SETS, "NAME(combine_one)(set, other, keep == RANGE_SET_UNION)", "NAME(combine_one)(set, other, true)"),
+    Mutant("one range without an end has one", SETS, "    if (range.len == 1) return inserts", "    if (range.len == 3) return inserts"),
+    Mutant("contains_each takes any array", SETS,
+           "    if (!is_array(values, count, sizeof *values) || !is_array(found, count, sizeof *found)\n        || overlap(found", "    if (overlap(found"),
+    Mutant("contains_each answers in its values", SETS, "        || overlap(found, size, values, count * sizeof *values)\n", ""),
+    Mutant("contains_each answers in its set", SETS,
+           "        || (set.boundaries != NULL && overlap(found, size, set.boundaries, set.len * sizeof *set.boundaries)))\n", "        )\n"),
     Mutant("a connective of no set in chunks", SETS, "if (set == NULL || set->at == NULL || overlap(set", "if (overlap(set"),
     Mutant("a connective of a list in the struct", SETS, " || overlap(set, sizeof *set, other.boundaries, other_len * sizeof *items))", ")"),
     Mutant("a connective has no room for the least number", SETS, "room = len + other_len + 1;", "room = len + other_len;"),
@@ -361,8 +382,6 @@ HELD = [
     Mutant("each remove in chunks is a change", SETS, "set != NULL && NAME(chunked_intersects_range)(*set, start, end);", "set != NULL;"),
     Mutant("a change without room is written", SETS, "if (status == RANGE_SET_DONE) *changed = changes;", "*changed = changes;"),
     Mutant("keys without a value are the next", MAPS, "    if (!it.has_value && it.has_end) it = NAME(range_at)(map, it.end);\n", ""),
-    Mutant("no set in chunks is asked for a run", SETS,
-           "    if (set.at == NULL) return NAME(first_run)(NAME(no_member), start, end, count, first);\n", ""),
     Mutant("what isn't next is written", MAPS, "if (it.has_value && stretch != NULL) *stretch = it;", "if (stretch != NULL) *stretch = it;"),
     Mutant("next writes to null", MAPS, "if (it.has_value && stretch != NULL) *stretch = it;", "if (it.has_value) *stretch = it;"),
     Mutant("a map that is refused is kept", MAPS, "    if (status != RANGE_SET_DONE) NAME(free)(&made);\n", "", "test_refused"),
@@ -378,6 +397,12 @@ HELD = [
     Mutant("the greatest key has no next range", MAPS, "if (last.has_value) out[len++] = last;", "(void)last;"),
     Mutant("the last range is next twice", MAPS, "if (len < room && found % 2 == 0) {", "if (len < room) {"),
     Mutant("the last range has an end", MAPS, "const bool has_end = 2 * i + 1 < found;", "const bool has_end = true;"),
+    Mutant("next ranges go on from the last start", MAPS, "at = has_end ? ends[2 * i + 1] : 0;", "at = has_end ? ends[2 * i] : 0;"),
+    Mutant("of ranges in a list the first one around a key holds", MAPS,
+           "for (i = 0; status == RANGE_SET_DONE && i < count; i++) status = NAME(insert)(&made, ranges[2 * i], ranges[2 * i + 1], values[i]);",
+           "for (i = count; status == RANGE_SET_DONE && i > 0; i--) "
+           "status = NAME(insert)(&made, ranges[2 * i - 2], ranges[2 * i - 1], values[i - 1]);"),
+    Mutant("a copy is the map itself", MAPS, "    copy->at = NULL;\n    return EXPORT(copy)", "    *copy = map;\n    return RANGE_SET_DONE;\n    return EXPORT(copy)"),
     Mutant("a copy is written to null", MAPS, f"    if (copy == NULL) {BAD}", ""),
     Mutant("a new map is written to null", MAPS, f"    if (map == NULL) {BAD}", ""),
     Mutant("a new map without memory is done", MAPS,
@@ -398,11 +423,11 @@ def run(*words):
                           errors="replace", timeout=LONGEST, check=False)
 
 
-def leave_one_type(layer, name):
-    """Leaves the calls of one type in the layer."""
-    blocks = layer.read_text(encoding="utf-8").split("\n\n")
-    kept = [it for it in blocks if not it.startswith("#define NUMBER") or f"NAME(call) {name}_##call" in it]
-    layer.write_text("\n\n".join(kept) + "\n", encoding="utf-8")
+def leave_one_type(types, name):
+    """Leaves one type of those that the layer is included for."""
+    blocks = types.read_text(encoding="utf-8").split("\n\n")
+    kept = [it for it in blocks if not it.startswith("#define TYPE ") or it.startswith(f"#define TYPE {name}\n")]
+    types.write_text("\n\n".join(kept) + "\n", encoding="utf-8")
 
 
 class Layer:
@@ -432,13 +457,14 @@ class Layer:
             for path in SOURCES:
                 shutil.copy(path, folder)
             if mutant:
-                path = folder / mutant.file
-                kept = path.read_text(encoding="utf-8")
-                if kept.count(mutant.text) != 1:
-                    return f"its text stands {kept.count(mutant.text)} times in {mutant.file}"
-                path.write_text(kept.replace(mutant.text, mutant.other), encoding="utf-8")
+                texts = {path: path.read_text(encoding="utf-8") for path in folder.glob(mutant.file)}
+                times = sum(it.count(mutant.text) for it in texts.values())
+                if times != 1:
+                    return f"its text stands {times} times in {mutant.file}"
+                for path, kept in texts.items():
+                    path.write_text(kept.replace(mutant.text, mutant.other), encoding="utf-8")
             if mutant and mutant.file in FIRST:
-                leave_one_type(folder / LAYER, FIRST[mutant.file])
+                leave_one_type(folder / "each_type.h", FIRST[mutant.file])
             built = run(*COMPILED, folder / LAYER, "-o", folder / "layer.o")
             if built.returncode:
                 return f"it doesn't compile:\n{built.stdout[-2000:]}"

@@ -44,12 +44,14 @@ INSTEAD = rows("""
     range_collections/range_set, range_collections/range_set_range: fn clone( → fn try_clone(
     range_c/generated/mapped_i64, range_c/generated/mapped_u64: .clone() → .try_clone()
     range_collections/view: fn clone(&self) -> Result<Self, AllocError> { Ok(*self) } → fn clone(&self) -> Self { *self }
+    range_collections/view/cursor: fn clone(&self) -> Result<Self, AllocError> { Ok(*self) } → fn clone(&self) -> Self { *self }
     // A trait of Rust has to say that its types have a size.
     range_entry/entry_clone, range_entry/range_set_entry: : Ord { → : Ord + Sized {
     range_map/value: MapValue: Eq → MapValue: Eq + Sized ; range_merge/compare: trait Compare<K> → trait Compare<K>: Sized
     // rustc inlines these only if they say so.
     range_chunks/set/counted: #[inline] pub fn contains_counted → #[inline(always)] pub fn contains_counted
     range_collections/view/predicates: #[inline] pub fn contains_counted → #[inline(always)] pub fn contains_counted
+    range_collections/view/cursor: #[inline] pub fn contains_counted → #[inline(always)] pub fn contains_counted
     range_merge/searching: #[inline] pub fn count_up_to → #[inline(always)] pub fn count_up_to
     range_list/list, range_map/places: #[inline] pub fn place_up_to → #[inline(always)] pub fn place_up_to
     range_list/searching: #[inline] pub fn up_to → #[inline(always)] pub fn up_to

@@ -23,6 +23,19 @@ It begins with the libraries that 'rt ci' or 'rt lib' left in crates/*/out, and 
 mutants that no clause refused, and ends with 0 if there is no such. --all tries all mutants; --only those with WORD in their
 names; --list names those that it would try, and tries none. With --said it leaves all that the checks said in the folder.
 When these minutes are over it ends what it does, and names the mutants that are left.
+
+Every public function of the libraries has a mutant, except laws and those below. A trait's has one at some type, or in what
+it calls.
+
+- `From<RangeFrom<T>>`, `RangeSetRef::empty` and its `Default`, `new` of `ChunkedRangeSet`, `RangeMap`, `Chunks`, `clear` and
+  `allocator` of `Chunks`, `copy_value`, the least list, `none` of `Items`, `key_of`, `into_key`: no other value is possible.
+- Drops, `known`, `{:?}` of a `RangeMap`, `{}` of an `InsertError`, `?` into a `TrackError`: they do or promise nothing.
+- `into_iter`, `limit_asked`, `move_last_two`, `SmallVecMergeState::merge`, `ChunkedRangeSet::intersects_range`, `combine`,
+  `domain`, `where_equal`, `retain` of a `RangeMap`, `{}` of a `ChunkedRangeSet`, all of a `ChunkedSpace` except `first_fit`,
+  `first_fit_aligned`, `insert` and `remove`, and those of `Chunks` that only call one other: what they call has one.
+- `b_at`, `Status::code` of `range_calc_answers`: `a_at` and `exit_code` have one.
+- The exports of `range_c` for i32, u32 and u64, which are written from i64's.
+- `keeps` of a `MapFilter`, which only callers write.
 """
 
 import argparse

@@ -1,8 +1,11 @@
 #!/usr/bin/env python3
 """Whether the pages are true of the tree: links lead somewhere, files and names that a page gives are there, a word of the
 model is defined, what CALLING and PROMISES quote of a source stands there, what there is to read for the headline has as
-many lines as PROMISES says, each folder has the lines that ARCHITECTURE gives, each public call stands in CALLING, in PROMISES or
-on the page of its language, the table of calls is what tools/calls.py writes, and each package has the version of CHANGELOG. And which mutants a change has tried again, by the rows of record_rows.py.
+many lines as PROMISES says, each folder has the lines that ARCHITECTURE gives, and each rule there one file, each public call
+stands in CALLING, in PROMISES or on the page of its language, the table of calls is what tools/calls.py writes, each package
+has the version of CHANGELOG, and all pages together have no more words than they may. Each check of a page's text has to find
+a fault on a made-up page. And which mutants a change has tried again, by the rows of record_rows.py, and whether the text of
+each mutant of Rust and C by hand stands once.
 
     tests/pages.py
 
@@ -12,20 +15,28 @@ Its last line is 'N passed, M failed'. What fails is named with its page.
 import os
 import re
 import sys
+import tempfile
 from fnmatch import fnmatch
 from pathlib import Path
 
 ROOT = Path(__file__).resolve().parent.parent
 sys.path.append(str(ROOT / "tools"))
 
+import c_mutants  # noqa: E402
 import calls as calls_by_language  # noqa: E402
 import record_rows  # noqa: E402
+import rust_mutants  # noqa: E402
 
+# The scripts with mutants of what is written by hand, the files that a mutant may be of, and what stands before those that it names.
+MUTANTS = {
+    "c_mutants.py": (c_mutants, c_mutants.SOURCES, ""),
+    "rust_mutants.py": (rust_mutants, [*(ROOT / "rust/src").rglob("*.rs")], "src/"),
+}
 # Folders that hold what was built.
 BUILT = {"out", "target", "build", "__pycache__", ".git"}
 FENCED = re.compile(r"^```.*?^```", re.M | re.S)
 LINK = re.compile(r"\]\(([^)\s]+)\)")
-FILE = re.compile(r"[\w./-]*\w\.(?:rt|antt|py|sh|rs)\b")
+FILE = re.compile(r"[\w./-]*\w\.(?:rt|antt|py|sh|rs|c|h|hpp)\b")
 NAME = re.compile(r"[A-Za-z]\w*")
 # A table with its head, and a prefix of names in code.
 TABLE = re.compile(r"^[^\n]*\|[^\n]*\n[-:| ]+\n(?:[^\n]*\|[^\n]*\n)+", re.M)
@@ -34,9 +45,13 @@ PREFIX = re.compile(r"`(\w+_)`")
 READING = re.compile(r"^(`.*`)\|([^\s|]+)\|(\d+)$", re.M)
 READ = re.compile(r"(\d+) lines with their comments")
 # The words of std on which those lines stand, and what brings such words into a file.
-STOOD_ON = re.compile(r"^They stand on (\d+) words of std: (.*)\.$", re.M)
+STOOD_ON = re.compile(r"^They use (\d+) words of std: (.*)\.$", re.M)
 STD = re.compile(r"\buse Rattle\.std[\w.]*\.\{([^}]*)\}")
 MOST_TO_READ = 250
+# How many words all pages may have together.
+MOST_WORDS = 18_000
+# A table of rules, with the folder of their files, and one of its rows.
+RULES = re.compile(r"^Rule\|In ([\w./-]+)\n-+\|-+\n((?:[^\n]+\n)+)", re.M)
 # A folder and its lines, where ARCHITECTURE draws the tree, and by how much they may differ.
 DRAWN = re.compile(r"^([\w*/]+) +([\d,]+)(?:  .*)?$", re.M)
 ROUNDED = 0.15
@@ -110,6 +125,24 @@ def wrong_files(page, paths):
             yield f"there is no file {file}"
 
 
+def wrong_rules(page, root):
+    """Rules for which the page doesn't name one file, or one folder, and tables of rules without the folder of their files."""
+    text = page.read_text(encoding="utf-8")
+    for folder, rows in RULES.findall(text):
+        for rule, _, file in (line.partition("|") for line in rows.splitlines()):
+            if not file or not (root / folder / file).exists():
+                yield f"the rule '{rule}' has no file in {folder}: {file}"
+    if len(RULES.findall(text)) != text.count("\nRule|"):
+        yield "a table of rules doesn't say in which folder their files are"
+
+
+def too_many_words(pages, most=MOST_WORDS):
+    """How many words all pages have, if they are too many. A word stands between blanks, as `wc -w` counts."""
+    words = sum(len(it.read_text(encoding="utf-8").split()) for it in pages)
+    if words > most:
+        yield f"all pages have {words} words, of {most} that they may have"
+
+
 def wrong_names(page, words):
     """Names in code of the page that no source has."""
     for code in re.findall(r"`([^`]+)`", prose(page)):
@@ -131,11 +164,11 @@ def undefined_words(page, specs):
                 yield f"no definition has the word {word[0]}"
 
 
-def wrong_quotes(page, language, sources):
-    """Contracts and definitions in Rattle that the page quotes otherwise than they stand in their source."""
+def wrong_quotes(page, language, sources, quoted=r"ensures|record|struct|ghost is_"):
+    """What the page quotes of Rattle otherwise than it stands in its source: contracts and definitions, or what `quoted` finds."""
     for block in re.findall(rf"^```{language}\n(.*?)^```", page.read_text(encoding="utf-8"), re.M | re.S):
         for part in re.split(r"\n\n+", block.strip("\n")):
-            if re.search(r"ensures|record|struct|ghost is_", part) and not any(part in text for text in sources):
+            if re.search(quoted, part) and not any(part in text for text in sources):
                 yield f"no source has the quoted lines that begin with {part.splitlines()[0]}"
 
 
@@ -203,6 +236,15 @@ def wrong_words_of_std(page):
             yield f"the headline stands on {len(used)} words of std: wrong are {sorted(named ^ used)}"
         return
     yield "the words of std on which the headline stands aren't named"
+
+
+def texts_amiss(script, sources, before):
+    """The mutants whose text doesn't stand once in the files that they name."""
+    texts = {path: path.read_text(encoding="utf-8") for path in sources}
+    for mutant in script.MUTANTS:
+        times = sum(text.count(mutant.text) for path, text in texts.items() if path.match(before + mutant.file))
+        if times != 1:
+            yield f"the text of '{mutant.name}' stands {times} times in {mutant.file}"
 
 
 def words_in_code(pages):
@@ -287,6 +329,35 @@ def missing_calls(calls, words):
             yield f"no page has the public call {call}"
 
 
+def faults_found():
+    """Each fault, on a page that otherwise has none: its name, and whether its check finds it there, and only there."""
+    with tempfile.TemporaryDirectory(prefix="pages-") as folder:
+        root = Path(folder)
+        page, other = root / "page.md", root / "other.md"
+        other.write_text("three four\n", encoding="utf-8")
+        rules = "\n# A\n\nRule|In src\n---|---\n"
+        (root / "src").mkdir()
+        (root / "src/a.rt").write_text("", encoding="utf-8")
+        for name, check, good, bad in (
+            ("a word more than the limit", lambda: too_many_words([page, other], 4), "one two\n", "one\ntwo and\n"),
+            ("a link to no file", lambda: wrong_links(page), "[a](page.md)\n", "[a](pages.md)\n"),
+            ("a link to no heading", lambda: wrong_links(page), "# A\n[a](#a)\n", "# A\n[a](#b)\n"),
+            ("a file that isn't there", lambda: wrong_files(page, ["src/a.rt"]), "a.rt\n", "a.rt, b.rt\n"),
+            ("a rule with no file", lambda: wrong_rules(page, root), f"{rules}x|a.rt\n", f"{rules}x|b.rt\n"),
+            ("a rule with an empty cell", lambda: wrong_rules(page, root), f"{rules}x|a.rt\n", f"{rules}x|\n"),
+            ("a rule with two files", lambda: wrong_rules(page, root), f"{rules}x|a.rt\n", f"{rules}x|a.rt, a.rt\n"),
+            ("a rule with two cells", lambda: wrong_rules(page, root), f"{rules}x|a.rt\n", f"{rules}x|a.rt|a.rt\n"),
+            ("rules without a folder", lambda: wrong_rules(page, root), f"{rules}x|a.rt\n", "\nRule|File\n---|---\nx|a.rt\n"),
+            ("a name that no source has", lambda: wrong_names(page, {"known"}), "`known`\n", "`unknown`\n"),
+            ("a word without a definition", lambda: undefined_words(page, {"member"}), "`member`|says\n", "`members`|says\n"),
+        ):
+            found = []
+            for text in (good, bad):
+                page.write_text(text, encoding="utf-8")
+                found.append(len(list(check())))
+            yield name, found == [0, 1]
+
+
 def main():
     paths = sorted(files())
     pages = [ROOT / it for it in paths if it.endswith(".md")]
@@ -304,11 +375,16 @@ def main():
     checks += [(docs / "MODEL.md", "words", list(undefined_words(docs / "MODEL.md", defined)))]
     calling = ROOT / "crates/range_collections/CALLING.md"
     checks += [(calling, "quotes", list(wrong_quotes(calling, "rust", sources)))]
+    merging = ROOT / "crates/range_merge/CALLING.md"
+    checks += [(merging, "quotes", list(wrong_quotes(merging, "rust", sources, quoted="")))]
     checks += [(docs / "PROMISES.md", "quotes", list(wrong_quotes(docs / "PROMISES.md", "antt", specs)))]
     checks += [(docs / "PROMISES.md", "lines to read", list(wrong_readings(docs / "PROMISES.md")))]
     checks += [(docs / "ARCHITECTURE.md", "lines of folders", list(wrong_lines(docs / "ARCHITECTURE.md", paths)))]
     checks += [(docs / "PROMISES.md", "words of std", list(wrong_words_of_std(docs / "PROMISES.md")))]
+    checks += [(docs / "ARCHITECTURE.md", "rules", list(wrong_rules(docs / "ARCHITECTURE.md", ROOT)))]
     checks += [(ROOT / "CHANGELOG.md", "versions", list(wrong_versions(ROOT / "CHANGELOG.md")))]
+    checks += [(ROOT / "README.md", "words of all pages", list(too_many_words(pages)))]
+    checks += [(ROOT / "tests/pages.py", name, [] if found else ["its check doesn't find it"]) for name, found in faults_found()]
     shared = [ROOT / it for it in paths if it.endswith("CALLING.md")] + [docs / "PROMISES.md"]
     for crate in PROVED:
         own = [it for it in pages if it.parent == ROOT / "crates" / crate]
@@ -322,6 +398,7 @@ def main():
     written = [] if calls_by_language.is_written() else ["tools/calls.py writes another table"]
     checks.append((docs / "DIFFERENCES.md", "calls", written))
     checks += [(ROOT / "tests/record_rows.py", name, [] if holds else ["it doesn't hold"]) for name, holds in record_rows.rows()]
+    checks += [(ROOT / "tests" / name, "texts", [*texts_amiss(*by)]) for name, by in MUTANTS.items()]
     failed = 0
     for page, what, found in checks:
         failed += bool(found)

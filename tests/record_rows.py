@@ -10,6 +10,7 @@ Its last line is 'N passed, M failed'. ./test pages runs it too.
 import sys
 import tempfile
 from pathlib import Path
+from unittest import mock
 
 import mutants
 import record
@@ -71,6 +72,7 @@ struct Told {
 
 pub trait Kind {
     fn kind(&self) -> usize
+        requires few { 4 < 5 }
         ensures some { result < 9 };
 
     fn twice(&self) -> usize
@@ -187,6 +189,7 @@ CHANGES = [
     ("the mutant's code", "app/mutants/one.edits", "+ 1", "+ 2", FIRST),
     ("a line of a file that the mutant adds", "app/mutants/two.edits", "Three.", "The third.", SECOND),
     ("what the mutant says", "app/mutants/one.edits", "It adds one.", "One is added.", set()),
+    ("a function more of a mutant", "app/mutants/two.edits", "two::second", "two::second\nfunction: app::two::third", SECOND),
     ("the mutant's name", "app/mutants/one.edits", "first_is_wrong", "first_adds", {"first_adds"}),
     ("the function's body", "app/src/one.rt", "    second(n)", "    let n = n;\n    second(n)", FIRST),
     ("the body of another in its file", "app/src/two.rt", "    4\n", "    5\n", SECOND),
@@ -214,6 +217,7 @@ CHANGES = [
     ("a contract below", "low/src/lib.rt", "same { result ≡ n }", "same { n ≡ result }", BOTH),
     ("what a contract below requires", "low/src/lib.rt", "n < 8", "n < 9", BOTH),
     ("the contract of a trait's method below", "low/src/lib.rt", "result ≡ 2", "result ≡ 1 + 1", BOTH),
+    ("what a trait's method below requires", "low/src/lib.rt", "4 < 5", "4 < 6", BOTH),
     ("what is called by another name below", "low/src/lib.rt", "helper::Helper;", "helping::Helper;", BOTH),
     ("a constant below", "low/src/lib.rt", "= 8", "= 9", BOTH),
     ("a constant below that none sees", "low/src/lib.rt", "= 4", "= 5", set()),
@@ -343,6 +347,8 @@ def of_every_tenth():
     yield "one with another sum", all("m1" in record.again(sums, {**sums, "m1": SUM[::-1]}, number) for number in range(30))
     yield "one of few", all(len(record.again({"one": SUM, "two": SUM}, sums | {"one": SUM, "two": SUM}, it)) == 1 for it in (0, 7))
     yield "first what is new, and last a tenth", [len(it) for it in record.stages({**sums, "new": SUM}, sums, 0)] == [1, 0, 3]
+    changed = {**sums, "m1": SUM[: record.OWN_DIGITS] + SUM[: record.OWN_DIGITS - 1 : -1]}
+    yield "then what rests on other things that changed", record.stages(changed, sums, 0)[:2] == ([], ["m1"])
     yield "all, where no commit is known", record.again(sums, sums, None) == {*sums}
 
 
@@ -352,6 +358,8 @@ def rows():
         root = Path(folder)
         before = record.Repository(root).sums("app", edits_of(laid(root)))
         yield "the same: none is tried", again(root, before) == set() and {*before} == BOTH
+        with mock.patch.object(record, "RULE", record.RULE + 1):
+            yield "another rule: all are tried", again(root, before) == BOTH
         for name, path, old, new, wanted in CHANGES:
             found = again(root, before, path, old, new)
             yield f"{name}: {', '.join(sorted(wanted)) or 'none'} is tried", found == wanted

@@ -15,7 +15,7 @@ sys.dont_write_bytecode = True
 
 from plain_rust import tables, writing  # noqa: E402
 from plain_rust.sources import Failed, rust_of  # noqa: E402
-from plain_rust.tokens import Refused, closing, closing_angle, text_of, tokens  # noqa: E402
+from plain_rust.tokens import Refused, closing, closing_angle, text_of, tokenized  # noqa: E402
 
 FILE = "range_merge/sample"
 
@@ -29,22 +29,22 @@ def rust(text, **others):
 class Tokens(unittest.TestCase):
     def test_a_text_comes_back(self):
         text = "//! a\nfn f<'a>(x: &'a str) -> char { /* /* b */ */ '\\'' } // \"c\n\"d\\\"\" x'' 0..1 λ ≡\n"
-        self.assertEqual(text_of(tokens(text)), text)
+        self.assertEqual(text_of(tokenized(text)), text)
 
     def test_kinds(self):
-        kinds = [(token.text, token.kind) for token in tokens("a' 'b 'c' \"d\" b\"e\" ≡")[:-1]]
+        kinds = [(token.text, token.kind) for token in tokenized("a' 'b 'c' \"d\" b\"e\" ≡")[:-1]]
         expected = [("a'", "word"), ("'b", "life"), ("'c'", "char"), ('"d"', "str"), ('b"e"', "str"), ("≡", "punct")]
         self.assertEqual(kinds, expected)
-        quoted = [(token.text, token.kind) for token in tokens("'\\'' '\\\\' '\\u{41}' b")[:-1]]
+        quoted = [(token.text, token.kind) for token in tokenized("'\\'' '\\\\' '\\u{41}' b")[:-1]]
         self.assertEqual(quoted, [("'\\''", "char"), ("'\\\\'", "char"), ("'\\u{41}'", "char"), ("b", "word")])
 
     def test_lines(self):
-        self.assertEqual([token.line for token in tokens("a\n/*\n*/ b\n// c\nd")], [1, 3, 5, 5])
+        self.assertEqual([token.line for token in tokenized("a\n/*\n*/ b\n// c\nd")], [1, 3, 5, 5])
 
     def test_brackets(self):
-        found = tokens("{ ( [ ] ) } }")
+        found = tokenized("{ ( [ ] ) } }")
         self.assertEqual(closing(found, 0), 5)
-        self.assertEqual(closing_angle(tokens("<A: Fn() -> B, C<D>> E"), 0), 14)
+        self.assertEqual(closing_angle(tokenized("<A: Fn() -> B, C<D>> E"), 0), 14)
 
 
 class Forms(unittest.TestCase):

@@ -9,6 +9,7 @@ import importlib.util
 import io
 import os
 import re
+import shutil
 import subprocess
 import sys
 import tempfile
@@ -209,6 +210,7 @@ KEPT = [
     ("another file changed", "echo more >other", "all", "a, b", "2 0 0"),
     ("a file came", "mkdir -p reads && echo more >reads/new", "all", "b", "4 0 0"),
     ("a file went", "rm read", "all", "", "6 0 0"),
+    ("a file has another name", "mkdir reads && mv read reads/read", "all", "", "6 0 0"),
     ("a release runs all", "", "release", "", "6 0 0"),
     ("a part is run by name", "", "a", "", "2 0 0"),
     ("a record is bad", "echo '{' >cache/daleribbon/a.json", "all", "b", "4 0 0"),
@@ -248,6 +250,10 @@ class Kept(Runs):
         self.assertEqual(("7 0 0", "a"), self.counts(other))
         self.assertEqual(("6 0 0", ""), self.counts(self.both, tools="other tools"))
 
+    def test_without_git_nothing_is_kept(self):
+        shutil.rmtree(self.room / ".git")
+        self.assertEqual([("6 0 0", "")] * 2, [self.counts(self.both) for _ in range(2)])
+
     def test_what_failed_runs_again(self):
         text = "[ -e was ] && echo 1 passed, 0 failed || { touch was; echo 0 passed, 1 failed; exit 1; }"
         once = [part("a", text, folder=str(self.room), reads=("read",))]
@@ -262,6 +268,44 @@ class Kept(Runs):
         self.counts(three)
         second = [self.counts(three) for _ in range(4)]
         self.assertEqual([("4 0 0", it) for it in ("b, c", "a, c", "a, b", "b, c")], second)
+
+
+class Tools(unittest.TestCase):
+    """What a record knows of the tools: what each says of itself, and the variables that choose one or its flags."""
+
+    SAYING = (
+        "uname", "dpkg-query", "ls", "rustc", "cargo", "cc", "c++", "clang", "node", "python3", "chromedriver",
+    )  # fmt: skip
+    CHOOSING = (
+        "CC", "CXX", "CFLAGS", "CXXFLAGS", "LDFLAGS", "CARGO_HOME", "RUSTFLAGS", "RUSTUP_TOOLCHAIN", "PYTHON", "PYTHONPATH",
+    )  # fmt: skip
+
+    def said(self, room, **variables):
+        """What is known where a folder has all tools."""
+        with mock.patch.dict(os.environ, {"PATH": str(room), **variables}, clear=True):
+            return runner.kept.tools.__wrapped__()
+
+    def put(self, room, tool, says):
+        (room / tool).write_text(f"#!/bin/sh\necho {says}\n", encoding="utf-8")
+        (room / tool).chmod(0o755)
+
+    def test_each(self):
+        with tempfile.TemporaryDirectory() as name:
+            room = Path(name)
+            for tool in self.SAYING:
+                self.put(room, tool, "1.0")
+            before = self.said(room)
+            self.assertEqual(before, self.said(room))
+            for tool in self.SAYING:
+                self.put(room, tool, "2.0")
+                self.assertNotEqual(before, self.said(room), tool)
+                self.put(room, tool, "1.0")
+                self.assertEqual(before, self.said(room), tool)
+            (room / "clang").unlink()
+            self.assertNotEqual(before, self.said(room), "one that is missing")
+            self.put(room, "clang", "1.0")
+            for variable in self.CHOOSING:
+                self.assertNotEqual(before, self.said(room, **{variable: "x"}), variable)
 
 
 # Rows: what it is, lines of a script over steps.sh, its status, what it counts, and what else it says.

@@ -17,7 +17,10 @@ import traceback
 from pathlib import Path
 
 from web_browser import Counted, Keys, Page, WebDriverWait, browser
-from web_guide import chips, explanations, first_screen, links, memory, steps, undoing, undoing_elsewhere
+from web_guide import (
+    chips, explanations, first_screen, links, links_elsewhere, links_of_changes, links_on_the_page, memory, steps,
+    undoing, undoing_by_keys, undoing_elsewhere, undoing_typing,
+)
 from web_sets import (
     drawing, faults, greatest, keys, linking, many_ranges, named_operations, old_results, touching, touching_ranges, typed_sets, windows,
 )
@@ -98,7 +101,8 @@ def pictures(page, check, folder):
 
 GROUPS = [
     typed_sets, named_operations, faults, old_results, touching_ranges, drawing, touching, keys, linking, greatest, many_ranges, windows, pieces, characters,
-    first_screen, explanations, steps, chips, undoing, undoing_elsewhere, links, memory, keystrokes, for_everyone,
+    first_screen, explanations, steps, chips, undoing, undoing_by_keys, undoing_typing, undoing_elsewhere,
+    links, links_of_changes, links_on_the_page, links_elsewhere, memory, keystrokes, for_everyone,
 ]
 
 

@@ -124,13 +124,13 @@ def chips(page, check):
         check.same(f"the chip {text}: B and the operation", page.sets()[1:], FIRST[1:])
 
 
-def undoing(page, check):
-    """Each change is undone and done again, typing in a field as one; also by keys."""
-    page.open()
-    undo, redo = page.button("sets", "Undo"), page.button("sets", "Redo")
+def able(page):
+    """Whether there is something to undo, and something to do again."""
+    return tuple(page.button("sets", it).get_attribute("aria-disabled") == "false" for it in ("Undo", "Redo"))
 
-    def able():
-        return tuple(page.button("sets", it).get_attribute("aria-disabled") == "false" for it in ("Undo", "Redo"))
+
+def changes(page):
+    """Changes of two sets, one after the other: what each is, how it is made, and how the page then is."""
 
     def move_chip():
         page.focus(page.all("#sets-a-boundaries .chip")[-1])
@@ -140,7 +140,7 @@ def undoing(page, check):
         page.all(".steps a")[i].click()
         page.fragment()
 
-    changes = [
+    return [
         ("typing", lambda: page.type("sets-a", "1..3, 5..9"), ("1..3, 5..9", FIRST[1], UNION)),
         ("typing in the other field", lambda: page.type("sets-b", "2..6"), ("1..3, 5..9", "2..6", UNION)),
         ("typing once more", lambda: page.type("sets-b", ""), ("1..3, 5..9", "", UNION)),
@@ -150,51 +150,53 @@ def undoing(page, check):
         ("a chip", lambda: page.all(".example")[3].click(), ("12..4", "", BOTH_OR_NEITHER)),
         ("a step", lambda: step(1), (STEPS[1][1], STEPS[1][3], STEPS[1][5])),
     ]
-    check.same("nothing to undo at first", able(), (False, False))
+
+
+def undoing(page, check):
+    """Each change is undone and done again, and in the end all of them are undone."""
+    page.open()
+    undo, redo = page.button("sets", "Undo"), page.button("sets", "Redo")
+    check.same("nothing to undo at first", able(page), (False, False))
     undo.click()
     check.same("nothing is undone at first", page.sets(), FIRST)
     # The boxes are clicked one by one, so an operation takes several steps: those before it are
     # gone back to as well.
-    states = [FIRST]
-    for what, act, expected in changes:
+    before = FIRST
+    for what, act, expected in changes(page):
         act()
-        check.same(f"{what}: before it is undone", (page.sets(), able()), (expected, (True, False)))
+        check.same(f"{what}: before it is undone", (page.sets(), able(page)), (expected, (True, False)))
         undo.click()
         if what != "an operation":
-            check.same(f"{what}: undone", (page.sets(), able()[1]), (states[-1], True))
+            check.same(f"{what}: undone", (page.sets(), able(page)[1]), (before, True))
         redo.click()
-        check.same(f"{what}: done again", (page.sets(), able()), (expected, (True, False)))
-        states.append(expected)
+        check.same(f"{what}: done again", (page.sets(), able(page)), (expected, (True, False)))
+        before = expected
     check_result(page, check, "what is done again", combined(members((2, 5), (10, 14)), members((5, 8), (12, None)), SYMMETRIC_DIFFERENCE))
     page.focus(undo)
     for _ in range(30):
         page.press(Keys.ENTER)
-    check.same("all of it undone, by key", (page.sets(), able()), (FIRST, (False, True)))
+    check.same("all of it undone, by key", (page.sets(), able(page)), (FIRST, (False, True)))
     check.same("the button keeps the focus", page.run("return document.activeElement === arguments[0]", undo), True)
     check_result(page, check, "all of it undone", combined(members(*HOURS[0]), members(*HOURS[1]), UNION))
+
+
+def undoing_by_keys(page, check):
+    """The keys undo and do again, until another change is made. In a field they are the field's."""
+    page.open()
+    page.type("sets-a", "1..3")
+    typed = ("1..3", *FIRST[1:])
+    page.focus(page.button("sets", "Undo"))
+    page.press(Keys.ENTER)
+    check.same("undone by key", page.sets(), FIRST)
     page.press(Keys.CONTROL, "y")
-    check.same("Ctrl+Y", page.sets(), states[1])
+    check.same("Ctrl+Y", page.sets(), typed)
     page.press(Keys.CONTROL, "z")
     check.same("Ctrl+Z", page.sets(), FIRST)
     page.press(Keys.CONTROL, Keys.SHIFT, "z")
-    check.same("Ctrl+Shift+Z", page.sets(), states[1])
+    check.same("Ctrl+Shift+Z", page.sets(), typed)
+    page.press(Keys.CONTROL, "z")
     page.drag("sets-a", 20, 22)
-    check.same("a change ends what could be done again", able(), (True, False))
-    page.type("sets-a", "1..2;")
-    undo.click()
-    check.same("a fault is undone to the text before it", (page.sets()[0], page.text("sets-a-fault")), ("1..2", ""))
-    page.open()
-    page.id("sets-a").send_keys(", 20..21", Keys.BACKSPACE * 8)
-    check.same("what is typed and deleted is no step", (page.sets(), able()), (FIRST, (False, False)))
-    page.id("sets-a").send_keys(";")
-    page.button("sets", "Undo").click()
-    check.same("a fault with nothing before it", (page.sets(), page.text("sets-a-fault"), able()), (FIRST, "", (False, False)))
-    page.open()
-    page.type("sets-a", "1..3")
-    page.focus(page.line("sets-a"))
-    page.type("sets-a", "1..4")
-    page.button("sets", "Undo").click()
-    check.same("a field that is come back to is another step", page.sets(), ("1..3", *FIRST[1:]))
+    check.same("a change ends what could be done again", able(page), (True, False))
     page.open()
     page.type("sets-a", "1..3")
     page.choose(INTERSECTION)
@@ -202,6 +204,26 @@ def undoing(page, check):
     page.focus(page.id("sets-a"))
     page.press(Keys.CONTROL, "z")
     check.same("in a field Ctrl+Z is the field's", (page.sets()[0] != before[0], page.sets()[2]), (True, INTERSECTION))
+
+
+def undoing_typing(page, check):
+    """What is typed in a field is one step, and a fault is none."""
+    page.open()
+    page.type("sets-a", "1..2;")
+    page.button("sets", "Undo").click()
+    check.same("a fault is undone to the text before it", (page.sets()[0], page.text("sets-a-fault")), ("1..2", ""))
+    page.open()
+    page.id("sets-a").send_keys(", 20..21", Keys.BACKSPACE * 8)
+    check.same("what is typed and deleted is no step", (page.sets(), able(page)), (FIRST, (False, False)))
+    page.id("sets-a").send_keys(";")
+    page.button("sets", "Undo").click()
+    check.same("a fault with nothing before it", (page.sets(), page.text("sets-a-fault"), able(page)), (FIRST, "", (False, False)))
+    page.open()
+    page.type("sets-a", "1..3")
+    page.focus(page.line("sets-a"))
+    page.type("sets-a", "1..4")
+    page.button("sets", "Undo").click()
+    check.same("a field that is come back to is another step", page.sets(), ("1..3", *FIRST[1:]))
 
 
 def undoing_elsewhere(page, check):
@@ -241,8 +263,7 @@ def undoing_elsewhere(page, check):
 
 
 def links(page, check):
-    """The address names the tab and what is in it, and brings it back; a tab's name alone is a
-    link as it was."""
+    """The address names the tab and what is in it. A tab's name alone is a link too."""
     for fragment, *expected in LINKS:
         page.open(fragment)
         check.same(f"the link {fragment!r}", (page.id("view-sets").is_displayed(), page.sets()), (True, tuple(expected)))
@@ -252,10 +273,22 @@ def links(page, check):
         check.same(f"the link {fragment!r}: the tab, and the address stays", (shown, page.fragment()), ([f"view-{fragment}"], fragment))
     page.open("")
     check.same("no fragment is added where nothing has changed", page.fragment(), "")
+    page.open("sets&a=5")
+    check.same("a link with a fault", (page.sets()[0], page.text("sets-a-fault"), page.chips("sets-a")), ("5", "For one number write 5..6 instead.", [9, 11, 13, 15]))
+
+
+def change_sets(page):
+    """Changes both sets and the operation. Gives the address, and how the page then is."""
+    page.open("")
     page.type("sets-a", "1..3, 7..4")
     page.choose(SYMMETRIC_DIFFERENCE)
     page.drag("sets-b", 20, 22)
-    written, state = page.fragment(), page.sets()
+    return page.fragment(), page.sets()
+
+
+def links_of_changes(page, check):
+    """A change is in the address, which brings it back: when it is opened, and from another tab."""
+    written, state = change_sets(page)
     check.same("what the address says", written, "sets&a=1..3,7..4&b=10..11,14..17,20..22&op=left,right")
     check.same("that it's a link", page.text("linked"), "The address is a link to this state.")
     page.open(written)
@@ -264,17 +297,6 @@ def links(page, check):
     page.fragment()
     page.id("tab-sets").click()
     check.same("from another tab", (page.fragment(), page.sets()), (written, state))
-    page.run("location.hash = 'sets&a=3..4&b=&op=left'")
-    page.fragment()
-    check.same("a link on the page", page.sets(), ("3..4", "", DIFFERENCE))
-    page.button("sets", "Undo").click()
-    check.same("a link on the page, undone", (page.sets(), page.fragment()), (state, written))
-    page.run("location.hash = 'sets&b=7..8'")
-    page.fragment()
-    check.same("what a link on the page doesn't name is as at first", page.sets(), (FIRST[0], "7..8", UNION))
-    page.button("sets", "Undo").click()
-    page.run("location.hash = 'sets'")
-    check.same("a name alone leaves the state", (page.fragment(), page.sets()), (written, state))
     page.run("""
         const a = document.getElementById("sets-a");
         a.value = "6..7";
@@ -287,12 +309,29 @@ def links(page, check):
     page.type("sets-a", "1..3")
     page.id("sets-a").send_keys(";")
     check.same("a text with a fault isn't written", page.fragment().split("&")[1], "a=1..3")
-    page.open("sets&a=5")
-    check.same("a link with a fault", (page.sets()[0], page.text("sets-a-fault"), page.chips("sets-a")), ("5", "For one number write 5..6 instead.", [9, 11, 13, 15]))
     page.open()
     page.all(".example")[-1].click()
     check.same("a state that is too long", (page.fragment(), page.text("linked")), ("sets", "This state is too long for a link."))
+
+
+def links_on_the_page(page, check):
+    """A link that the page itself has changes the sets, and can be undone."""
+    written, state = change_sets(page)
+    page.run("location.hash = 'sets&a=3..4&b=&op=left'")
+    page.fragment()
+    check.same("a link on the page", page.sets(), ("3..4", "", DIFFERENCE))
     page.button("sets", "Undo").click()
+    check.same("a link on the page, undone", (page.sets(), page.fragment()), (state, written))
+    page.run("location.hash = 'sets&b=7..8'")
+    page.fragment()
+    check.same("what a link on the page doesn't name is as at first", page.sets(), (FIRST[0], "7..8", UNION))
+    page.button("sets", "Undo").click()
+    page.run("location.hash = 'sets'")
+    check.same("a name alone leaves the state", (page.fragment(), page.sets()), (written, state))
+
+
+def links_elsewhere(page, check):
+    """The pieces that came and their limit, and the classes of characters, are in the address too."""
     page.open("pieces&limit=12&did=0..2048,8192..9216,-1024..2048,3..2,0..99999999999999999999999,65536..65537,x")
     check.same("pieces: the link", (page.chips("pieces-there"), page.text("pieces-used")), ([0, 1024, 8192, 9216], "4 of 12"))
     written = page.fragment()

@@ -18,7 +18,10 @@ HEAD = "Call|Rattle|Rust|C|C++|Python\n---|---|---|---|---|---\n"
 RATTLE = {"RangeSetRef": "s", "RangeSet": "s", "ChunkedRangeSet": "c", "ChunkedSpace": "c", "RangeMap": "m"}
 RUST = {**RATTLE, "Map": "m", "$Left": "s", "$Set": "sc"}
 CPP = {"questions": "sc", "list_questions": "s", "range_set_view": "s", "range_set": "s", "chunked_range_set": "c", "range_map": "m"}
-PYTHON = {"Kept": "sc", "Operators": "sc", "AnyRangeSet": "sc", "RangeSet": "s", "MutableRangeSet": "c", "RangeMap": "m"}
+PYTHON = {
+    "Kept": "sc", "Operators": "sc", "Questions": "sc", "AnyRangeSet": "sc", "RangeSet": "s", "MutableRangeSet": "c", "MapQuestions": "m",
+    "RangeMap": "m",
+}
 # The traits by which a type of Rust or Rattle has a call.
 TRAITS = {"Not": "!", "FromStr": "parse", "Display": "to_string"}
 # What makes, copies, frees or borrows a value, forms that one language needs for a call of another, and their own subjects.

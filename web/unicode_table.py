@@ -42,13 +42,13 @@ def aliases(path):
 
 
 def classes(folder):
-    """Each class with its short name, the name that people read, and its ranges."""
+    """Each class: its kind, its short name, the name that people read, and its ranges."""
     categories = ranges(folder / "extracted" / "DerivedGeneralCategory.txt")
     scripts = ranges(folder / "Scripts.txt")
     for kind, short, long, parts in aliases(folder / "PropertyValueAliases.txt"):
         of_kind, key = (categories, short) if kind == "gc" else (scripts, long)
         if parts or key in of_kind:
-            yield {"kind": kind, "id": short, "name": long.replace("_", " "), "ranges": parts or text(of_kind[key])}
+            yield [kind, short, long.replace("_", " "), parts or text(of_kind[key])]
 
 
 def version(folder):
@@ -61,7 +61,7 @@ def main(folder):
     print(f'Daleribbon.unicode = {{ version: "{version(folder)}", classes: [')
     for it in classes(folder):
         print(json.dumps(it, ensure_ascii=False, separators=(",", ":")) + ",")
-    print("] };")
+    print("].map(([kind, id, name, ranges]) => ({ kind, id, name, ranges })) };")
 
 
 if __name__ == "__main__":

@@ -103,6 +103,9 @@ template <class Call, class Hand> ByHand of_chunks(const char* name, Pairs of(st
             }};
 }
 
+// The start of a range among those in order.
+constexpr std::int64_t middle = 5000000;
+
 std::int64_t below(const Pairs& set, std::int64_t at) {
     std::int64_t sum = 0;
     for (const auto& [start, end] : set) {
@@ -112,8 +115,8 @@ std::int64_t below(const Pairs& set, std::int64_t at) {
 }
 
 Boundaries parsed(const std::string& text) {
-    // As many numbers as commas, dots and ends say.
-    Boundaries room(text.size());
+    // Two numbers for each part between commas.
+    Boundaries room(2 * (1 + std::count(text.begin(), text.end(), ',')));
     range_set_i64 set;
     expect(range_set_i64_parse(text.data(), text.size(), room.data(), room.size(), &set, nullptr));
     room.resize(set.len);
@@ -185,6 +188,23 @@ std::vector<ByHand> by_hand_in_c() {
                 auto is_long = [](const auto& range) { return range.second - range.first >= 7; };
                 auto found = std::find_if(it.begin(), it.end(), is_long);
                 return Boundaries{found == it.end() ? -1 : found->first};
+            }),
+        of_chunks(
+            "C: chunked_gaps, 1,000 of them", in_order,
+            [](const Chunks& it) {
+                Boundaries out(2000);
+                range_set_i64 gaps;
+                expect(range_set_i64_chunked_gaps(it.set, middle, middle + 10000, out.data(), out.size(), &gaps));
+                out.resize(gaps.len);
+                return out;
+            },
+            [](const Pairs& it) {
+                Boundaries out;
+                auto at = std::lower_bound(it.begin(), it.end(), std::pair(middle, middle));
+                for (; at->first < middle + 10000; ++at) {
+                    out.insert(out.end(), {at->second, at[1].first});
+                }
+                return out;
             }),
         {"C: first_fit_aligned, by 16 and 64 in turn; 16 alone",
          {1000000},

@@ -3,6 +3,8 @@
 
 #include "maps.hpp"
 
+#include <optional>
+
 // A Kind has a type Map, `made`, `put_in`, `get`, `sum` and `entries_of`.
 template <class Kind> class Mapped final : public Mapping {
 public:
@@ -13,7 +15,8 @@ public:
     std::uint64_t get(const Boundaries& keys) const override { return Kind::get(map, keys); }
 
     std::unique_ptr<Mapping> sum_with(const Mapping& that) const override {
-        return std::make_unique<Mapped>(Kind::sum(map, dynamic_cast<const Mapped&>(that).map));
+        std::optional<typename Kind::Map> sums = Kind::sum(map, dynamic_cast<const Mapped&>(that).map);
+        return sums ? std::make_unique<Mapped>(std::move(*sums)) : nullptr;
     }
 
     Entries entries() const override { return Kind::entries_of(map); }

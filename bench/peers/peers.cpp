@@ -52,6 +52,7 @@ std::vector<MapKind> map_kinds() {
 #ifdef WITH_PLAIN_RUST
     kinds = maps_in_rust();
 #endif
+    kinds.push_back(map_in_c());
 #ifdef WITH_ICL
     kinds.push_back(map_icl());
 #endif

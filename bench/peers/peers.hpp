@@ -23,6 +23,7 @@ GrowingKind growing_roaring();
 
 // Of maps.
 std::vector<MapKind> maps_in_rust();
+MapKind map_in_c();
 MapKind map_icl();
 
 // Of calls beside what is written by hand.

@@ -2,6 +2,7 @@
 
 #include <algorithm>
 #include <chrono>
+#include <cmath>
 #include <cstdio>
 #include <fstream>
 #include <map>
@@ -16,8 +17,10 @@ using Clock = std::chrono::steady_clock;
 constexpr std::size_t asked = 100000;
 constexpr std::size_t combined = 4096;
 
-// Each round has maps of its own. The least of the rounds counts.
+// Each round has maps of its own. The least of the rounds counts; large maps have fewer.
 constexpr std::size_t rounds = 9;
+constexpr std::size_t rounds_of_large = 3;
+constexpr std::size_t large = 100000;
 
 // How many values there are: neighbours may have equal ones.
 constexpr std::uint64_t kinds_of_values = 5;
@@ -91,7 +94,8 @@ std::unique_ptr<Mapping> made(const MapKind& kind, const Entries& entries) {
     return map;
 }
 
-void check(const MapKind& kind, std::size_t ranges) {
+// How many results were compared.
+std::size_t check(const MapKind& kind, std::size_t ranges) {
     std::mt19937_64 random(ranges);
     Entries left = entries_from(10, ranges, &random), right = entries_from(13, ranges, &random);
     Plain plain, other;
@@ -113,7 +117,8 @@ void check(const MapKind& kind, std::size_t ranges) {
     for (const auto& [key, value] : other) {
         sums[key] += value;
     }
-    if (!equal(map->sum_with(*made(kind, right))->entries(), entries_of(sums))) {
+    std::unique_ptr<Mapping> sum_of_both = map->sum_with(*made(kind, right));
+    if (sum_of_both && !equal(sum_of_both->entries(), entries_of(sums))) {
         fail(kind, "combine");
     }
     map->insert(right);
@@ -121,6 +126,7 @@ void check(const MapKind& kind, std::size_t ranges) {
     if (!equal(map->entries(), entries_of(plain))) {
         fail(kind, "insert over ranges");
     }
+    return sum_of_both ? 4 : 3;
 }
 
 template <class Run> double least_ns(std::size_t times, Run run) {
@@ -134,18 +140,50 @@ template <class Run> double least_ns(std::size_t times, Run run) {
     return least;
 }
 
-// Growth at random places, in nanoseconds a range.
-double insert_ns(const MapKind& kind, std::size_t ranges) {
-    std::mt19937_64 random(ranges);
-    Entries entries = entries_from(10, ranges, &random);
-    std::unique_ptr<Mapping> map;
-    double least = 0;
-    for (std::size_t i = 0; i < rounds; i++) {
-        map = kind.make();
-        double ns = least_ns(1, [&] { map->insert(entries); });
-        least = i == 0 ? ns : std::min(least, ns);
+std::size_t rounds_of(std::size_t ranges) {
+    return ranges < large ? rounds : rounds_of_large;
+}
+
+// Ranges of 6 at any place between, which cut those that they meet.
+Entries changes_of(std::size_t ranges, std::mt19937_64& random) {
+    std::uniform_int_distribution<std::int64_t> any(10, static_cast<std::int64_t>(ranges) * 10);
+    Entries changes;
+    for (std::size_t i = 0; i < ranges; i++) {
+        std::int64_t start = any(random);
+        changes.ranges.starts.push_back(start);
+        changes.ranges.ends.push_back(start + 6);
+        changes.values.push_back(1 + i % kinds_of_values);
     }
-    return least / static_cast<double>(ranges);
+    return changes;
+}
+
+// Growth at random places, and then as many changes, in nanoseconds a range.
+struct Grown {
+    double insert_ns;
+    double change_ns;
+};
+
+Grown grown(const MapKind& kind, std::size_t ranges) {
+    std::mt19937_64 random(ranges);
+    Entries entries = entries_from(10, ranges, &random), changes = changes_of(ranges, random);
+    Grown least{};
+    for (std::size_t i = 0; i < rounds_of(ranges); i++) {
+        std::unique_ptr<Mapping> map = kind.make();
+        double insert = least_ns(1, [&] { map->insert(entries); });
+        double change = least_ns(1, [&] { map->insert(changes); });
+        least = i == 0 ? Grown{insert, change}
+                       : Grown{std::min(least.insert_ns, insert), std::min(least.change_ns, change)};
+    }
+    double each = static_cast<double>(ranges);
+    return {least.insert_ns / each, least.change_ns / each};
+}
+
+double insert_ns(const MapKind& kind, std::size_t ranges) {
+    return grown(kind, ranges).insert_ns;
+}
+
+double change_ns(const MapKind& kind, std::size_t ranges) {
+    return grown(kind, ranges).change_ns;
 }
 
 // Questions at random places of a map that was made in order, in nanoseconds a key.
@@ -155,20 +193,24 @@ double get_ns(const MapKind& kind, std::size_t ranges) {
     return least_ns(rounds, [&] { kept = map->get(keys); }) / static_cast<double>(asked);
 }
 
-// The sums of two maps whose ranges overlap, in nanoseconds.
+// The sums of two maps whose ranges overlap, in nanoseconds, or no number if the kind has no such call.
 double combine_ns(const MapKind& kind, std::size_t ranges) {
     std::unique_ptr<Mapping> left = made(kind, entries_from(10, ranges, nullptr));
     std::unique_ptr<Mapping> right = made(kind, entries_from(13, ranges, nullptr));
+    if (!left->sum_with(*right)) {
+        return std::nan("");
+    }
     return least_ns(rounds * 10, [&] { left->sum_with(*right); });
 }
 
 } // namespace
 
 std::size_t check_maps(const std::vector<MapKind>& kinds, std::size_t ranges) {
+    std::size_t compared = 0;
     for (const MapKind& kind : kinds) {
-        check(kind, ranges);
+        compared += check(kind, ranges);
     }
-    return 4 * kinds.size();
+    return compared;
 }
 
 void time_maps(const std::vector<MapKind>& kinds, const std::string& csv) {
@@ -178,8 +220,19 @@ void time_maps(const std::vector<MapKind>& kinds, const std::string& csv) {
         double (*ns_of)(const MapKind&, std::size_t);
     };
     const Row rows[] = {
-        {"insert", 1000, insert_ns}, {"insert", 10000, insert_ns},      {"get", 1000, get_ns},
-        {"get", 1000000, get_ns},    {"combine", combined, combine_ns},
+        {"insert", 1000, insert_ns},
+        {"insert", 10000, insert_ns},
+        {"insert", large, insert_ns},
+        {"insert", 1000000, insert_ns},
+        {"change", 1000, change_ns},
+        {"change", 10000, change_ns},
+        {"change", large, change_ns},
+        {"change", 1000000, change_ns},
+        {"get", 1000, get_ns},
+        {"get", 10000, get_ns},
+        {"get", large, get_ns},
+        {"get", 1000000, get_ns},
+        {"combine", combined, combine_ns},
     };
     std::ofstream file(csv);
     if (!file) {
@@ -195,6 +248,10 @@ void time_maps(const std::vector<MapKind>& kinds, const std::string& csv) {
         std::printf("%8s %8zu", row.task, row.ranges);
         for (const MapKind& kind : kinds) {
             double ns = row.ns_of(kind, row.ranges);
+            if (std::isnan(ns)) {
+                std::printf(" %12s", "-");
+                continue;
+            }
             std::printf(" %12.1f", ns);
             file << row.task << ',' << row.ranges << ',' << kind.name << ',' << ns << '\n';
         }

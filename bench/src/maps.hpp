@@ -26,7 +26,8 @@ public:
     // The sum of the keys' values.
     virtual std::uint64_t get(const Boundaries& keys) const = 0;
 
-    // The map of the sums of both values, or of the one that is there, of one more map of this kind.
+    // The map of the sums of both values, or of the one that is there, of one more map of this kind; null if the kind has
+    // no such call.
     virtual std::unique_ptr<Mapping> sum_with(const Mapping& that) const = 0;
 
     // The ranges with their values, in order.

@@ -83,7 +83,7 @@ void Table::write_row(const Case& that, Task task, const std::vector<Line>& line
 
 void Table::write_csv(const Case& that, const Line& line) {
     auto answers = static_cast<double>(that.answers());
-    file << that.shape << ',' << that.size << ",\"" << name_of(line.task) << "\"," << line.peer->name() << ','
+    file << '"' << that.shape << "\"," << that.size << ",\"" << name_of(line.task) << "\"," << line.peer->name() << ','
          << line.least << ',' << line.median << ',' << static_cast<double>(line.allocations.mallocs) / answers << ','
          << static_cast<double>(line.allocations.reallocs) / answers << ','
          << static_cast<double>(line.allocations.bytes) / answers << '\n';

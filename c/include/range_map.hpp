@@ -18,6 +18,7 @@
 
 #include "range_set.hpp"
 
+#include <array>
 #include <map>
 #include <vector>
 
@@ -41,6 +42,7 @@ template <class Key> struct map_calls;
         static constexpr auto remove_from = range_map_##number##_remove_from; \
         static constexpr auto range_at = range_map_##number##_range_at; \
         static constexpr auto next = range_map_##number##_next; \
+        static constexpr auto next_ranges = range_map_##number##_next_ranges; \
         static constexpr auto len = range_map_##number##_len; \
     };
 RANGE_MAP_CALLS(i64, std::int64_t)
@@ -118,8 +120,9 @@ public:
         V value;
     };
 
-    // Goes over the ranges that have a value, by a search each, until the map changes. A value of the list is a reference.
-    class iterator {
+    // Goes over the ranges that have a value, and reads some of them at a time, until the map changes. A value of the list is a
+    // reference.
+    class iterator : detail::stepping<iterator> {
     public:
         using iterator_category = std::input_iterator_tag;
         using value_type = range_map::value_type;
@@ -129,34 +132,39 @@ public:
 
         iterator() noexcept = default;
 
-        reference operator*() const noexcept { return {range_of(at_, at_), map_->values_.value_of(at_.value)}; }
+        reference operator*() const noexcept { return map_->shown(now()); }
         pointer operator->() const noexcept { return pointer(**this); }
         iterator &operator++() noexcept
         {
-            at_ = at_.has_end ? map_->from(at_.end) : typename calls::stretch();
+            const bool has_end = now().has_end;
+            const key end = now().end;
+            if (++at_ == room && has_end) read(end);
             return *this;
-        }
-        iterator operator++(int) noexcept
-        {
-            const iterator before = *this;
-            ++*this;
-            return before;
         }
 
         // Of two iterators of one map.
         friend bool operator==(const iterator &a, const iterator &b) noexcept
         {
-            return a.at_.has_value == b.at_.has_value && (!a.at_.has_value || a.at_.start == b.at_.start);
+            return a.is_there() == b.is_there() && (!a.is_there() || a.now().start == b.now().start);
         }
-        friend bool operator!=(const iterator &a, const iterator &b) noexcept { return !(a == b); }
 
     private:
         friend class range_map;
-        iterator(const range_map *map, typename calls::stretch at) noexcept : map_(map), at_(at) {}
+        static constexpr std::size_t room = 16;
 
-        // Past all where the keys have no value.
+        iterator(const range_map *map, key from) noexcept : map_(map) { read(from); }
+
+        const typename calls::stretch &now() const noexcept { return some_[at_]; }
+        bool is_there() const noexcept { return at_ < len_; }
+        void read(key from) noexcept
+        {
+            at_ = 0;
+            len_ = calls::next_ranges(map_->map(), from, some_.data(), room);
+        }
+
         const range_map *map_ = nullptr;
-        typename calls::stretch at_ = {};
+        std::array<typename calls::stretch, room> some_ = {};
+        std::size_t at_ = 0, len_ = 0;
     };
     using const_iterator = iterator;
 
@@ -171,7 +179,7 @@ public:
     range_map(const range_map &other)
     {
         if constexpr (detail::is_plain<V>) {
-            if (other.map().at != nullptr) detail::see_memory(calls::copy(other.map(), &owner_.it));
+            if (other.map().at != nullptr) detail::check_memory(calls::copy(other.map(), &owner_.it));
         } else {
             for (const auto &[keys, value] : other) insert(keys, value);
         }
@@ -281,14 +289,14 @@ public:
     }
 
     // The ranges with their values, those that have a key at or above another, and how many ranges there are.
-    iterator begin() const & noexcept { return iterator(this, lowest()); }
+    iterator begin() const & noexcept { return iterator(this, std::numeric_limits<key>::min()); }
     iterator begin() const && = delete;
-    iterator begin_from(integer at) const & noexcept { return iterator(this, from(key_of(at))); }
+    iterator begin_from(integer at) const & noexcept { return iterator(this, key_of(at)); }
     iterator begin_from(integer at) const && = delete;
     iterator end() const & noexcept { return iterator(); }
     iterator end() const && = delete;
     std::size_t size() const noexcept { return calls::len(map()); }
-    bool empty() const noexcept { return begin() == end(); }
+    bool empty() const noexcept { return !lowest().has_value; }
 
     friend bool operator==(const range_map &a, const range_map &b)
     {
@@ -325,11 +333,13 @@ private:
         return it.has_value || !it.has_start ? it : calls::range_at(map(), it.start - 1);
     }
 
-    // The range and its value, or nothing if there is none.
+    // A range that has a value, and that.
+    typename iterator::reference shown(const stretch &it) const noexcept { return {range_of(it, it), values_.value_of(it.value)}; }
+    // The same, or nothing if there is none.
     std::optional<value_type> item(const stretch &it) const
     {
         if (!it.has_value) return std::nullopt;
-        return value_type(*iterator(this, it));
+        return value_type(shown(it));
     }
     // What a call makes of the address of the value there, which is null if there is none.
     template <class Call> auto with_value(const stretch &it, Call call) const
@@ -343,13 +353,13 @@ private:
     template <class Call> void each_within(integer start, integer end, Call call) const
     {
         if (!(start.value < end.value)) return;
-        for (iterator it = begin_from(start); it != this->end() && it->first.start < end.value; ++it) call(*it);
+        for (iterator it = begin_from(start); it.is_there() && it->first.start < end.value; ++it) call(*it);
     }
     template <class Wanted> range_set<T> keys_where(Wanted wanted) const
     {
         std::vector<range<T>> found;
-        for (iterator it = begin(); it != end(); ++it)
-            if (wanted(it.at_.value)) found.push_back((*it).first);
+        for (iterator it = begin(); it.is_there(); ++it)
+            if (wanted(it.now().value)) found.push_back((*it).first);
         return range_set<T>(found);
     }
 

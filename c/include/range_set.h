@@ -165,6 +165,11 @@ RANGE_SET_STATUS range_set_i32_from_values(const int32_t *values, size_t count, 
 /* Whether `value` is a member. At most as many comparisons as set.len has binary digits. */
 bool range_set_i32_contains(range_set_i32 set, int32_t value);
 
+/* Writes for each of the values whether it is a member. In ascending order, and close to one another, each takes a few
+ * comparisons, however long the set is. */
+RANGE_SET_STATUS range_set_i32_contains_each(range_set_i32 set, const int32_t *values, size_t count,
+                                             bool *found);
+
 /* Whether each number from `start` on, up to below `end`, is a member; it is true where end <= start. At most twice as
  * many comparisons as set.len has binary digits, and one. */
 bool range_set_i32_contains_range(range_set_i32 set, int32_t start, int32_t end);
@@ -627,12 +632,13 @@ size_t range_set_i32_chunked_boundaries_len(range_set_i32_chunked set);
 RANGE_SET_STATUS range_set_i32_chunked_copy(range_set_i32_chunked set, int32_t *out, size_t room,
                                             range_set_i32 *result);
 
-/* Writes the numbers from `start` to below `end` that are no members, by two searches each. */
+/* Writes the numbers from `start` to below `end` that are no members. It reads the ranges there some at a time. */
 RANGE_SET_STATUS range_set_i32_chunked_gaps(range_set_i32_chunked set, int32_t start, int32_t end, int32_t *out,
                                             size_t room, range_set_i32 *result);
 
-/* Leaves in the set the numbers that `keep` names, as `combine`. It makes a list and new chunks of both sets, and where
- * an allocation fails the set is as it was. */
+/* Leaves in the set the numbers that `keep` names, as `combine`. A union with one range, or the difference from it, is
+ * `chunked_insert` or `chunked_remove`. Else it makes a list and new chunks of both sets. Where an allocation fails the
+ * set is as it was. */
 RANGE_SET_STATUS range_set_i32_chunked_combine(range_set_i32_chunked *set, range_set_i32 other, unsigned keep);
 
 /* As `insert`, `remove`, `chunked_insert` and `chunked_remove`, and where that was done `changed` is whether the set
@@ -744,6 +750,11 @@ RANGE_SET_STATUS range_set_u32_from_values(const uint32_t *values, size_t count,
 
 /* Whether `value` is a member. At most as many comparisons as set.len has binary digits. */
 bool range_set_u32_contains(range_set_u32 set, uint32_t value);
+
+/* Writes for each of the values whether it is a member. In ascending order, and close to one another, each takes a few
+ * comparisons, however long the set is. */
+RANGE_SET_STATUS range_set_u32_contains_each(range_set_u32 set, const uint32_t *values, size_t count,
+                                             bool *found);
 
 /* Whether each number from `start` on, up to below `end`, is a member; it is true where end <= start. At most twice as
  * many comparisons as set.len has binary digits, and one. */
@@ -1207,12 +1218,13 @@ size_t range_set_u32_chunked_boundaries_len(range_set_u32_chunked set);
 RANGE_SET_STATUS range_set_u32_chunked_copy(range_set_u32_chunked set, uint32_t *out, size_t room,
                                             range_set_u32 *result);
 
-/* Writes the numbers from `start` to below `end` that are no members, by two searches each. */
+/* Writes the numbers from `start` to below `end` that are no members. It reads the ranges there some at a time. */
 RANGE_SET_STATUS range_set_u32_chunked_gaps(range_set_u32_chunked set, uint32_t start, uint32_t end, uint32_t *out,
                                             size_t room, range_set_u32 *result);
 
-/* Leaves in the set the numbers that `keep` names, as `combine`. It makes a list and new chunks of both sets, and where
- * an allocation fails the set is as it was. */
+/* Leaves in the set the numbers that `keep` names, as `combine`. A union with one range, or the difference from it, is
+ * `chunked_insert` or `chunked_remove`. Else it makes a list and new chunks of both sets. Where an allocation fails the
+ * set is as it was. */
 RANGE_SET_STATUS range_set_u32_chunked_combine(range_set_u32_chunked *set, range_set_u32 other, unsigned keep);
 
 /* As `insert`, `remove`, `chunked_insert` and `chunked_remove`, and where that was done `changed` is whether the set
@@ -1324,6 +1336,11 @@ RANGE_SET_STATUS range_set_i64_from_values(const int64_t *values, size_t count, 
 
 /* Whether `value` is a member. At most as many comparisons as set.len has binary digits. */
 bool range_set_i64_contains(range_set_i64 set, int64_t value);
+
+/* Writes for each of the values whether it is a member. In ascending order, and close to one another, each takes a few
+ * comparisons, however long the set is. */
+RANGE_SET_STATUS range_set_i64_contains_each(range_set_i64 set, const int64_t *values, size_t count,
+                                             bool *found);
 
 /* Whether each number from `start` on, up to below `end`, is a member; it is true where end <= start. At most twice as
  * many comparisons as set.len has binary digits, and one. */
@@ -1787,12 +1804,13 @@ size_t range_set_i64_chunked_boundaries_len(range_set_i64_chunked set);
 RANGE_SET_STATUS range_set_i64_chunked_copy(range_set_i64_chunked set, int64_t *out, size_t room,
                                             range_set_i64 *result);
 
-/* Writes the numbers from `start` to below `end` that are no members, by two searches each. */
+/* Writes the numbers from `start` to below `end` that are no members. It reads the ranges there some at a time. */
 RANGE_SET_STATUS range_set_i64_chunked_gaps(range_set_i64_chunked set, int64_t start, int64_t end, int64_t *out,
                                             size_t room, range_set_i64 *result);
 
-/* Leaves in the set the numbers that `keep` names, as `combine`. It makes a list and new chunks of both sets, and where
- * an allocation fails the set is as it was. */
+/* Leaves in the set the numbers that `keep` names, as `combine`. A union with one range, or the difference from it, is
+ * `chunked_insert` or `chunked_remove`. Else it makes a list and new chunks of both sets. Where an allocation fails the
+ * set is as it was. */
 RANGE_SET_STATUS range_set_i64_chunked_combine(range_set_i64_chunked *set, range_set_i64 other, unsigned keep);
 
 /* As `insert`, `remove`, `chunked_insert` and `chunked_remove`, and where that was done `changed` is whether the set
@@ -1904,6 +1922,11 @@ RANGE_SET_STATUS range_set_u64_from_values(const uint64_t *values, size_t count,
 
 /* Whether `value` is a member. At most as many comparisons as set.len has binary digits. */
 bool range_set_u64_contains(range_set_u64 set, uint64_t value);
+
+/* Writes for each of the values whether it is a member. In ascending order, and close to one another, each takes a few
+ * comparisons, however long the set is. */
+RANGE_SET_STATUS range_set_u64_contains_each(range_set_u64 set, const uint64_t *values, size_t count,
+                                             bool *found);
 
 /* Whether each number from `start` on, up to below `end`, is a member; it is true where end <= start. At most twice as
  * many comparisons as set.len has binary digits, and one. */
@@ -2367,12 +2390,13 @@ size_t range_set_u64_chunked_boundaries_len(range_set_u64_chunked set);
 RANGE_SET_STATUS range_set_u64_chunked_copy(range_set_u64_chunked set, uint64_t *out, size_t room,
                                             range_set_u64 *result);
 
-/* Writes the numbers from `start` to below `end` that are no members, by two searches each. */
+/* Writes the numbers from `start` to below `end` that are no members. It reads the ranges there some at a time. */
 RANGE_SET_STATUS range_set_u64_chunked_gaps(range_set_u64_chunked set, uint64_t start, uint64_t end, uint64_t *out,
                                             size_t room, range_set_u64 *result);
 
-/* Leaves in the set the numbers that `keep` names, as `combine`. It makes a list and new chunks of both sets, and where
- * an allocation fails the set is as it was. */
+/* Leaves in the set the numbers that `keep` names, as `combine`. A union with one range, or the difference from it, is
+ * `chunked_insert` or `chunked_remove`. Else it makes a list and new chunks of both sets. Where an allocation fails the
+ * set is as it was. */
 RANGE_SET_STATUS range_set_u64_chunked_combine(range_set_u64_chunked *set, range_set_u64 other, unsigned keep);
 
 /* As `insert`, `remove`, `chunked_insert` and `chunked_remove`, and where that was done `changed` is whether the set

@@ -11,6 +11,10 @@
 
 enum { POINTS = 24 };
 
+/* What is tried with several rooms: what `combine` keeps, as a number below CONNECTIVES, and these. Those from FIRST_IN_PLACE on change a
+ * set in its buffer. */
+enum { CONNECTIVES = 16, NEGATION = CONNECTIVES, GAPS, INSERT, REMOVE, OPERATIONS, FIRST_IN_PLACE = INSERT };
+
 /* In place of a separator, for parse, which has none. */
 enum { NO_SEPARATOR = -1 };
 
@@ -42,44 +46,14 @@ static void give_back(void *context, void *items, size_t size)
     free(items);
 }
 
+#define TEST(name) GLUE(, TYPE, _##name)
 #define CALLS "tests/test_calls.h"
 #include "../each_type.h"
+#undef TEST
 
-#define NUMBER int32_t
-#define LEAST INT32_MIN
-#define MOST INT32_MAX
-#define MAP range_map_i32
-#define STRETCH range_map_i32_stretch
-#define CALL(call) range_map_i32_##call
-#define TEST(name) i32_maps_##name
-#include "test_maps.h"
-
-#define NUMBER int64_t
-#define LEAST INT64_MIN
-#define MOST INT64_MAX
-#define MAP range_map_i64
-#define STRETCH range_map_i64_stretch
-#define CALL(call) range_map_i64_##call
-#define TEST(name) i64_maps_##name
-#include "test_maps.h"
-
-#define NUMBER uint32_t
-#define LEAST ((uint32_t)0)
-#define MOST UINT32_MAX
-#define MAP range_map_u32
-#define STRETCH range_map_u32_stretch
-#define CALL(call) range_map_u32_##call
-#define TEST(name) u32_maps_##name
-#include "test_maps.h"
-
-#define NUMBER uint64_t
-#define LEAST ((uint64_t)0)
-#define MOST UINT64_MAX
-#define MAP range_map_u64
-#define STRETCH range_map_u64_stretch
-#define CALL(call) range_map_u64_##call
-#define TEST(name) u64_maps_##name
-#include "test_maps.h"
+#define TEST(name) GLUE(, TYPE, _maps_##name)
+#define CALLS "tests/test_maps.h"
+#include "../each_type.h"
 
 /* Each status has a sentence of its own, and what is no status has one. */
 static void status_texts(void)

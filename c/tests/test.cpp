@@ -100,6 +100,10 @@ template <class T> static void rows()
     check(day != busy && busy == range_set<T>(std::vector<std::pair<T, T>>{{9, 11}, {12, 15}}), "equality");
     check(busy == range_set<T>(std::map<T, T>{{9, 11}, {12, 15}}), "a set of a map");
     check(day.contains(16) && !day.contains(17) && open->contains(1000), "contains");
+    const T hours[] = {8, 9, 16, 17};
+    bool within[] = {true, true, true, true};
+    check(day.contains_each(hours, 4, within) && !within[0] && within[1] && within[2] && !within[3], "contains_each");
+    check(!day.contains_each(hours, 4, nullptr) && !day.view().contains_each(nullptr, 1, within), "contains_each of null");
     check(day.contains_range(9, 17) && !day.contains_range(9, 18), "contains_range");
     check(day.intersects_range(8, 10) && !day.intersects_range(17, 20) && !day.intersects_range(12, 12), "intersects_range");
     check(
@@ -389,6 +393,49 @@ template <class T> static void room()
     const range_set<T> kept = many & few;
     left = -1;
     check(kept.size() == 2 && kept.capacity() == 1002, "a result whose room can't be given back");
+}
+
+// Operators in place: with room for the set and the longest result they take no memory, and with one boundary less they take some. A set
+// that is refused memory is as it was.
+template <class T> static void in_place()
+{
+    const range_set<T> few = {{7, 12}, {500, 503}}, other = {{9, 15}, {40, 50}, {502, 600}};
+    const range_set<T> wanted[] = {few | other, few & other, few - other, few ^ other};
+    const auto changes = [](int which, range_set<T> &set, range_set_view<T> by) -> range_set<T> & {
+        return which == 0 ? set |= by : which == 1 ? set &= by : which == 2 ? set -= by : set ^= by;
+    };
+    const auto is_refused = [&](int which, range_set<T> &set, range_set_view<T> by) {
+        bool thrown = false;
+        left = 0;
+        try {
+            changes(which, set, by);
+        } catch (const std::bad_alloc &) {
+            thrown = true;
+        }
+        left = -1;
+        return thrown;
+    };
+    for (int which = 0; which < 4; which++) {
+        range_set<T> roomy(few), tight(few), part(few);
+        roomy.reserve(2 * few.size() + other.size());
+        check(!is_refused(which, roomy, other) && roomy == wanted[which] && roomy.capacity() == 7, "in place: with room");
+        tight.reserve(2 * few.size() + other.size() - 1);
+        check(is_refused(which, tight, other) && tight == few && tight.capacity() == 6, "in place: refused");
+        check(changes(which, tight, other) == wanted[which] && tight.capacity() == 6, "in place: with less room");
+        for (const T at : {T(0), T(8), T(12), T(501), T(700)}) {
+            for (const bool is_first : {true, false}) {
+                const auto of = [&](const range_set<T> &set) { return is_first ? set.split(at).first : set.split(at).second; };
+                range_set<T> whole(few);
+                const range_set<T> copied(of(few));
+                part = few;
+                part.reserve(100);
+                check(changes(which, part, of(part)) == changes(which, whole, copied) && part.capacity() == 100, "in place: a part");
+            }
+        }
+        part = few;
+        part.reserve(100);
+        check(changes(which, part, part) == (which < 2 ? few : range_set<T>()) && part.capacity() == 100, "in place: the set itself");
+    }
 }
 
 // A set in chunks: rows, copies and moves, and many ranges beside a range_set.
@@ -838,6 +885,7 @@ template <class T> static void all()
     sources<T>();
     other_numbers<T>();
     room<T>();
+    in_place<T>();
     chunked<T>();
     chunked_as_lists<T>();
     views_of_temporaries<T>();

@@ -275,6 +275,28 @@ static void points_in_time()
         "times in order");
 }
 
+// Keys below and above half of the greatest one, which are in the order of their type.
+template <class T, class V> static void around_the_middle()
+{
+    using map = range_map<T, V>;
+    const V a = value<V>(0), b = value<V>(1);
+    const T most = std::numeric_limits<T>::max(), half = most / 2, next = half + 3;
+    const auto left = [](const V *x, const V *y) { return std::optional<V>(x != nullptr ? *x : *y); };
+    const map below = {{1, half, a}}, over = {{5, next, b}}, above = {{next, most, a}};
+    check(below.combine(over, left) == map({{1, half, a}, {half, next, b}}), "the left one's end is below the other's");
+    check(over.combine(below, left) == map({{1, 5, a}, {5, next, b}}), "the left one's end is above the other's");
+    check(below.combine(above, left) == map({{1, half, a}, {next, most, a}}), "two ranges apart");
+    check(!below.empty() && below.size() == 1 && below.first() == below.last() && below.span() == range<T>{1, half, true}, "one range");
+    check(below != over && below != map({{1, half, b}}) && below != map({{1, next, a}}) && !(below == above), "maps of one range");
+    map both = below.combine(over, left).combine(above, left);
+    check(both == map({{1, half, a}, {half, next, b}, {next, most, a}}) && both.size() == 3, "three ranges that touch");
+    check(both.first()->first == range<T>{1, half, true} && both.last()->first == range<T>{next, most, true}, "first, last");
+    check(both.span() == range<T>{1, most, true} && both.domain() == range_set<T>{{1, most}}, "span, domain");
+    check(both.overlapping(half, next).size() == 1 && both.overlapping(half - 1, next + 1).size() == 3, "overlapping");
+    both.remove(half, next);
+    check(both.gaps(1, most) == range_set<T>{{half, next}} && both.begin_from(half)->first.start == next, "gaps, begin_from");
+}
+
 int main()
 {
     both<std::int64_t, std::uint64_t>();
@@ -289,6 +311,9 @@ int main()
     its_own_values();
     few_copies();
     points_in_time();
+    around_the_middle<std::uint64_t, int>();
+    around_the_middle<unsigned, std::string>();
+    around_the_middle<std::int64_t, std::uint64_t>();
     a_million_ranges();
     std::printf("test_maps: %ld checks\n", checks);
     return 0;

@@ -1,6 +1,5 @@
-/* The tests of maps from ranges of one type of numbers, included once for each: made-up changes beside an array that has the value
- * of each key. NUMBER is the type, LEAST and MOST its least and greatest number, MAP and STRETCH are the header's structs for it,
- * CALL(call) is the name of a call of the header, and TEST(name) that of a function here. */
+/* The tests of maps from ranges of one type of numbers, by the names of each_type.h: made-up changes beside an array that has the value of
+ * each key. */
 
 /* The values of POINTS keys that lie 3 apart from the least on, 0 for none. The last one also has all keys above. */
 static NUMBER TEST(key)(int place)
@@ -19,29 +18,29 @@ static void TEST(same)(STRETCH a, STRETCH b)
 static void TEST(next_ranges)(MAP map, const uint64_t *values)
 {
     STRETCH it = {0, 0, 77, false, false, false}, some[POINTS];
-    const size_t room = random_below(POINTS + 1), found = CALL(next_ranges)(map, LEAST, some, room);
+    const size_t room = random_below(POINTS + 1), found = MAP_CALL(next_ranges)(map, LEAST, some, room);
     size_t ranges = 0;
     int p = 0, q;
-    bool more = CALL(next)(map, LEAST, &it);
+    bool more = MAP_CALL(next)(map, LEAST, &it);
     while (p < POINTS) {
         for (q = p; q < POINTS && values[q] == values[p]; q++) {
         }
         if (values[p] != 0) {
             check(more && it.has_value && it.value == values[p] && it.start == TEST(key)(p), "next: the range");
             check(it.has_end == (q < POINTS) && (q == POINTS || it.end == TEST(key)(q)), "next: the end");
-            check(CALL(next)(map, (NUMBER)(TEST(key)(p) + 1), NULL), "next: within a range");
+            check(MAP_CALL(next)(map, (NUMBER)(TEST(key)(p) + 1), NULL), "next: within a range");
             if (ranges < found) TEST(same)(some[ranges], it);
             ranges++;
-            more = it.has_end && CALL(next)(map, it.end, &it);
+            more = it.has_end && MAP_CALL(next)(map, it.end, &it);
         }
         p = q;
     }
     check(!more, "next: past the last range");
     check(found == (ranges < room ? ranges : room), "next_ranges: how many");
-    check(CALL(next_ranges)((MAP){NULL}, LEAST, some, POINTS) == 0 && CALL(next_ranges)(map, LEAST, NULL, 1) == 0,
+    check(MAP_CALL(next_ranges)((MAP){NULL}, LEAST, some, POINTS) == 0 && MAP_CALL(next_ranges)(map, LEAST, NULL, 1) == 0,
         "next_ranges: no map, no buffer");
     it.value = 77;
-    check(!CALL(next)((MAP){NULL}, LEAST, &it) && it.value == 77, "next: no map");
+    check(!MAP_CALL(next)((MAP){NULL}, LEAST, &it) && it.value == 77, "next: no map");
 }
 
 static void TEST(is_map)(MAP map, const uint64_t *values);
@@ -60,30 +59,31 @@ static void TEST(made_of)(void)
         ranges[2 * i] = TEST(key)(from), ranges[2 * i + 1] = TEST(key)(to), given[i] = 1 + random_below(3);
         for (p = from; p < to; p++) values[p] = given[i];
     }
-    check(CALL(of)(ranges, given, count, &map) == RANGE_SET_DONE, "of");
+    check(MAP_CALL(of)(ranges, given, count, &map) == RANGE_SET_DONE, "of");
     TEST(is_map)(map, values);
     if (count % 2 == 0) {
-        check(CALL(insert_from)(&map, TEST(key)(POINTS - 2), 5) == RANGE_SET_DONE, "of: a range without an end");
+        check(MAP_CALL(insert_from)(&map, TEST(key)(POINTS - 2), 5) == RANGE_SET_DONE, "of: a range without an end");
         values[POINTS - 2] = values[POINTS - 1] = 5;
     }
-    check(CALL(copy)(map, &copy) == RANGE_SET_DONE && copy.at != map.at, "copy");
-    check(CALL(copy)(map, NULL) == RANGE_SET_BAD_ARGUMENT, "copy: null");
-    check(CALL(remove_from)(&map, LEAST) == RANGE_SET_DONE, "copy: the other is emptied");
+    check(MAP_CALL(copy)(map, &copy) == RANGE_SET_DONE && copy.at != map.at, "copy");
+    check(MAP_CALL(copy)(map, NULL) == RANGE_SET_BAD_ARGUMENT, "copy: null");
+    check(MAP_CALL(remove_from)(&map, LEAST) == RANGE_SET_DONE, "copy: the other is emptied");
     TEST(is_map)(copy, values);
     TEST(is_map)(map, none);
-    CALL(free)(&copy);
-    check(CALL(copy)(empty, &copy) == RANGE_SET_DONE && copy.at != NULL && CALL(len)(copy) == 0, "copy: of no map");
-    CALL(free)(&copy);
-    CALL(free)(&map);
-    check(CALL(of)(NULL, NULL, 0, &map) == RANGE_SET_DONE && CALL(len)(map) == 0 && !CALL(next)(map, LEAST, NULL), "of: no ranges");
-    CALL(free)(&map);
-    check(!CALL(next)(empty, LEAST, NULL), "next: no map and no place");
-    check(CALL(of)(NULL, given, 1, &map) == RANGE_SET_BAD_ARGUMENT && CALL(of)(ranges, NULL, 1, &map) == RANGE_SET_BAD_ARGUMENT
-              && CALL(of)(ranges, given, 1, NULL) == RANGE_SET_BAD_ARGUMENT && CALL(copy)(empty, NULL) == RANGE_SET_BAD_ARGUMENT,
+    MAP_CALL(free)(&copy);
+    check(MAP_CALL(copy)(empty, &copy) == RANGE_SET_DONE && copy.at != NULL && MAP_CALL(len)(copy) == 0, "copy: of no map");
+    MAP_CALL(free)(&copy);
+    MAP_CALL(free)(&map);
+    check(MAP_CALL(of)(NULL, NULL, 0, &map) == RANGE_SET_DONE && MAP_CALL(len)(map) == 0 && !MAP_CALL(next)(map, LEAST, NULL),
+        "of: no ranges");
+    MAP_CALL(free)(&map);
+    check(!MAP_CALL(next)(empty, LEAST, NULL), "next: no map and no place");
+    check(MAP_CALL(of)(NULL, given, 1, &map) == RANGE_SET_BAD_ARGUMENT && MAP_CALL(of)(ranges, NULL, 1, &map) == RANGE_SET_BAD_ARGUMENT
+              && MAP_CALL(of)(ranges, given, 1, NULL) == RANGE_SET_BAD_ARGUMENT && MAP_CALL(copy)(empty, NULL) == RANGE_SET_BAD_ARGUMENT,
         "of and copy: null");
-    check(CALL(of)(ranges, given, 1, (MAP *)(void *)ranges) == RANGE_SET_BAD_ARGUMENT
-              && CALL(of)(ranges, given, 1, (MAP *)(void *)given) == RANGE_SET_BAD_ARGUMENT
-              && CALL(of)(ranges, given, SIZE_MAX / 8, &map) == RANGE_SET_BAD_ARGUMENT,
+    check(MAP_CALL(of)(ranges, given, 1, (MAP *)(void *)ranges) == RANGE_SET_BAD_ARGUMENT
+              && MAP_CALL(of)(ranges, given, 1, (MAP *)(void *)given) == RANGE_SET_BAD_ARGUMENT
+              && MAP_CALL(of)(ranges, given, SIZE_MAX / 8, &map) == RANGE_SET_BAD_ARGUMENT,
         "of: a map in its lists, and a length that no list has");
 }
 
@@ -92,13 +92,13 @@ static void TEST(is_map)(MAP map, const uint64_t *values)
 {
     size_t ranges = 0;
     int p = 0, q, in;
-    STRETCH it = CALL(range_at)(map, LEAST);
+    STRETCH it = MAP_CALL(range_at)(map, LEAST);
     while (p < POINTS) {
         for (q = p; q < POINTS && values[q] == values[p]; q++)
             for (in = 0; in < 3; in++) {
-                STRETCH same = CALL(range_at)(map, (NUMBER)(TEST(key)(q) + (NUMBER)in));
+                STRETCH same = MAP_CALL(range_at)(map, (NUMBER)(TEST(key)(q) + (NUMBER)in));
                 uint64_t value = 77;
-                check(CALL(get)(map, (NUMBER)(TEST(key)(q) + (NUMBER)in), &value) == (values[p] != 0), "get");
+                check(MAP_CALL(get)(map, (NUMBER)(TEST(key)(q) + (NUMBER)in), &value) == (values[p] != 0), "get");
                 check(value == (values[p] != 0 ? values[p] : 77), "get: the value");
                 check(same.has_start == it.has_start && same.start == it.start && same.has_end == it.has_end && same.end == it.end,
                     "range_at: of each key of a stretch");
@@ -107,11 +107,11 @@ static void TEST(is_map)(MAP map, const uint64_t *values)
         check(it.has_end == (q < POINTS) && (q == POINTS || it.end == TEST(key)(q)), "range_at: the end");
         check(it.has_value == (values[p] != 0) && (values[p] == 0 || it.value == values[p]), "range_at: the value");
         ranges += values[p] != 0;
-        if (it.has_end) it = CALL(range_at)(map, it.end);
+        if (it.has_end) it = MAP_CALL(range_at)(map, it.end);
         p = q;
     }
-    check(CALL(get)(map, MOST, NULL) == (values[POINTS - 1] != 0), "get: of the greatest key");
-    check(CALL(len)(map) == ranges, "len");
+    check(MAP_CALL(get)(map, MOST, NULL) == (values[POINTS - 1] != 0), "get: of the greatest key");
+    check(MAP_CALL(len)(map) == ranges, "len");
     TEST(next_ranges)(map, values);
 }
 
@@ -122,23 +122,23 @@ static void TEST(changes)(long cases)
         uint64_t values[POINTS] = {0};
         MAP map;
         int change, p;
-        check(CALL(new)(&map) == RANGE_SET_DONE && map.at != NULL, "new");
+        check(MAP_CALL(new)(&map) == RANGE_SET_DONE && map.at != NULL, "new");
         TEST(is_map)(map, values);
         for (change = 0; change < 6; change++) {
             int from = (int)random_below(POINTS), to = (int)random_below(POINTS);
             uint64_t value = 1 + random_below(3);
             range_set_status status;
             switch (random_below(6)) {
-            case 0: status = CALL(remove)(&map, TEST(key)(from), TEST(key)(to)), value = 0; break;
-            case 1: status = CALL(insert_from)(&map, TEST(key)(from), value), to = POINTS; break;
-            case 2: status = CALL(remove_from)(&map, TEST(key)(from)), to = POINTS, value = 0; break;
-            default: status = CALL(insert)(&map, TEST(key)(from), TEST(key)(to), value); break;
+            case 0: status = MAP_CALL(remove)(&map, TEST(key)(from), TEST(key)(to)), value = 0; break;
+            case 1: status = MAP_CALL(insert_from)(&map, TEST(key)(from), value), to = POINTS; break;
+            case 2: status = MAP_CALL(remove_from)(&map, TEST(key)(from)), to = POINTS, value = 0; break;
+            default: status = MAP_CALL(insert)(&map, TEST(key)(from), TEST(key)(to), value); break;
             }
             check(status == RANGE_SET_DONE, "maps: status");
             for (p = from; p < to; p++) values[p] = value;
             TEST(is_map)(map, values);
         }
-        CALL(free)(&map);
+        MAP_CALL(free)(&map);
         check(map.at == NULL, "free leaves an address");
     }
 }
@@ -147,29 +147,33 @@ static void TEST(changes)(long cases)
 static void TEST(bad_maps)(void)
 {
     MAP none = {NULL}, map;
-    STRETCH it = CALL(range_at)(none, MOST), both[2];
+    STRETCH it = MAP_CALL(range_at)(none, MOST), both[2];
     uint64_t value = 5;
-    check(CALL(new)(NULL) == RANGE_SET_BAD_ARGUMENT, "new: a null map");
-    check(
-        CALL(insert)(NULL, 1, 2, 3) == RANGE_SET_BAD_ARGUMENT && CALL(insert)(&none, 1, 2, 3) == RANGE_SET_BAD_ARGUMENT, "insert: no map");
-    check(CALL(remove)(NULL, 1, 2) == RANGE_SET_BAD_ARGUMENT && CALL(remove)(&none, 1, 2) == RANGE_SET_BAD_ARGUMENT, "remove: no map");
-    check(CALL(insert_from)(NULL, 1, 3) == RANGE_SET_BAD_ARGUMENT && CALL(insert_from)(&none, 1, 3) == RANGE_SET_BAD_ARGUMENT,
+    check(MAP_CALL(new)(NULL) == RANGE_SET_BAD_ARGUMENT, "new: a null map");
+    check(MAP_CALL(insert)(NULL, 1, 2, 3) == RANGE_SET_BAD_ARGUMENT && MAP_CALL(insert)(&none, 1, 2, 3) == RANGE_SET_BAD_ARGUMENT,
+        "insert: no map");
+    check(MAP_CALL(remove)(NULL, 1, 2) == RANGE_SET_BAD_ARGUMENT && MAP_CALL(remove)(&none, 1, 2) == RANGE_SET_BAD_ARGUMENT,
+        "remove: no map");
+    check(MAP_CALL(insert_from)(NULL, 1, 3) == RANGE_SET_BAD_ARGUMENT && MAP_CALL(insert_from)(&none, 1, 3) == RANGE_SET_BAD_ARGUMENT,
         "insert_from: no map");
-    check(CALL(remove_from)(NULL, 1) == RANGE_SET_BAD_ARGUMENT && CALL(remove_from)(&none, 1) == RANGE_SET_BAD_ARGUMENT,
+    check(MAP_CALL(remove_from)(NULL, 1) == RANGE_SET_BAD_ARGUMENT && MAP_CALL(remove_from)(&none, 1) == RANGE_SET_BAD_ARGUMENT,
         "remove_from: no map");
-    check(!CALL(get)(none, 1, &value) && value == 5 && CALL(len)(none) == 0, "no map has a value");
+    check(!MAP_CALL(get)(none, 1, &value) && value == 5 && MAP_CALL(len)(none) == 0, "no map has a value");
     check(!it.has_start && !it.has_end && !it.has_value, "no map: one stretch without a value");
-    CALL(free)(NULL);
-    CALL(free)(&none);
-    check(CALL(new)(&map) == RANGE_SET_DONE, "new");
-    check(CALL(insert)(&map, LEAST, MOST, UINT64_MAX) == RANGE_SET_DONE && CALL(insert_from)(&map, MOST, 0) == RANGE_SET_DONE, "insert");
-    check(CALL(get)(map, LEAST, &value) && value == UINT64_MAX && CALL(get)(map, MOST, &value) && value == 0, "values of all sizes");
-    check(CALL(next_ranges)(map, LEAST, both, 2) == 2 && both[0].end == MOST && both[1].start == MOST && !both[1].has_end,
+    MAP_CALL(free)(NULL);
+    MAP_CALL(free)(&none);
+    check(MAP_CALL(new)(&map) == RANGE_SET_DONE, "new");
+    check(MAP_CALL(insert)(&map, LEAST, MOST, UINT64_MAX) == RANGE_SET_DONE && MAP_CALL(insert_from)(&map, MOST, 0) == RANGE_SET_DONE,
+        "insert");
+    check(
+        MAP_CALL(get)(map, LEAST, &value) && value == UINT64_MAX && MAP_CALL(get)(map, MOST, &value) && value == 0, "values of all sizes");
+    check(MAP_CALL(next_ranges)(map, LEAST, both, 2) == 2 && both[0].end == MOST && both[1].start == MOST && !both[1].has_end,
         "next_ranges: the greatest key");
-    check(CALL(next_ranges)(map, MOST, both, 2) == 1 && both[0].start == MOST && both[0].value == 0, "next_ranges: from the greatest key");
-    check(CALL(remove)(&map, LEAST, MOST) == RANGE_SET_DONE && CALL(next_ranges)(map, 1, both, 2) == 1 && both[0].start == MOST,
+    check(MAP_CALL(next_ranges)(map, MOST, both, 2) == 1 && both[0].start == MOST && both[0].value == 0,
+        "next_ranges: from the greatest key");
+    check(MAP_CALL(remove)(&map, LEAST, MOST) == RANGE_SET_DONE && MAP_CALL(next_ranges)(map, 1, both, 2) == 1 && both[0].start == MOST,
         "next_ranges: the greatest key alone");
-    CALL(free)(&map);
+    MAP_CALL(free)(&map);
 }
 
 /* The first key of a range of a map in chunks: they lie 20 apart. */
@@ -189,19 +193,19 @@ static void TEST(saved)(MAP map, size_t count)
     bool more;
     STRETCH *const all = malloc((count + 1) * sizeof *all);
     check(ranges != NULL && values != NULL && all != NULL, "saved: memory");
-    check(CALL(next_ranges)(map, LEAST, all, count + 1) == count, "saved: at once");
-    for (more = CALL(next)(map, LEAST, &it); more; more = CALL(next)(map, it.end, &it), len++) {
+    check(MAP_CALL(next_ranges)(map, LEAST, all, count + 1) == count, "saved: at once");
+    for (more = MAP_CALL(next)(map, LEAST, &it); more; more = MAP_CALL(next)(map, it.end, &it), len++) {
         TEST(same)(all[len], it);
         check(len < count && it.has_start && it.has_end, "saved: a range");
         ranges[2 * len] = it.start, ranges[2 * len + 1] = it.end, values[len] = it.value;
     }
-    check(len == count && CALL(of)(ranges, values, count, &read) == RANGE_SET_DONE && CALL(len)(read) == count, "saved: of");
+    check(len == count && MAP_CALL(of)(ranges, values, count, &read) == RANGE_SET_DONE && MAP_CALL(len)(read) == count, "saved: of");
     for (len = 0; len < count; len++) {
-        same = CALL(range_at)(read, ranges[2 * len]);
+        same = MAP_CALL(range_at)(read, ranges[2 * len]);
         check(
             same.has_value && same.start == ranges[2 * len] && same.end == ranges[2 * len + 1] && same.value == values[len], "saved: same");
     }
-    CALL(free)(&read);
+    MAP_CALL(free)(&read);
     free(all);
     free(ranges);
     free(values);
@@ -214,34 +218,34 @@ static void TEST(in_chunks)(size_t count)
     MAP map, copy;
     size_t p;
     uint64_t value;
-    check(CALL(new)(&map) == RANGE_SET_DONE, "new");
+    check(MAP_CALL(new)(&map) == RANGE_SET_DONE, "new");
     for (p = 0; p < count; p++) {
         /* Each place once: the prime has no divisor of the count. */
         const size_t at = (size_t)((uint64_t)p * 1000003 % count);
         const NUMBER start = TEST(start)(at);
-        check(CALL(insert)(&map, start, (NUMBER)(start + 10), (uint64_t)(at % 3 + 1)) == RANGE_SET_DONE, "in chunks: insert");
+        check(MAP_CALL(insert)(&map, start, (NUMBER)(start + 10), (uint64_t)(at % 3 + 1)) == RANGE_SET_DONE, "in chunks: insert");
     }
-    check(CALL(len)(map) == count, "in chunks: len");
+    check(MAP_CALL(len)(map) == count, "in chunks: len");
     TEST(saved)(map, count);
-    check(CALL(copy)(map, &copy) == RANGE_SET_DONE, "in chunks: copy");
+    check(MAP_CALL(copy)(map, &copy) == RANGE_SET_DONE, "in chunks: copy");
     for (p = 0; p < count; p++) {
         const NUMBER start = TEST(start)(p);
-        const STRETCH it = CALL(range_at)(map, (NUMBER)(start + 9));
-        check(CALL(get)(map, start, &value) && value == (uint64_t)(p % 3 + 1) && !CALL(get)(map, (NUMBER)(start + 10), NULL),
+        const STRETCH it = MAP_CALL(range_at)(map, (NUMBER)(start + 9));
+        check(MAP_CALL(get)(map, start, &value) && value == (uint64_t)(p % 3 + 1) && !MAP_CALL(get)(map, (NUMBER)(start + 10), NULL),
             "in chunks: get");
         check(it.has_value && it.has_start && it.start == start && it.has_end && it.end == (NUMBER)(start + 10), "in chunks: range_at");
-        if (p % 2 == 0) check(CALL(remove)(&map, start, (NUMBER)(start + 10)) == RANGE_SET_DONE, "in chunks: remove");
+        if (p % 2 == 0) check(MAP_CALL(remove)(&map, start, (NUMBER)(start + 10)) == RANGE_SET_DONE, "in chunks: remove");
     }
-    check(CALL(len)(map) == count / 2, "in chunks: every second one");
-    for (p = 0; p < count; p++) check(CALL(get)(map, TEST(start)(p), NULL) == (p % 2 == 1), "in chunks: what is left");
-    check(
-        CALL(insert)(&map, TEST(start)(1), TEST(start)(count - 1), 7) == RANGE_SET_DONE && CALL(len)(map) == 2, "in chunks: one over all");
-    check(CALL(remove_from)(&map, LEAST) == RANGE_SET_DONE && CALL(len)(map) == 0, "in chunks: all taken out");
-    CALL(free)(&map);
+    check(MAP_CALL(len)(map) == count / 2, "in chunks: every second one");
+    for (p = 0; p < count; p++) check(MAP_CALL(get)(map, TEST(start)(p), NULL) == (p % 2 == 1), "in chunks: what is left");
+    check(MAP_CALL(insert)(&map, TEST(start)(1), TEST(start)(count - 1), 7) == RANGE_SET_DONE && MAP_CALL(len)(map) == 2,
+        "in chunks: one over all");
+    check(MAP_CALL(remove_from)(&map, LEAST) == RANGE_SET_DONE && MAP_CALL(len)(map) == 0, "in chunks: all taken out");
+    MAP_CALL(free)(&map);
     for (p = 0; p < count; p++)
-        check(CALL(get)(copy, TEST(start)(p), &value) && value == (uint64_t)(p % 3 + 1), "in chunks: a copy's value");
+        check(MAP_CALL(get)(copy, TEST(start)(p), &value) && value == (uint64_t)(p % 3 + 1), "in chunks: a copy's value");
     TEST(saved)(copy, count);
-    CALL(free)(&copy);
+    MAP_CALL(free)(&copy);
 }
 
 static void TEST(all)(long cases)
@@ -252,11 +256,3 @@ static void TEST(all)(long cases)
     TEST(changes)(cases);
     while (cases-- > 0) TEST(made_of)();
 }
-
-#undef NUMBER
-#undef LEAST
-#undef MOST
-#undef MAP
-#undef STRETCH
-#undef CALL
-#undef TEST

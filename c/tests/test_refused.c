@@ -127,7 +127,7 @@ enum { MANY = 1500 };
     { \
         static NUMBER list[2 * MANY]; \
         range_set_##number##_chunked set; \
-        range_set_##number view; \
+        range_set_##number view, one; \
         size_t p; \
         long k; \
         for (p = 0; p < 2 * MANY; p++) list[p] = (NUMBER)(2 * p); \
@@ -136,6 +136,12 @@ enum { MANY = 1500 };
         UNTIL_DONE(number, range_set_##number##_chunked_of(view, &set), 0) \
         check(k > 2, "a list takes some requests"); \
         check((uintptr_t)set.at % ALIGN == 0, "what an allocator answers keeps its alignment"); \
+        is_list_##number(set, list); \
+        check(range_set_##number##_view(list + 8, 2, &one) == RANGE_SET_DONE, "a view of one range"); \
+        left = 0; \
+        check( \
+            range_set_##number##_chunked_combine(&set, one, RANGE_SET_UNION) == RANGE_SET_DONE, "a range that is there takes no request"); \
+        left = -1; \
         is_list_##number(set, list); \
         UNTIL_DONE(number, range_set_##number##_chunked_combine(&set, view, RANGE_SET_UNION), 2 * MANY) \
         check(k > 2, "a connective takes some requests"); \

@@ -17,6 +17,7 @@ static void fail(const char *what)
     exit(1);
 }
 
+#define TEST(name) GLUE(, TYPE, _##name)
 #define CALLS "tests/test_rows.h"
 #include "../each_type.h"
 
@@ -46,6 +47,18 @@ static bool answer(const struct table *table, char **words, char *out)
     return table->is_any && (kind[0] == 'i' ? i64_answers : u64_answers)(table->name, words + 1, out);
 }
 
+/* Whether C has no call for a row: it is of a type of which C has no sets, or of one with other ends than those that are asked, or has
+ * a range without an end for a call that takes none. */
+static bool is_passed_over(const struct table *table, const char *kind)
+{
+    static const char *const others[] = {"char", "isize", "usize", "i128", "u128", "i8", "u8", "i16", "u16"};
+    const size_t count = table->is_any ? 5 : sizeof others / sizeof *others;
+    size_t i;
+    for (i = 0; i < count; i++)
+        if (strcmp(kind, others[i]) == 0) return true;
+    return strcmp(table->name, "from_ranges") == 0 && strstr(kind, "..") != NULL;
+}
+
 /* The words of a text, cut at each blank, and null after the last. */
 static void cut(char *text, char **words)
 {
@@ -67,7 +80,10 @@ static int holds(const struct table *table, char *row)
     last = strrchr(wanted, ' ');
     if (table->counted && last != NULL) *last = '\0';
     cut(row, words);
-    if (!answer(table, words, out)) return -1;
+    if (!answer(table, words, out)) {
+        if (!is_passed_over(table, words[0])) fail("a row is passed over");
+        return -1;
+    }
     return strcmp(out, wanted) == 0;
 }
 
@@ -88,6 +104,11 @@ static long reads(const struct table *table, const char *folder)
         if (found == 0 && !is_wrong) {
             fprintf(stderr, "%s:%ld: %s", path, number, line);
             fail("a row doesn't hold");
+        }
+        /* One that is wrong by its comparisons alone can't be seen. */
+        if (found == 1 && is_wrong && !table->counted) {
+            fprintf(stderr, "%s:%ld: %s", path, number, line);
+            fail("a wrong row holds");
         }
         right += found == 1 && !is_wrong, wrong += found == 0 && is_wrong;
     }

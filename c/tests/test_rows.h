@@ -4,7 +4,7 @@
 /* A number as a word, behind what was written. */
 static void TEST(put)(char *out, NUMBER value)
 {
-#ifdef IS_UNSIGNED
+#if IS_UNSIGNED
     sprintf(out + strlen(out), "%ju", (uintmax_t)value);
 #else
     sprintf(out + strlen(out), "%jd", (intmax_t)value);
@@ -13,7 +13,7 @@ static void TEST(put)(char *out, NUMBER value)
 
 static NUMBER TEST(number)(const char *word)
 {
-#ifdef IS_UNSIGNED
+#if IS_UNSIGNED
     return (NUMBER)strtoull(word, NULL, 10);
 #else
     return (NUMBER)strtoll(word, NULL, 10);

@@ -45,6 +45,7 @@ static void note(struct log *log, uint64_t answer)
 
 #define JOINED(prefix, name) prefix##name
 #define EXPORTED(prefix, name) JOINED(prefix, name)
+#define TEST(name) GLUE(, TYPE, _##name)
 #define CALLS "tests/twins_calls.h"
 #include "../each_type.h"
 

@@ -44,12 +44,18 @@ static void TEST(questions)(struct log *log, SET a, SET b, NUMBER x, NUMBER y, u
 {
     const NUMBER *list = a.boundaries, *other = b.boundaries;
     const size_t len = a.len, other_len = b.len;
+    const NUMBER backwards[] = {x, y, x};
+    char each[ITEMS];
     RANGE it = {7, 7, false};
     NUMBER at = 7;
     uint64_t count = 7;
     size_t below = 7, from = 7;
     bool found;
     note(log, EXPORT(contains)(list, len, x));
+    EXPORT(contains_each)(list, len, other, other_len, each, other_len);
+    for (size_t i = 0; i < other_len; i++) note(log, (uint64_t)each[i]);
+    EXPORT(contains_each)(list, len, backwards, 3, each, 3);
+    for (size_t i = 0; i < 3; i++) note(log, (uint64_t)each[i]);
     note(log, EXPORT(contains_range)(list, len, x, y));
     note(log, EXPORT(intersects_range)(list, len, x, y));
     note(log, EXPORT(is_empty)(list, len));
@@ -227,8 +233,10 @@ static void TEST(in_chunks)(struct log *log, SET a, struct input *input, size_t 
 }
 
 #undef EXPORT
-#ifdef MAP
+#if BITS == 64
 #define EXPORT(call) EXPORTED(PREFIX, MAP_CALL(call))
+#define KEY NUMBER
+#define HELD MAP
 #include "../range_map_exports.h"
 
 /* A map that is changed as often as there are bytes, and whose copy is then gone over. */
@@ -286,7 +294,7 @@ static void TEST(answers)(struct log *log, struct input *input)
     TEST(in_place)(log, a, b, x, y, keep, room);
     TEST(texts)(log, a, input, room);
     if (k % 2 == 0) TEST(in_chunks)(log, a, input, room);
-#ifdef MAP
+#if BITS == 64
     TEST(mapped)(log, input);
 #endif
 }

@@ -11,7 +11,7 @@ from array import array
 
 import range_sets as sets
 from range_sets import RangeSet, _core
-from range_sets._kinds import SIGNED
+from range_sets._kind import SIGNED
 
 
 def q(*items):

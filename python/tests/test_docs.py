@@ -15,6 +15,11 @@ if importlib.util.find_spec("dask"):
     import range_sets.dask
 
     DOCUMENTED += [range_sets.dask, range_sets.dask.union_all, range_sets.dask.covered_by_key]
+SETS_AND_MAPS = [range_sets.AnyRangeSet, range_sets.RangeSet, range_sets.MutableRangeSet, range_sets.RangeMap]
+# Their methods are those of these classes too.
+DOCUMENTED += sorted(
+    {base for it in SETS_AND_MAPS for base in it.__mro__ if base.__module__.startswith("range_sets.")}, key=lambda it: it.__name__
+)
 
 
 def examples():
@@ -45,7 +50,7 @@ class Help(unittest.TestCase):
                     self.assertIn("\n\nCost: ", inspect.getdoc(given))
 
     def test_each_method_has_an_example(self):
-        for kind in (range_sets.AnyRangeSet, range_sets.RangeSet, range_sets.MutableRangeSet, range_sets.RangeMap):
+        for kind in SETS_AND_MAPS:
             for name, it in inspect.getmembers(kind):
                 if not name.startswith("_"):
                     with self.subTest(name=f"{kind.__name__}.{name}"):
@@ -55,10 +60,11 @@ class Help(unittest.TestCase):
 
     def test_each_example_is_run(self):
         run = {test.name for test in examples()}
-        for kind in (range_sets.AnyRangeSet, range_sets.RangeSet, range_sets.MutableRangeSet, range_sets.RangeMap):
-            for name, it in vars(kind).items():
+        for kind in SETS_AND_MAPS:
+            for name, _ in inspect.getmembers(kind):
                 if not name.startswith("_"):
-                    self.assertIn(f"{kind.__name__}.{name}", run)
+                    owner = next(it for it in kind.__mro__ if name in vars(it))
+                    self.assertIn(f"{owner.__name__}.{name}", run)
         for name in vars(_buffers):
             if name in range_sets.__all__:
                 self.assertIn(name, run)

@@ -20,7 +20,7 @@ from unittest import mock
 
 import range_sets as sets
 from range_sets import MutableRangeSet, NoRoom, NotSorted, ParseError, RangeMap, RangeSet, _core
-from range_sets._kinds import NO_KIND, SIGNED as KIND
+from range_sets._kind import NO_KIND, SIGNED as KIND
 
 if importlib.util.find_spec("_testcapi"):
     import _testcapi

@@ -328,6 +328,111 @@ class Kinds(unittest.TestCase):
         self.assertEqual(owners.range_at(IPv4Address("255.255.255.255")), ((IPv4Address("255.0.0.0"), None), "last"))
 
 
+class BesideCells:
+    """A map beside a list that has a cell for each of its keys: the place of the key's value in a pool, or None."""
+
+    def __init__(self, test, numbers, pool, keys):
+        self.test, self.numbers, self.pool, self.keys = test, numbers, pool, keys
+        self.made, self.cells = RangeMap(), [None] * keys
+
+    def range_of(self, longest):
+        start = self.numbers.randrange(self.keys)
+        return start, min(self.keys, start + self.numbers.randrange(longest))
+
+    def parts(self, count):
+        """Made-up ranges, each with the place of a value."""
+        return [(self.range_of(30), self.numbers.randrange(len(self.pool))) for _ in range(count)]
+
+    def value(self, at):
+        return copy.deepcopy(self.pool[at])
+
+    def put(self, start, end, at):
+        self.cells[start:end] = [at] * max(0, end - start)
+
+    def items(self, start, end):
+        """What the map should have between two keys."""
+        runs = [(key, list(run)) for key, run in groupby(range(start, end), self.cells.__getitem__)]
+        return [((run[0], run[-1] + 1), self.pool[at]) for at, run in runs if at is not None]
+
+    def change(self):
+        """Changes both in one of these ways."""
+        parts = self.parts(self.numbers.choice([1, 3, 40, 200]))
+        ways = [
+            self.put_one,
+            self.remove_one,
+            self.put_set,
+            self.remove_set,
+            self.pop_one,
+            self.refuse_last,
+            self.copy_all,
+            self.update_all,
+        ]
+        ways[self.numbers.randrange(len(ways))](parts)
+
+    def put_one(self, parts):
+        (start, end), at = parts[0]
+        self.made.put(start, end, self.value(at))
+        self.put(start, end, at)
+
+    def remove_one(self, parts):
+        start, end = self.range_of(300)
+        self.made.remove(start, end)
+        self.put(start, end, None)
+
+    def put_set(self, parts):
+        at, keys = parts[0][1], RangeSet([pair for pair, _ in parts])
+        self.made[keys] = self.value(at)
+        for start, end in keys:
+            self.put(start, end, at)
+
+    def remove_set(self, parts):
+        keys = RangeSet([pair for pair, _ in parts[:5]])
+        del self.made[keys]
+        for start, end in keys:
+            self.put(start, end, None)
+
+    def pop_one(self, parts):
+        key = self.numbers.randrange(self.keys)
+        found = next((it for it in self.items(0, self.keys) if it[0][0] <= key < it[0][1]), None)
+        self.test.assertEqual(self.made.pop(key, "nothing"), "nothing" if found is None else found[1])
+        if found:
+            self.put(*found[0], None)
+
+    def refuse_last(self, parts):
+        pairs = [(pair, self.value(at)) for pair, at in parts]
+        self.test.assertRaises(OverflowError, self.made.update, [*pairs, ((0, 2**64), "a")])
+
+    def copy_all(self, parts):
+        """Goes on with a copy, which the first map's end doesn't change. An empty map is changed as by `update_all`."""
+        if self.cells.count(None) == self.keys:
+            self.update_all(parts)
+            return
+        copied = self.numbers.choice([RangeMap.copy, copy.deepcopy, lambda it: it[:], RangeMap, pickle_twice])
+        same, self.made = self.made, copied(self.made)
+        same.clear()
+
+    def update_all(self, parts):
+        self.made.update([(pair, self.value(at)) for pair, at in parts])
+        for pair, at in parts:
+            self.put(*pair, at)
+
+    def check(self):
+        """Asks the map what the cells say."""
+        equal, made, cells, pool = self.test.assertEqual, self.made, self.cells, self.pool
+        expected = self.items(0, self.keys)
+        equal([*made.items()], expected)
+        equal([*map(type, made.values())], [type(value) for _, value in expected])
+        equal((len(made), len(kept(made))), (len(expected), len({*cells} - {None})))
+        start, end = self.range_of(500)
+        equal([*made[start:end].items()], self.items(start, end))
+        equal(made.gaps(start, end), RangeSet([(x, x + 1) for x in range(start, end) if cells[x] is None]))
+        equal(made.domain(), RangeSet([pair for pair, _ in expected]))
+        at = self.numbers.randrange(len(pool))
+        equal(made.find(self.value(at)), RangeSet([(x, x + 1) for x in range(self.keys) if cells[x] == at]))
+        equal([made.get(x, pool) for x in range(start, end)], [pool if cells[x] is None else pool[cells[x]] for x in range(start, end)])
+        equal(made.overlapping(start, end), [it for it in expected if it[0][0] < end and it[0][1] > start and start < end])
+
+
 class MadeUp(unittest.TestCase):
     """Beside a dict of each key's value: the last key also stands for all above."""
 
@@ -385,7 +490,10 @@ class MadeUp(unittest.TestCase):
         """Maps of some hundred ranges beside a list of each key's value; of many values some are equal and of other types."""
         pool = ["a", "b", 1, True, 1.0, None, (1,), [1], [2], {"a": 1}, *range(2**20, 2**20 + 20 * 2**12, 2**12)]
         for seed in range(4):
-            self.of_many_ranges(random.Random(seed), pool, 4000)
+            beside = BesideCells(self, random.Random(seed), pool, 4000)
+            for _ in range(150):
+                beside.change()
+                beside.check()
 
     def test_a_million_ranges(self):
         """They are put in in any order, asked, saved and read back."""
@@ -400,77 +508,6 @@ class MadeUp(unittest.TestCase):
         self.assertEqual(read, made)
         del read[:10]
         self.assertEqual((len(read), len(made), read == made), (count - 1, count, False))
-
-    def of_many_ranges(self, some, pool, keys):
-        made, cells = RangeMap(), [None] * keys
-
-        def range_of(longest):
-            start = some.randrange(keys)
-            return start, min(keys, start + some.randrange(longest))
-
-        def given(count):
-            return [(range_of(30), some.randrange(len(pool))) for _ in range(count)]
-
-        def put(start, end, at):
-            cells[start:end] = [at] * max(0, end - start)
-
-        def items(start=0, end=keys):
-            found = [(key, list(run)) for key, run in groupby(range(start, end), cells.__getitem__)]
-            return [((run[0], run[-1] + 1), pool[at]) for at, run in found if at is not None]
-
-        def pairs(parts):
-            return [(pair, copy.deepcopy(pool[at])) for pair, at in parts]
-
-        for turn in range(150):
-            before, parts = [*cells], given(some.choice([1, 3, 40, 200]))
-            way = some.randrange(8)
-            if way == 0:
-                (start, end), at = parts[0]
-                made.put(start, end, copy.deepcopy(pool[at]))
-                put(start, end, at)
-            elif way == 1:
-                start, end = range_of(300)
-                made.remove(start, end)
-                put(start, end, None)
-            elif way == 2:
-                keys_of = RangeSet([pair for pair, _ in parts])
-                made[keys_of] = copy.deepcopy(pool[parts[0][1]])
-                for start, end in keys_of:
-                    put(start, end, parts[0][1])
-            elif way == 3:
-                keys_of = RangeSet([pair for pair, _ in parts[:5]])
-                del made[keys_of]
-                for start, end in keys_of:
-                    put(start, end, None)
-            elif way == 4:
-                key = some.randrange(keys)
-                found = next((it for it in items() if it[0][0] <= key < it[0][1]), None)
-                self.assertEqual(made.pop(key, "nothing"), "nothing" if found is None else found[1])
-                if found:
-                    put(*found[0], None)
-            elif way == 5:
-                self.assertRaises(OverflowError, made.update, [*pairs(parts), ((0, 2**64), "a")])
-            elif way == 6 and before.count(None) < keys:
-                same, made = made, some.choice([RangeMap.copy, copy.deepcopy, lambda it: it[:], RangeMap, pickle_twice])(made)
-                same.clear()
-            else:
-                made.update(pairs(parts))
-                for pair, at in parts:
-                    put(*pair, at)
-            expected = items()
-            self.assertEqual([*made.items()], expected)
-            self.assertEqual([*map(type, made.values())], [type(value) for _, value in expected])
-            self.assertEqual((len(made), len(kept(made))), (len(expected), len({*cells} - {None})))
-            start, end = range_of(500)
-            self.assertEqual([*made[start:end].items()], items(start, end))
-            self.assertEqual(made.gaps(start, end), RangeSet([(x, x + 1) for x in range(start, end) if cells[x] is None]))
-            self.assertEqual(made.domain(), RangeSet([pair for pair, _ in expected]))
-            at = some.randrange(len(pool))
-            self.assertEqual(made.find(copy.deepcopy(pool[at])), RangeSet([(x, x + 1) for x in range(keys) if cells[x] == at]))
-            self.assertEqual(
-                [made.get(x, pool) for x in range(start, end)], [pool if cells[x] is None else pool[cells[x]] for x in range(start, end)]
-            )
-            self.assertEqual(made.overlapping(start, end), [it for it in expected if it[0][0] < end and it[0][1] > start and start < end])
 
     def test_iterators_beside_changes(self):
         """Whatever changes between two steps, an iterator goes on from the end of what it gave, with what the map then has."""
@@ -1428,6 +1465,72 @@ class OtherForms(unittest.TestCase):
         for keys, value in made.items():
             del made[keys[0] : keys[1]]
         self.assertEqual(len(made), 0)
+
+
+class Unsigned(unittest.TestCase):
+    """Keys without a sign, below and above half of the greatest one, beside small ones."""
+
+    SHIFT = 2**63 - 15
+
+    def moved(self, items):
+        return [((start + self.SHIFT, None if end is None else end + self.SHIFT), value) for (start, end), value in items]
+
+    def test_around_half_of_the_greatest(self):
+        some = random.Random(63)
+
+        def items():
+            made = [((some.randrange(30), some.choice([None, *range(30)])), some.randrange(3)) for _ in range(some.randrange(6))]
+            # In order they are put in one after the other.
+            return sorted(made, key=lambda item: item[0][0]) if some.randrange(2) else made
+
+        for case in range(300):
+            given = items(), items()
+            (a, b), (c, d) = [RangeMap(it, kind="int") for it in given], [RangeMap(self.moved(it), unsigned=True) for it in given]
+            start, end = sorted(some.choices(range(32), k=2))
+            with self.subTest(case=case, given=given, within=(start, end)):
+                self.assertEqual([*c.items()], self.moved(a.items()))
+                for how in ((lambda x, y: 10 * x + y,), (lambda x, y: 10 * x + y, 5)):
+                    self.assertEqual([*c.combine(d, *how).items()], self.moved(a.combine(b, *how).items()))
+                low, high = start + self.SHIFT, end + self.SHIFT
+                self.assertEqual(c.overlapping(low, high), self.moved(a.overlapping(start, end)))
+                self.assertEqual([*c[low:high].items()], self.moved(a[start:end].items()))
+                self.assertEqual([*c.gaps(low, high)], [keys for keys, _ in self.moved((it, None) for it in a.gaps(start, end))])
+                self.assertEqual((c == d, len(c)), (a == b, len(a)))
+                c.update(self.moved(b.items()))
+                a.update(b)
+                c.put(low, high, 7)
+                a.put(start, end, 7)
+                self.assertEqual([*c.items()], self.moved(a.items()))
+
+
+class MadeOfOthers(unittest.TestCase):
+    def test_keys_of_each_kind(self):
+        """A map that is made of another one has its kind, and keys of that."""
+        for low, mid, high in [
+            (1, 5, 9),
+            (0.5, 1.0, 2.5),
+            (date(2026, 1, 1), date(2026, 1, 5), date(2026, 2, 1)),
+            (datetime(2026, 1, 1), datetime(2026, 1, 5), datetime(2026, 2, 1)),
+            (IPv4Address("10.0.0.0"), IPv4Address("10.0.1.0"), IPv4Address("10.0.2.0")),
+        ]:
+            items = [((low, mid), "a"), ((mid, high), "b")]
+            made = RangeMap(items)
+            others = {
+                "combined with itself": made.combine(made, max),
+                "combined with nothing": made.combine(RangeMap(), max),
+                "nothing combined with it": RangeMap().combine(made, max),
+                "a copy": made.copy(),
+                "a part": made[low:high],
+                "a deep copy": copy.deepcopy(made),
+                "a pickle": pickle.loads(pickle.dumps(made)),
+                "a map": RangeMap(made),
+            }
+            for what, other in others.items():
+                with self.subTest(what=what, kind=made.kind):
+                    self.assertEqual((other.kind, [*other.items()], [*other]), (made.kind, items, [keys for keys, _ in items]))
+                    self.assertEqual((other.span(), other.range_at(low), other.overlapping(mid, high)), ((low, high), items[0], items[1:]))
+                    other[mid:high] = "a"
+                    self.assertEqual([*other.items()], [((low, high), "a")])
 
 
 if __name__ == "__main__":

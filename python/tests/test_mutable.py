@@ -8,10 +8,11 @@ import random
 import sys
 import time
 import unittest
+from unittest import mock
 
 from range_sets import MutableRangeSet, RangeSet
 from range_sets._core import Chunks
-from range_sets._kinds import NO_KIND, SIGNED, UNSIGNED
+from range_sets._kind import NO_KIND, SIGNED, UNSIGNED
 
 
 class Changes(unittest.TestCase):
@@ -302,6 +303,25 @@ class ManyRanges(unittest.TestCase):
             getattr(made, change)(few)
             getattr(twin, change)(few)
             self.assertEqual((made, made.boundaries.tolist()), (twin, sorted(set(made.boundaries))))
+
+    def test_a_short_set_beside_a_long_one(self):
+        made = MutableRangeSet.from_values(range(0, 80_000, 4))
+        made.discard(40_000)
+        twin, few = RangeSet(made), RangeSet([(400, 401), (404, 405), (50_000, 50_003)])
+        part = few - RangeSet([(50_001, 50_003)])
+        calls = (
+            lambda it: (it & few, few & it, it.intersection(few), few.intersection(it), few - it, few.difference(it)),
+            lambda it: (it.isdisjoint(few), few.isdisjoint(it)),
+            lambda it: (few <= it, part <= it, it >= few, it >= part, few.issubset(it), part.issubset(it), it.issuperset(part)),
+            lambda it: (few < it, it > few, it <= few, it < few, few >= it, it.issubset(few), few.issuperset(it)),
+            lambda it: (it == few, few == it, it != few),
+        )
+        wanted = [call(twin) for call in calls]
+        # None of them makes a list of the long one.
+        whole = mock.PropertyMock(side_effect=AssertionError("a list of all"))
+        with mock.patch.object(MutableRangeSet, "_now", whole):
+            found = [call(made) for call in calls]
+        self.assertEqual(found, wanted)
 
     def test_questions_between_changes(self):
         made, few = MutableRangeSet.from_values(range(0, 800_000, 4)), RangeSet([(2, 3), (400_002, 400_003)])

@@ -85,6 +85,14 @@ class Tagged(MutableRangeSet):
         self.label = label
 
 
+class Noted(RangeMap):
+    """A map that has attributes."""
+
+    def __init__(self, items=(), *, note=None):
+        super().__init__(items)
+        self.note = note
+
+
 # What version 0.2 wrote of RangeSet([(-5, 10), (20, None)]) and of MutableRangeSet([(0, 2**64 - 1)], unsigned=True).
 PICKLES = [
     b"\x80\x02crange_sets._ranges\n_restored\nq\x00(crange_sets\nRangeSet\nq\x01c_codecs\nencode\nq\x02X \x00\x00\x00\xc3\xbb\xc3\xbf\xc3\xbf"
@@ -106,6 +114,13 @@ MAPS = [
     b"\x80\x05\x95e\x00\x00\x00\x00\x00\x00\x00\x8c\x10range_sets._maps\x94\x8c\t_restored\x94\x93\x94\x8c\nrange_sets\x94\x8c\x08RangeMap"
     b"\x94\x93\x94]\x94(J\xfb\xff\xff\xffK\n\x86\x94\x8c\x01a\x94\x86\x94K\x14N\x86\x94]\x94K\x01a\x86\x94e\x8c\x03int\x94\x87\x94R\x94.",
 ]
+
+# The same, as it was pickled with its values before a value could refer to the map.
+WITH_VALUES = (
+    b"\x80\x05\x95|\x00\x00\x00\x00\x00\x00\x00\x8c\x10range_sets._maps\x94\x8c\x07_remade\x94\x93\x94(\x8c\nrange_sets\x94"
+    b"\x8c\x08RangeMap\x94\x93\x94C \xfb\xff\xff\xff\xff\xff\xff\xff\n\x00\x00\x00\x00\x00\x00\x00\x14\x00\x00\x00\x00\x00\x00"
+    b"\x00\x00\x00\x00\x00\x00\x00\x00\x80\x94\x8c\x01a\x94]\x94K\x01a\x86\x94\x8c\x03int\x94\x8c\x06little\x94t\x94R\x94."
+)
 
 
 class Pickles(unittest.TestCase):
@@ -153,6 +168,31 @@ class Pickles(unittest.TestCase):
             (again.kind, RangeMap(kind="date"), RangeMap().kind), ("unsigned", pickle.loads(pickle.dumps(RangeMap(kind="date"))), None)
         )
         self.assertIsNone(pickle.loads(pickle.dumps(RangeMap())).kind)
+
+    def test_maps_whose_values_refer_to_them(self):
+        made, other = RangeMap([((0, 5), [])], kind="int"), RangeMap([((7, 9), {})])
+        made[0].extend([made, other])
+        made[5:6] = (made, "x")
+        other[7]["back"] = made
+        noted = Noted([((0, 5), "a")], note=[])
+        noted.note.append(noted)
+        noted[8:9] = noted.note
+        for protocol in range(pickle.HIGHEST_PROTOCOL + 1):
+            for dumps in (pickle.dumps, pickle._dumps):
+                with self.subTest(protocol=protocol, dumps=dumps):
+                    again = pickle.loads(dumps(made, protocol))
+                    self.assertEqual((len(again), len(again[0]), again[5][1], again.kind), (2, 2, "x", "int"))
+                    self.assertTrue(again is again[0][0] is again[5][0] is again[0][1][7]["back"] and again is not made)
+                    again = pickle.loads(dumps(noted, protocol))
+                    self.assertEqual((type(again), again[0], len(again)), (Noted, "a", 2))
+                    self.assertTrue(again is again[8][0] and again.note is again[8])
+                    # What comes first is the value.
+                    first = pickle.loads(dumps(made[0], protocol))
+                    self.assertTrue(first[0][0] is first and first[1][7]["back"] is first[0])
+
+    def test_maps_that_were_pickled_with_their_values(self):
+        made = RangeMap([((-5, 10), "a"), ((20, None), [1])])
+        self.assertEqual(pickle.loads(WITH_VALUES), made)
 
     def test_maps_in_the_other_order_of_bytes(self):
         ends = array("q", [-5, 10, 20, -(2**63)])

@@ -129,3 +129,15 @@ class Rows(unittest.TestCase):
             # What a wrong row counts, Python may not count: some of them have to be seen.
             self.assertTrue(right and wrong, f"{table}.txt: {right} rows hold, {wrong} wrong ones don't")
             self.assertLessEqual(passed_over, OTHERS | KINDS - OF_ENDS[table] if table in OF_ENDS else OTHERS, table)
+
+    def test_no_row_is_passed_over(self):
+        """Each line that is no comment is a row, of a type that Python has or of three others; and each wrong row is seen to be wrong, but
+        for those that are wrong by how many comparisons a call may make."""
+        self.assertEqual((len(KINDS), sorted(OTHERS)), (10, ["char", "i128", "u128"]))
+        for table, call in CALLS.items():
+            lines = (TABLES / f"{table}.txt").read_text(encoding="utf-8").splitlines()
+            self.assertEqual(len([*rows(table)]), sum(not line.startswith("#") for line in lines), table)
+            for number, is_wrong, kind, given, answered in rows(table):
+                if is_wrong and kind in OF_ENDS.get(table, KINDS) and table not in ("contains", "operations"):
+                    found, want = call(kind, given, answered)
+                    self.assertNotEqual(found, want, f"{table}.txt:{number} is wrong, and holds")

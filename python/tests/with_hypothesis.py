@@ -18,7 +18,7 @@ from hypothesis import strategies as some
 
 import range_sets
 from range_sets import MutableRangeSet, RangeMap, RangeSet
-from range_sets._kinds import kind_of
+from range_sets._kinds import given_kind
 
 settings.register_profile("tests", max_examples=int(os.environ.get("RANGE_SETS_EXAMPLES", "60")), deadline=None, database=None)
 settings.load_profile("tests")
@@ -286,7 +286,7 @@ class EachKind(unittest.TestCase):
     @given(some.one_of(some.tuples(some.just(name), values) for name, values in VALUES.items()))
     def test_numbers_read_back(self, drawn):
         name, value = drawn
-        kind = kind_of(name)
+        kind = given_kind(name)
         code = kind.number(value)
         self.assertEqual(kind.value(code), value)
         for other in ELEMENTS[name]:

@@ -193,6 +193,9 @@ class Sets(unittest.TestCase):
         made = RangeSet([(-3, 2), (5, 9), (2**63 - 2, None)])
         for values in (
             numpy.arange(-5, 12),
+            numpy.arange(-5, 12)[::-1],
+            numpy.arange(-5, 12).repeat(2),
+            i64(8, -4, 5, 2**63 - 2, 1, 9, -3, 2**63 - 1, 4, 4),
             numpy.arange(-5, 11, dtype=numpy.int8).reshape(4, 4)[:, ::2],
             i64(),
             i64(2**63 - 1),

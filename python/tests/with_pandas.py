@@ -15,7 +15,7 @@ import numpy
 import pandas
 
 from range_sets import MutableRangeSet, RangeMap, RangeSet
-from range_sets._kinds import Times
+from range_sets._times import Times
 
 
 class Frames(unittest.TestCase):

@@ -1,9 +1,16 @@
 //! The ranges that calls take: those of all kinds that std has.
+//!
+//! | A call that | takes |
+//! |---|---|
+//! | puts a range in or takes it out, or asks whether it is in | [`AnyRange`] |
+//! | makes a set of many ranges, or extends one | [`IntoRange`] |
+//! | needs an end, as `first_fit` does | [`Ended`] |
+//! | finds the ranges that overlap another | [`Overlaps`] |
+//! | finds the parts of a range that are in a set, or not | [`Within`] |
 
 mod by_value;
 mod within;
 
-pub(crate) use by_value::{ends_by, from_first};
 pub use by_value::{Ended, Overlaps, PartsOf};
 pub use within::{PartsFrom, PartsWithin, Within};
 

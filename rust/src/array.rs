@@ -1,4 +1,4 @@
-//! Arrays that say how many boundaries lie in a set itself, and what a set asks of its list.
+//! Arrays that say how many boundaries lie in a set itself, and the calls that a set's list has.
 
 use crate::entry::RangeSetEntry;
 use crate::generated::range_chunks::ChunkedRangeSet;
@@ -72,20 +72,19 @@ impl<T, const N: usize> Storage for [T; N] {
     }
 }
 
-/// How starts and ends are sorted that aren't numbers. These take no memory.
+/// How starts and ends are sorted if they aren't numbers, whose sorting takes no memory.
 #[derive(Clone, Copy)]
 pub enum Sorting {
-    /// By std, which ends the process if memory runs out.
+    /// By std's sort, which ends the process if memory runs out.
     ByStd,
-    /// So that it may be refused memory, which takes longer.
+    /// By a sort that returns an error if memory runs out. It takes longer.
     Fallible,
 }
 
-/// What a set asks of its list. Each call is one of the generated code's, which names the length of
-/// the array.
+/// The list of boundaries of a set. Most functions are those of the generated code, which have the
+/// array's length as a parameter.
 ///
-/// A list that comes out of a call, or that a call has changed, is strictly sorted where those that
-/// went in were.
+/// A list that a function returns or changes is strictly sorted if those that it was given were.
 pub trait List: Sized {
     type Item;
 
@@ -113,8 +112,7 @@ pub trait List: Sized {
         Ok(list)
     }
 
-    /// The boundaries of the union of ranges. Those that don't come in order are sorted in this
-    /// way.
+    /// The boundaries of the union of ranges. Ranges that don't come in order are sorted first.
     fn of_ranges(
         ranges: impl Iterator<Item = RangeSetRange<Self::Item>>,
         sorting: Sorting,
@@ -147,7 +145,7 @@ pub trait List: Sized {
     where
         Self::Item: RangeSetEntry;
 
-    /// The boundaries of the ranges that a text has.
+    /// The boundaries of the union of the ranges in a text.
     fn parsed(text: &str) -> Result<Self, ParseError>
     where
         Self::Item: EntryClone + WholeNumber;
@@ -183,7 +181,8 @@ pub trait List: Sized {
         }
     }
 
-    /// Leaves the boundaries at which an operation with a borrowed list switches.
+    /// Keeps the boundaries at which an operation with a borrowed list switches, and adds copies of
+    /// the other list's.
     fn merge_ref<P, O>(
         &mut self,
         that: &[Self::Item],
@@ -195,14 +194,14 @@ pub trait List: Sized {
         P: Copier<Self::Item>,
         O: MergeOperation;
 
-    /// Leaves the boundaries at which an operation with an owned list switches. An error gives that
-    /// list back.
+    /// Keeps the boundaries at which an operation with an owned list switches, and moves the other
+    /// list's. An error gives that list back.
     fn merge_owned<O>(&mut self, that: Self, op: &O) -> Result<(), (AllocError, Self)>
     where
         Self::Item: Ord,
         O: MergeOperation;
 
-    /// Puts a range in, or takes it out.
+    /// Adds the values of a range if `inside` is true, and else removes them.
     fn set_range(
         &mut self,
         range: RangeSetRange<Self::Item>,
@@ -216,7 +215,7 @@ pub trait List: Sized {
     where
         Self::Item: Ord;
 
-    /// The boundaries of a set in chunks, or the set as it was.
+    /// The boundaries of a set in chunks. An error gives the set back as it was.
     fn of_chunks(
         set: ChunkedRangeSet<Self::Item>,
     ) -> Result<Self, (AllocError, ChunkedRangeSet<Self::Item>)>
@@ -238,10 +237,10 @@ pub trait List: Sized {
     /// Makes room for `n` more items.
     fn reserve(&mut self, n: usize) -> Result<(), AllocError>;
 
-    /// Gives back the room that the items don't need. What the allocator doesn't take back stays.
+    /// Gives back the room that the items don't need, if the allocator takes it.
     fn shrink_to_fit(&mut self);
 
-    /// Drops all items. The list is left empty, also if a drop panics.
+    /// Drops all items. The list is empty afterwards even if a drop panics.
     fn clear(&mut self);
 
     /// Takes the first range out.
@@ -250,8 +249,8 @@ pub trait List: Sized {
     /// Takes the last range out.
     fn take_last(&mut self) -> Option<RangeSetRange<Self::Item>>;
 
-    /// Leaves the ranges for which `keep` is true. The list is left empty if `keep` or a drop
-    /// panics.
+    /// Keeps the ranges for which `keep` returns `true`. If `keep` or a drop panics, the list is
+    /// empty.
     fn retain(&mut self, keep: impl FnMut(RangeSetRange<&Self::Item>) -> bool);
 }
 
@@ -473,7 +472,7 @@ impl<T, const N: usize> List for support::SmallVec<T, N> {
     }
 
     fn retain(&mut self, mut keep: impl FnMut(RangeSetRange<&T>) -> bool) {
-        // A panic drops this list, whose items may be out of order by then.
+        // If something panics, this list is dropped: its items may be out of order by then.
         let mut list = mem::replace(self, Self::EMPTY);
         let (mut kept, mut at) = (0, 0);
         while at < list.len() {

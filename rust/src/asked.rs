@@ -1,4 +1,4 @@
-//! What is asked of a view and of a set in chunks alike. Nothing here takes memory.
+//! Questions that views and sets in chunks have in common. None takes memory.
 
 use crate::any_range::{AnyRange, Ended, Within};
 use crate::chunked::ChunkedRangeSet;
@@ -68,7 +68,7 @@ macro_rules! questions {
             pub fn contains_range(&self, range: impl AnyRange<T>) -> bool {
                 match range.into() {
                     RangeSetRange::Range(range) => self.proved().contains_range(range),
-                    RangeSetRange::RangeFrom(range) => self.next_gap(&range.start).is_none(),
+                    RangeSetRange::RangeFrom(range) => self.has_all_from(&range.start),
                 }
             }
 
@@ -92,8 +92,20 @@ macro_rules! questions {
             pub fn intersects_range(&self, range: impl AnyRange<T>) -> bool {
                 match range.into() {
                     RangeSetRange::Range(range) => self.proved().intersects_range(range),
-                    RangeSetRange::RangeFrom(range) => self.next_member(&range.start).is_some(),
+                    RangeSetRange::RangeFrom(range) => self.has_some_from(&range.start),
                 }
+            }
+
+            /// Whether every value at or above `start` is a member.
+            #[inline]
+            pub(crate) fn has_all_from(&self, start: &T) -> bool {
+                self.next_gap(start).is_none()
+            }
+
+            /// Whether some value at or above `start` is a member.
+            #[inline]
+            pub(crate) fn has_some_from(&self, start: &T) -> bool {
+                self.next_member(start).is_some()
             }
 
             /// Returns the range that has `value`, or `None` if it is no member.
@@ -140,8 +152,7 @@ macro_rules! questions {
             /// none.
             ///
             /// It is `from` itself if that is no member, else the end of the range that has it. It
-            /// makes
-            /// *O*(log *n*) comparisons.
+            /// makes *O*(log *n*) comparisons.
             ///
             /// # Examples
             ///

@@ -25,10 +25,10 @@
 //! busy.insert(720..780);
 //! ```
 //!
-//! [`RangeSet`] here has the calls of [`crate::RangeSet`] under the same names. It dereferences to [`RangeSetRef`] for
-//! the questions, none of which takes memory, and a set goes either way by `into` without a copy. A
-//! view has operations of its own, which end the process: [`RangeSet::copied`] makes a set of it
-//! first.
+//! [`RangeSet`] here has the calls of [`crate::RangeSet`] under the same names. It dereferences to
+//! [`RangeSetRef`] for the questions, none of which takes memory, and a set goes either way by
+//! `into` without a copy. A view has operations of its own, which end the process:
+//! [`RangeSet::copied`] makes a set of it first.
 //!
 //! Copies are made by [`EntryClone`] in place of `Clone`, which has no answer for a failure.
 //!

@@ -1,25 +1,45 @@
 //! The two forms of a type: its calls end the process if memory runs out, or they return an error.
 //!
-//! A macro writes the calls of both from one text. [`both_forms`] passes it what differs: the
-//! module of the form, the trait that copies elements, and words for the documentation. `$ok` ends
-//! a line of an example that may fail, and `$end` ends the example.
+//! A macro writes the calls of both from one text. [`both_forms`] passes it what differs.
 
 /// Calls a macro for each form.
 macro_rules! both_forms {
     ($calls:ident) => {
         $calls! {
-            ends, Clone, must_use, no_errors,
-            "range_sets", "from", ";", ""
+            // `$form`: the module of the form.
+            ends,
+            // `$Clone`: the trait that copies elements.
+            Clone,
+            // `$must_use`: the attribute of a call whose result has to be used.
+            must_use,
+            // `$errors`: the macro that writes the documentation of errors.
+            no_errors,
+            // `$at`: where an example finds the types.
+            "range_sets",
+            // `$from`: the call by which an example makes a set of a range.
+            "from",
+            // `$ok`: the end of a line of an example that may fail.
+            ";",
+            // `$end`: the last line of such an example.
+            ""
         }
         $calls! {
-            fails, EntryClone, cfg_attr(any(), must_use), errors,
-            "range_sets::fallible", "try_from", "?;",
+            fails,
+            EntryClone,
+            // No attribute, since `any()` is false: a `Result` has to be used anyway, and clippy
+            // calls a second `must_use` one too many.
+            cfg_attr(any(), must_use),
+            errors,
+            "range_sets::fallible",
+            "try_from",
+            "?;",
             "# Ok::<(), range_sets::fallible::AllocError>(())"
         }
     };
 }
 
-/// What the documentation says of errors. The other form may have a text of its own.
+/// Writes the section of the documentation about errors. `$ends` is what the other form has in its
+/// place.
 macro_rules! errors {
     ($errors:literal) => {
         concat!("# Errors\n\n", $errors, "\n\n")
@@ -38,24 +58,53 @@ macro_rules! no_errors {
     };
 }
 
+/// Writes the documentation of operations in place with a view, of sets in one list and of those in
+/// chunks. Before `=>` stands the value from which on the view of an example has all, and behind it
+/// what `0..10` then is.
+macro_rules! operations_with {
+    (
+        $Set:literal, $form:ident, $errors:ident, $at:literal, $ok:literal, $end:literal:
+        $(
+            $(#[$does:meta])*
+            pub fn $call:ident($self:ident, $that:ident), $value:literal => $after:literal $body:block
+        )*
+    ) => {$(
+        $(#[$does])*
+        ///
+        #[doc = $errors!("If memory runs out or a copy of a boundary fails. The set is then as it \
+            was.")]
+        /// # Examples
+        ///
+        /// ```
+        #[doc = concat!("use ", $at, "::", $Set, ";")]
+        /// use range_sets::RangeSetRef;
+        ///
+        #[doc = concat!("let mut set = ", $Set, "::from_ranges([0..10])", $ok)]
+        #[doc = concat!("set.", stringify!($call), "(RangeSetRef::single(&", $value, "))", $ok)]
+        #[doc = concat!("assert_eq!(set.to_string(), ", stringify!($after), ");")]
+        #[doc = $end]
+        /// ```
+        pub fn $call(&mut $self, $that: &RangeSetRef<T>) -> $form::Returned<()> $body
+    )*};
+}
+
 /// If memory runs out, a call ends the process, as those of std's collections do.
 pub(crate) mod ends {
     use crate::array::Sorting;
     use crate::generated::range_collections::ParseError;
-    use crate::generated::range_map::InsertError;
     pub(crate) use crate::memory::{
-        expect_memory as given, expect_room as room, ByClone as Copier,
+        expect_memory as returned, expect_room as reserved, ByClone as Copier,
     };
     use crate::memory::{out_of_memory, AllocError};
     pub use crate::{
         chunked::ChunkedRangeSet, map::RangeMap, range_set::RangeSet, space::ChunkedSpace,
     };
 
-    pub type Given<R> = R;
-    /// What comes back of a value whose range isn't free.
-    pub type NotFree<V> = V;
+    /// What a call returns that may ask for memory.
+    pub type Returned<R> = R;
     pub(crate) const SORTING: Sorting = Sorting::ByStd;
 
+    /// The result of reading a text, which doesn't fail for lack of memory.
     pub(crate) fn parsed<T, R>(result: Result<R, ParseError>) -> Result<R, ParseError> {
         match result {
             Err(ParseError::OutOfMemory) => out_of_memory::<T>(),
@@ -63,40 +112,33 @@ pub(crate) mod ends {
         }
     }
 
-    pub(crate) fn if_free<T, V>(result: Result<(), InsertError<V>>) -> Result<(), V> {
-        result.map_err(|refused| match refused {
-            InsertError::NotFree(value) => value,
-            InsertError::OutOfMemory(_) => out_of_memory::<T>(),
-        })
-    }
-
+    /// The result of a call whose own errors are of another type.
     pub(crate) fn or_error<T, R, E>(
         result: Result<R, AllocError>,
         _error: impl FnOnce(AllocError) -> E,
     ) -> Result<R, E> {
-        Ok(given::<T, _, _>(result))
+        Ok(returned::<T, _, _>(result))
     }
 }
 
-/// If memory runs out, a call returns an error.
-// The other form names the elements in a panic, so these have their type too.
+/// If memory runs out, a call returns an error. The functions do what those of `ends` do.
+// `T` says there for how large an element there was no memory.
 #[allow(clippy::extra_unused_type_parameters)]
 pub(crate) mod fails {
     use crate::array::Sorting;
     use crate::fallible::AllocError;
-    pub use crate::fallible::{ChunkedRangeSet, ChunkedSpace, InsertError, RangeMap, RangeSet};
+    pub use crate::fallible::{ChunkedRangeSet, ChunkedSpace, RangeMap, RangeSet};
     pub use crate::generated::range_collections::EntryCopier as Copier;
     use crate::generated::range_collections::ParseError;
 
-    pub type Given<R> = Result<R, AllocError>;
-    pub type NotFree<V> = InsertError<V>;
+    pub type Returned<R> = Result<R, AllocError>;
     pub(crate) const SORTING: Sorting = Sorting::Fallible;
 
-    pub(crate) fn given<T, R, E>(result: Result<R, E>) -> Result<R, E> {
+    pub(crate) fn returned<T, R, E>(result: Result<R, E>) -> Result<R, E> {
         result
     }
 
-    pub(crate) fn room<T, R>(result: Given<R>, _items: Option<usize>) -> Given<R> {
+    pub(crate) fn reserved<T, R>(result: Returned<R>, _items: Option<usize>) -> Returned<R> {
         result
     }
 
@@ -104,12 +146,8 @@ pub(crate) mod fails {
         result
     }
 
-    pub(crate) fn if_free<T, V>(result: Result<(), NotFree<V>>) -> Result<(), NotFree<V>> {
-        result
-    }
-
     pub(crate) fn or_error<T, R, E>(
-        result: Given<R>,
+        result: Returned<R>,
         error: impl FnOnce(AllocError) -> E,
     ) -> Result<R, E> {
         result.map_err(error)

@@ -8,7 +8,7 @@ use crate::generated::range_collections::Countable;
 use crate::memory::AllocError;
 use crate::range::RangeSetRange;
 use crate::range_set::RangeSet2;
-use crate::tracker::{ChunkedTracker, Tracker};
+use crate::tracker::{self, ChunkedTracker, Tracker};
 use crate::view::RangeSetRef;
 use core::fmt;
 use core::marker::PhantomData;
@@ -178,8 +178,8 @@ macro_rules! trackers {
         impl<'de> Deserialize<'de> for $tracker {
             fn deserialize<D: Deserializer<'de>>(deserializer: D) -> Result<Self, D::Error> {
                 let (limit, set) = <(usize, RangeSet2<u64>)>::deserialize(deserializer)?;
-                if limit > usize::MAX - 2 {
-                    return Err(D::Error::custom("the limit is more than a list can have"));
+                if limit > tracker::MOST {
+                    return Err(D::Error::custom(tracker::TOO_MUCH));
                 }
                 $tracker::from_set(limit, &set).map_err(D::Error::custom)
             }

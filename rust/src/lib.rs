@@ -13,17 +13,22 @@
 //!
 //! - [`RangeSet`] owns its boundaries, and [`RangeSetRef`] borrows them, as `String` and `str` do.
 //! - [`ChunkedRangeSet`] is changed one range at a time, and grows to millions of ranges.
-//! - Union, intersection, difference, complement, as operators and by name; ranges put in and taken out; gaps; counts.
-//! - The calls are those of the crate range-collections 0.4.6, so a program changes its `use` lines and compiles.
+//! - Union, intersection, difference, complement, as operators and by name; ranges put in and taken
+//!   out; gaps; counts.
+//! - The calls are those of the crate range-collections 0.4.6, so a program changes its `use` lines
+//!   and compiles.
 //! - [`fallible`] has the same calls for those who can't let memory run out.
 //! - [`tracker`] keeps which pieces of a file have come.
 //!
 //! # Features
 //!
-//! - `std` (on by default): `std::error::Error` for the error types. Without it the crate asks for `alloc` alone.
-//! - `serde`: sets are written and read as sequences of boundaries, and by the module `pairs` as pairs of them.
+//! - `std` (on by default): `std::error::Error` for the error types. Without it the crate asks for
+//!   `alloc` alone.
+//! - `serde`: sets are written and read as sequences of boundaries, and by the module `pairs` as
+//!   pairs of them.
 //! - `new_unchecked`: `new_unchecked` of sets and views.
-//! - `c`: internal. What the layer in C of `range_set.h` calls, which is no part of the crate's promises.
+//! - `c`: internal. What the layer in C of `range_set.h` calls, which is no part of the crate's
+//!   promises.
 #![cfg_attr(not(feature = "std"), no_std)]
 #![cfg_attr(docsrs, feature(doc_cfg))]
 #![deny(unsafe_code, unsafe_op_in_unsafe_fn)]
@@ -144,4 +149,4 @@ pub use range::RangeSetRange;
 pub use range_set::{RangeSet, RangeSet2};
 pub use space::ChunkedSpace;
 pub use text::{Expected, ParseError, TextEntry};
-pub use view::RangeSetRef;
+pub use view::{Cursor, RangeSetRef};

@@ -7,6 +7,7 @@ mod by_ref;
 mod changes;
 mod combining;
 mod composed;
+mod forms;
 mod iter;
 #[cfg(feature = "serde")]
 mod json;
@@ -18,10 +19,13 @@ pub use composed::{Keys, Values};
 pub use iter::{Gaps, IntoIter, Iter};
 pub use kept::ByClone;
 pub(crate) use kept::{Copies, Kept};
+pub(crate) use steps::Changes;
 
-use crate::any_range::{ends_by, from_first, AnyRange, Overlaps, Within};
+use crate::any_range::{AnyRange, Overlaps, Within};
+use crate::generated::range_collections::Comparisons;
 use crate::generated::range_entry::EntryClone;
 use crate::generated::range_map as proved;
+use crate::generated::range_map::places::{option_before, place_up_to};
 use crate::generated::range_map::{InsertError, MapFilter};
 use crate::memory::AllocError;
 use crate::range::RangeSetRange;
@@ -60,8 +64,8 @@ use core::ops::Range;
 ///
 /// # Memory
 ///
-/// A value is cloned only if a range becomes two, or into a new map. A call that is refused memory
-/// ends the process, as std's collections do.
+/// A value is cloned only where a range becomes two or [`update`](RangeMap::update) ends, or into a
+/// new map. A call that is refused memory ends the process, as std's collections do.
 /// [`fallible::RangeMap`](crate::fallible::RangeMap) returns an error instead.
 ///
 /// # Panics in keys and values
@@ -220,8 +224,7 @@ impl<K: Ord, V: Eq, C> Map<K, V, C> {
     /// Returns an iterator over the ranges that share a key with a range [of any kind](Overlaps),
     /// from the lowest on, each with its value. They aren't cut.
     ///
-    /// It makes *O*(log *n*) comparisons, and none for a step. If neither the range nor the map has
-    /// an end, it takes a step for each range before.
+    /// It makes *O*(log *n*) comparisons, and none for a step.
     ///
     /// # Examples
     ///
@@ -233,13 +236,14 @@ impl<K: Ord, V: Eq, C> Map<K, V, C> {
     /// assert_eq!(guests, ["Ada", "Bob"]);
     /// ```
     pub fn overlapping(&self, range: impl Overlaps<K>) -> Iter<'_, K, V, C> {
-        range.found(|range| match (range, self.span()) {
-            (RangeSetRange::Range(range), _) => Iter::new(self.0.overlapping(range)),
-            (RangeSetRange::RangeFrom(range), Some(RangeSetRange::Range(all))) => {
-                Iter::new(self.0.overlapping(range.start..all.end))
-            }
-            (RangeSetRange::RangeFrom(range), _) => {
-                from_first(self.iter(), |(it, _)| ends_by(it, range.start))
+        range.found(|range| match range {
+            RangeSetRange::Range(range) => Iter::new(self.0.overlapping(range)),
+            RangeSetRange::RangeFrom(range) => {
+                let steps = &self.0.steps;
+                let above = place_up_to(steps, range.start, &mut Comparisons::new());
+                // The step before may begin a range that holds the start.
+                let left = steps.between(steps.place_before(above), steps.end());
+                Iter::new(proved::Iter::new(left, None))
             }
         })
     }
@@ -264,6 +268,15 @@ impl<K: Ord, V: Eq, C> Map<K, V, C> {
     /// ```
     pub fn gaps<'a, R: Within<'a, K, Self>>(&'a self, within: R) -> R::Parts {
         within.parts_of(self, false)
+    }
+
+    /// Whether the key has a value, and where that changes above it.
+    pub(crate) fn changes_above(&self, key: &K) -> (bool, Changes<'_, K, V, C>) {
+        let steps = &self.0.steps;
+        let above = place_up_to(steps, key, &mut Comparisons::new());
+        let has_value = option_before(steps, above).is_some();
+        let left = steps.between(above, steps.end());
+        (has_value, Changes::new(left, has_value))
     }
 
     #[inline(always)]
@@ -306,19 +319,19 @@ impl<K: Ord, V: Eq, C> Map<K, V, C> {
         self.changed(|map| map.clear());
     }
 
-    /// The same map, whose values are copied in another way.
+    /// The same map, with values that are copied in another way.
     pub(crate) fn copied_by<D>(self) -> Map<K, V, D> {
         Map::of_others(self.0, |kept| Kept::new(kept.value))
     }
 
-    /// A map whose values are made of those of another one.
+    /// The map with each value of another one made into a value of this type.
     fn of_others<W: Eq>(map: proved::RangeMap<K, W>, of: impl Fn(W) -> Kept<V, C>) -> Self {
         let steps = steps::of_others(map.steps, |key| key, of);
         Map(proved::RangeMap { steps })
     }
 
-    /// Changes the map, which is taken out meanwhile, since a change is made step by step. If
-    /// something panics between, the map is empty.
+    /// Changes the map. It is empty meanwhile, and stays so if the change panics, since a change
+    /// that is made in part may leave steps out of order.
     #[inline(always)]
     fn changed<R>(&mut self, change: impl FnOnce(&mut proved::RangeMap<K, Kept<V, C>>) -> R) -> R {
         let mut taken = mem::replace(&mut self.0, proved::RangeMap::new(Global));

@@ -1,5 +1,5 @@
-//! What a call does if memory runs out: here it ends the process, as std does. The calls of
-//! `fallible` don't.
+//! Ends the process if memory runs out, as std's collections do. The calls of `fallible` return an
+//! error instead.
 
 use crate::generated::range_merge::Copier;
 pub(crate) use crate::support::AllocError;
@@ -41,13 +41,14 @@ impl<T: Clone> Copier<T> for ByClone {
         Ok(item.clone())
     }
 
-    /// Of elements without a drop, such as numbers: if a clone panics, nothing is to be dropped.
+    /// True of elements without a drop, such as numbers: if a clone panics, there is nothing to
+    /// drop.
     #[inline(always)]
     fn all_infallible(&self) -> bool {
         !mem::needs_drop::<T>()
     }
 
-    /// Of short elements without a drop, which may be copied again from a copy.
+    /// True of short elements without a drop: a copy can be copied again in place of the element.
     #[inline(always)]
     fn is_plain(&self) -> bool {
         !mem::needs_drop::<T>() && mem::size_of::<T>() <= mem::size_of::<u64>()

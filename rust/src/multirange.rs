@@ -11,11 +11,10 @@ use crate::forms::{ends, fails};
 use crate::generated::range_collections::{FromPlace, WholeNumber};
 use crate::memory::AllocError;
 use crate::range::RangeSetRange;
-use crate::range_set::RangeSet2;
+use crate::range_set::{union_of_read, RangeSet2};
 use crate::view::RangeSetRef;
 use alloc::string::{String, ToString};
 use core::fmt;
-use core::iter;
 use core::mem;
 
 /// A text is no multirange of a type's numbers, or memory ran out.
@@ -191,16 +190,8 @@ fn read<L: List>(text: &str, sorting: Sorting) -> Result<Result<L, AllocError>, 
 where
     L::Item: WholeNumber + RangeSetEntry + NextValue,
 {
-    let (mut reader, mut failed) = (Reader::new(text), None);
-    let ranges = iter::from_fn(|| match reader.next() {
-        Ok(range) => range,
-        Err(error) => {
-            failed = Some(error);
-            None
-        }
-    });
-    let list = L::of_ranges(ranges, sorting);
-    failed.map_or(Ok(list), Err)
+    let mut reader = Reader::new(text);
+    union_of_read(|| reader.next(), sorting)
 }
 
 /// Reads the ranges of a text one by one.
@@ -254,7 +245,7 @@ impl<'a> Reader<'a> {
         let word = self.rest.get(.."empty".len());
         if word.map_or(false, |word| word.eq_ignore_ascii_case("empty")) {
             self.rest = &self.rest["empty".len()..];
-            return Ok(RangeSetRange::Range(T::min_value()..T::min_value()));
+            return Ok(nothing());
         }
         let has_start = self.takes('[');
         let opened = has_start || self.takes('(');
@@ -327,7 +318,12 @@ fn half_open<T: RangeSetEntry + NextValue>(
     };
     match start {
         Some(start) => RangeSetRange::of_ends(start, end),
-        // Nothing is above the greatest number.
-        None => RangeSetRange::Range(T::min_value()..T::min_value()),
+        // The start would be above the greatest number.
+        None => nothing(),
     }
+}
+
+/// An empty range.
+fn nothing<T: RangeSetEntry>() -> RangeSetRange<T> {
+    RangeSetRange::Range(T::min_value()..T::min_value())
 }

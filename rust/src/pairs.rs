@@ -31,15 +31,14 @@
 //! # Ok::<(), serde_json::Error>(())
 //! ```
 
-use crate::array::{Array, List, Sorting};
+use crate::array::{Array, Sorting};
 use crate::forms::ends;
 use crate::json::passed_over;
 use crate::memory::AllocError;
 use crate::range::RangeSetRange;
-use crate::range_set::RangeSet;
+use crate::range_set::{union_of_read, RangeSet};
 use crate::view::RangeSetRef;
 use core::fmt;
-use core::iter;
 use core::marker::PhantomData;
 use serde::de::{Deserialize, Deserializer, Error, SeqAccess, Visitor};
 use serde::ser::{Serialize, Serializer};
@@ -125,19 +124,13 @@ impl<'de, T: Deserialize<'de> + Ord, A: Array<Item = T>> Visitor<'de> for Pairs<
     }
 
     fn visit_seq<S: SeqAccess<'de>>(self, mut pairs: S) -> Result<Self::Value, S::Error> {
-        let mut failed = None;
-        let ranges = iter::from_fn(|| match pairs.next_element::<(T, Option<T>)>() {
-            Ok(pair) => pair.map(|(start, end)| RangeSetRange::of_ends(start, end)),
-            Err(error) => {
-                failed = Some(error);
-                None
-            }
-        });
-        let list = A::List::of_ranges(ranges, self.sorting);
-        match (failed, list) {
-            (Some(error), _) => Err(error),
-            (None, Err(refused)) => passed_over(pairs, refused),
-            (None, list) => Ok(list),
+        let next = || {
+            let pair = pairs.next_element::<(T, Option<T>)>()?;
+            Ok(pair.map(|(start, end)| RangeSetRange::of_ends(start, end)))
+        };
+        match union_of_read(next, self.sorting)? {
+            Err(refused) => passed_over(pairs, refused),
+            list => Ok(list),
         }
     }
 }

@@ -14,7 +14,7 @@ pub use crate::entry::RangeSetEntry;
 pub use crate::iter::{Gaps, IntoIter, Iter, Members, RangesWithin};
 pub use crate::range::RangeSetRange;
 pub use crate::view::RangeSetRef;
-pub(crate) use joining::{intersection_of_sets, union_of_sets};
+pub(crate) use joining::{intersection_of_sets, union_of_read, union_of_sets};
 
 use crate::array::List;
 #[cfg(feature = "new_unchecked")]

@@ -10,6 +10,7 @@ use crate::any_range::AnyRange;
 use crate::chunked::ChunkedRangeSet;
 use crate::generated::range_chunked_tracker;
 use crate::generated::range_chunks::Gaps;
+use crate::generated::range_list::Chunks;
 use crate::generated::range_tracker;
 use crate::memory::AllocError;
 use crate::range::RangeSetRange;
@@ -86,7 +87,7 @@ impl Tracker {
         Ok(RangeSet2::of_list(missing.into_inner()))
     }
 
-    /// What is there, for its gaps.
+    /// The offsets that have come, as `gaps` looks at them.
     fn there(&self) -> &RangeSetRef<u64> {
         RangeSetRef::over(self.0.set.as_ref().boundaries())
     }
@@ -153,9 +154,13 @@ impl ChunkedTracker {
         self.0.missing(len).map(ChunkedRangeSet::of_proved)
     }
 
-    /// What is there, for its gaps.
+    /// The offsets that have come, as `gaps` looks at them.
     fn there(&self) -> &Self {
         self
+    }
+
+    pub(crate) fn boundaries(&self) -> &Chunks<u64, bool> {
+        &self.0.list
     }
 
     #[inline(always)]
@@ -180,16 +185,19 @@ impl Clone for Command {
     }
 }
 
-/// The limit, which leaves a list room for one more range.
+/// The limit itself. It panics if that leaves a list no room for one more range.
 fn checked(limit: usize) -> usize {
-    assert!(
-        limit <= usize::MAX - 2,
-        "the limit is more than a list can have"
-    );
+    assert!(limit <= MOST, "{TOO_MUCH}");
     limit
 }
 
-/// The range with an end, where it has none: no offset is above it.
+/// The greatest limit: while a range is added, a list may have two boundaries more.
+pub(crate) const MOST: usize = usize::MAX - 2;
+
+/// The message about a greater limit.
+pub(crate) const TOO_MUCH: &str = "the limit is more than a list can have";
+
+/// The range, with the greatest offset as its end if it has none.
 fn ended(range: impl AnyRange<u64>) -> Range<u64> {
     match range.into() {
         RangeSetRange::Range(range) => range,

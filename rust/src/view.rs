@@ -1,5 +1,6 @@
 //! A borrowed set: its boundaries as a slice.
 
+mod cursor;
 mod fitting;
 mod operations;
 mod operators;
@@ -7,6 +8,7 @@ mod parts;
 mod questions;
 
 use crate::generated::range_collections as proved;
+pub use cursor::Cursor;
 
 /// A borrowed set of values: a slice of strictly sorted boundaries behind a reference.
 ///

@@ -2,11 +2,9 @@
 
 mod common;
 
-use common::{one_in, Random};
+use common::{hash, one_in, Random};
 use range_sets::tracker::{ChunkedTracker, Command, TrackError, Tracker};
 use range_sets::{fallible, ChunkedRangeSet, ChunkedSpace, RangeMap, RangeSet2, RangeSetRange};
-use std::collections::hash_map::DefaultHasher;
-use std::hash::{Hash, Hasher};
 use std::time::{Duration, SystemTime};
 
 type Cells = [Option<u8>; 16];
@@ -362,11 +360,6 @@ fn sets_in_chunks_of_each_range() {
 
 #[test]
 fn a_space_is_its_set() {
-    fn hash(value: &impl Hash) -> u64 {
-        let mut hasher = DefaultHasher::new();
-        value.hash(&mut hasher);
-        hasher.finish()
-    }
     let set = ChunkedRangeSet::from([0u64..64, 80..128]);
     let space = ChunkedSpace::from(set.clone());
     assert_eq!(

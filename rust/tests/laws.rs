@@ -2,10 +2,8 @@
 
 mod common;
 
-use common::{pairs, set, Random};
-use range_sets::{Connective, RangeSet2, RangeSetRange};
-use std::collections::hash_map::DefaultHasher;
-use std::hash::{Hash, Hasher};
+use common::{hash, pairs, set, Random};
+use range_sets::{ChunkedRangeSet, ChunkedSpace, Connective, RangeMap, RangeSet2, RangeSetRange};
 
 fn triples() -> impl Iterator<Item = [RangeSet2<u8>; 3]> {
     let mut random = Random(99);
@@ -118,18 +116,32 @@ fn gaps_and_parts_of_a_range_make_it_up() {
 
 #[test]
 fn equal_sets_have_one_hash_and_one_view() {
-    let hash = |it: &dyn Fn(&mut DefaultHasher)| {
-        let mut hasher = DefaultHasher::new();
-        it(&mut hasher);
-        hasher.finish()
-    };
     for [a, b, _] in triples() {
         let same = (&a | &b) ^ (&b - &a);
         assert_eq!(same, a);
-        assert_eq!(hash(&|h| same.hash(h)), hash(&|h| a.hash(h)));
-        assert_eq!(hash(&|h| (*a).hash(h)), hash(&|h| a.hash(h)));
+        assert_eq!(hash(&same), hash(&a));
+        assert_eq!(hash(&*a), hash(&a));
         assert_eq!(a.partial_cmp(&b), Some(a.cmp(&b)));
         assert_eq!((*a).cmp(&*b), a.cmp(&b));
+    }
+}
+
+/// Of two values one after the other the hash says where the first one ends.
+#[test]
+fn a_hash_has_an_end() {
+    macro_rules! ends {
+        ($($some:expr;)*) => {$({
+            let (mut some, mut none) = ($some, Default::default());
+            let before = hash(&(&some, &none));
+            std::mem::swap(&mut some, &mut none);
+            assert_ne!(hash(&(&some, &none)), before, stringify!($some));
+        })*};
+    }
+    ends! {
+        RangeSet2::from(3..5);
+        ChunkedRangeSet::from(3..5);
+        ChunkedSpace::from_ranges([3..5, 7..9]);
+        RangeMap::from([(3..5, 'a')]);
     }
 }
 

@@ -43,6 +43,49 @@ fn members_are_those_of_the_bitmap() {
     }
 }
 
+/// Every value up to 70, in ascending order, in descending order, each twice, at random.
+fn orders() -> [Vec<u8>; 4] {
+    let mut random = Random(5);
+    let ascending: Vec<u8> = (0..70).collect();
+    [
+        ascending.clone(),
+        ascending.iter().rev().copied().collect(),
+        ascending.iter().flat_map(|&value| [value; 2]).collect(),
+        (0..300).map(|_| random.below(70) as u8).collect(),
+    ]
+}
+
+#[test]
+fn a_cursor_answers_as_its_set_in_every_order() {
+    let empty_and_all = [(0, 0), (!0, 0)];
+    for (a, _) in pairs().step_by(16).chain(empty_and_all) {
+        let set: RangeSet2<u8> = set(a);
+        for order in orders() {
+            let mut cursor = set.cursor();
+            for value in order {
+                let copied = cursor;
+                assert_eq!(cursor.contains(&value), set.contains(&value), "{copied:?}");
+                assert_eq!(
+                    { copied }.contains(&value),
+                    set.contains(&value),
+                    "{copied:?}"
+                );
+            }
+        }
+    }
+}
+
+#[test]
+fn a_cursor_shows_its_place() {
+    let set = RangeSet2::from_ranges([1..3, 5..8]);
+    let mut cursor = set.cursor();
+    assert!(cursor.contains(&2));
+    assert_eq!(
+        format!("{cursor:?}"),
+        "Cursor { before: [1], after: [3, 5, 8] }"
+    );
+}
+
 #[test]
 fn questions_of_two_sets() {
     for (a, b) in pairs() {

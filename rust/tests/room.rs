@@ -2,7 +2,7 @@
 
 mod common;
 
-use common::counting::{held, Counting};
+use common::counting::{held, most_held, Counting};
 use range_sets::{Array, RangeMap, RangeSet, RangeSetEntry};
 use std::fmt::Debug;
 use std::mem::size_of;
@@ -160,4 +160,15 @@ fn a_map_that_is_cleared_keeps_the_room_for_its_list_of_chunks() {
     let least = (2 * RANGES / CHUNK * size_of::<Vec<usize>>()) as isize;
     assert!(rooms[0] >= least, "{rooms:?} bytes for a list of chunks");
     assert_eq!(rooms, [rooms[0]; 3]);
+}
+
+/// Nothing is made of the ranges beside it.
+#[test]
+fn a_part_of_a_map_takes_room_for_the_part() {
+    let map: RangeMap<u64, u64> = (0..10_000).map(|i| (10 * i..10 * i + 6, i)).collect();
+    for n in [1, 4, 100] {
+        let part: RangeSet<[u64; 2]> = (0..n).map(|i| 980 * i + 3..980 * i + 15).collect();
+        let most = most_held(|| map.restrict(&part));
+        assert!(most <= 1000 * n as isize, "{most} bytes for {n} ranges");
+    }
 }

@@ -24,43 +24,43 @@ def wrapped(line, indent):
     return textwrap.wrap(line, WIDTH, subsequent_indent=indent, break_long_words=False, break_on_hyphens=False)
 
 
-def clause_at(found, at):
+def clause_at(tokens, at):
     """The clause at `at`, and the index after it."""
     body = at + 1
     name = ""
-    if found[body].kind == "word":
-        name, body = found[body].text, body + 1
-    if found[body].text != "{":
-        raise Refused(found[at].line, f"{found[at].text} without a clause in braces")
-    end = closing(found, body)
-    text = " ".join(text_of(found[body + 1 : end]).split())
-    return Clause(found[at].text, name, text, found[at].lead), end + 1
+    if tokens[body].kind == "word":
+        name, body = tokens[body].text, body + 1
+    if tokens[body].text != "{":
+        raise Refused(tokens[at].line, f"{tokens[at].text} without a clause in braces")
+    end = closing(tokens, body)
+    text = " ".join(text_of(tokens[body + 1 : end]).split())
+    return Clause(tokens[at].text, name, text, tokens[at].lead), end + 1
 
 
-def take_clauses(found):
+def take_clauses(tokens):
     """Takes the clauses of all functions out. Gives those of each, by its `fn`."""
     taken, at, function = {}, 0, None
-    while at < len(found):
-        text = found[at].text
+    while at < len(tokens):
+        text = tokens[at].text
         if text == "fn":
-            function = found[at]
-        elif text in CLAUSES and found[at].kind == "word" and is_clause(found, at):
+            function = tokens[at]
+        elif text in CLAUSES and tokens[at].kind == "word" and is_clause(tokens, at):
             if function is None:
-                raise Refused(found[at].line, f"{text} of no function")
-            clause, end = clause_at(found, at)
+                raise Refused(tokens[at].line, f"{text} of no function")
+            clause, end = clause_at(tokens, at)
             taken.setdefault(function, []).append(clause)
-            del found[at:end]
-            if found[at].text in ("{", ";"):
-                found[at].lead = "" if found[at].text == ";" else " "
+            del tokens[at:end]
+            if tokens[at].text in ("{", ";"):
+                tokens[at].lead = "" if tokens[at].text == ";" else " "
             continue
         at += 1
     return taken
 
 
-def is_clause(found, at):
+def is_clause(tokens, at):
     """Whether this is no field or path of that name, which nothing here has: it is refused."""
-    if stands(found, at - 1, ".") or stands(found, at - 1, ":", found[at].text):
-        raise Refused(found[at].line, f"{found[at].text} as a name")
+    if stands(tokens, at - 1, ".") or stands(tokens, at - 1, ":", tokens[at].text):
+        raise Refused(tokens[at].line, f"{tokens[at].text} as a name")
     return True
 
 

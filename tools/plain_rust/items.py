@@ -10,29 +10,29 @@ LINES = {"const", "mod", "type", "use"}
 class Item:
     """An item: its tokens from `start` up to `end`, its visibility at `head`, its word at `word`, and its body if it has one."""
 
-    def __init__(self, found, start):
+    def __init__(self, tokens, start):
         head = start
-        while found[head].text == "#":
-            head = closing(found, head + 1) + 1
+        while tokens[head].text == "#":
+            head = closing(tokens, head + 1) + 1
         word = head
-        if found[word].text == "pub":
-            word = closing(found, word + 1) + 1 if found[word + 1].text == "(" else word + 1
-        if stands(found, word, "const", "fn"):
+        if tokens[word].text == "pub":
+            word = closing(tokens, word + 1) + 1 if tokens[word + 1].text == "(" else word + 1
+        if stands(tokens, word, "const", "fn"):
             word += 1
-        self.found, self.start, self.head, self.word = found, start, head, word
-        self.kind = found[word].text
+        self.tokens, self.start, self.head, self.word = tokens, start, head, word
+        self.kind = tokens[word].text
         if self.kind not in KINDS:
-            raise Refused(found[word].line, f"an item that begins with {found[word].text or 'the end'}")
-        stop = skipped(found, word + 1, {";"} if self.kind in LINES else {"{", ";"})
-        self.body = stop if found[stop].text == "{" else None
-        self.end = stop + 1 if self.body is None else closing(found, stop) + 1
-        self.name = self.title() if self.kind == "impl" else found[word + 1].text
+            raise Refused(tokens[word].line, f"an item that begins with {tokens[word].text or 'the end'}")
+        stop = skipped(tokens, word + 1, {";"} if self.kind in LINES else {"{", ";"})
+        self.body = stop if tokens[stop].text == "{" else None
+        self.end = stop + 1 if self.body is None else closing(tokens, stop) + 1
+        self.name = self.title() if self.kind == "impl" else tokens[word + 1].text
 
     def is_public(self):
-        return stands(self.found, self.head, "pub") and self.found[self.head + 1].text != "("
+        return stands(self.tokens, self.head, "pub") and self.tokens[self.head + 1].text != "("
 
     def is_exported(self):
-        return self.found[self.head].text == "pub"
+        return self.tokens[self.head].text == "pub"
 
     def title(self):
         """What an impl is of, without generics: `Trait for Type` or `Type`."""
@@ -43,23 +43,23 @@ class Item:
     def trait_and_type(self):
         """The trait of an impl, or nothing, and its type, each with its generics."""
         at = self.word + 1
-        if self.found[at].text == "<":
-            at = closing_angle(self.found, at) + 1
+        if self.tokens[at].text == "<":
+            at = closing_angle(self.tokens, at) + 1
         words, end = [], at
-        while end < self.body and self.found[end].text not in ("for", "where"):
+        while end < self.body and self.tokens[end].text not in ("for", "where"):
             end += 1
-        words = text_of(self.found[at:end]).split()
-        if self.found[end].text != "for":
+        words = text_of(self.tokens[at:end]).split()
+        if self.tokens[end].text != "for":
             return "", " ".join(words)
         last = end + 1
-        while last < self.body and self.found[last].text != "where":
+        while last < self.body and self.tokens[last].text != "where":
             last += 1
-        return " ".join(words), " ".join(text_of(self.found[end + 1 : last]).split())
+        return " ".join(words), " ".join(text_of(self.tokens[end + 1 : last]).split())
 
 
-def items(found, start, end):
+def items(tokens, start, end):
     """The items between two indices, in order."""
-    while start < end and found[start].kind != "end":
-        item = Item(found, start)
+    while start < end and tokens[start].kind != "end":
+        item = Item(tokens, start)
         yield item
         start = item.end

@@ -5,7 +5,7 @@ import re
 from plain_rust import tables
 from plain_rust.contracts import with_contract
 from plain_rust.items import items
-from plain_rust.tokens import Refused, closing_angle, made, stands, text_of
+from plain_rust.tokens import Refused, closing_angle, new_tokens, stands, text_of
 
 
 class Shaping:
@@ -24,10 +24,10 @@ class Shaping:
         crate, _, rest = self.file.partition("/")
         return f"{crate}/{module}" if rest == "lib" else f"{self.file}/{module}"
 
-    def shaped(self, found, start, end, within=None):
+    def shaped(self, tokens, start, end, within=None):
         """The tokens of the items between two indices that stay. They stand at the top, or within another item."""
-        kept = [token for item in items(found, start, end) for token in self.item(item, within)]
-        return [one for token in kept for one in (made(token.text, token.lead, token.line) if "pub(" in token.text else [token])]
+        kept = [token for item in items(tokens, start, end) for token in self.item(item, within)]
+        return [one for token in kept for one in (new_tokens(token.text, token.lead, token.line) if "pub(" in token.text else [token])]
 
     def item(self, item, within):
         if self.is_left_out(item, within) or (within is None and self.is_not_kept(item)):
@@ -43,20 +43,20 @@ class Shaping:
         if item.kind == "struct" and item.name in self.cloned:
             self.cloned.remove(item.name)
             return with_clone(item)
-        return item.found[item.start : item.end]
+        return item.tokens[item.start : item.end]
 
     def with_members(self, item):
-        found = item.found
-        title = found[item.start : item.body]
+        tokens = item.tokens
+        title = tokens[item.start : item.body]
         if item.kind == "trait" and needs_size(item):
-            has_bounds = found[item.body - 1].text not in (item.name, ">")
-            title += made("+ Sized" if has_bounds else ": Sized", " " if has_bounds else "", found[item.body].line)
+            has_bounds = tokens[item.body - 1].text not in (item.name, ">")
+            title += new_tokens("+ Sized" if has_bounds else ": Sized", " " if has_bounds else "", tokens[item.body].line)
         if item.kind == "trait" and item.name in self.messages:
             title = with_message(title, *self.messages.pop(item.name))
-        members = self.shaped(found, item.body + 1, item.end - 1, item)
+        members = self.shaped(tokens, item.body + 1, item.end - 1, item)
         if item.kind == "impl" and not members and not item.trait_and_type()[0]:
             return []
-        return [*title, found[item.body], *members, found[item.end - 1]]
+        return [*title, tokens[item.body], *members, tokens[item.end - 1]]
 
     def is_not_kept(self, item):
         """Whether others alone are written of the file."""
@@ -84,26 +84,26 @@ class Shaping:
 
     def document(self, item, within):
         """Writes the contract of a public function, and hides one that asks something of its caller."""
-        found = item.found
-        clauses = self.clauses.get(found[item.word], ())
+        tokens = item.tokens
+        clauses = self.clauses.get(tokens[item.word], ())
         exported = item.is_public() or (within and within.kind == "trait" and within.is_public())
         if exported and clauses:
-            found[item.start].lead = with_contract(found[item.start].lead, clauses)
+            tokens[item.start].lead = with_contract(tokens[item.start].lead, clauses)
         if item.is_public() and any(clause.kind == "requires" for clause in clauses):
-            found[item.head].text = "pub(crate)"
+            tokens[item.head].text = "pub(crate)"
         if item.name == "clone":
-            found[item.word + 1].text = tables.CLONE
+            tokens[item.word + 1].text = tables.CLONE
 
     def show(self, item):
         """Lets the crate see a module, and what the tables name."""
-        found = item.found
+        tokens = item.tokens
         if item.kind == "mod" and not item.is_exported():
-            found[item.head].text = f"pub(crate) {found[item.head].text}"
+            tokens[item.head].text = f"pub(crate) {tokens[item.head].text}"
         for at in range(item.word, item.end):
-            name = found[at].text
-            is_field = item.kind == "struct" and stands(found, at + 1, ":") and not stands(found, at + 2, ":")
+            name = tokens[at].text
+            is_field = item.kind == "struct" and stands(tokens, at + 1, ":") and not stands(tokens, at + 2, ":")
             if name in self.hidden and (is_field or (item.kind == "fn" and at == item.word + 1)):
-                token = found[at] if is_field else found[item.head]
+                token = tokens[at] if is_field else tokens[item.head]
                 token.text = f"pub(crate) {token.text}"
                 self.shown.add(name)
 
@@ -116,43 +116,43 @@ class Shaping:
 
 def needs_size(item):
     """Whether a trait speaks of values of its own type, which has a size in Rattle in any case."""
-    found = item.found
-    bounds = [token.text for token in found[item.word + 2 : item.body]]
+    tokens = item.tokens
+    bounds = [token.text for token in tokens[item.word + 2 : item.body]]
     if "Sized" in bounds or "Copy" in bounds:
         return False
-    own = (at for at in range(item.body, item.end) if found[at].text == "Self")
-    return any(not stands(found, at + 1, ":", ":") for at in own)
+    own = (at for at in range(item.body, item.end) if tokens[at].text == "Self")
+    return any(not stands(tokens, at + 1, ":", ":") for at in own)
 
 
 def with_message(title, message, note):
     """The title of a trait, with what a compiler says where a type lacks it."""
     first = title[0]
     put = f'#[cfg_attr({tables.KNOWS_MESSAGES}, diagnostic::on_unimplemented(message = "{message}", note = "{note}"))]'
-    attribute = made(put, first.lead, first.line)
+    attribute = new_tokens(put, first.lead, first.line)
     first.lead = "\n"
     return [*attribute, *title]
 
 
 def with_clone(item):
     """A struct with a `Clone` that asks no more of its parameters than the struct does."""
-    found = item.found
-    of = text_of(found[item.word + 2 : closing_angle(found, item.word + 2) + 1])
-    starts = (at for at in range(item.body + 1, item.end) if found[at - 1].text in ("{", ",") and stands(found, at + 1, ":"))
-    fields = [found[at].text for at in starts]
+    tokens = item.tokens
+    of = text_of(tokens[item.word + 2 : closing_angle(tokens, item.word + 2) + 1])
+    starts = (at for at in range(item.body + 1, item.end) if tokens[at - 1].text in ("{", ",") and stands(tokens, at + 1, ":"))
+    fields = [tokens[at].text for at in starts]
     clones = ", ".join(f"{field}: Clone::clone(&self.{field})" for field in fields)
     parameters = re.sub(r":[^,<>]*", "", of)
     put = f"impl{of} Clone for {item.name}{parameters} {{ #[inline] fn clone(&self) -> Self {{ {item.name} {{ {clones} }} }} }}"
-    return [*found[item.start : item.end], *made(put, "\n\n", found[item.start].line)]
+    return [*tokens[item.start : item.end], *new_tokens(put, "\n\n", tokens[item.start].line)]
 
 
 def cloning(item):
     """A clone of a `Copy` type as Rust's. Of another type it may be refused, and Rust's has no room for that: `try_clone` stays."""
-    found = item.found
-    texts = [token.text for token in found[item.body : item.end]]
+    tokens = item.tokens
+    texts = [token.text for token in tokens[item.body : item.end]]
     if texts[-5:] == ["{", "*", "self", "}", "}"]:
-        return found[item.start : item.end]
+        return tokens[item.start : item.end]
     if texts[-8:] != ["{", "Ok", "(", "*", "self", ")", "}", "}"]:
         return []
-    start = next(at for at in range(item.body, item.end) if found[at].text == "fn")
-    put = made("fn clone(&self) -> Self { *self } }", found[start].lead, found[start].line)
-    return [*found[item.start : start], *put]
+    start = next(at for at in range(item.body, item.end) if tokens[at].text == "fn")
+    put = new_tokens("fn clone(&self) -> Self { *self } }", tokens[start].lead, tokens[start].line)
+    return [*tokens[item.start : start], *put]

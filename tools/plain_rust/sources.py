@@ -4,7 +4,7 @@ from plain_rust import code, exports, ghosts, tables
 from plain_rust.contracts import take_clauses
 from plain_rust.items import items
 from plain_rust.shaping import Shaping
-from plain_rust.tokens import Refused, text_of, tokens
+from plain_rust.tokens import Refused, text_of, tokenized
 from plain_rust.uses import Gone, change_uses, words_outside
 
 
@@ -13,15 +13,15 @@ class Source:
 
     def __init__(self, file, text):
         self.file = file
-        self.head, found = without_head(tokens(text))
-        self.words = words_outside(found)
-        self.clauses = take_clauses(found)
-        ghosts.drop_ghosts(found)
-        self.exports = exports.take_exports(found, self.clauses)
-        ghosts.change_attributes(found)
-        ghosts.drop_bounds(found)
-        self.found = found
-        self.items = list(items(found, 0, len(found) - 1))
+        self.head, tokens = without_head(tokenized(text))
+        self.words = words_outside(tokens)
+        self.clauses = take_clauses(tokens)
+        ghosts.drop_ghosts(tokens)
+        self.exports = exports.take_exports(tokens, self.clauses)
+        ghosts.change_attributes(tokens)
+        ghosts.drop_bounds(tokens)
+        self.tokens = tokens
+        self.items = list(items(tokens, 0, len(tokens) - 1))
 
     def functions(self):
         return (item for item in self.items if item.kind == "fn")
@@ -29,23 +29,23 @@ class Source:
     def asking(self):
         """Its functions that ask something of their callers."""
         for item in self.functions():
-            if any(clause.kind == "requires" for clause in self.clauses.get(item.found[item.word], ())):
+            if any(clause.kind == "requires" for clause in self.clauses.get(item.tokens[item.word], ())):
                 yield item.name
 
     def laws(self):
         """Its functions without parameters, answer and code."""
         for item in self.functions():
-            if [it.text for it in item.found[item.end - 4 : item.end]] == ["(", ")", "{", "}"]:
+            if [it.text for it in item.tokens[item.end - 4 : item.end]] == ["(", ")", "{", "}"]:
                 yield item.name
 
 
-def without_head(found):
+def without_head(tokens):
     """The comment atop a file, and the tokens without it."""
-    lines = found[0].lead.split("\n")
+    lines = tokens[0].lead.split("\n")
     head = [line for line in lines if line.startswith("//!")]
     rest = [line for line in lines if not line.startswith("//!")]
-    found[0].lead = "\n" + "\n".join(rest).lstrip("\n")
-    return head, found
+    tokens[0].lead = "\n" + "\n".join(rest).lstrip("\n")
+    return head, tokens
 
 
 class Known:
@@ -55,10 +55,10 @@ class Known:
         self.laws = {name for source in sources for name in source.laws()}
         self.asking = {name for source in sources for name in source.asking()}
         self.functions = {
-            source.found[at + 1].text
+            source.tokens[at + 1].text
             for source in sources
-            for at in range(len(source.found) - 1)
-            if source.found[at].text == "fn"
+            for at in range(len(source.tokens) - 1)
+            if source.tokens[at].text == "fn"
         }
 
 
@@ -70,21 +70,21 @@ def uncalled():
 def erased(source, known, left_out):
     """The Rust of a file, or nothing where no item stays."""
     shaping = Shaping(source.file, known.laws, left_out, source.clauses)
-    found = shaping.shaped(source.found, 0, len(source.found) - 1) + source.found[-1:]
+    tokens = shaping.shaped(source.tokens, 0, len(source.tokens) - 1) + source.tokens[-1:]
     shaping.refuse_what_is_left()
-    code.drop_fields(found, tables.FIELDS_LEFT_OUT.get(source.file, ()))
-    code.drop_hints(found)
-    code.drop_calls(found, known.laws)
-    code.write_else_out(found)
-    code.change_formatters(found)
-    traits = code.change_calls(found, known.functions)
-    gone = Gone(known.laws | tables.LEFT_OUT_NAMES | uncalled(), source.words - words_outside(found), known.asking)
-    exports.write_exports(found, source.exports)
-    change_uses(found, source.file.split("/")[0], gone, traits)
-    if not source.exports and all(item.kind == "use" and not item.is_exported() for item in items(found, 0, len(found) - 1)):
+    code.drop_fields(tokens, tables.FIELDS_LEFT_OUT.get(source.file, ()))
+    code.drop_hints(tokens)
+    code.drop_calls(tokens, known.laws)
+    code.write_else_out(tokens)
+    code.change_formatters(tokens)
+    traits = code.change_calls(tokens, known.functions)
+    gone = Gone(known.laws | tables.LEFT_OUT_NAMES | uncalled(), source.words - words_outside(tokens), known.asking)
+    exports.write_exports(tokens, source.exports)
+    change_uses(tokens, source.file.split("/")[0], gone, traits)
+    if not source.exports and all(item.kind == "use" and not item.is_exported() for item in items(tokens, 0, len(tokens) - 1)):
         return ""
     head = "".join(f"{line}\n" for line in source.head)
-    body = text_of(found).strip("\n")
+    body = text_of(tokens).strip("\n")
     return f"{head}\n{body}\n" if head else f"{body}\n"
 
 

@@ -125,6 +125,7 @@ ITEMS_LEFT_OUT = {
     # Rust drops a set's list by itself.
     "range_collections/range_set": {"impl Drop for RangeSet"},
     "range_list/list": {"impl Drop for Chunks"},
+    "range_list/chunk_list": {"impl Drop for ChunkList"},
     "range_chunks/set": {"impl Drop for ChunkedRangeSet"},
     "range_chunks/space": {"impl Drop for ChunkedSpace"},
     "range_map/map": {"impl Drop for RangeMap"},
@@ -165,6 +166,7 @@ SHOWN = {
     "range_chunks/set": {"list"},
     "range_chunked_tracker/tracker": {"list", "len", "limit"},
     "range_map/map": {"steps"},
+    "range_map/borrowed_steps": {"steps"},
     "range_tracker/tracker": {"set", "limit"},
 }
 # Structs that are cloned in Rust whatever their elements are, by their file: their fields are references.

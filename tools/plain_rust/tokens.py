@@ -74,9 +74,9 @@ def end_of_word(text, at):
     return at
 
 
-def tokens(text):
+def tokenized(text):
     """The tokens of a text. The last one is empty and has what stands after the others as its lead."""
-    found, at, after, line = [], 0, 0, 1
+    tokens, at, after, line = [], 0, 0, 1
     while at < len(text):
         char = text[at]
         if char.isspace():
@@ -99,16 +99,16 @@ def tokens(text):
             kind, end = "word", end_of_word(text, at)
         else:
             kind, end = "punct", at + 1
-        found.append(Token(text[after:at], text[at:end], kind, line))
+        tokens.append(Token(text[after:at], text[at:end], kind, line))
         line += text.count("\n", at, end)
         at = after = end
-    found.append(Token(text[after:], "", "end", line))
-    return found
+    tokens.append(Token(text[after:], "", "end", line))
+    return tokens
 
 
-def made(text, lead, line):
-    """The tokens of a text that is put in, the first with this lead."""
-    put = tokens(text)[:-1]
+def new_tokens(text, lead, line):
+    """The tokens of a text that is put in at a line, the first with this lead."""
+    put = tokenized(text)[:-1]
     for token in put:
         token.line = line
     if put:
@@ -116,52 +116,52 @@ def made(text, lead, line):
     return put
 
 
-def text_of(found):
-    return "".join(token.lead + token.text for token in found)
+def text_of(tokens):
+    return "".join(token.lead + token.text for token in tokens)
 
 
-def closing(found, at):
+def closing(tokens, at):
     """The index of what closes the bracket at `at`."""
-    wanted, i = [OPENING[found[at].text]], at
+    wanted, i = [OPENING[tokens[at].text]], at
     while wanted:
         i += 1
-        text = found[i].text
-        if found[i].kind == "end":
-            raise Refused(found[at].line, f"nothing closes this {found[at].text}")
+        text = tokens[i].text
+        if tokens[i].kind == "end":
+            raise Refused(tokens[at].line, f"nothing closes this {tokens[at].text}")
         if text in OPENING:
             wanted.append(OPENING[text])
         elif text in CLOSING and text != wanted.pop():
-            raise Refused(found[i].line, f"a {text} that closes nothing")
+            raise Refused(tokens[i].line, f"a {text} that closes nothing")
     return i
 
 
-def closing_angle(found, at):
+def closing_angle(tokens, at):
     """The index of the `>` that closes the `<` at `at`."""
     depth = 0
-    for i in range(at, len(found)):
-        if found[i].text == "<":
+    for i in range(at, len(tokens)):
+        if tokens[i].text == "<":
             depth += 1
-        elif found[i].text == ">" and found[i - 1].text not in ("-", "="):
+        elif tokens[i].text == ">" and tokens[i - 1].text not in ("-", "="):
             depth -= 1
             if depth == 0:
                 return i
-    raise Refused(found[at].line, "nothing closes this <")
+    raise Refused(tokens[at].line, "nothing closes this <")
 
 
-def stands(found, at, *texts):
+def stands(tokens, at, *texts):
     """Whether these texts stand at `at`."""
-    return all(0 <= at + k < len(found) and found[at + k].text == text for k, text in enumerate(texts))
+    return all(0 <= at + k < len(tokens) and tokens[at + k].text == text for k, text in enumerate(texts))
 
 
-def skipped(found, at, stops):
+def skipped(tokens, at, stops):
     """The index of the first of `stops` from `at` on that lies in no bracket."""
-    while found[at].text not in stops:
-        if found[at].kind == "end" or found[at].text in CLOSING:
-            raise Refused(found[at].line, f"none of {' '.join(sorted(stops))} where one belongs")
-        at = closing(found, at) + 1 if found[at].text in OPENING else at + 1
+    while tokens[at].text not in stops:
+        if tokens[at].kind == "end" or tokens[at].text in CLOSING:
+            raise Refused(tokens[at].line, f"none of {' '.join(sorted(stops))} where one belongs")
+        at = closing(tokens, at) + 1 if tokens[at].text in OPENING else at + 1
     return at
 
 
-def cut(found, start, end):
+def cut(tokens, start, end):
     """Removes the tokens from `start` up to `end`, with the comments before them."""
-    del found[start:end]
+    del tokens[start:end]

@@ -1,41 +1,41 @@
 """What a file imports."""
 
 from plain_rust import tables
-from plain_rust.tokens import Refused, made, stands
+from plain_rust.tokens import Refused, new_tokens, stands
 
 
-def paths_of(found, at, front=()):
+def paths_of(tokens, at, front=()):
     """The paths of the tree of a `use` from `at` on, and the index after it."""
     path = list(front)
     while True:
-        if found[at].text == "{":
+        if tokens[at].text == "{":
             paths, at = [], at + 1
-            while found[at].text != "}":
-                more, at = paths_of(found, at, path)
+            while tokens[at].text != "}":
+                more, at = paths_of(tokens, at, path)
                 paths += more
-                if found[at].text == ",":
+                if tokens[at].text == ",":
                     at += 1
             return paths, at + 1
-        if found[at].kind != "word":
-            raise Refused(found[at].line, f"{found[at].text} in a use")
-        path.append(found[at].text)
+        if tokens[at].kind != "word":
+            raise Refused(tokens[at].line, f"{tokens[at].text} in a use")
+        path.append(tokens[at].text)
         at += 1
-        if not stands(found, at, ":", ":"):
-            if found[at].text not in (",", "}", ";"):
-                raise Refused(found[at].line, f"{found[at].text} in a use")
+        if not stands(tokens, at, ":", ":"):
+            if tokens[at].text not in (",", "}", ";"):
+                raise Refused(tokens[at].line, f"{tokens[at].text} in a use")
             return [tuple(path)], at
         at += 2
 
 
-def words_outside(found):
+def words_outside(tokens):
     """The words that stand outside of `use` lines."""
     words, at = set(), 0
-    while at < len(found):
-        if found[at].text == "use" and found[at].kind == "word":
-            while found[at].text != ";":
+    while at < len(tokens):
+        if tokens[at].text == "use" and tokens[at].kind == "word":
+            while tokens[at].text != ";":
                 at += 1
-        elif found[at].kind == "word":
-            words.add(found[at].text)
+        elif tokens[at].kind == "word":
+            words.add(tokens[at].text)
         at += 1
     return words
 
@@ -66,11 +66,11 @@ def use_lines(paths, visibility, hidden):
         yield f"{seen}use {'::'.join((*module, tail))};"
 
 
-def start_of(found, at):
+def start_of(tokens, at):
     """Where the visibility of the `use` at `at` begins, and its text."""
-    if stands(found, at - 1, "pub"):
+    if stands(tokens, at - 1, "pub"):
         return at - 1, "pub "
-    if stands(found, at - 1, ")") and stands(found, at - 4, "pub"):
+    if stands(tokens, at - 1, ")") and stands(tokens, at - 4, "pub"):
         return at - 4, "pub(crate) "
     return at, ""
 
@@ -82,16 +82,17 @@ class Gone:
         self.everywhere, self.here, self.hidden = everywhere, here, hidden
 
 
-def change_uses(found, crate, gone, traits):
-    """Leaves out what is gone, and leads the other paths to where their names are in Rust. What a file imports for itself stands in one place, with the words that need no `use` in Rattle and with `traits`."""
+def change_uses(tokens, crate, gone, traits):
+    """Leaves out what is gone, and leads the other paths to where their names are in Rust. What a file imports for itself stands in
+    one place, with the words that need no `use` in Rattle and with `traits`."""
     own, first, at = [], None, 0
-    while at < len(found):
-        if found[at].text != "use" or found[at].kind != "word":
-            refuse_path(found, at)
+    while at < len(tokens):
+        if tokens[at].text != "use" or tokens[at].kind != "word":
+            refuse_path(tokens, at)
             at += 1
             continue
-        line, (paths, end) = found[at].line, paths_of(found, at + 1)
-        start, visibility = start_of(found, at)
+        line, (paths, end) = tokens[at].line, paths_of(tokens, at + 1)
+        start, visibility = start_of(tokens, at)
         paths = [it for it in paths if it not in tables.GHOSTLY and it[-1] not in gone.everywhere]
         lines = ()
         if visibility:
@@ -99,17 +100,17 @@ def change_uses(found, crate, gone, traits):
         else:
             own += [moved(it, crate, line) for it in paths if it[-1] not in gone.here]
             first = start if first is None else first
-        put = made("\n".join(lines), found[start].lead, line)
-        found[start : end + 1] = put
+        put = new_tokens("\n".join(lines), tokens[start].lead, line)
+        tokens[start : end + 1] = put
         at = start + len(put)
     names = {path[-1] for path in own}
-    used = words_outside(found)
+    used = words_outside(tokens)
     own += [(*tables.SUPPORT, name) for name in {*traits, *(used & set(tables.PRELUDE))} - names]
     first = first or 0
-    found[first:first] = made("\n".join(use_lines(sorted(own), "", ())), "\n\n", found[first].line)
+    tokens[first:first] = new_tokens("\n".join(use_lines(sorted(own), "", ())), "\n\n", tokens[first].line)
 
 
-def refuse_path(found, at):
+def refuse_path(tokens, at):
     roots = ("crate", "std", "smallvec", *tables.CRATES)
-    if found[at].kind == "word" and found[at].text in roots and stands(found, at + 1, ":", ":"):
-        raise Refused(found[at].line, f"a path from {found[at].text} outside of a use")
+    if tokens[at].kind == "word" and tokens[at].text in roots and stands(tokens, at + 1, ":", ":"):
+        raise Refused(tokens[at].line, f"a path from {tokens[at].text} outside of a use")

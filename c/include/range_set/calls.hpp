@@ -36,7 +36,8 @@ template <class T> struct calls_of;
         RANGE_SET_CALL(number, members_first) RANGE_SET_CALL(number, members_last) RANGE_SET_CALL(number, members_next) \
         RANGE_SET_CALL(number, members_prev) RANGE_SET_CALL(number, get) RANGE_SET_CALL(number, split) \
         RANGE_SET_CALL(number, is_disjoint) RANGE_SET_CALL(number, is_subset) RANGE_SET_CALL(number, equal) \
-        RANGE_SET_CALL(number, combine) RANGE_SET_CALL(number, union_all) RANGE_SET_CALL(number, negation) RANGE_SET_CALL(number, gaps) \
+        RANGE_SET_CALL(number, combine) RANGE_SET_CALL(number, combine_with) RANGE_SET_CALL(number, union_all) \
+        RANGE_SET_CALL(number, negation) RANGE_SET_CALL(number, gaps) RANGE_SET_CALL(number, contains_each) \
         RANGE_SET_CALL(number, print) RANGE_SET_CALL(number, parse) RANGE_SET_CALL(number, parse_by) RANGE_SET_CALL(number, buffer_of) \
         struct chunked { \
             using set = range_set_##number##_chunked; \

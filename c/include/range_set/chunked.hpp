@@ -35,8 +35,8 @@ template <class Calls> struct owner {
 
     template <class Call, class... Numbers> void change(Call call, Numbers... numbers)
     {
-        if (it.at == nullptr) see_memory(Calls::make(&it));
-        see_memory(call(&it, numbers...));
+        if (it.at == nullptr) check_memory(Calls::make(&it));
+        check_memory(call(&it, numbers...));
     }
 
     typename Calls::owned it = {};
@@ -58,7 +58,7 @@ public:
     using value_type = range<T>;
 
     // Goes over the ranges, and reads some of them at a time. It is good until the set changes.
-    class iterator {
+    class iterator : detail::stepping<iterator> {
     public:
         using iterator_category = std::input_iterator_tag;
         using value_type = range<T>;
@@ -82,19 +82,12 @@ public:
             show();
             return *this;
         }
-        iterator operator++(int) noexcept
-        {
-            const iterator before = *this;
-            ++*this;
-            return before;
-        }
 
         // Of two iterators of one set.
         friend bool operator==(const iterator &a, const iterator &b) noexcept
         {
             return a.is_there() == b.is_there() && (!a.is_there() || a.it_.start == b.it_.start);
         }
-        friend bool operator!=(const iterator &a, const iterator &b) noexcept { return !(a == b); }
 
     private:
         // The numbers of thirty-two ranges.
@@ -125,7 +118,7 @@ public:
     using const_iterator = iterator;
 
     // Goes over the members, until the set changes.
-    class members_iterator {
+    class members_iterator : detail::stepping<members_iterator> {
     public:
         using iterator_category = std::input_iterator_tag;
         using value_type = T;
@@ -143,19 +136,12 @@ public:
             at_ = at_ != last ? at_ + 1 : element::in((++it_)->start);
             return *this;
         }
-        members_iterator operator++(int) noexcept
-        {
-            const members_iterator before = *this;
-            ++*this;
-            return before;
-        }
 
         // Of two iterators of one set.
         friend bool operator==(const members_iterator &a, const members_iterator &b) noexcept
         {
             return a.it_ == b.it_ && (a.it_ == iterator() || a.at_ == b.at_);
         }
-        friend bool operator!=(const members_iterator &a, const members_iterator &b) noexcept { return !(a == b); }
 
     private:
         iterator it_;
@@ -181,7 +167,7 @@ public:
     // The set without a member. It takes no memory.
     chunked_range_set() noexcept = default;
     // A copy of a set.
-    explicit chunked_range_set(detail::operand<T> from) { detail::see_memory(calls::of(from.set, &owner_.it)); }
+    explicit chunked_range_set(detail::operand<T> from) { detail::check_memory(calls::of(from.set, &owner_.it)); }
     // The numbers in some of these ranges, as a range_set is made of them.
     chunked_range_set(std::initializer_list<detail::ends<T>> ranges) : chunked_range_set(range_set<T>(ranges)) {}
     template <class Ranges, class = std::enable_if_t<!detail::is_set<T, Ranges>>, class Iterator = detail::iterator_over<Ranges>,

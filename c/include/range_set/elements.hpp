@@ -53,7 +53,8 @@ template <class Error> [[noreturn]] void refuse(const Error &error)
 #endif
 }
 
-inline void see_memory(range_set_status status)
+// Throws std::bad_alloc if a call had no memory.
+inline void check_memory(range_set_status status)
 {
     if (status == RANGE_SET_NO_MEMORY) refuse(std::bad_alloc());
 }
@@ -69,7 +70,8 @@ template <class T>
 using number_of = std::conditional_t<sizeof(T) == 4, std::conditional_t<std::is_signed_v<T>, std::int32_t, std::uint32_t>,
                                      std::conditional_t<std::is_signed_v<T>, std::int64_t, std::uint64_t>>;
 
-// How an element is kept as a number: an integer as it is, and a point in time of std::chrono as its count.
+// How an element is kept as a number: an integer as it is, and a point in time of std::chrono as its count. `in` makes the
+// number of an element, and `out` the element of a number.
 template <class T, class = void> struct element {
     static_assert(is_number<T>, "there are sets of integers of 32 and of 64 bits, and of points in time");
     using number = number_of<T>;

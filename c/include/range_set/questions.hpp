@@ -114,6 +114,13 @@ template <class T, class Set> class list_questions : public questions<T, Set, ca
     using amount = detail::amount<T>;
 
 public:
+    // Writes for each of the values whether it is a member: in ascending order at a few comparisons each. It is false, and nothing is
+    // written, where a pointer is null, or `found` overlaps the values or the set.
+    bool contains_each(const T *values, std::size_t count, bool *found) const noexcept
+    {
+        return calls::contains_each(this->asked(), reinterpret_cast<const number *>(values), count, found) == RANGE_SET_DONE;
+    }
+
     bool is_disjoint(operand<T> other) const noexcept { return calls::is_disjoint(this->asked(), other.set); }
     bool intersects(operand<T> other) const noexcept { return !is_disjoint(other); }
     bool is_subset(operand<T> other) const noexcept { return calls::is_subset(this->asked(), other.set); }

@@ -233,11 +233,11 @@ public:
         if (less != nullptr || in_.set.len == 0) move_to(std::move(less), in_.set.len);
     }
 
-    // They keep the set's room.
-    range_set &operator|=(detail::operand<T> other) { return become(combine(*this, other, RANGE_SET_UNION)); }
-    range_set &operator&=(detail::operand<T> other) { return become(combine(*this, other, RANGE_SET_INTERSECTION)); }
-    range_set &operator-=(detail::operand<T> other) { return become(combine(*this, other, RANGE_SET_DIFFERENCE)); }
-    range_set &operator^=(detail::operand<T> other) { return become(combine(*this, other, RANGE_SET_SYMMETRIC_DIFFERENCE)); }
+    // They keep the set's room, and work there if it is enough for the set and the longest result. What lies in the set is copied first.
+    range_set &operator|=(detail::operand<T> other) { return combine_with(other, RANGE_SET_UNION); }
+    range_set &operator&=(detail::operand<T> other) { return combine_with(other, RANGE_SET_INTERSECTION); }
+    range_set &operator-=(detail::operand<T> other) { return combine_with(other, RANGE_SET_DIFFERENCE); }
+    range_set &operator^=(detail::operand<T> other) { return combine_with(other, RANGE_SET_SYMMETRIC_DIFFERENCE); }
 
 private:
     template <class, class, class> friend class detail::questions;
@@ -294,9 +294,12 @@ private:
         adopt(std::move(more), room, in_.set.len);
     }
 
-    // Takes another set's boundaries, and where there is no room for them its buffer.
-    range_set &become(range_set &&made) noexcept
+    // Where the result stands in a new buffer, its boundaries are taken, or the buffer if there is no room for them.
+    range_set &combine_with(detail::operand<T> other, unsigned keep)
     {
+        const bool fits = 2 * in_.set.len + other.set.len <= in_.room;
+        if (fits && calls::combine_with(&in_, other.set, keep) == RANGE_SET_DONE) return *this;
+        range_set made = combine(*this, other, keep);
         if (made.in_.set.len > in_.room) return *this = std::move(made);
         std::copy_n(made.in_.set.boundaries, made.in_.set.len, items_.get());
         in_.set.len = made.in_.set.len;

@@ -20,7 +20,24 @@ namespace range_sets {
 
 namespace detail {
 
-// What `->` of an iterator answers that makes what it leads to.
+// The operators of an iterator that follow from its `++it`, `--it` and `==`.
+template <class Iterator> struct stepping {
+    friend Iterator operator++(Iterator &it, int) noexcept
+    {
+        const Iterator before = it;
+        ++it;
+        return before;
+    }
+    friend Iterator operator--(Iterator &it, int) noexcept
+    {
+        const Iterator before = it;
+        --it;
+        return before;
+    }
+    friend bool operator!=(const Iterator &a, const Iterator &b) noexcept { return !(a == b); }
+};
+
+// What `->` returns of an iterator that makes its items: it holds the item.
 template <class Item> class arrow {
 public:
     explicit arrow(const Item &it) noexcept : it_(it) {}
@@ -36,7 +53,7 @@ template <class T> class members {
     using place = typename calls::members;
 
 public:
-    class iterator {
+    class iterator : stepping<iterator> {
     public:
         using iterator_concept = std::bidirectional_iterator_tag;
         using iterator_category = std::input_iterator_tag;
@@ -60,25 +77,12 @@ public:
             else at_ = calls::members_last(at_.set);
             return *this;
         }
-        iterator operator++(int) noexcept
-        {
-            const iterator before = *this;
-            ++*this;
-            return before;
-        }
-        iterator operator--(int) noexcept
-        {
-            const iterator after = *this;
-            --*this;
-            return after;
-        }
 
         // Of two iterators of one set.
         friend bool operator==(const iterator &a, const iterator &b) noexcept
         {
             return a.at_.has_value == b.at_.has_value && (!a.at_.has_value || a.at_.value == b.at_.value);
         }
-        friend bool operator!=(const iterator &a, const iterator &b) noexcept { return !(a == b); }
 
     private:
         // At no member it is past all.
@@ -114,7 +118,7 @@ public:
     // Goes over the ranges of a set, by index. It makes each range that it is asked for, so it satisfies
     // std::random_access_iterator, and for algorithms before C++20 it is an input iterator. It stays good after the
     // view that it comes from, until the set changes.
-    class iterator {
+    class iterator : detail::stepping<iterator> {
     public:
         using iterator_concept = std::random_access_iterator_tag;
         using iterator_category = std::input_iterator_tag;
@@ -145,8 +149,6 @@ public:
         }
         iterator &operator++() noexcept { return *this += 1; }
         iterator &operator--() noexcept { return *this -= 1; }
-        iterator operator++(int) noexcept { return iterator(set_, index_++); }
-        iterator operator--(int) noexcept { return iterator(set_, index_--); }
         friend iterator operator+(iterator it, difference_type by) noexcept { return it += by; }
         friend iterator operator+(difference_type by, iterator it) noexcept { return it += by; }
         friend iterator operator-(iterator it, difference_type by) noexcept { return it -= by; }
@@ -157,7 +159,6 @@ public:
 
         // Of two iterators of one set.
         friend bool operator==(const iterator &a, const iterator &b) noexcept { return a.index_ == b.index_; }
-        friend bool operator!=(const iterator &a, const iterator &b) noexcept { return a.index_ != b.index_; }
         friend bool operator<(const iterator &a, const iterator &b) noexcept { return a.index_ < b.index_; }
         friend bool operator>(const iterator &a, const iterator &b) noexcept { return a.index_ > b.index_; }
         friend bool operator<=(const iterator &a, const iterator &b) noexcept { return a.index_ <= b.index_; }

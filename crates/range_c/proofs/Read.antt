@@ -1,12 +1,13 @@
 -- Ranges read one by one: what a step over the parts of a text leaves, and the ranges that are
 -- read.
-use Rattle.std.proofs.Common.{◌≡◌, sym, ap, ap₂, ◌∙◌, ℕ, ◌+◌, ◌*◌, ◌≤◌, Bool, true, false, ◌&&◌, ◌||◌, Option, Some, None, List, [], ◌∷◌, ◌++◌, length, length-append, append_assoc, subst, arith, refl, lit<}
+use Rattle.std.proofs.Common.{◌≡◌, sym, ap, ap₂, ◌∙◌, ℕ, ◌+◌, ◌*◌, ◌≤◌, Bool, true, false, ◌==◌, ◌&&◌, ◌||◌, Option, Some, None, List, [], ◌∷◌, ◌++◌, length, length-append, append_assoc, subst, arith, refl, lit<}
 use Rattle.std.specs.Borrow.{Bor}
 use Rattle.std.specs.Cmp.{IsTotalOrder}
 use Rattle.std.specs.Iterator.{AlwaysYields}
-use Rattle.std.specs.List.{cons_option, flat_map, filter_map, list_any}
-use Rattle.std.specs.Option.{option_to_list}
+use Rattle.std.specs.List.{cons_option, flat_map, filter_map, list_all, list_any}
+use Rattle.std.specs.Option.{is_some, option_to_list}
 use Rattle.std.specs.Ordering.{is_le, is_lt}
+use Rattle.std.specs.Str.{trim}
 use Rattle.std.specs.Str.Iter.{split_steps, split_text, split_has_more, split_pattern}
 use Rattle.std.specs.Str.Pattern.{FindsChar}
 use Rattle.std.specs.declared.cmp.Ordering.{Ordering}
@@ -17,11 +18,12 @@ use Rattle.std.proofs.lemmas.List.{append-nil}
 use Rattle.std.proofs.lemmas.List.Folds.{list_any-append}
 use Rattle.range_collections.specs.Boundaries.{member}
 use Rattle.range_collections.specs.Ranges.{range_boundaries, range_ends}
-use Rattle.range_collections.specs.Reading.{parts_of, range_in, ranges_in}
+use Rattle.range_collections.specs.Reading.{parts_of, range_in, is_ranges, ranges_in}
 use Rattle.range_collections.specs.Unions.{is_in_one}
 use Rattle.range_collections.specs.declared.range_set_range.RangeSetRange.{RangeSetRange}
 use Rattle.range_collections.specs.declared.range_set_range.RangeSetRange.TheVariants.{Range, RangeFrom}
 use Rattle.range_collections.proofs.PartsLaws.{member-range_items}
+use Rattle.range_collections.proofs.Sets.{and-assoc}
 use Rattle.range_collections.proofs.Values.{member-one}
 use Rattle.range_c.specs.Ranges.{is_from, is_within}
 use Rattle.range_c.specs.Reading.{numbers_in}
@@ -50,6 +52,26 @@ module _ {K : Type 0} (number : List ℕ → Option K) where
           count + length (flat_map range_ends (option_to_list r)) + length (flat_map range_ends (filter_map (range_in number) rest)) ≡ total
       by_range None e = omega (arith, e)
       by_range (Some r) e = omega (arith, e, length-append (range_ends r) (flat_map range_ends (filter_map (range_in number) rest)), length-append (range_ends r) [])
+
+  -- whether all parts are ranges: a part and those after it
+  abbrev pub are_ranges : List (List ℕ) → Bool
+  are_ranges parts = list_all (λ part. is_some (range_in number part)) parts
+
+  pub are_ranges-step : (so_far all range : Bool) (part : List ℕ) (left rest : List (List ℕ)) → left ≡ part ∷ rest → range ≡ is_some (range_in number part) →
+      (so_far && are_ranges left) ≡ all → ((so_far && range) && are_ranges rest) ≡ all
+  are_ranges-step so_far all range part left rest is found e =
+      ap (λ r. (so_far && r) && are_ranges rest) found
+      ∙ and-assoc so_far (is_some (range_in number part)) (are_ranges rest)
+      ∙ ap (λ parts. so_far && are_ranges parts) (sym is)
+      ∙ e
+
+  pub is_ranges-all : (text : List ℕ) → are_ranges (parts_of text) ≡ true → is_ranges number text ≡ true
+  unfolding is_ranges
+  is_ranges-all text all = ap (λ b. (length (trim text) == 0) || b) all ∙ or_true (length (trim text) == 0)
+    where
+      or_true : (b : Bool) → (b || true) ≡ true
+      or_true true = refl
+      or_true false = refl
 
   -- the ranges of a part and of the parts after it, where the part has one and where it has none
   pub ranges-step_some : (done all : List (RangeSetRange K)) (range : RangeSetRange K) (part : List ℕ) (left rest : List (List ℕ)) → left ≡ part ∷ rest → range_in number part ≡ Some range →

@@ -39,8 +39,8 @@ pub(crate) fn merge<T: Ord + Copy, O: MergeOperation>(
     }
 }
 
-// The same, by the connective that a number tells. The four operations have a merge of their own,
-// which is faster. Where there is no room at all, it only counts.
+// The same as `merge`, by the connective that a number stands for. The four operations have a merge
+// of their own, which is faster. Where there is no room at all, it only counts.
 pub(crate) fn combine<T: Ord + Copy>(a: &[T], b: &[T], connective: u32, out: &mut [T]) -> usize
     requires sorted { AreAscending T.cmp a.now b.now }
     requires off { connective < 8 }
@@ -77,7 +77,7 @@ fn combined_len<T: Ord>(a: &[T], b: &[T], connective: u32) -> usize
     left.merge_len(right, &decoded(connective), &mut Comparisons::new())
 }
 
-// The connective that a number tells.
+// The connective that a number stands for: the sum of what it is on for, with 8 for neither set.
 pub(crate) fn decoded(connective: u32) -> Connective
     ensures neither { result.neither ≡ is_odd (connective / 8) }
     ensures left { result.left ≡ is_odd connective }

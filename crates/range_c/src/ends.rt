@@ -1,4 +1,5 @@
-//! Ranges of two numbers, as C passes them.
+//! Ranges of two numbers, as C passes them: what the functions for ranges of any type of numbers
+//! need of one.
 ghost use Rattle.std.specs.Prelude.{◌≡◌};
 
 use range_collections::WholeNumber;

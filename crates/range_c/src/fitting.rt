@@ -7,8 +7,8 @@ use crate::parts::put;
 use range_collections::{Countable, FromPlace, RangeSetRef};
 use std::ops::Range;
 
-// Writes the least multiple of `align` from which `count` numbers lie in the range and none is a
-// member, if there is one.
+// Whether there is a multiple of `align` from which on `count` numbers lie in the range and none is
+// a member, and then writes the least.
 pub(crate) fn first_fit_aligned<T: FromPlace>(
     a: &[T],
     within: Range<T>,
@@ -33,8 +33,8 @@ pub(crate) fn first_fit_aligned<T: FromPlace>(
     )
 }
 
-// Tells the least number from which on `count` members in a row lie in the range, where there is
-// one.
+// Whether there is a number from which on `count` members in a row lie in the range, and then
+// writes the least.
 pub(crate) fn first_run<T: Countable + Copy>(
     a: &[T],
     within: Range<T>,

@@ -1,7 +1,7 @@
 //! What a connective makes of two sets among the numbers of a type, of which one is the least. It
 //! may be on where neither side is.
 //!
-//! Whether the connective is on at the least number is told first. From there on only what changes
+//! Whether the connective is on at the least number is found first. From there on only what changes
 //! counts: a connective that is off where nothing has changed yet, over the boundaries above the
 //! least number.
 ghost use Rattle.std.specs.Prelude.{◌≡◌, ◌+◌, ◌<◌, ◌≤◌, ◌^◌, ◌∷◌, Bool, All, false, true, length, take, drop};
@@ -67,8 +67,8 @@ fn is_on(of: &Connective, a: bool, b: bool) -> bool
     }
 }
 
-// The connective that is on where another one has another answer than it had at first, told by how
-// each side has changed since.
+// The connective of how each side has changed: it is on where the other one has another answer than
+// it had at first.
 fn changes_from(of: &Connective, a: bool, b: bool) -> Connective
     ensures off { result.neither ≡ false }
     ensures changes { (p q : Bool) →

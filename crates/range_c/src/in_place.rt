@@ -24,7 +24,8 @@ pub(crate) fn insert<T: Ord + Copy>(buffer: &mut [T], len: usize, start: T, end:
     set_range(buffer, len, start, end, true)
 }
 
-// The same, with the numbers taken out.
+// Takes the numbers from `start` to below `end` out of the set of the first `len` boundaries, and
+// answers how many it has then. Where the buffer has no room for them it is as it was.
 pub(crate) fn remove<T: Ord + Copy>(buffer: &mut [T], len: usize, start: T, end: T) -> usize
     requires within { len ≤ length buffer.old }
     requires fits { len + 2 < 2 ^ 64 }

@@ -18,15 +18,16 @@ ghost use Rattle.range_c.specs.Text.{AnswersText};
 
 use range_collections::RangeSetRange;
 
-/// What is told of a list is the length of the one list that means the operation, whether or not
-/// the buffer has room for it.
+/// The length that is answered is that of the one list that means the operation, whether or not the
+/// buffer has room for it.
 pub fn a_list_is_told_by_its_length<T: Ord>()
     ensures told { (f : Table) (a b old new items : List T) (n : ℕ) →
         f false false ≡ false → AnswersList T.cmp f a b old new n →
         AreAscending T.cmp a b → Means T.cmp f items a b → n ≡ length items }
 {}
 
-/// A buffer of the length that was told is enough: the operation that had no room is done in it.
+/// A buffer of the length that was answered is enough: the operation that had no room is done in
+/// it.
 pub fn a_buffer_of_the_length_told_is_enough<T: Ord>()
     ensures enough { (f : Table) (a b items : List T) (short short_new long long_new : List T)
         (told n : ℕ) → Means T.cmp f items a b →
@@ -79,8 +80,8 @@ pub fn a_text_stands_in_its_buffer()
         drop (length text) new ≡ drop (length text) old }
 {}
 
-/// What is told of a list changed in a buffer, and of one from the least number on, is its length;
-/// and it has the members of the connective, there of the numbers from the least one on.
+/// What is answered for a list changed in a buffer, and of one from the least number on, is its
+/// length; and it has the members of the connective, there of the numbers from the least one on.
 pub fn a_list_in_a_buffer_is_pinned<T: Ord>()
     ensures told { (f : Table) (a b old new items : List T) (n : ℕ) →
         Means T.cmp f items a b → ChangesList T.cmp f a b old new n → n ≡ length items }
@@ -103,7 +104,7 @@ pub fn ranges_with_ends_are_united_alike<P, T: Ord>()
         IsUnionOf T.cmp first last ranges front }
 {}
 
-/// Where there is a range, it is told; where there is none, nothing is.
+/// If there is a range, it is written; if there is none, nothing is.
 pub fn a_range_is_told_where_there_is_one<T>()
     ensures there { (range : RangeSetRange T) (old_start old_end start end : T)
         (old_has_end has_end answer : Bool) →
@@ -114,7 +115,7 @@ pub fn a_range_is_told_where_there_is_one<T>()
         (start ≡ old_start) × (end ≡ old_end) × (has_end ≡ old_has_end) }
 {}
 
-/// A text of ranges is told as one, with how many numbers it has.
+/// A text of ranges is recognized, and how many numbers it has is written.
 pub fn a_text_of_ranges_is_told_as_one<T>()
     ensures { (number : List ℕ → Option T) (text : List ℕ) (status told : ℕ) →
         TellsText number text status told → IsUtf8 text → is_ranges number text ≡ true →

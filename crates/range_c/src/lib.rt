@@ -2,7 +2,7 @@
 //! call takes memory or keeps state.
 //!
 //! A thin layer in C stands before these calls. It makes sets of lists that are strictly sorted,
-//! refuses null pointers with a length and a buffer that overlaps a list, which can't be told here,
+//! refuses null pointers with a length and a buffer that overlaps a list, which can't be seen here,
 //! and answers statuses.
 //!
 //! The exports stand in generated/, one file a type: tools/c-types writes them from one text, since
@@ -13,6 +13,7 @@ mod boxed;
 mod calls;
 mod chunked;
 mod combining;
+mod each;
 mod ends;
 mod fitting;
 mod from_least;

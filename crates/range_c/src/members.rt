@@ -1,4 +1,5 @@
-//! Members one by one: the one before, which has so many others below it, and how many one has.
+//! Members one by one: the greatest at or below a number, the one with a given number of others
+//! below it, and how many lie below a number.
 ghost use Rattle.std.specs.Prelude.{◌≡◌, ◌≤◌, ◌^◌, true, false, IsTrue};
 ghost use Rattle.std.specs.Ordering.{is_le};
 ghost use Rattle.range_collections.specs.Boundaries.{IsAscending, member};
@@ -8,7 +9,7 @@ ghost use Rattle.range_collections.specs.Members.{IsPrevious};
 use crate::parts::put;
 use range_collections::{Countable, FromPlace, RangeSetRef};
 
-// Tells the greatest member at or below `from`, where there is one.
+// Whether a number at or below `from` is a member, and then writes the greatest.
 pub(crate) fn prev_member<T: FromPlace>(a: &[T], from: &T, previous: &mut T) -> bool
     requires { IsAscending T.cmp a.now }
     ensures previous { IsTrue result →
@@ -20,7 +21,7 @@ pub(crate) fn prev_member<T: FromPlace>(a: &[T], from: &T, previous: &mut T) -> 
     put(RangeSetRef::new_unchecked(a).prev_member(from), previous)
 }
 
-// Tells the greatest number at or below `from` that isn't a member, where there is one.
+// Whether a number at or below `from` is no member, and then writes the greatest.
 pub(crate) fn prev_gap<T: FromPlace>(a: &[T], from: &T, previous: &mut T) -> bool
     requires { IsAscending T.cmp a.now }
     ensures previous { IsTrue result →
@@ -32,7 +33,7 @@ pub(crate) fn prev_gap<T: FromPlace>(a: &[T], from: &T, previous: &mut T) -> boo
     put(RangeSetRef::new_unchecked(a).prev_gap(from), previous)
 }
 
-// Tells the member with so many below it, where there is one.
+// Whether there is a member with `k` others below it, and then writes it.
 pub(crate) fn select<T: FromPlace>(a: &[T], k: u64, at: &mut T) -> bool
     requires { IsAscending T.cmp a.now }
     ensures member { IsTrue result → member T.cmp a.now at.new ≡ true }

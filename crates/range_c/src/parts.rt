@@ -11,7 +11,7 @@ ghost use Rattle.range_c.specs.Parts.{range_told, TellsRange};
 
 use range_collections::{Countable, RangeSetRange, RangeSetRef, Unsigned};
 
-// Tells the range, where there is one, by its start, its end and whether it has one.
+// Whether there is a range, and then writes its start, whether it has an end, and that.
 pub(crate) fn tell<T: Copy>(
     range: Option<RangeSetRange<&T>>,
     start: &mut T,
@@ -39,7 +39,7 @@ pub(crate) fn tell<T: Copy>(
     }
 }
 
-// Tells the range that holds `value`, where it is a member.
+// Whether `value` is a member, and then writes the range that holds it.
 pub(crate) fn range_at<T: Ord + Copy>(
     a: &[T],
     value: &T,
@@ -65,7 +65,7 @@ pub(crate) fn range_at<T: Ord + Copy>(
     )
 }
 
-// Tells the range that holds `value`, or else the next one above it, where there is one.
+// Whether a range holds `value` or lies above it, and then writes the first such range.
 pub(crate) fn range_from<T: Ord + Copy>(
     a: &[T],
     value: &T,
@@ -92,7 +92,7 @@ pub(crate) fn range_from<T: Ord + Copy>(
     }
 }
 
-// Tells the least member at or above `from`, where there is one.
+// Whether a number at or above `from` is a member, and then writes the least.
 pub(crate) fn next_member<T: Ord + Copy>(a: &[T], from: &T, next: &mut T) -> bool
     requires { IsAscending T.cmp a.now }
     ensures next { IsTrue result → IsNext T.cmp true a.now from.now next.new }
@@ -106,7 +106,7 @@ pub(crate) fn next_member<T: Ord + Copy>(a: &[T], from: &T, next: &mut T) -> boo
     )
 }
 
-// Tells the least number at or above `from` that isn't a member, where there is one.
+// Whether a number at or above `from` is no member, and then writes the least.
 pub(crate) fn next_gap<T: Ord + Copy>(a: &[T], from: &T, next: &mut T) -> bool
     requires { IsAscending T.cmp a.now }
     ensures next { IsTrue result → IsNext T.cmp false a.now from.now next.new }
@@ -131,7 +131,7 @@ pub(crate) fn put<T: Copy>(found: Option<T>, place: &mut T) -> bool
     }
 }
 
-// Tells the range with so many before it, where there is one.
+// Whether there is a range with `index` others before it, and then writes it.
 pub(crate) fn range<T: Ord + Copy>(
     a: &[T],
     index: usize,
@@ -150,7 +150,7 @@ pub(crate) fn range<T: Ord + Copy>(
     first(rest, start, end, has_end)
 }
 
-// Tells the first range, where there is one.
+// Whether there is a first range, and then writes it.
 pub(crate) fn first<T: Ord + Copy>(a: &[T], start: &mut T, end: &mut T, has_end: &mut bool) -> bool
     requires { IsAscending T.cmp a.now }
     ensures { TellsRange (slice_get (ranges_of a.now) 0)
@@ -159,7 +159,7 @@ pub(crate) fn first<T: Ord + Copy>(a: &[T], start: &mut T, end: &mut T, has_end:
     tell(RangeSetRef::new_unchecked(a).first(), start, end, has_end)
 }
 
-// Tells the last range, where there is one.
+// Whether there is a last range, and then writes it.
 pub(crate) fn last<T: Ord + Copy>(a: &[T], start: &mut T, end: &mut T, has_end: &mut bool) -> bool
     requires { IsAscending T.cmp a.now }
     ensures { TellsRange (last_or None (ranges_of a.now))
@@ -168,7 +168,7 @@ pub(crate) fn last<T: Ord + Copy>(a: &[T], start: &mut T, end: &mut T, has_end: 
     tell(RangeSetRef::new_unchecked(a).last(), start, end, has_end)
 }
 
-// Tells how many numbers are members, where the set has an end.
+// Whether the set has an end, and then writes how many numbers are members.
 pub(crate) fn covered<T: Countable>(a: &[T], count: &mut u64) -> bool
     requires few { T.count ≤ 2 ^ 64 }
     requires sorted { IsAscending T.cmp a.now }
@@ -185,8 +185,8 @@ pub(crate) fn covered<T: Countable>(a: &[T], count: &mut u64) -> bool
     }
 }
 
-// Tells the least number from which on `len` numbers lie between `start` and `end` and none is a
-// member, where there is one.
+// Whether there is a number from which on `len` numbers lie between `start` and `end` and none is a
+// member, and then writes the least.
 pub(crate) fn first_fit<T: Unsigned>(a: &[T], start: T, end: T, len: T, at: &mut T) -> bool
     requires { IsAscending T.cmp a.now }
     ensures fits { IsTrue result → Fits T.cmp T.place a.now start end len at.new }

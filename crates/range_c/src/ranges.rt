@@ -21,7 +21,7 @@ pub(crate) fn from_ranges<E: Ends>(ranges: &mut [E]) -> usize
     join(ranges)
 }
 
-// The same, of ranges that are sorted by their starts.
+// The same as `from_ranges`, for ranges that are sorted by their starts.
 fn join<E: Ends>(ranges: &mut [E]) -> usize
     requires { IsSortedByKey E.first E.Number.cmp ranges.old }
     ensures within { result ≤ length ranges.old }
@@ -88,8 +88,8 @@ pub(crate) fn union_from<E: Ends>(
     }
 }
 
-// The same, where it is told whether `from` is given, and then where the range without an end
-// starts.
+// The same as `union_from`, but `is_open` says whether `from` is given. Returns how many ranges
+// with an end there are, and writes to `from` where the one without an end starts.
 pub(crate) fn union_told<E: Ends>(ranges: &mut [E], is_open: bool, from: &mut E::Number) -> usize
     ensures within { result ≤ length ranges.old }
     ensures union { IsUnionFrom E.Number.cmp E.first E.last
@@ -130,7 +130,7 @@ pub(crate) fn lowest<T: Ord + Copy + Drop>(other: Option<T>, start: T) -> T
     }
 }
 
-// Tells whether a range without an end is there, and where it starts then.
+// Writes whether there is a range without an end, and if so where it starts.
 pub(crate) fn tell_start<T: Copy>(start: Option<T>, is_open: &mut bool, from: &mut T)
     ensures { start ≡ cond is_open.new (Some from.new) None }
 {

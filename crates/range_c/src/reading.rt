@@ -7,7 +7,7 @@ ghost use Rattle.std.specs.Option.{option_to_list};
 ghost use Rattle.std.specs.Str.{IsUtf8};
 ghost use Rattle.range_collections.specs.Boundaries.{IsAscending, member};
 ghost use Rattle.range_collections.specs.Ranges.{range_boundaries, range_ends, IsInRange};
-ghost use Rattle.range_collections.specs.Reading.{ranges_in};
+ghost use Rattle.range_collections.specs.Reading.{is_ranges, ranges_in};
 ghost use Rattle.range_collections.specs.Unions.{is_in_one};
 ghost use Rattle.range_c.specs.Ranges.{ends_and, is_from, is_within};
 ghost use Rattle.range_c.specs.Reading.{numbers_in, TellsText};
@@ -40,14 +40,20 @@ pub(crate) fn check<T: WholeNumber + Copy + Drop>(bytes: &[u8], told: &mut usize
     }
 }
 
-// The same of a text.
+// Which of these a text is, and how many numbers it has, or where it stops being one.
 fn check_text<T: WholeNumber + Copy + Drop>(text: &str, told: &mut usize) -> u32
     requires fits { numbers_in T.number text.now < 2 ^ 64 }
     ensures { TellsText T.number text.now result told.new }
 {
+    let (count, are_ranges) = count_numbers::<T>(text);
+    if are_ranges {
+        *told = count;
+        return RANGES;
+    }
     match check_ranges::<T>(text) {
+        // Blanks alone.
         Ok(()) => {
-            *told = count_numbers::<T>(text);
+            *told = count;
             RANGES
         }
         Err(ParseError::Malformed { at, .. }) => {
@@ -58,16 +64,20 @@ fn check_text<T: WholeNumber + Copy + Drop>(text: &str, told: &mut usize) -> u32
     }
 }
 
-// How many numbers the text has.
-fn count_numbers<T: WholeNumber + Copy + Drop>(text: &str) -> usize
+// How many numbers the text has, and whether each of its parts is a range.
+fn count_numbers<T: WholeNumber + Copy + Drop>(text: &str) -> (usize, bool)
     requires fits { numbers_in T.number text.now < 2 ^ 64 }
-    ensures { result ≡ numbers_in T.number text.now }
+    ensures count { result.0 ≡ numbers_in T.number text.now }
+    ensures ranges { result.1 ≡ true → is_ranges T.number text.now ≡ true }
 {
     let mut count = 0;
+    let mut are_ranges = true;
     for part in text.split(',') {
-        count += ends(RangeSetRange::<T>::parse(part));
+        let range = RangeSetRange::<T>::parse(part);
+        are_ranges &= range.is_some();
+        count += ends(range);
     }
-    count
+    (count, are_ranges)
 }
 
 // How many ends a range has, where there is one.
@@ -101,7 +111,7 @@ pub(crate) fn read<E: Ends>(bytes: &[u8], ranges: &mut [E]) -> (usize, Option<E:
     }
 }
 
-// The same of a text.
+// The same as `read`, for bytes that are a text.
 fn read_text<E: Ends>(text: &str, ranges: &mut [E]) -> (usize, Option<E::Number>)
     requires room { numbers_in E.Number.number text.now < 2 * length ranges.old + 2 }
     ensures within { result.0 ≤ length ranges.old }

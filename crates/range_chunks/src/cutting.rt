@@ -41,7 +41,7 @@ pub fn set_range<T: Ord + Drop>(
     set_between(list, start, end, inside, count)
 }
 
-// The same where the start is below the end.
+// The same as `set_range`, for a start that is below the end.
 fn set_between<T: Ord + Drop>(
     list: &mut Chunks<T, bool>,
     start: T,
@@ -111,7 +111,8 @@ pub fn cut_at<T: Ord + Drop>(
     cut(list, found, at, inside)
 }
 
-// The same, where the element was found or would go.
+// Where the boundaries are cut, as by `cut_at`, around an element that was found, or would go, at a
+// known place.
 #[inline(always)]
 fn cut<T: Ord + Drop>(
     list: &Chunks<T, bool>,

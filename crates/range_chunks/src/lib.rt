@@ -11,7 +11,6 @@ mod merging;
 mod overlapping;
 mod questions;
 mod ranges;
-mod reading;
 mod set;
 mod space;
 mod taking;

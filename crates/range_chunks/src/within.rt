@@ -9,7 +9,7 @@ ghost use Rattle.range_collections.specs.Within.{GivesParts, borrowed_items, wit
 ghost use Rattle.range_list.specs.Lists.{joined};
 
 use crate::questions::{place_below, place_up_to};
-use range_collections::{Comparisons, has_elements};
+use range_collections::{Comparisons, EndedRanges, has_elements};
 use range_list::{Chunks, Items};
 use std::alloc::{AllocError, Global};
 use std::iter::FusedIterator;
@@ -80,6 +80,16 @@ impl<'a, T> Iterator for RangesWithin<'a, T> {
 }
 
 impl<'a, T> FusedIterator for RangesWithin<'a, T> {}
+
+impl<'a, T: Copy> EndedRanges<T> for RangesWithin<'a, T> {
+    ghost boundaries = { λ it. it };
+
+    #[inline(always)]
+    fn next_range(&mut self) -> Option<Range<T>> {
+        let range = self.next()?;
+        Some(*range.start..*range.end)
+    }
+}
 
 /// The parts of `within` whose elements are members where `inside` is true, or else no members.
 pub fn parts_within<'a, T: Ord>(

@@ -23,7 +23,6 @@ pub mod Combined
 pub mod Headline
 pub mod Counted
 pub mod Covered
-pub mod Fitted
 pub mod Written
 pub mod Parts
 pub mod PartsLaws
@@ -45,6 +44,7 @@ pub mod Endless
 pub mod Previous
 pub mod Ranked
 pub mod Rows
+pub mod Walked
 pub mod NextMultiple
 pub mod FirstGap
 pub mod MembersOf
@@ -53,3 +53,4 @@ pub mod Highest
 pub mod SingleValues
 pub mod RangeMembers
 pub mod Texts
+pub mod Cursors

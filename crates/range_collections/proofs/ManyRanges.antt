@@ -1,6 +1,6 @@
 -- A range added to a set: cuts near the set's end, the list after it, and the union of one range
 -- more.
-use Rattle.std.proofs.Common.{◌≡◌, ◌≢◌, refl, sym, ap, ap₂, ◌∙◌, subst, ℕ, zero, suc, ◌↔◌, ◌*◌, ◌/◌, inl, inr, ◌<◌, ◌≤◌, ◌+◌, ◌-◌, Option, Some, None, Bool, true, false, not, cond, ◌||◌, List, [], ◌∷◌, ◌++◌, length, take, drop, get_or, arith, All, true≢false, Result, Ok, Err, IsOk, IsErr, OnOk, append_assoc, length-append}
+use Rattle.std.proofs.Common.{◌≡◌, ◌≢◌, refl, sym, ap, ap₂, ◌∙◌, subst, ℕ, zero, suc, ◌↔◌, ◌*◌, ◌/◌, inl, inr, ◌<◌, ◌≤◌, ◌+◌, ◌-◌, Option, Some, None, Bool, true, false, not, cond, ◌||◌, List, [], ◌∷◌, ◌++◌, length, take, drop, get_or, set, arith, All, true≢false, Result, Ok, Err, IsOk, IsErr, OnOk, append_assoc, length-append}
 use Rattle.std.specs.Cmp.{IsTotalOrder}
 use Rattle.std.specs.List.{AllZip, AllWithin, flat_map}
 use Rattle.std.specs.Ordering.{is_le, is_lt}
@@ -9,7 +9,7 @@ use Rattle.std.specs.declared.cmp.Ordering.{Ordering}
 use Rattle.std.specs.declared.cmp.Ordering.TheVariants.{Less, Equal}
 use Rattle.std.proofs.lemmas.Bool.{cases_lt}
 use Rattle.std.proofs.lemmas.List.{drop_all, get_or_default, take_all, take_more, take-append-drop}
-use Rattle.std.proofs.lemmas.List.Elements.{All-nil, All-cons, All-head, All-tail, length_all_zip}
+use Rattle.std.proofs.lemmas.List.Elements.{All-nil, All-cons, All-head, All-tail, All-weaker, length_all_zip}
 use Rattle.std.proofs.lemmas.Grind.{flat_map-append}
 use Rattle.range_merge.specs.Boundaries.{IsAscending, member, is_odd}
 use Rattle.range_merge.specs.Connective.{Means, union_table}
@@ -17,14 +17,15 @@ use Rattle.range_merge.proofs.Members.{member-nil, by_Ordering}
 use Rattle.range_merge.proofs.Orders.{Equal-sym, Less-from_equal, Less-then_equal}
 use Rattle.range_merge.proofs.Parity.{is_odd-suc}
 use Rattle.range_collections.specs.InPlace.{AreOwnElseOf}
-use Rattle.range_collections.specs.ManyRanges.{NoneStartsAbove}
+use Rattle.range_collections.specs.ManyRanges.{EndsBefore, NoneStartsAbove}
 use Rattle.range_collections.specs.Ranges.{range_items}
 use Rattle.range_collections.specs.Splicing.{IsCut, range_table, spliced}
 use Rattle.range_collections.specs.Unions.{GivesUnion, IsAdded, IsJoined}
 use Rattle.range_collections.proofs.Ascending.{IsAscending-cons}
 use Rattle.range_collections.proofs.FirstParts.{All-front, All-back}
-use Rattle.range_collections.proofs.Insertion.{IsCut-put, Means-spliced, AreOwnElseOf-spliced, AreOwnElseOf-unchanged, Means-alike, union-alike}
+use Rattle.range_collections.proofs.Insertion.{IsAscending-spliced, IsCut-before_found, IsCut-put, Means-spliced, AreOwnElseOf-spliced, AreOwnElseOf-unchanged, Means-alike, union-alike}
 use Rattle.range_collections.proofs.Shortest.{Less-then_le, le-from_greater}
+use Rattle.range_collections.proofs.Splices.{set-parts}
 use Rattle.range_collections.proofs.Unions.{GivesUnion-one, GivesUnion-joined, length-halves, length-union}
 use Rattle.range_collections.proofs.Values.{IsAscending-one}
 
@@ -161,6 +162,52 @@ module _ {K : Type 0} {order : K → K → Ordering} (o : IsTotalOrder order) wh
         there : (d : K) → get_or xs ((length xs - 1) / 2 * 2) d ≡ y
         there d = get_or_default xs ((length xs - 1) / 2 * 2) d y (omega (arith, some)) ∙ sym is
 
+  -- ---- where the set ends
+  pub EndsBefore-none : (xs : List K) (at : K) → length xs ≡ 0 → EndsBefore order false xs at
+  EndsBefore-none xs at none = record {
+    even = ap is_odd none;
+    below = λ _ k d within. absurd (omega (arith, none, within));
+    last = λ touches. absurd (true≢false (sym touches));
+  }
+
+  module _ (xs : List K) (at y : K) (even : is_odd (length xs) ≡ false) (some : 0 < length xs) (is : y ≡ get_or xs (length xs - 1) y) where
+    pub EndsBefore-below : IsAscending order xs → order y at ≡ Less → EndsBefore order false xs at
+    EndsBefore-below up less = record {
+      even = even;
+      below = λ _. All-below_last xs up at y some is less;
+      last = λ touches. absurd (true≢false (sym touches));
+    }
+
+    pub EndsBefore-at : order y at ≡ Equal → EndsBefore order true xs at
+    EndsBefore-at same = record {
+      even = even;
+      below = λ apart. absurd (true≢false apart);
+      last = λ _. (some, λ d. subst (λ z. order z at ≡ Equal) (is ∙ get_or_default xs (length xs - 1) y d (omega (arith, some))) same);
+    }
+
+  -- an element above that at which the set ends
+  pub All-below_above : (touches : Bool) (xs : List K) (start end : K) → IsAscending order xs → order start end ≡ Less → EndsBefore order touches xs start →
+      All (λ z. order z end ≡ Less) xs
+  All-below_above false xs start end up less h =
+      All-weaker (λ z. order z start ≡ Less) (λ z. order z end ≡ Less) (λ z low. o.trans z start end low less) xs (h.below refl)
+  All-below_above true xs start end up less h =
+      let (some, here) = h.last refl in
+      let last : K = get_or xs (length xs - 1) start in
+      All-below_last xs up end last some (get_or_default xs (length xs - 1) start last (omega (arith, some))) (Less-from_equal o last start end (here start) less)
+
+  -- the last item equals the element
+  pub IsCut-at_last : (xs : List K) (at : K) → IsAscending order xs → EndsBefore order true xs at → IsCut order true xs at (length xs - 1) None
+  IsCut-at_last xs at up h =
+      let (some, here) = h.last refl in
+      let back : length xs ≡ suc (length xs - 1) = omega (arith, some) in
+      IsCut-before_found o true xs at (length xs - 1) up (omega (arith, some)) here
+      (not-false (is_odd (length xs - 1)) (sym (is_odd-suc (length xs - 1)) ∙ sym (ap is_odd back) ∙ h.even))
+
+  pub spliced-last : (xs : List K) (end : K) → 0 < length xs → set xs (length xs - 1) end ≡ spliced xs (length xs - 1) (length xs) None (Some end)
+  spliced-last xs end some =
+      let whole : length xs - 1 + 1 ≡ length xs = omega (arith, some) in
+      set-parts xs (length xs - 1) end (omega (arith, some)) ∙ ap (λ n. take (length xs - 1) xs ++ (end ∷ drop n xs)) whole
+
   pub spliced-end : (xs : List K) (start end : K) → spliced xs (length xs) (length xs) (Some start) (Some end) ≡ xs ++ (start ∷ end ∷ [])
   spliced-end xs start end = ap₂ (λ us vs. us ++ (start ∷ end ∷ vs)) (take_all (length xs) xs (omega arith)) (drop_all (length xs) xs (omega arith))
 
@@ -186,11 +233,33 @@ module _ {K : Type 0} {order : K → K → Ordering} (o : IsTotalOrder order) wh
         subst (λ ys. AreOwnElseOf order a ys (spliced a from to s e)) (range_is start end less)
         (AreOwnElseOf-spliced o true a start end from to s e up less p q)
 
+    pub put-spliced : (new : List K) → new ≡ spliced a from to s e →
+        IsAscending order new × (Means order union_table new a (start ∷ end ∷ []) × AreOwnElseOf order a (start ∷ end ∷ []) new)
+    put-spliced new is = rw is (IsAscending-spliced o true a start end from to s e up less p q, (Means-put, AreOwnElseOf-put))
+
     pub length-put : length (spliced a from to s e) ≤ length a + 2
     length-put =
         length-union o (spliced a from to s e) a (start ∷ end ∷ []) up
         (IsAscending-cons order start (end ∷ []) (All-cons (λ y. order start y ≡ Less) end [] less (All-nil (λ y. order start y ≡ Less))) (IsAscending-one o end))
         Means-put
+
+  -- ---- a range with elements, put at the end
+  module _ (a : List K) (start end : K) (up : IsAscending order a) (less : order start end ≡ Less) where
+    IsCut-above : (touches : Bool) → EndsBefore order touches a start → IsCut order true a end (length a) (Some end)
+    IsCut-above touches h = IsCut-all_below a up end h.even (All-below_above touches a start end up less h)
+
+    abbrev IsPut : List K → Type 0
+    IsPut new = IsAscending order new × (Means order union_table new a (start ∷ end ∷ []) × AreOwnElseOf order a (start ∷ end ∷ []) new)
+
+    pub put-last : (new : List K) → EndsBefore order true a start → new ≡ set a (length a - 1) end → IsPut new
+    put-last new h is =
+        put-spliced a start end (length a - 1) (length a) None (Some end) up less (IsCut-at_last a start up h) (IsCut-above true h) new
+        (is ∙ spliced-last a end (h.last refl).0)
+
+    pub put-after : (new : List K) → EndsBefore order false a start → new ≡ a ++ (start ∷ end ∷ []) → IsPut new
+    put-after new h is =
+        put-spliced a start end (length a) (length a) (Some start) (Some end) up less (IsCut-all_below a up start h.even (h.below refl)) (IsCut-above false h) new
+        (is ∙ sym (spliced-end a start end))
 
   -- the copies of the ends of a range with elements
   pub Less-copies : (start end x y : K) → order start x ≡ Equal → order end y ≡ Equal → order start end ≡ Less → order x y ≡ Less

@@ -12,7 +12,7 @@ use Rattle.range_merge.specs.Boundaries.{IsAscending, member, is_odd}
 use Rattle.range_merge.specs.Connective.{differ}
 use Rattle.range_merge.proofs.Members.{member-cons, member-nil}
 use Rattle.range_merge.proofs.Orders.{Greater-from_less, Less-from_greater}
-use Rattle.range_collections.specs.Fits.{Fits, IsOneOf, IsRow, has_values}
+use Rattle.range_collections.specs.Fits.{Fits, IsOneOf, IsRow, first_start, has_values}
 use Rattle.range_collections.specs.Ranges.{range_start, ranges_of}
 use Rattle.range_collections.specs.declared.range_set_range.RangeSetRange.TheVariants.{Range}
 use Rattle.range_collections.specs.declared.countable.multiples.Multiples.{Multiples}
@@ -33,8 +33,7 @@ pub record IsUnread {K : Type 0} (order : K → K → Ordering) (value : ℕ →
   pub sorted : IsAscending order unread
   pub members : (k : ℕ) → k < count → member order unread (value k) ≡ true → member order all (value k) ≡ true
   pub rows : (at : ℕ) → IsOneOf m at → IsRow order value true all 0 count n at → IsRow order value true unread 0 count n at
-  pub first : m.of ≡ 1 →
-      option_map range_start (slice_get (filter (has_values order place n) (ranges_of all)) 0) ≡ option_map range_start (slice_get (filter (has_values order place n) (ranges_of unread)) 0)
+  pub first : m.of ≡ 1 → first_start order place n all ≡ first_start order place n unread
 
 twice : (b : Bool) → differ true (differ true b) ≡ b
 twice true = refl
@@ -158,7 +157,7 @@ module _ {K : Type 0} {order : K → K → Ordering} (o : IsTotalOrder order) (i
             IsRow-rest n at some (short at even (row_from n at some here)) here;
         first = λ one.
             it.first one
-            ∙ ap (λ l. option_map range_start (slice_get (filter (has_values order place n) (ranges_of l)) 0)) split
+            ∙ ap (first_start order place n) split
             ∙ ap (λ t. option_map range_start (slice_get (cond t (Range (record { start = s; end = e }) ∷ filter (has_values order place n) (ranges_of rest)) (filter (has_values order place n) (ranges_of rest))) 0)) (too_short one);
       }
 
@@ -203,13 +202,6 @@ module _ {K : Type 0} {order : K → K → Ordering} (o : IsTotalOrder order) (i
 
   -- no values in a row begin at each place from the start up to the end
   module _ (items : List K) (inside : Bool) (start end : K) (v : is_value start) (w : is_value end) where
-    pub IsRow-nothing : is_le (order start end) ≡ true → IsRow order value inside items (place start) (place end) 0 (place start)
-    IsRow-nothing h = record {
-      from = omega arith;
-      up_to = omega (arith, place-le o is_value value place count value_is_value place_of_value place_fits in_order start end v w h);
-      alike = λ k a b. absurd (omega (arith, a, b));
-    }
-
     pub none-reversed : (n : ℕ) → is_le (order start end) ≡ false → IsRow order value inside items (place start) (place end) 0 n → ⊥
     none-reversed n h row =
         by_ranked (place start < place end) (place start ≡ place end) (place end < place start) (nat_cmp (place start) (place end)) (ranks (place start) (place end))
@@ -233,6 +225,10 @@ module _ {K : Type 0} (order : K → K → Ordering) (value : ℕ → K) (count 
 pub IfSome-map : {X : Type 0} (r : Option X) (P Q : X → Type 0) → ((x : X) → P x → Q x) → IfSome r P → IfSome r Q
 IfSome-map None P Q f h = tt
 IfSome-map (Some x) P Q f h = f x h
+
+pub IfNone-map : {X : Type 0} (r : Option X) (P Q : Type 0) → (P → Q) → IfNone r P → IfNone r Q
+IfNone-map None P Q f h = f h
+IfNone-map (Some x) P Q f h = tt
 
 -- numbers without a sign: what fits is values in a row, none of which is a member
 module _ {K : Type 0} (order : K → K → Ordering) (is_value : K → Type 0) (value : ℕ → K) (place : K → ℕ) (count : ℕ)

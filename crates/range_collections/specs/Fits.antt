@@ -5,14 +5,20 @@
 --     IsMultiple from align n                     the place n is that of a multiple of `align`, if `from` is the place of the number 0
 --     IsOneOf multiples n                         the same of multiples that have both
 --     has_values place count range                the range has at least `count` values
+--     first_start order place count members       the start of the first range that has at least `count` values
 --     IsFirstFit order place items start end count answer     the start of the first gap that has as many
-use Rattle.std.specs.Prelude.{◌≡◌, ℕ, ◌%◌, ◌+◌, ◌-◌, ◌<◌, ◌≤◌, nat_le, Bool, true, false, filter, List, Option, slice_get}
+--     IsFirstRow order value place inside items start end count m row     the first such values, from one of the multiples on
+--     IsRowWalk ..                                what a walk through ranges found
+use Rattle.std.specs.Prelude.{◌≡◌, ℕ, ◌%◌, ◌+◌, ◌-◌, ◌<◌, ◌≤◌, nat_le, Bool, true, false, filter, List, Option, Some, None, slice_get}
 use Rattle.std.specs.Option.{option_map}
 use Rattle.std.specs.declared.cmp.Ordering.{Ordering}
 use Rattle.range_merge.specs.Boundaries.{member}
 use Rattle.range_merge.specs.Connective.{Means, difference_table}
 use Rattle.range_collections.specs.Ranges.{range_items, range_start, ranges_of}
 use Rattle.range_collections.specs.declared.countable.multiples.Multiples.{Multiples}
+use Rattle.range_collections.specs.declared.row.Row.{Row}
+use Rattle.range_collections.specs.declared.row.RowWalk.{RowWalk}
+use Rattle.range_collections.specs.declared.row.RowWalk.TheVariants.{Found, Stopped, End}
 use Rattle.range_collections.specs.declared.range_set_range.RangeSetRange.{RangeSetRange}
 use Rattle.range_collections.specs.declared.range_set_range.RangeSetRange.TheVariants.{Range, RangeFrom}
 
@@ -46,9 +52,48 @@ module _ {K : Type 0} (order : K → K → Ordering) (place : K → ℕ) where
   has_values count (Range r) = nat_le count (place r.end - place r.start)
   has_values count (RangeFrom r) = true
 
+  -- the start of the first range of the list that has at least `count` values
+  abbrev pub first_start : ℕ → List K → Option K
+  first_start count members = option_map range_start (slice_get (filter (has_values count) (ranges_of members)) 0)
+
   -- of the gaps of the set from start to below end, the first one with at least `count` values
   -- starts there, if there is one
   pub record IsFirstFit (items : List K) (start end : K) (count : ℕ) (answer : Option K) : Type 0 where
     pub gaps : List K
     pub are_gaps : Means order difference_table gaps (range_items order start end) items
-    pub first : answer ≡ option_map range_start (slice_get (filter (has_values count) (ranges_of gaps)) 0)
+    pub first : answer ≡ first_start count gaps
+
+-- the walk didn't stop between ranges
+abbrev pub IsWhole : {K : Type 0} → RowWalk K → Type 0
+IsWhole (Stopped end most) = ⊥
+IsWhole _ = Unit {0}
+
+-- what it found
+abbrev pub row_of : {K : Type 0} → RowWalk K → Option (Row K)
+row_of (Found r) = Some r
+row_of _ = None
+
+module _ {K : Type 0} (order : K → K → Ordering) (value : ℕ → K) (place : K → ℕ) where
+  -- the first `count` values in a row, from one of the multiples on, which lie at or above the place
+  -- start and below the place end, and are members exactly if `inside`
+  pub record IsFirstRow (inside : Bool) (items : List K) (start end count : ℕ) (m : Multiples) (r : Row K) : Type 0 where
+    pub row : IsRow order value inside items start end count r.place
+    pub aligned : IsOneOf m r.place
+    pub least : (at : ℕ) → IsOneOf m at → IsRow order value inside items start end count at → r.place ≤ at
+    pub begins : m.of ≡ 1 → place r.start ≡ r.place
+
+  -- what a walk through a list of ranges found, where there are `total` values
+  module _ (total : ℕ) where
+    -- a walk stopped at the end of a range: what is longer than `most` begins there or above, and so
+    -- do `count` values from one of the multiples on
+    pub record IsStopped (members : List K) (count : ℕ) (m : Multiples) (end : K) (most : ℕ) : Type 0 where
+      pub longer : (n at : ℕ) → most < n → IsRow order value true members 0 total n at → place end ≤ at
+      pub above : (at : ℕ) → IsOneOf m at → IsRow order value true members 0 total count at → place end ≤ at
+      pub last : IsRow order value true members 0 total 1 (place end - 1)
+      pub positive : 0 < place end
+
+    -- what a walk found that looked for `count` values in a row
+    abbrev pub IsRowWalk : List K → ℕ → Multiples → RowWalk K → Type 0
+    IsRowWalk members count m (Found r) = IsFirstRow true members 0 total count m r
+    IsRowWalk members count m (Stopped end most) = IsStopped members count m end most
+    IsRowWalk members count m End = (at : ℕ) → IsOneOf m at → ¬ (IsRow order value true members 0 total count at)

@@ -2,14 +2,17 @@
 --     pairs_of starts ends                    the ranges from the first start to the first end, and so on
 --     starts_of order ranges, ends_of order ranges    where the ranges that have elements start, and end
 --     NoneStartsAbove order items x           no range of the set starts above x
+--     EndsBefore order touches items x        the set ends at x, or else below it
 --     GivesOwn, IsAddedOwn                    what an answer to a union, and to an addition, is without copies
 --     IsUnderway order room ranges list starts ends   a list, and what was put aside, of the ranges
 --     IsUnderwayByCopies                      the same of copies of the ranges
-use Rattle.std.specs.Prelude.{◌≡◌, ℕ, ◌*◌, ◌<◌, ⊤, true, List, [], ◌∷◌, ◌++◌, length, take, drop, slice_index_or, Result, Ok}
-use Rattle.std.specs.List.{AllZip, flat_map}
+use Rattle.std.specs.Prelude.{◌≡◌, ℕ, ◌-◌, ◌*◌, ◌<◌, ⊤, Bool, true, false, All, List, [], ◌∷◌, ◌++◌, length, take, drop, slice_index_or, Result, Ok}
+use Rattle.std.specs.List.{AllZip, HoldsAt, flat_map}
 use Rattle.std.specs.Ordering.{is_le}
 use Rattle.std.specs.declared.alloc.AllocError.{AllocError}
 use Rattle.std.specs.declared.cmp.Ordering.{Ordering}
+use Rattle.std.specs.declared.cmp.Ordering.TheVariants.{Less, Equal}
+use Rattle.range_merge.specs.Boundaries.{is_odd}
 use Rattle.range_collections.specs.Ranges.{range_boundaries}
 use Rattle.range_collections.specs.Unions.{GivesUnion, IsAdded, is_in_one}
 use Rattle.range_collections.specs.declared.range_set_range.RangeSetRange.{RangeSetRange}
@@ -35,6 +38,13 @@ module _ {K : Type 0} (order : K → K → Ordering) where
   abbrev pub NoneStartsAbove : List K → K → Type 0
   NoneStartsAbove items x =
       (i : ℕ) (d : K) → 2 * i < length items → is_le (order (slice_index_or items (2 * i) d) x) ≡ true
+
+  -- the set with these boundaries ends at the element if `touches`, and else below it
+  pub record EndsBefore (touches : Bool) (items : List K) (at : K) : Type 0 where
+    pub even : is_odd (length items) ≡ false
+    pub below : touches ≡ false → All (λ y. order y at ≡ Less) items
+    pub last : touches ≡ true → (0 < length items) ×
+        HoldsAt (λ y. order y at ≡ Equal) items (length items - 1)
 
   -- the answer has the union of the ranges: of equal boundaries the first
   abbrev pub GivesOwn : ℕ → List (RangeSetRange K) → Result (List K) AllocError → Type 0

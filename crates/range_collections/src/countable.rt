@@ -1,7 +1,7 @@
 //! Values that can be counted, since they stand in a row: whole numbers and characters.
 //!
-//! A value's place is the number of values below it. The places go from 0 up without a gap, in the
-//! order of the values.
+//! A value's place is its rank: the number of values below it. The places go from 0 up without a
+//! gap, in the order of the values. A `Place` of range_list is another thing: a position in a list.
 ghost use Rattle.std.specs.Prelude.{◌≡◌, ◌-◌, ◌<◌, ◌≤◌, ◌^◌, ℕ, length, get_or};
 ghost use Rattle.std.specs.Ordering.{nat_cmp};
 
@@ -25,7 +25,7 @@ pub trait Countable: RangeSetEntry {
     // How many values are below this one.
     ghost place: { Self → ℕ };
 
-    /// How many values are below this one.
+    /// How many values are below this one, which is its rank among all of its type.
     fn place(&self) -> u128
         ensures { result ≡ place self.now };
 

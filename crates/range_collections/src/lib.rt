@@ -12,6 +12,7 @@ mod members;
 mod parse;
 mod range_set;
 mod range_set_range;
+mod row;
 mod text;
 mod view;
 mod whole_number;
@@ -34,5 +35,6 @@ pub use range_merge::{
 };
 pub use range_set::{RangeSet, RangeSet2, cut_at};
 pub use range_set_range::{RangeSetRange, has_elements, write_range};
-pub use view::{RangeSetRef, Row, place_in};
+pub use row::{EndedRanges, Row, RowWalk, Until, first_row_between, place_in, walk_to_row};
+pub use view::{Cursor, RangeSetRef};
 pub use whole_number::WholeNumber;

@@ -27,7 +27,8 @@ pub(crate) fn is_ascending<T: Ord>(items: &[T]) -> bool
     block_ascends(rest)
 }
 
-// The same for a few items. It looks at all of them, whatever the first ones say.
+// Whether each of a few items is below the next. It looks at all of them, whatever the first ones
+// say.
 #[inline(always)]
 fn block_ascends<T: Ord>(items: &[T]) -> bool
     ensures { IsTrue result ↔ IsAscending T.cmp items.now }

@@ -6,6 +6,7 @@ ghost use Rattle.std.proofs.Props.{props};
 ghost use Rattle.range_merge.specs.Boundaries.{IsAscending, member};
 
 mod counting;
+mod cursor;
 mod endless;
 mod equality;
 mod first_fit;
@@ -16,7 +17,7 @@ mod ranges;
 mod rank;
 
 use crate::lists::is_ascending;
-pub use first_fit::{Row, place_in};
+pub use cursor::Cursor;
 use std::alloc::AllocError;
 use std::slice;
 
@@ -44,7 +45,7 @@ impl<'a, T: Ord> Clone for RangeSetRef<'a, T> {
 
     ghost is_infallible = { λ _. Unit {0} };
 
-    /// The same view.
+    /// A view of the same boundaries.
     #[inline(always)]
     fn clone(&self) -> Result<Self, AllocError> {
         Ok(*self)

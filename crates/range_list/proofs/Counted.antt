@@ -1,5 +1,5 @@
 -- How long a list in chunks is after a change.
-use Rattle.std.proofs.Common.{◌≡◌, sym, ap, ◌∙◌, ℕ, zero, suc, ◌+◌, ◌-◌, ◌≤◌, ◌<◌, List, [], ◌∷◌, length, take, drop, set, get_or, Option, Some, Result, Ok, Err, OnErr, arith}
+use Rattle.std.proofs.Common.{◌≡◌, sym, ap, ◌∙◌, ℕ, ◌+◌, ◌-◌, ◌≤◌, ◌<◌, List, [], ◌∷◌, length, drop, set, get_or, Option, Some, Result, Ok, Err, OnErr, arith}
 use Rattle.std.proofs.lemmas.List.{length-append, length-drop, length-set}
 use Rattle.std.specs.Option.{option_to_list}
 use Rattle.range_collections.specs.Splicing.{spliced}

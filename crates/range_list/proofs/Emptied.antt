@@ -31,6 +31,3 @@ module _ {T M : Type 0} where
         subst (λ (zs : List (Chunk T M)). AreChunks full of zs) (sym e)
         (record { short = AreShort-put [] [] c AreShort-nil (omega (arith, ap length items, few)) AreShort-nil; marks = (front, tt) })
     AreChunks-one {full} (x ∷ xs) ys c new none e items few front = absurd (omega (arith, none))
-
-    pub counted-none : {full : ℕ} (xs : List (Chunk T M)) → length xs ≡ 0 → AreChunks full of xs × (0 ≡ length (flat xs))
-    counted-none xs none = (AreChunks-none xs none, sym (ap length (flat-none xs none)))

@@ -47,7 +47,7 @@ module _ {T K M : Type 0} (f : T → K) where
   length-keys xs = length-map (flat xs) f
 
   -- the first key of chunk i
-  pub first-read : (xs : List (Chunk T M)) (i : ℕ) (x : Chunk T M) (d : K) → i < length xs → x ≡ get_or xs i x → get_or (first_keys f xs) i d ≡ f x.first
+  first-read : (xs : List (Chunk T M)) (i : ℕ) (x : Chunk T M) (d : K) → i < length xs → x ≡ get_or xs i x → get_or (first_keys f xs) i d ≡ f x.first
   first-read xs i x d within read = get_or-map (λ (c : Chunk T M). f c.first) xs i x d within ∙ ap (λ (c : Chunk T M). f c.first) (sym read)
 
   -- the first keys stand in the list where the chunks start

@@ -1,8 +1,7 @@
 -- Places in order, and where a boundary replaced at one of them leaves the others.
-use Rattle.std.proofs.Common.{◌≡◌, sym, ap, ◌∙◌, refl, subst, ℕ, zero, suc, ⊎_elim, ◌+◌, ◌≤◌, ◌<◌, List, [], ◌∷◌, ◌++◌, length, take, drop, set, get_or, arith}
+use Rattle.std.proofs.Common.{◌≡◌, sym, ap, ◌∙◌, refl, subst, ℕ, zero, suc, ◌+◌, ◌≤◌, ◌<◌, List, [], ◌∷◌, ◌++◌, length, take, drop, set, get_or, arith}
 use Rattle.std.specs.List.{remove_range}
-use Rattle.std.proofs.lemmas.Bool.{cases_lt}
-use Rattle.std.proofs.lemmas.List.{length-append, length-set, set-append_left, take_all, take-append-drop, set_split}
+use Rattle.std.proofs.lemmas.List.{length-append, length-set, set-append_left, take-append-drop, set_split}
 use Rattle.range_list.specs.declared.chunk.Chunk.{Chunk}
 use Rattle.range_list.specs.declared.place.Place.{Place}
 use Rattle.range_list.specs.Chunks.{items_of, flat, start_of}
@@ -130,17 +129,6 @@ module _ {T M : Type 0} where
 
     pub put-places : HasPlacesOf xs (set xs p.chunk y)
     put-places = places-set xs p.chunk x y here.chunk read as-long
-
-    pub put-after : (n : ℕ) → n ≡ p.index + 1 →
-        IsPlace (set xs p.chunk y) (record { chunk = p.chunk; index = n }) × (place_in (set xs p.chunk y) (record { chunk = p.chunk; index = n }) ≡ place_in xs p + 1)
-    put-after n next =
-        let there : IsPlace xs (record { chunk = p.chunk; index = n }) = record { chunk = here.chunk; index = λ d. omega (arith, item d, next) } in
-        let both = put-places (record { chunk = p.chunk; index = n }) there in
-        (both.0, both.1 ∙ omega (arith, next))
-
-  pub nil-flat : (xs : List (Chunk T M)) → length xs ≡ 0 → flat xs ≡ []
-  nil-flat [] none = refl
-  nil-flat (x ∷ xs) none = absurd (omega (arith, none))
 
   pub chunks-from_flat : (xs : List (Chunk T M)) → flat xs ≡ [] → length xs ≡ 0
   chunks-from_flat [] none = refl

@@ -81,9 +81,9 @@ module _ {T M : Type 0} where
         ap (λ (ws : List (Chunk T M)). length (flat ws) + p.index) (take-set xs p.chunk y),
       )
 
-  -- a number below a chunk's length, where the chunk is read in an equal list
-  pub fits-at : (xs ys : List (Chunk T M)) (i n : ℕ) (x : Chunk T M) → x ≡ get_or xs i x → ys ≡ xs → ((d : Chunk T M) → n < length (items_of (get_or ys i d))) → n ≤ length (items_of x)
-  fits-at xs ys i n x read same less = omega (arith, less x, ap (λ (ws : List (Chunk T M)). length (items_of (get_or ws i x))) same, ap (λ (c : Chunk T M). length (items_of c)) read)
+  -- a number below a chunk's length
+  pub fits-at : (xs : List (Chunk T M)) (i n : ℕ) (x : Chunk T M) → x ≡ get_or xs i x → ((d : Chunk T M) → n < length (items_of (get_or xs i d))) → n ≤ length (items_of x)
+  fits-at xs i n x read less = omega (arith, less x, ap (λ (c : Chunk T M). length (items_of c)) read)
 
   -- the place behind all items is the end of the last chunk
   pub last-place : (xs : List (Chunk T M)) (p : Place) (x : Chunk T M) → IsPlace xs p → x ≡ get_or xs p.chunk x → place_in xs p ≡ length (flat xs) →
@@ -163,9 +163,6 @@ module _ {T M : Type 0} where
     there = omega (arith, length-insert (set xs i low) (i + 1) high (omega (arith, size)), size)
 
     module _ (p : Place) (here : IsPlace xs p) (at : p.chunk ≡ i) where
-      fit-in : p.index ≤ length (items_of x)
-      fit-in = index-at xs p x here (read ∙ ap (λ k. get_or xs k x) (sym at))
-
       -- a place in the lower half
       pub place-low : p.index ≤ half → IsPlace halved p × (place_in halved p ≡ place_in xs p)
       place-low le = (
@@ -175,18 +172,6 @@ module _ {T M : Type 0} where
         },
         ap (λ k. start_of halved k + p.index) at ∙ ap (λ n. n + p.index) start-low ∙ ap (λ k. start_of xs k + p.index) (sym at),
       )
-
-      -- a place in the upper half
-      pub place-high : half ≤ p.index → IsPlace halved (record { chunk = p.chunk + 1; index = p.index - half })
-          × (place_in halved (record { chunk = p.chunk + 1; index = p.index - half }) ≡ place_in xs p)
-      place-high le =
-          let next : p.chunk + 1 ≡ i + 1 = omega (arith, at) in (
-            record {
-              chunk = omega (arith, there, at);
-              index = λ d. omega (arith, fit-in, length-high, ap (λ (c : Chunk T M). length (items_of c)) (ap (λ k. get_or halved k d) next ∙ read-high d));
-            },
-            omega (arith, le, ap (λ k. start_of halved k) next, start-high, ap (λ k. start_of xs k) at),
-          )
 
     -- a place that isn't behind the cut
     pub place-before_cut : (p : Place) → IsPlace xs p → p.chunk ≤ i → (p.chunk ≡ i → p.index ≤ half) → IsPlace halved p × (place_in halved p ≡ place_in xs p)
@@ -215,8 +200,9 @@ module _ {T M : Type 0} where
     pub room-low : (d : Chunk T M) → length (items_of (get_or halved i d)) ≡ half
     room-low d = ap (λ (c : Chunk T M). length (items_of c)) (read-low d) ∙ length-low
 
-    pub room-high : (d : Chunk T M) → length (items_of (get_or halved (i + 1) d)) ≡ length (items_of x) - half
-    room-high d = ap (λ (c : Chunk T M). length (items_of c)) (read-high d) ∙ length-high
+    pub room-high : (d : Chunk T M) → length (items_of (get_or halved (i + 1) d)) + half ≡ length (items_of (get_or xs i d))
+    room-high d =
+        omega (arith, ap (λ (c : Chunk T M). length (items_of c)) (read-high d), length-high, fits, ap (λ (c : Chunk T M). length (items_of c)) (read-any xs i x d within read))
 
 module _ {M : Type 0} (of : ℕ → M) (moved : M → ℕ → M) (adds : (n k : ℕ) → moved (of n) k ≡ of (n + k)) {T : Type 0} where
   module _ (xs : List (Chunk T M)) (i half : ℕ) (x low high : Chunk T M) (within : i < length xs) (read : x ≡ get_or xs i x)

@@ -1,12 +1,13 @@
 -- The first items and the last one of a list in chunks taken out.
 use Rattle.std.proofs.Common.{◌≡◌, sym, ap, ◌∙◌, subst, refl, ℕ, zero, suc, ◌+◌, ◌≤◌, ◌<◌, List, [], ◌∷◌, ◌++◌, length, take, drop, set, get_or, arith, append-nil}
-use Rattle.std.proofs.lemmas.List.{length-append, length-set}
+use Rattle.std.proofs.lemmas.List.{length-append, length-set, get_or-set_same}
 use Rattle.std.proofs.lemmas.List.Elements.{All-cons, All-head, All-tail}
 use Rattle.range_list.specs.declared.chunk.Chunk.{Chunk}
 use Rattle.range_list.specs.Chunks.{items_of, flat, KnowMarks, AreShort, AreChunks}
-use Rattle.range_list.proofs.Flat.{flat-append, parts-at}
+use Rattle.range_list.proofs.Flat.{flat-at}
 use Rattle.range_list.proofs.Chunked.{KnowMarks-moved, KnowMarks-at_number, AreShort-take, marks-take}
 use Rattle.range_list.proofs.Behind.{flat-last, AreChunks-last}
+use Rattle.range_list.proofs.Inserted.{flat-kept}
 
 nil-rest : {T : Type 0} (l : List T) → length l ≡ 0 → l ≡ []
 nil-rest [] none = refl
@@ -60,6 +61,13 @@ module _ {T M : Type 0} where
     front : ys ≡ take i xs
     front = removed ∙ ap (λ ws. take i xs ++ ws) (drop-all (i + 1) xs (omega (arith, last))) ∙ append-nil (take i xs)
 
+    pub last_alone-flat : length c.rest.items ≡ 0 → flat xs ≡ flat ys ++ c.first ∷ []
+    last_alone-flat alone =
+        flat-at xs i c (omega (arith, last)) read
+        ∙ ap (λ (ws : List (Chunk T M)). flat (take i xs) ++ (items_of c ++ flat ws)) (drop-all (suc i) xs (omega (arith, last)))
+        ∙ ap (λ ws. flat (take i xs) ++ ws) (append-nil (items_of c) ∙ ap (λ l. c.first ∷ l) (nil-rest c.rest.items alone))
+        ∙ ap (λ (ws : List (Chunk T M)). flat ws ++ c.first ∷ []) (sym front)
+
   -- ---- the last item of the last chunk taken out
   module _ (xs : List (Chunk T M)) (i : ℕ) (x y : Chunk T M) (item : T) (last : suc i ≡ length xs) (read : x ≡ get_or xs i x)
       (items : items_of x ≡ items_of y ++ item ∷ []) where
@@ -78,6 +86,16 @@ module _ {T M : Type 0} where
         let there : i < length xs = omega (arith, last) in
         ap flat (sym (set-back xs i there read))
         ∙ flat-last (set xs i y) i y x (last ∙ sym (length-set xs i y)) (get_or-put xs i there) item items
+
+  -- the last chunk, whose rest was empty, taken out of the list that has it again
+  pub last_emptied-flat : (xs ys : List (Chunk T M)) (i : ℕ) (x y c : Chunk T M) → suc i ≡ length xs → x ≡ get_or xs i x → c ≡ get_or (set xs i y) i c →
+      ys ≡ take i (set xs i y) ++ drop (i + 1) (set xs i y) → x.rest.items ≡ y.rest.items ++ [] → y.first ≡ x.first → length y.rest.items ≡ 0 → flat xs ≡ flat ys ++ c.first ∷ []
+  last_emptied-flat xs ys i x y c last read again removed items first alone =
+      let there : i < length xs = omega (arith, last) in
+      let same : c ≡ y = again ∙ get_or-set_same xs i y c there in
+      let kept : items_of y ≡ items_of x = ap (λ v. v ∷ y.rest.items) first ∙ ap (λ l. x.first ∷ l) (sym (append-nil y.rest.items) ∙ sym items) in
+      sym (flat-kept xs i x y there read kept)
+      ∙ last_alone-flat (set xs i y) ys i c (last ∙ sym (length-set xs i y)) again removed (omega (arith, alone, ap (λ (d : Chunk T M). length d.rest.items) same))
 
 module _ {M : Type 0} (of : ℕ → M) (moved : M → ℕ → M) (adds : (n k : ℕ) → moved (of n) k ≡ of (n + k)) {T : Type 0} where
   pub first_alone-marks : (xs ys : List (Chunk T M)) (c : Chunk T M) → length c.rest.items ≡ 0 → 0 < length xs → c ≡ get_or xs 0 c → ys ≡ take 0 xs ++ drop (0 + 1) xs →

@@ -93,13 +93,6 @@ module _ {T M : Type 0} where
 
     -- the place is the chunk's end
     module _ (end : p.index ≡ length (items_of x)) where
-      pub none-before : flat (drop (p.chunk + 1) xs) ≡ drop p.index (flat (drop p.chunk xs))
-      none-before =
-          let e : p.index ≡ length (items_of x) + 0 = omega (arith, end) in
-          ap (λ n. flat (drop n xs)) one
-          ∙ sym (ap (λ zs. drop p.index zs) flat-from_here ∙ ap (λ n. drop n (items_of x ++ flat (drop (suc p.chunk) xs))) e
-          ∙ drop-add (items_of x) (flat (drop (suc p.chunk) xs)) 0)
-
       pub short-none_before : {full : ℕ} → AreShort full (drop p.chunk xs) → AreShort full (drop (p.chunk + 1) xs)
       short-none_before {full} h =
           subst (λ k. AreShort full (drop k xs)) (sym one)

@@ -1,9 +1,11 @@
-//! How many items chunks have.
+//! How many items chunks have, and how many lie between two places, by the lengths of the chunks:
+//! no item is read.
 ghost use Rattle.std.specs.Prelude.{◌≡◌, ◌≤◌, ◌-◌, length};
 ghost use Rattle.range_list.specs.Chunks.{flat, AreShort};
 ghost use Rattle.range_list.specs.Places.{place_in, IsPlace};
 
 use crate::chunk::Chunk;
+use crate::chunk_list::ChunkList;
 use crate::mark::Mark;
 use crate::place::Place;
 
@@ -22,8 +24,7 @@ pub fn len_of<T, M: Mark>(chunks: &[Chunk<T, M>]) -> u128
 }
 
 /// How many items lie between two places.
-pub fn len_between<T, M: Mark>(chunks: &[Chunk<T, M>], from: Place, to: Place) -> u128
-    requires short { AreShort M.FULL chunks.now }
+pub fn len_between<T, M: Mark>(chunks: &ChunkList<T, M>, from: Place, to: Place) -> u128
     requires from { IsPlace chunks.now from }
     requires to { IsPlace chunks.now to }
     requires ordered { place_in chunks.now from ≤ place_in chunks.now to }
@@ -32,5 +33,6 @@ pub fn len_between<T, M: Mark>(chunks: &[Chunk<T, M>], from: Place, to: Place) -
     if from.chunk > to.chunk {
         return 0;
     }
-    len_of(&chunks[from.chunk..to.chunk]) + to.index as u128 - from.index as u128
+    let all = chunks.list.as_slice();
+    len_of(&all[from.chunk..to.chunk]) + to.index as u128 - from.index as u128
 }

@@ -1,11 +1,12 @@
-//! Items put at a place.
-ghost use Rattle.std.specs.Prelude.{◌≡◌, ◌≤◌, ◌<◌, ◌+◌, ◌++◌, ◌∷◌, [], take, drop, length, get_or, vec_len, vec_capacity, true, is_some, OnOk, OnErr, IfOk, IfErr, IsOk};
+//! Items put at a place. A full chunk is split first, so that none becomes longer than a full one.
+ghost use Rattle.std.specs.Prelude.{◌≡◌, ◌≤◌, ◌<◌, ◌+◌, ◌^◌, ◌++◌, ◌∷◌, [], take, drop, length, get_or, vec_len, vec_capacity, true, is_some, OnOk, OnErr, IfOk, IfErr, IsOk};
 ghost use Rattle.std.specs.List.{insert};
 ghost use Rattle.std.specs.Option.{option_to_list};
-ghost use Rattle.range_list.specs.Chunks.{items_of, flat, start_of, AreShort, AreChunks};
+ghost use Rattle.range_list.specs.Chunks.{items_of, flat, start_of, AreChunks};
 ghost use Rattle.range_list.specs.Places.{place_in, IsPlace};
 
 use crate::chunk::Chunk;
+use crate::chunk_list::ChunkList;
 use crate::mark::Mark;
 use crate::place::Place;
 use std::alloc::AllocError;
@@ -13,23 +14,21 @@ use std::alloc::AllocError;
 /// Inserts one item or two at a place. A full chunk is split first. Returns the place of the first
 /// one. If memory runs out, the items are as they were, and those to be put are handed back.
 pub fn insert_at<T: Drop, M: Mark>(
-    chunks: &mut Vec<Chunk<T, M>>,
+    chunks: &mut ChunkList<T, M>,
     at: Place,
     first: T,
     second: Option<T>,
 ) -> Result<Place, (T, Option<T>)>
-    requires chunks { AreChunks M.FULL M.of chunks.old.items }
-    requires place { IsPlace chunks.old.items at }
-    requires alike { M.of (place_in chunks.old.items at) ≡
-        M.of (place_in chunks.old.items at + length (first ∷ option_to_list second)) }
-    ensures items { OnOk result (flat chunks.new.items ≡
-        take (place_in chunks.old.items at) (flat chunks.old.items)
-        ++ ((first ∷ option_to_list second) ++ drop (place_in chunks.old.items at) (flat chunks.old.items))) }
-    ensures unchanged { OnErr result (flat chunks.new.items ≡ flat chunks.old.items) }
+    requires place { IsPlace chunks.old at }
+    requires alike { M.of (place_in chunks.old at) ≡
+        M.of (place_in chunks.old at + length (first ∷ option_to_list second)) }
+    ensures items { OnOk result (flat chunks.new ≡
+        take (place_in chunks.old at) (flat chunks.old)
+        ++ ((first ∷ option_to_list second) ++ drop (place_in chunks.old at) (flat chunks.old))) }
+    ensures unchanged { OnErr result (flat chunks.new ≡ flat chunks.old) }
     ensures handed_back { IfErr result (λ back. (back.0 ≡ first) × (back.1 ≡ second)) }
-    ensures chunks { AreChunks M.FULL M.of chunks.new.items }
-    ensures place { IfOk result (IsPlace chunks.new.items) }
-    ensures same { IfOk result (λ p. place_in chunks.new.items p ≡ place_in chunks.old.items at) }
+    ensures place { IfOk result (IsPlace chunks.new) }
+    ensures same { IfOk result (λ p. place_in chunks.new p ≡ place_in chunks.old at) }
 {
     match make_room(chunks, at) {
         Ok(at) => {
@@ -41,45 +40,33 @@ pub fn insert_at<T: Drop, M: Mark>(
 }
 
 // Inserts one item or two in a chunk with room for them.
-fn insert_in<T: Drop, M: Mark>(
-    chunks: &mut Vec<Chunk<T, M>>,
-    at: Place,
-    first: T,
-    second: Option<T>,
-)
-    requires chunks { AreChunks M.FULL M.of chunks.old.items }
-    requires place { IsPlace chunks.old.items at }
-    requires room { (d : Chunk T M) → length (items_of (get_or chunks.old.items at.chunk d)) + 2 ≤ M.FULL }
-    requires memory { (d : Chunk T M) → vec_len (get_or chunks.old.items at.chunk d).rest + 2 ≤
-        vec_capacity (get_or chunks.old.items at.chunk d).rest }
-    requires alike { M.of (place_in chunks.old.items at) ≡
-        M.of (place_in chunks.old.items at + length (first ∷ option_to_list second)) }
-    ensures items { flat chunks.new.items ≡
-        take (place_in chunks.old.items at) (flat chunks.old.items)
-        ++ ((first ∷ option_to_list second) ++ drop (place_in chunks.old.items at) (flat chunks.old.items)) }
-    ensures chunks { AreChunks M.FULL M.of chunks.new.items }
-    ensures place { IsPlace chunks.new.items at }
-    ensures same { place_in chunks.new.items at ≡ place_in chunks.old.items at }
+fn insert_in<T: Drop, M: Mark>(chunks: &mut ChunkList<T, M>, at: Place, first: T, second: Option<T>)
+    requires place { IsPlace chunks.old at }
+    requires room { (d : Chunk T M) → length (items_of (get_or chunks.old at.chunk d)) + 2 ≤ M.FULL }
+    requires memory { (d : Chunk T M) → vec_len (get_or chunks.old at.chunk d).rest + 2 ≤
+        vec_capacity (get_or chunks.old at.chunk d).rest }
+    requires alike { M.of (place_in chunks.old at) ≡
+        M.of (place_in chunks.old at + length (first ∷ option_to_list second)) }
+    ensures items { flat chunks.new ≡
+        take (place_in chunks.old at) (flat chunks.old)
+        ++ ((first ∷ option_to_list second) ++ drop (place_in chunks.old at) (flat chunks.old)) }
+    ensures place { IsPlace chunks.new at }
+    ensures same { place_in chunks.new at ≡ place_in chunks.old at }
 {
-    chunks[at.chunk].insert(at.index, first, second);
+    chunks.list[at.chunk].insert(at.index, first, second);
 }
 
 // The place in a chunk that has room for two more items, and memory for them.
-fn make_room<T: Drop, M: Mark>(
-    chunks: &mut Vec<Chunk<T, M>>,
-    at: Place,
-) -> Result<Place, AllocError>
-    requires chunks { AreChunks M.FULL M.of chunks.old.items }
-    requires place { IsPlace chunks.old.items at }
-    ensures same { flat chunks.new.items ≡ flat chunks.old.items }
-    ensures chunks { AreChunks M.FULL M.of chunks.new.items }
-    ensures place { IfOk result (IsPlace chunks.new.items) }
-    ensures before { IfOk result (λ p. place_in chunks.new.items p ≡ place_in chunks.old.items at) }
+fn make_room<T: Drop, M: Mark>(chunks: &mut ChunkList<T, M>, at: Place) -> Result<Place, AllocError>
+    requires place { IsPlace chunks.old at }
+    ensures same { flat chunks.new ≡ flat chunks.old }
+    ensures place { IfOk result (IsPlace chunks.new) }
+    ensures before { IfOk result (λ p. place_in chunks.new p ≡ place_in chunks.old at) }
     ensures room { IfOk result (λ p. (d : Chunk T M) →
-        length (items_of (get_or chunks.new.items p.chunk d)) + 2 ≤ M.FULL) }
+        length (items_of (get_or chunks.new p.chunk d)) + 2 ≤ M.FULL) }
     ensures memory { IfOk result (λ p. (d : Chunk T M) →
-        vec_len (get_or chunks.new.items p.chunk d).rest + 2 ≤
-        vec_capacity (get_or chunks.new.items p.chunk d).rest) }
+        vec_len (get_or chunks.new p.chunk d).rest + 2 ≤
+        vec_capacity (get_or chunks.new p.chunk d).rest) }
 {
     let at = with_room(chunks, at)?;
     reserve_in(chunks, at)?;
@@ -87,61 +74,53 @@ fn make_room<T: Drop, M: Mark>(
 }
 
 // Makes memory for two more items in the chunk of a place.
-fn reserve_in<T: Drop, M: Mark>(chunks: &mut Vec<Chunk<T, M>>, at: Place) -> Result<(), AllocError>
-    requires chunks { AreChunks M.FULL M.of chunks.old.items }
-    requires place { IsPlace chunks.old.items at }
-    ensures same { flat chunks.new.items ≡ flat chunks.old.items }
-    ensures chunks { AreChunks M.FULL M.of chunks.new.items }
-    ensures place { IsPlace chunks.new.items at }
-    ensures before { place_in chunks.new.items at ≡ place_in chunks.old.items at }
-    ensures long { (d : Chunk T M) → length (items_of (get_or chunks.new.items at.chunk d)) ≡
-        length (items_of (get_or chunks.old.items at.chunk d)) }
+fn reserve_in<T: Drop, M: Mark>(chunks: &mut ChunkList<T, M>, at: Place) -> Result<(), AllocError>
+    requires place { IsPlace chunks.old at }
+    ensures same { flat chunks.new ≡ flat chunks.old }
+    ensures place { IsPlace chunks.new at }
+    ensures before { place_in chunks.new at ≡ place_in chunks.old at }
+    ensures long { (d : Chunk T M) → length (items_of (get_or chunks.new at.chunk d)) ≡
+        length (items_of (get_or chunks.old at.chunk d)) }
     ensures memory { OnOk result ((d : Chunk T M) →
-        vec_len (get_or chunks.new.items at.chunk d).rest + 2 ≤
-        vec_capacity (get_or chunks.new.items at.chunk d).rest) }
+        vec_len (get_or chunks.new at.chunk d).rest + 2 ≤
+        vec_capacity (get_or chunks.new at.chunk d).rest) }
 {
-    chunks[at.chunk].reserve(2)
+    chunks.list[at.chunk].reserve(2)
 }
 
 // The place in a chunk that has room for two more items: a full one is split.
-fn with_room<T: Drop, M: Mark>(
-    chunks: &mut Vec<Chunk<T, M>>,
-    at: Place,
-) -> Result<Place, AllocError>
-    requires chunks { AreChunks M.FULL M.of chunks.old.items }
-    requires place { IsPlace chunks.old.items at }
-    ensures same { flat chunks.new.items ≡ flat chunks.old.items }
-    ensures chunks { AreChunks M.FULL M.of chunks.new.items }
-    ensures place { IfOk result (IsPlace chunks.new.items) }
-    ensures before { IfOk result (λ p. place_in chunks.new.items p ≡ place_in chunks.old.items at) }
+fn with_room<T: Drop, M: Mark>(chunks: &mut ChunkList<T, M>, at: Place) -> Result<Place, AllocError>
+    requires place { IsPlace chunks.old at }
+    ensures same { flat chunks.new ≡ flat chunks.old }
+    ensures place { IfOk result (IsPlace chunks.new) }
+    ensures before { IfOk result (λ p. place_in chunks.new p ≡ place_in chunks.old at) }
     ensures room { IfOk result (λ p. (d : Chunk T M) →
-        length (items_of (get_or chunks.new.items p.chunk d)) + 2 ≤ M.FULL) }
+        length (items_of (get_or chunks.new p.chunk d)) + 2 ≤ M.FULL) }
 {
-    if chunks[at.chunk].len() + 2 <= M::FULL {
+    if chunks.list[at.chunk].len() + 2 <= M::FULL {
         return Ok(at);
     }
-    chunks.reserve(1)?;
     split(chunks, at)
 }
 
-// Splits a full chunk in two, where there is room for one more. Returns the place in its part.
-fn split<T: Drop, M: Mark>(chunks: &mut Vec<Chunk<T, M>>, at: Place) -> Result<Place, AllocError>
-    requires spare { vec_len chunks.old < vec_capacity chunks.old }
-    requires chunks { AreChunks M.FULL M.of chunks.old.items }
-    requires place { IsPlace chunks.old.items at }
-    requires many { (d : Chunk T M) → M.FULL < length (items_of (get_or chunks.old.items at.chunk d)) + 2 }
-    ensures same { flat chunks.new.items ≡ flat chunks.old.items }
-    ensures chunks { AreChunks M.FULL M.of chunks.new.items }
-    ensures place { IfOk result (IsPlace chunks.new.items) }
-    ensures before { IfOk result (λ p. place_in chunks.new.items p ≡ place_in chunks.old.items at) }
+// Splits a full chunk in two. Returns the place in its part.
+fn split<T: Drop, M: Mark>(chunks: &mut ChunkList<T, M>, at: Place) -> Result<Place, AllocError>
+    requires place { IsPlace chunks.old at }
+    requires many { (d : Chunk T M) → M.FULL < length (items_of (get_or chunks.old at.chunk d)) + 2 }
+    ensures same { flat chunks.new ≡ flat chunks.old }
+    ensures place { IfOk result (IsPlace chunks.new) }
+    ensures before { IfOk result (λ p. place_in chunks.new p ≡ place_in chunks.old at) }
     ensures room { IfOk result (λ p. (d : Chunk T M) →
-        length (items_of (get_or chunks.new.items p.chunk d)) + 2 ≤ M.FULL) }
-    ensures appended { place_in chunks.old.items at ≡ length (flat chunks.old.items) → OnOk result ((d : Chunk T M) →
-        length (items_of (get_or chunks.new.items at.chunk d)) + 1 ≡ length (items_of (get_or chunks.old.items at.chunk d))) }
+        length (items_of (get_or chunks.new p.chunk d)) + 2 ≤ M.FULL) }
+    ensures appended { place_in chunks.old at ≡ length (flat chunks.old) → OnOk result ((d : Chunk T M) →
+        length (items_of (get_or chunks.new at.chunk d)) + 1 ≡ length (items_of (get_or chunks.old at.chunk d))) }
 {
-    let len = split_index(chunks.as_slice(), at);
-    let upper = chunks[at.chunk].split_off(len)?;
-    insert_chunk(chunks, at.chunk + 1, upper);
+    let len = split_index(chunks, at);
+    let cut = Place {
+        chunk: at.chunk,
+        index: len,
+    };
+    split_at(chunks, cut)?;
     if at.index <= len {
         Ok(at)
     } else {
@@ -154,10 +133,10 @@ fn split<T: Drop, M: Mark>(chunks: &mut Vec<Chunk<T, M>>, at: Place) -> Result<P
 
 // Where a full chunk is split for what is put at a place: in the middle, or before its last item if
 // that comes behind all others, so that a list that grows at its end has full chunks.
-fn split_index<T, M: Mark>(chunks: &[Chunk<T, M>], at: Place) -> usize
-    requires short { AreShort M.FULL chunks.now }
+fn split_index<T, M: Mark>(chunks: &ChunkList<T, M>, at: Place) -> usize
     requires place { IsPlace chunks.now at }
     requires many { (d : Chunk T M) → M.FULL < length (items_of (get_or chunks.now at.chunk d)) + 2 }
+    ensures count { length chunks.now < 2 ^ 64 }
     ensures some { 0 < result }
     ensures within { (d : Chunk T M) → result < length (items_of (get_or chunks.now at.chunk d)) }
     ensures low { at.index ≤ result → result + 2 ≤ M.FULL }
@@ -166,7 +145,7 @@ fn split_index<T, M: Mark>(chunks: &[Chunk<T, M>], at: Place) -> usize
     ensures appended { place_in chunks.now at ≡ length (flat chunks.now) → (d : Chunk T M) →
         result + 1 ≡ length (items_of (get_or chunks.now at.chunk d)) }
 {
-    let len = chunks[at.chunk].len();
+    let len = chunks.list[at.chunk].len();
     if at.chunk + 1 == chunks.len() && at.index == len {
         len - 1
     } else {
@@ -174,26 +153,24 @@ fn split_index<T, M: Mark>(chunks: &[Chunk<T, M>], at: Place) -> usize
     }
 }
 
-/// Splits the chunk of a place there, where there is room for one more and items stand before and behind
-/// it. An earlier place of that chunk stays, and the place is the chunk's end then.
-pub fn split_at<T: Drop, M: Mark>(
-    chunks: &mut Vec<Chunk<T, M>>,
-    at: Place,
-) -> Result<(), AllocError>
-    requires spare { vec_len chunks.old < vec_capacity chunks.old }
-    requires chunks { AreChunks M.FULL M.of chunks.old.items }
+/// Splits the chunk of a place there, where items stand before and behind it. An earlier place of that
+/// chunk stays, and the place is the chunk's end then.
+pub fn split_at<T: Drop, M: Mark>(chunks: &mut ChunkList<T, M>, at: Place) -> Result<(), AllocError>
     requires some { 0 < at.index }
-    requires chunk { at.chunk < length chunks.old.items }
-    requires within { (d : Chunk T M) → at.index < length (items_of (get_or chunks.old.items at.chunk d)) }
-    ensures same { flat chunks.new.items ≡ flat chunks.old.items }
-    ensures chunks { AreChunks M.FULL M.of chunks.new.items }
-    ensures len { OnOk result (length chunks.new.items ≡ length chunks.old.items + 1) }
-    ensures places { OnOk result ((p : Place) → IsPlace chunks.old.items p → p.chunk ≤ at.chunk → (p.chunk ≡ at.chunk → p.index ≤ at.index) →
-        IsPlace chunks.new.items p × (place_in chunks.new.items p ≡ place_in chunks.old.items p)) }
-    ensures end { OnOk result (start_of chunks.new.items (at.chunk + 1) ≡ place_in chunks.old.items at) }
+    requires chunk { at.chunk < length chunks.old }
+    requires within { (d : Chunk T M) → at.index < length (items_of (get_or chunks.old at.chunk d)) }
+    ensures same { flat chunks.new ≡ flat chunks.old }
+    ensures len { OnOk result (length chunks.new ≡ length chunks.old + 1) }
+    ensures lower { OnOk result ((d : Chunk T M) → length (items_of (get_or chunks.new at.chunk d)) ≡ at.index) }
+    ensures upper { OnOk result ((d : Chunk T M) → length (items_of (get_or chunks.new (at.chunk + 1) d)) + at.index ≡
+        length (items_of (get_or chunks.old at.chunk d))) }
+    ensures places { OnOk result ((p : Place) → IsPlace chunks.old p → p.chunk ≤ at.chunk → (p.chunk ≡ at.chunk → p.index ≤ at.index) →
+        IsPlace chunks.new p × (place_in chunks.new p ≡ place_in chunks.old p)) }
+    ensures end { OnOk result (start_of chunks.new (at.chunk + 1) ≡ place_in chunks.old at) }
 {
-    let upper = chunks[at.chunk].split_off(at.index)?;
-    insert_chunk(chunks, at.chunk + 1, upper);
+    chunks.list.reserve(1)?;
+    let upper = chunks.list[at.chunk].split_off(at.index)?;
+    insert_chunk(&mut chunks.list, at.chunk + 1, upper);
     Ok(())
 }
 
@@ -209,19 +186,18 @@ fn insert_chunk<T: Drop, M: Mark>(chunks: &mut Vec<Chunk<T, M>>, at: usize, chun
 
 /// Puts items into a list that has none. If memory runs out, they are handed back.
 pub fn push_first<T: Drop, M: Mark>(
-    chunks: &mut Vec<Chunk<T, M>>,
+    chunks: &mut ChunkList<T, M>,
     first: T,
     second: Option<T>,
 ) -> Result<(), (T, Option<T>)>
-    requires none { length chunks.old.items ≡ 0 }
-    ensures items { OnOk result (flat chunks.new.items ≡ first ∷ option_to_list second) }
-    ensures unchanged { OnErr result (flat chunks.new.items ≡ []) }
+    requires none { length chunks.old ≡ 0 }
+    ensures items { OnOk result (flat chunks.new ≡ first ∷ option_to_list second) }
+    ensures unchanged { OnErr result (flat chunks.new ≡ []) }
     ensures handed_back { IfErr result (λ back. (back.0 ≡ first) × (back.1 ≡ second)) }
-    ensures chunks { AreChunks M.FULL M.of chunks.new.items }
 {
-    match room_for_first(chunks, second.is_some()) {
+    match room_for_first(&mut chunks.list, second.is_some()) {
         Ok(rest) => {
-            put_first(chunks, first, second, rest);
+            put_first(&mut chunks.list, first, second, rest);
             Ok(())
         }
         Err(_) => Err((first, second)),
@@ -286,16 +262,15 @@ fn first_chunk<T: Drop, M: Mark>(first: T, second: Option<T>, rest: Vec<T>) -> C
 
 /// Puts what is given into a list that has none. If memory runs out, it is handed back.
 pub fn fill<T: Drop, M: Mark>(
-    chunks: &mut Vec<Chunk<T, M>>,
+    chunks: &mut ChunkList<T, M>,
     first: Option<T>,
     second: Option<T>,
 ) -> Result<(), (Option<T>, Option<T>)>
-    requires none { length chunks.old.items ≡ 0 }
-    ensures items { OnOk result (flat chunks.new.items ≡ option_to_list first ++ option_to_list second) }
-    ensures unchanged { OnErr result (flat chunks.new.items ≡ []) }
+    requires none { length chunks.old ≡ 0 }
+    ensures items { OnOk result (flat chunks.new ≡ option_to_list first ++ option_to_list second) }
+    ensures unchanged { OnErr result (flat chunks.new ≡ []) }
     ensures handed_back { IfErr result (λ back. (back.0 ≡ first) × (back.1 ≡ second)) }
     ensures succeeds { option_to_list first ++ option_to_list second ≡ [] → IsOk result }
-    ensures chunks { AreChunks M.FULL M.of chunks.new.items }
 {
     match (first, second) {
         (Some(first), second) => match push_first(chunks, first, second) {

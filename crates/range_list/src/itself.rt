@@ -1,4 +1,4 @@
-//! Items that are their own keys.
+//! Items that are their own keys, as the boundaries of sets are.
 use crate::key_of::{IntoKey, KeyOf, SearchBy, SetKey};
 use range_merge::{Compare, search};
 use std::mem;

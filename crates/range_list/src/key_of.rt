@@ -1,4 +1,5 @@
-//! The key of an item.
+//! Where items have keys, by which a list is searched: a boundary of a set is its own key, and a
+//! step of a map has one.
 ghost use Rattle.std.specs.Prelude.{◌≡◌, ◌^◌, ◌<◌, ◌≤◌, length, map, IfOk, IfErr, HoldsAt};
 ghost use Rattle.std.specs.List.{AllWithin};
 ghost use Rattle.std.specs.declared.cmp.Ordering.TheVariants.{Less, Equal, Greater};
@@ -9,6 +10,9 @@ ghost use Rattle.range_merge.specs.Runs.{digits};
 use range_merge::Compare;
 
 /// Where an item has its key.
+///
+/// No call takes `self`: the type alone says where the key is, as `Itself` does. A function takes a
+/// value of it, its `lens`, only so that the type is inferred, and reads nothing of it.
 pub trait KeyOf<T, K> {
     // The key of an item.
     ghost key_of: { T → K };
@@ -31,8 +35,7 @@ pub trait SearchBy<T, K>: KeyOf<T, K> {
             AllWithin (λ y. C.order y key.now ≡ Less) (map Self.key_of items.now) 0 i) }
         ensures missing_from { IfErr result (λ i.
             AllWithin (λ y. C.order y key.now ≡ Greater) (map Self.key_of items.now) i (length items.now)) }
-        ensures comparisons { AddsAtMost (C.count cmp.old) (C.count cmp.new)
-            (digits (length items.now)) };
+        ensures comparisons { AddsAtMost (C.count cmp.old) (C.count cmp.new) (digits (length items.now)) };
 }
 
 /// Where an item has a key that can be another.

@@ -3,6 +3,7 @@
 
 mod appending;
 mod chunk;
+mod chunk_list;
 mod copying;
 mod counting;
 mod inserting;

@@ -1,4 +1,4 @@
-//! A list whose items lie in chunks, with places in it.
+//! A list whose items lie in chunks, with places in it: the type that sets and maps keep.
 ghost use Rattle.std.specs.Prelude.{◌≡◌, ◌≤◌, ◌<◌, ◌+◌, ◌-◌, ◌^◌, [], true, false, map, length, IfOk, IfErr, MatchResult, HoldsAt};
 ghost use Rattle.std.specs.List.{AllWithin};
 ghost use Rattle.std.specs.Ordering.{is_le};
@@ -14,7 +14,7 @@ mod making;
 mod reading;
 mod taking;
 
-use crate::chunk::Chunk;
+use crate::chunk_list::ChunkList;
 use crate::key_of::SearchBy;
 use crate::mark::Mark;
 use crate::place::{FRONT, Place};
@@ -29,7 +29,7 @@ use std::marker::Model;
 ///
 /// A clause reads it as the list of its chunks' items. A place is one of them until the next change.
 pub struct Chunks<T, M: Mark> {
-    chunks: Vec<Chunk<T, M>>,
+    chunks: ChunkList<T, M>,
     len: usize,
 }
 
@@ -46,17 +46,16 @@ impl<T: Drop, M: Mark> Drop for Chunks<T, M> {
 impl<T, M: Mark> Model for Chunks<T, M> {
     ghost use Rattle.std.specs.Prelude.{◌≡◌, List, length};
     ghost use Rattle.std.specs.Coded.{coded_list};
-    ghost use Rattle.range_list.specs.Chunks.{AreChunks, flat};
+    ghost use Rattle.range_list.specs.Chunks.{flat};
     ghost use Rattle.range_list.specs.Lists.{lists_of};
 
     ghost Value = { List (List T) };
 
     ghost coded = { coded_list (coded_list T.code) };
 
-    ghost view = { λ list. lists_of list.chunks.items };
+    ghost view = { λ list. lists_of list.chunks };
 
-    ghost invariant = { λ list. AreChunks M.FULL M.of list.chunks.items
-        × (list.len ≡ length (flat list.chunks.items)) };
+    ghost invariant = { λ list. list.len ≡ length (flat list.chunks) };
 }
 
 impl<T, M: Mark> Chunks<T, M> {
@@ -66,7 +65,7 @@ impl<T, M: Mark> Chunks<T, M> {
         ensures { result ≡ [] }
     {
         Chunks {
-            chunks: Vec::new(alloc),
+            chunks: ChunkList::new(alloc),
             len: 0,
         }
     }
@@ -74,7 +73,7 @@ impl<T, M: Mark> Chunks<T, M> {
     /// The allocator of the list.
     #[inline(always)]
     pub fn allocator(&self) -> Global {
-        *self.chunks.allocator()
+        self.chunks.allocator()
     }
 
     /// Whether there are no items.
@@ -113,7 +112,7 @@ impl<T, M: Mark> Chunks<T, M> {
         if self.chunks.is_empty() {
             return Err(FRONT);
         }
-        match find(self.chunks.as_slice(), lens, key, cmp) {
+        match find(&self.chunks, lens, key, cmp) {
             Ok(p) => Ok(p),
             Err(p) => Err(p),
         }
@@ -151,7 +150,7 @@ impl<T, M: Mark> Chunks<T, M> {
         if self.chunks.is_empty() {
             return Err(FRONT);
         }
-        match find_from(self.chunks.as_slice(), from, lens, key, cmp) {
+        match find_from(&self.chunks, from, lens, key, cmp) {
             Ok(p) => Ok(p),
             Err(p) => Err(p),
         }
@@ -179,7 +178,7 @@ impl<T, M: Mark> Chunks<T, M> {
         if self.chunks.is_empty() {
             return FRONT;
         }
-        below(self.chunks.as_slice(), lens, key, cmp)
+        below(&self.chunks, lens, key, cmp)
     }
 
     /// The place before which all keys are at or below this one, and from which on all are above it.
@@ -205,6 +204,6 @@ impl<T, M: Mark> Chunks<T, M> {
         if self.chunks.is_empty() {
             return FRONT;
         }
-        up_to(self.chunks.as_slice(), lens, key, cmp)
+        up_to(&self.chunks, lens, key, cmp)
     }
 }

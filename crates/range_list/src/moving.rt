@@ -43,14 +43,14 @@ fn with_chunk<T: Drop, K: Drop, M: Mark, L: IntoKey<T, K>>(
 }
 
 /// The items of a list in chunks, all of which are full but the last, behind items with this mark. It
-/// goes from the end on, so that each item is moved once or twice.
+/// goes from the end on, so that each item is moved once.
 pub fn cut_up<T: Drop, M: Mark>(list: Vec<T>, mark: M) -> Result<Vec<Chunk<T, M>>, AllocError>
     ensures items { IfOk result (λ chunks. flat chunks.items ≡ list.items) }
     ensures short { IfOk result (λ chunks. AreShort M.FULL chunks.items) }
     ensures marks { IfOk result (λ chunks. (n : ℕ) → mark ≡ M.of n → KnowMarks M.of n chunks.items) }
 {
     let mut unread = list;
-    let mut chunks = Vec::new(*unread.allocator());
+    let mut chunks = Vec::with_capacity(*unread.allocator(), unread.len().div_ceil(M::FULL))?;
     while !unread.is_empty() {
         chunks.push(last_chunk(&mut unread, mark)?)?;
     }
@@ -66,10 +66,9 @@ fn last_chunk<T: Drop, M: Mark>(list: &mut Vec<T>, mark: M) -> Result<Chunk<T, M
     ensures mark { IfOk result (λ chunk. chunk.mark ≡ M.moved mark (length list.new.items)) }
 {
     let before = (list.len() - 1) / M::FULL * M::FULL;
-    let mut rest = list.split_off(before)?;
-    let first = rest.remove(0);
+    let rest = list.split_off(before + 1)?;
     Ok(Chunk {
-        first,
+        first: list.remove(before),
         rest,
         mark: mark.behind(before),
     })

@@ -1,26 +1,27 @@
-//! Items read at their places.
+//! Items and marks read at their places. A place at the end of a chunk is that of the next chunk's
+//! first item, and each of these functions reads it so.
 ghost use Rattle.std.specs.Prelude.{◌≡◌, ◌≤◌, ◌<◌, ◌+◌, ◌∷◌, None, Some, map, length, get_or, option_copied, IfSome, IfNone, MatchOption, HoldsAt};
-ghost use Rattle.range_list.specs.Chunks.{items_of, flat, AreShort, AreChunks};
+ghost use Rattle.range_list.specs.Chunks.{items_of, flat};
 ghost use Rattle.range_list.specs.Places.{place_in, IsPlace, IsItem};
 
 use crate::chunk::Chunk;
+use crate::chunk_list::ChunkList;
 use crate::mark::Mark;
 use crate::place::Place;
 
 /// The item before a place, or `None` at the front.
 #[inline]
-pub fn item_before<T, M: Mark>(chunks: &[Chunk<T, M>], at: Place) -> Option<&T>
-    requires short { AreShort M.FULL chunks.now }
+pub fn item_before<T, M: Mark>(chunks: &ChunkList<T, M>, at: Place) -> Option<&T>
     requires place { IsPlace chunks.now at }
     ensures { option_copied result ≡ get_or (None ∷ map Some (flat chunks.now)) (place_in chunks.now at) None }
 {
     if at.index > 0 {
-        return Some(chunks[at.chunk].at(at.index - 1));
+        return Some(chunks.list[at.chunk].at(at.index - 1));
     }
     if at.chunk == 0 {
         return None;
     }
-    Some(last(&chunks[at.chunk - 1]))
+    Some(last(&chunks.list[at.chunk - 1]))
 }
 
 // The last item of a chunk.
@@ -33,39 +34,36 @@ fn last<T, M: Mark>(chunk: &Chunk<T, M>) -> &T
 
 /// The mark of a place.
 #[inline(always)]
-pub fn mark_at<T, M: Mark>(chunks: &[Chunk<T, M>], at: Place) -> M
-    requires chunks { AreChunks M.FULL M.of chunks.now }
+pub fn mark_at<T, M: Mark>(chunks: &ChunkList<T, M>, at: Place) -> M
     requires place { IsPlace chunks.now at }
     ensures { result ≡ M.of (place_in chunks.now at) }
 {
-    let mark = chunks[at.chunk].mark;
+    let mark = chunks.list[at.chunk].mark;
     mark.behind(at.index)
 }
 
 /// The item at a place, or `None` at the end.
-pub fn item_at<T, M: Mark>(chunks: &[Chunk<T, M>], at: Place) -> Option<&T>
-    requires short { AreShort M.FULL chunks.now }
+pub fn item_at<T, M: Mark>(chunks: &ChunkList<T, M>, at: Place) -> Option<&T>
     requires place { IsPlace chunks.now at }
     ensures { MatchOption result (length (flat chunks.now) ≤ place_in chunks.now at)
         (λ x. (place_in chunks.now at < length (flat chunks.now)) ×
         HoldsAt (λ y. x.now ≡ y) (flat chunks.now) (place_in chunks.now at)) }
 {
     let at = settled(chunks, at)?;
-    Some(chunks[at.chunk].at(at.index))
+    Some(chunks.list[at.chunk].at(at.index))
 }
 
 /// The place as that of an item, or `None` if it is the end: a chunk's end is the start of the next
 /// one.
 #[inline(always)]
-pub fn settled<T, M: Mark>(chunks: &[Chunk<T, M>], at: Place) -> Option<Place>
-    requires short { AreShort M.FULL chunks.now }
+pub fn settled<T, M: Mark>(chunks: &ChunkList<T, M>, at: Place) -> Option<Place>
     requires place { IsPlace chunks.now at }
     ensures end { IfNone result (length (flat chunks.now) ≤ place_in chunks.now at) }
     ensures place { IfSome result (IsPlace chunks.now) }
     ensures item { IfSome result (IsItem chunks.now) }
     ensures same { IfSome result (λ p. place_in chunks.now p ≡ place_in chunks.now at) }
 {
-    if at.index < chunks[at.chunk].len() {
+    if at.index < chunks.list[at.chunk].len() {
         return Some(at);
     }
     if at.chunk + 1 < chunks.len() {
@@ -78,36 +76,33 @@ pub fn settled<T, M: Mark>(chunks: &[Chunk<T, M>], at: Place) -> Option<Place>
 }
 
 /// The place after all items.
-pub fn end<T, M: Mark>(chunks: &[Chunk<T, M>]) -> Place
+pub fn end<T, M: Mark>(chunks: &ChunkList<T, M>) -> Place
     requires some { 0 < length chunks.now }
-    requires short { AreShort M.FULL chunks.now }
     ensures place { IsPlace chunks.now result }
     ensures end { place_in chunks.now result ≡ length (flat chunks.now) }
 {
     let chunk = chunks.len() - 1;
     Place {
         chunk,
-        index: chunks[chunk].len(),
+        index: chunks.list[chunk].len(),
     }
 }
 
 /// The mark of the place after all items.
 #[inline]
-pub fn end_mark<T, M: Mark>(chunks: &[Chunk<T, M>]) -> M
-    requires { AreChunks M.FULL M.of chunks.now }
+pub fn end_mark<T, M: Mark>(chunks: &ChunkList<T, M>) -> M
     ensures { result ≡ M.of (length (flat chunks.now)) }
 {
     if chunks.is_empty() {
         return M::front();
     }
     let at = chunks.len() - 1;
-    let last = &chunks[at];
+    let last = &chunks.list[at];
     last.mark.behind(last.len())
 }
 
 /// The place of the item before another place, which isn't the front.
-pub fn place_before<T, M: Mark>(chunks: &[Chunk<T, M>], to: Place) -> Place
-    requires short { AreShort M.FULL chunks.now }
+pub fn place_before<T, M: Mark>(chunks: &ChunkList<T, M>, to: Place) -> Place
     requires place { IsPlace chunks.now to }
     requires some { 0 < place_in chunks.now to }
     ensures place { IsPlace chunks.now result }
@@ -123,6 +118,6 @@ pub fn place_before<T, M: Mark>(chunks: &[Chunk<T, M>], to: Place) -> Place
     let chunk = to.chunk - 1;
     Place {
         chunk,
-        index: chunks[chunk].len() - 1,
+        index: chunks.list[chunk].len() - 1,
     }
 }

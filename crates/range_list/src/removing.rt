@@ -1,29 +1,28 @@
 //! Items taken out between two places, which takes no memory.
 ghost use Rattle.std.specs.Prelude.{◌≡◌, ◌≤◌, ◌<◌, ◌+◌, ℕ, length, take, drop, get_or, vec_capacity};
 ghost use Rattle.std.specs.List.{remove_range};
-ghost use Rattle.range_list.specs.Chunks.{items_of, flat, AreShort, KnowMarks, AreChunks};
+ghost use Rattle.range_list.specs.Chunks.{items_of, flat, AreShort, KnowMarks};
 ghost use Rattle.range_list.specs.Places.{place_in, IsPlace};
 
 use crate::chunk::Chunk;
+use crate::chunk_list::ChunkList;
 use crate::mark::Mark;
 use crate::place::Place;
 use std::mem;
 
 /// Removes the items between two places.
-pub fn remove_between<T: Drop, M: Mark>(chunks: &mut Vec<Chunk<T, M>>, from: Place, to: Place)
-    requires chunks { AreChunks M.FULL M.of chunks.old.items }
-    requires from { IsPlace chunks.old.items from }
-    requires to { IsPlace chunks.old.items to }
-    requires ordered { place_in chunks.old.items from ≤ place_in chunks.old.items to }
-    requires alike { M.of (place_in chunks.old.items from) ≡ M.of (place_in chunks.old.items to) }
-    ensures items { flat chunks.new.items ≡ remove_range (flat chunks.old.items)
-        (place_in chunks.old.items from) (place_in chunks.old.items to) }
-    ensures chunks { AreChunks M.FULL M.of chunks.new.items }
+pub fn remove_between<T: Drop, M: Mark>(chunks: &mut ChunkList<T, M>, from: Place, to: Place)
+    requires from { IsPlace chunks.old from }
+    requires to { IsPlace chunks.old to }
+    requires ordered { place_in chunks.old from ≤ place_in chunks.old to }
+    requires alike { M.of (place_in chunks.old from) ≡ M.of (place_in chunks.old to) }
+    ensures { flat chunks.new ≡ remove_range (flat chunks.old)
+        (place_in chunks.old from) (place_in chunks.old to) }
 {
     if from.chunk > to.chunk {
         return;
     }
-    if from.chunk == to.chunk && to.index - from.index < chunks[to.chunk].len() {
+    if from.chunk == to.chunk && to.index - from.index < chunks.list[to.chunk].len() {
         remove_in(chunks, from, to.index);
     } else {
         remove_across(chunks, from, to);
@@ -31,55 +30,49 @@ pub fn remove_between<T: Drop, M: Mark>(chunks: &mut Vec<Chunk<T, M>>, from: Pla
 }
 
 // Removes some items of one chunk, but not all.
-fn remove_in<T: Drop, M: Mark>(chunks: &mut Vec<Chunk<T, M>>, from: Place, to: usize)
-    requires chunks { AreChunks M.FULL M.of chunks.old.items }
-    requires from { IsPlace chunks.old.items from }
-    requires to { IsPlace chunks.old.items (record { chunk = from.chunk; index = to }) }
+fn remove_in<T: Drop, M: Mark>(chunks: &mut ChunkList<T, M>, from: Place, to: usize)
+    requires from { IsPlace chunks.old from }
+    requires to { IsPlace chunks.old (record { chunk = from.chunk; index = to }) }
     requires ordered { from.index ≤ to }
-    requires alike { M.of (place_in chunks.old.items from) ≡
-        M.of (place_in chunks.old.items (record { chunk = from.chunk; index = to })) }
-    requires some { (d : Chunk T M) → to < from.index + length (items_of (get_or chunks.old.items from.chunk d)) }
-    ensures items { flat chunks.new.items ≡ remove_range (flat chunks.old.items)
-        (place_in chunks.old.items from) (place_in chunks.old.items (record { chunk = from.chunk; index = to })) }
-    ensures chunks { AreChunks M.FULL M.of chunks.new.items }
+    requires alike { M.of (place_in chunks.old from) ≡
+        M.of (place_in chunks.old (record { chunk = from.chunk; index = to })) }
+    requires some { (d : Chunk T M) → to < from.index + length (items_of (get_or chunks.old from.chunk d)) }
+    ensures { flat chunks.new ≡ remove_range (flat chunks.old)
+        (place_in chunks.old from) (place_in chunks.old (record { chunk = from.chunk; index = to })) }
 {
-    chunks[from.chunk].remove_between(from.index, to);
+    chunks.list[from.chunk].remove_between(from.index, to);
 }
 
 // Removes what lies between two places of different chunks, or a whole chunk. In Rust a drop may
 // panic, so the list is empty until what is left of it is whole.
-fn remove_across<T: Drop, M: Mark>(chunks: &mut Vec<Chunk<T, M>>, from: Place, to: Place)
-    requires chunks { AreChunks M.FULL M.of chunks.old.items }
-    requires from { IsPlace chunks.old.items from }
-    requires to { IsPlace chunks.old.items to }
+fn remove_across<T: Drop, M: Mark>(chunks: &mut ChunkList<T, M>, from: Place, to: Place)
+    requires from { IsPlace chunks.old from }
+    requires to { IsPlace chunks.old to }
     requires ordered { from.chunk ≤ to.chunk }
     requires whole { from.chunk ≡ to.chunk → from.index ≡ 0 }
-    requires alike { M.of (place_in chunks.old.items from) ≡ M.of (place_in chunks.old.items to) }
-    ensures items { flat chunks.new.items ≡ remove_range (flat chunks.old.items)
-        (place_in chunks.old.items from) (place_in chunks.old.items to) }
-    ensures chunks { AreChunks M.FULL M.of chunks.new.items }
+    requires alike { M.of (place_in chunks.old from) ≡ M.of (place_in chunks.old to) }
+    ensures { flat chunks.new ≡ remove_range (flat chunks.old)
+        (place_in chunks.old from) (place_in chunks.old to) }
 {
-    let empty = Vec::new(*chunks.allocator());
+    let empty = ChunkList::new(chunks.allocator());
     let mut taken = mem::replace(chunks, empty);
     cut_across(&mut taken, from, to);
     *chunks = taken;
 }
 
-// The same in steps, between which the marks are wrong.
-fn cut_across<T: Drop, M: Mark>(chunks: &mut Vec<Chunk<T, M>>, from: Place, to: Place)
-    requires chunks { AreChunks M.FULL M.of chunks.old.items }
-    requires from { IsPlace chunks.old.items from }
-    requires to { IsPlace chunks.old.items to }
+// The same as `remove_across`, in steps, between which the marks are wrong.
+fn cut_across<T: Drop, M: Mark>(chunks: &mut ChunkList<T, M>, from: Place, to: Place)
+    requires from { IsPlace chunks.old from }
+    requires to { IsPlace chunks.old to }
     requires ordered { from.chunk ≤ to.chunk }
     requires whole { from.chunk ≡ to.chunk → from.index ≡ 0 }
-    requires alike { M.of (place_in chunks.old.items from) ≡ M.of (place_in chunks.old.items to) }
-    ensures items { flat chunks.new.items ≡ remove_range (flat chunks.old.items)
-        (place_in chunks.old.items from) (place_in chunks.old.items to) }
-    ensures chunks { AreChunks M.FULL M.of chunks.new.items }
+    requires alike { M.of (place_in chunks.old from) ≡ M.of (place_in chunks.old to) }
+    ensures { flat chunks.new ≡ remove_range (flat chunks.old)
+        (place_in chunks.old from) (place_in chunks.old to) }
 {
-    let low = cut_behind(chunks, from);
-    let high = cut_before(chunks, to);
-    remove_chunks(chunks, low, high);
+    let low = cut_behind(&mut chunks.list, from);
+    let high = cut_before(&mut chunks.list, to);
+    remove_chunks(&mut chunks.list, low, high);
 }
 
 /// Removes the chunks between two indices.

@@ -1,4 +1,8 @@
 //! The place of a key: a search among the chunks' first keys, and one in the rest of a chunk.
+//!
+//! A comparer's count has to stay within a `u128`, so a search requires one below `2 ^ 127`. What
+//! compares before it searches, as `find` does and then `find_from`, requires half the bound of
+//! what it calls next: it adds less than the other half, so the count is still low enough there.
 ghost use Rattle.std.specs.Prelude.{◌≡◌, ◌-◌, ◌≤◌, ◌<◌, ◌+◌, ◌^◌, true, length, IfOk, IfErr, MatchResult, HoldsAt, map};
 ghost use Rattle.std.specs.List.{AllWithin};
 ghost use Rattle.std.specs.Ordering.{is_le};
@@ -6,10 +10,11 @@ ghost use Rattle.std.specs.declared.cmp.Ordering.TheVariants.{Less, Equal, Great
 ghost use Rattle.range_merge.specs.Boundaries.{IsAscending};
 ghost use Rattle.range_merge.specs.Counting.{AddsAtMost};
 ghost use Rattle.range_merge.specs.Runs.{digits};
-ghost use Rattle.range_list.specs.Chunks.{items_of, flat, AreShort};
+ghost use Rattle.range_list.specs.Chunks.{flat};
 ghost use Rattle.range_list.specs.Places.{place_in, IsPlace, IsItem, keys_of, first_keys};
 
 use crate::chunk::Chunk;
+use crate::chunk_list::ChunkList;
 use crate::key_of::{KeyOf, SearchBy};
 use crate::mark::Mark;
 use crate::overwriting::behind_item;
@@ -22,13 +27,12 @@ use std::marker::PhantomData;
 
 /// The place before which all keys are below this one, and from which on none is.
 pub fn below<T, K, M: Mark, L: SearchBy<T, K>, C: Compare<K>>(
-    chunks: &[Chunk<T, M>],
+    chunks: &ChunkList<T, M>,
     lens: &L,
     key: &K,
     cmp: &mut C,
 ) -> Place
     requires some { 0 < length chunks.now }
-    requires short { AreShort M.FULL chunks.now }
     requires ascending { IsAscending C.order (keys_of L.key_of chunks.now) }
     requires made { C.count cmp.old < 2 ^ 126 }
     ensures place { IsPlace chunks.now result }
@@ -47,13 +51,12 @@ pub fn below<T, K, M: Mark, L: SearchBy<T, K>, C: Compare<K>>(
 /// The place before which all keys are at or below this one, and from which on all are above it.
 #[inline]
 pub fn up_to<T, K, M: Mark, L: SearchBy<T, K>, C: Compare<K>>(
-    chunks: &[Chunk<T, M>],
+    chunks: &ChunkList<T, M>,
     lens: &L,
     key: &K,
     cmp: &mut C,
 ) -> Place
     requires some { 0 < length chunks.now }
-    requires short { AreShort M.FULL chunks.now }
     requires ascending { IsAscending C.order (keys_of L.key_of chunks.now) }
     requires made { C.count cmp.old < 2 ^ 126 }
     ensures place { IsPlace chunks.now result }
@@ -72,13 +75,12 @@ pub fn up_to<T, K, M: Mark, L: SearchBy<T, K>, C: Compare<K>>(
 /// The place of the item whose key is equal to this one, or in an `Err` the place where it would go.
 #[inline]
 pub fn find<T, K, M: Mark, L: SearchBy<T, K>, C: Compare<K>>(
-    chunks: &[Chunk<T, M>],
+    chunks: &ChunkList<T, M>,
     _lens: &L,
     key: &K,
     cmp: &mut C,
 ) -> Result<Place, Place>
     requires some { 0 < length chunks.now }
-    requires short { AreShort M.FULL chunks.now }
     requires ascending { IsAscending C.order (keys_of L.key_of chunks.now) }
     requires made { C.count cmp.old < 2 ^ 126 }
     ensures places { MatchResult result (IsPlace chunks.now) (IsPlace chunks.now) }
@@ -93,7 +95,12 @@ pub fn find<T, K, M: Mark, L: SearchBy<T, K>, C: Compare<K>>(
     ensures comparisons { AddsAtMost (C.count cmp.old) (C.count cmp.new)
         (digits (length chunks.now) + digits (M.FULL - 1)) }
 {
-    match search_keys(chunks, &FirstKey::<L> { of: PhantomData }, key, cmp) {
+    match search_keys(
+        chunks.as_slice(),
+        &FirstKey::<L> { of: PhantomData },
+        key,
+        cmp,
+    ) {
         Ok(chunk) => Ok(Place { chunk, index: 0 }),
         Err(0) => Err(Place { chunk: 0, index: 0 }),
         Err(after) => find_behind(chunks, after - 1, _lens, key, cmp),
@@ -104,7 +111,7 @@ pub fn find<T, K, M: Mark, L: SearchBy<T, K>, C: Compare<K>>(
 /// then it searches nothing.
 #[inline(always)]
 pub fn find_from<T, K, M: Mark, L: SearchBy<T, K>, C: Compare<K>>(
-    chunks: &[Chunk<T, M>],
+    chunks: &ChunkList<T, M>,
     from: Place,
     lens: &L,
     key: &K,
@@ -113,7 +120,6 @@ pub fn find_from<T, K, M: Mark, L: SearchBy<T, K>, C: Compare<K>>(
     requires place { IsPlace chunks.now from }
     requires before { AllWithin (λ y. C.order y key.now ≡ Less)
         (keys_of L.key_of chunks.now) 0 (place_in chunks.now from) }
-    requires short { AreShort M.FULL chunks.now }
     requires ascending { IsAscending C.order (keys_of L.key_of chunks.now) }
     requires made { C.count cmp.old < 2 ^ 125 }
     ensures places { MatchResult result (IsPlace chunks.now) (IsPlace chunks.now) }
@@ -130,7 +136,7 @@ pub fn find_from<T, K, M: Mark, L: SearchBy<T, K>, C: Compare<K>>(
     let Some(next) = settled(chunks, from) else {
         return Err(from);
     };
-    match cmp.compare(L::key_of(chunks[next.chunk].at(next.index)), key) {
+    match cmp.compare(L::key_of(chunks.list[next.chunk].at(next.index)), key) {
         Ordering::Less => find(chunks, lens, key, cmp),
         Ordering::Equal => Ok(next),
         Ordering::Greater => Err(from),
@@ -155,14 +161,13 @@ impl<T, K, M, L: KeyOf<T, K>> KeyOf<Chunk<T, M>, K> for FirstKey<L> {
 // the key.
 #[inline(always)]
 fn find_behind<T, K, M: Mark, L: SearchBy<T, K>, C: Compare<K>>(
-    chunks: &[Chunk<T, M>],
+    chunks: &ChunkList<T, M>,
     chunk: usize,
     _lens: &L,
     key: &K,
     cmp: &mut C,
 ) -> Result<Place, Place>
     requires within { chunk < length chunks.now }
-    requires short { AreShort M.FULL chunks.now }
     requires ascending { IsAscending C.order (keys_of L.key_of chunks.now) }
     requires before { AllWithin (λ y. C.order y key.now ≡ Less) (first_keys L.key_of chunks.now) 0 (chunk + 1) }
     requires from { AllWithin (λ y. C.order y key.now ≡ Greater)
@@ -179,7 +184,7 @@ fn find_behind<T, K, M: Mark, L: SearchBy<T, K>, C: Compare<K>>(
         (keys_of L.key_of chunks.now) (place_in chunks.now p) (length (flat chunks.now))) }
     ensures comparisons { AddsAtMost (C.count cmp.old) (C.count cmp.new) (digits (M.FULL - 1)) }
 {
-    match L::search(chunks[chunk].rest.as_slice(), key, cmp) {
+    match L::search(chunks.list[chunk].rest.as_slice(), key, cmp) {
         Ok(i) => Ok(Place {
             chunk,
             index: i + 1,
@@ -208,8 +213,7 @@ pub fn search_keys<T, K, L: KeyOf<T, K>, C: Compare<K>>(
         AllWithin (λ y. C.order y key.now ≡ Less) (map L.key_of items.now) 0 i) }
     ensures missing_from { IfErr result (λ i.
         AllWithin (λ y. C.order y key.now ≡ Greater) (map L.key_of items.now) i (length items.now)) }
-    ensures comparisons { AddsAtMost (C.count cmp.old) (C.count cmp.new)
-        (digits (length items.now)) }
+    ensures comparisons { AddsAtMost (C.count cmp.old) (C.count cmp.new) (digits (length items.now)) }
 {
     let mut front = 0;
     let mut left = items.len();

@@ -1,25 +1,23 @@
-//! Two items exchanged.
+//! Two items exchanged, in one chunk or in two. All places stay valid.
 ghost use Rattle.std.specs.Prelude.{◌≡◌, ◌≤◌, ◌<◌, length};
 ghost use Rattle.std.specs.List.{swap};
-ghost use Rattle.range_list.specs.Chunks.{flat, AreChunks};
+ghost use Rattle.range_list.specs.Chunks.{flat};
 ghost use Rattle.range_list.specs.Places.{place_in, IsPlace, IsItem, HasPlacesOf, IsExchanged};
 
 use crate::chunk::Chunk;
+use crate::chunk_list::ChunkList;
 use crate::mark::Mark;
 use crate::place::Place;
 
 /// Exchanges an item and the one at a later place, or at the same.
-pub fn swap_items<T: Drop, M: Mark>(chunks: &mut Vec<Chunk<T, M>>, a: Place, b: Place)
-    requires chunks { AreChunks M.FULL M.of chunks.old.items }
-    requires a { IsPlace chunks.old.items a }
-    requires a_item { IsItem chunks.old.items a }
-    requires b { IsPlace chunks.old.items b }
-    requires b_item { IsItem chunks.old.items b }
-    requires ordered { place_in chunks.old.items a ≤ place_in chunks.old.items b }
-    ensures items { flat chunks.new.items ≡ swap (flat chunks.old.items)
-        (place_in chunks.old.items a) (place_in chunks.old.items b) }
-    ensures places { HasPlacesOf chunks.old.items chunks.new.items }
-    ensures chunks { AreChunks M.FULL M.of chunks.new.items }
+pub fn swap_items<T: Drop, M: Mark>(chunks: &mut ChunkList<T, M>, a: Place, b: Place)
+    requires a { IsPlace chunks.old a }
+    requires a_item { IsItem chunks.old a }
+    requires b { IsPlace chunks.old b }
+    requires b_item { IsItem chunks.old b }
+    requires ordered { place_in chunks.old a ≤ place_in chunks.old b }
+    ensures items { flat chunks.new ≡ swap (flat chunks.old) (place_in chunks.old a) (place_in chunks.old b) }
+    ensures places { HasPlacesOf chunks.old chunks.new }
 {
     if a.chunk == b.chunk {
         swap_in(chunks, a, b.index);
@@ -28,34 +26,29 @@ pub fn swap_items<T: Drop, M: Mark>(chunks: &mut Vec<Chunk<T, M>>, a: Place, b: 
     }
 }
 
-// The same in one chunk.
-fn swap_in<T: Drop, M: Mark>(chunks: &mut Vec<Chunk<T, M>>, a: Place, b: usize)
-    requires chunks { AreChunks M.FULL M.of chunks.old.items }
-    requires a { IsPlace chunks.old.items a }
-    requires b { IsItem chunks.old.items (record { chunk = a.chunk; index = b }) }
+// Exchanges two items of one chunk.
+fn swap_in<T: Drop, M: Mark>(chunks: &mut ChunkList<T, M>, a: Place, b: usize)
+    requires a { IsPlace chunks.old a }
+    requires b { IsItem chunks.old (record { chunk = a.chunk; index = b }) }
     requires ordered { a.index ≤ b }
-    ensures items { flat chunks.new.items ≡ swap (flat chunks.old.items) (place_in chunks.old.items a)
-        (place_in chunks.old.items (record { chunk = a.chunk; index = b })) }
-    ensures places { HasPlacesOf chunks.old.items chunks.new.items }
-    ensures chunks { AreChunks M.FULL M.of chunks.new.items }
+    ensures items { flat chunks.new ≡ swap (flat chunks.old) (place_in chunks.old a)
+        (place_in chunks.old (record { chunk = a.chunk; index = b })) }
+    ensures places { HasPlacesOf chunks.old chunks.new }
 {
-    chunks[a.chunk].swap(a.index, b);
+    chunks.list[a.chunk].swap(a.index, b);
 }
 
-// The same in two chunks.
-fn swap_across<T: Drop, M: Mark>(chunks: &mut Vec<Chunk<T, M>>, a: Place, b: Place)
-    requires chunks { AreChunks M.FULL M.of chunks.old.items }
-    requires a { IsPlace chunks.old.items a }
-    requires a_item { IsItem chunks.old.items a }
-    requires b { IsPlace chunks.old.items b }
-    requires b_item { IsItem chunks.old.items b }
+// Exchanges two items of different chunks.
+fn swap_across<T: Drop, M: Mark>(chunks: &mut ChunkList<T, M>, a: Place, b: Place)
+    requires a { IsPlace chunks.old a }
+    requires a_item { IsItem chunks.old a }
+    requires b { IsPlace chunks.old b }
+    requires b_item { IsItem chunks.old b }
     requires ordered { a.chunk < b.chunk }
-    ensures items { flat chunks.new.items ≡ swap (flat chunks.old.items)
-        (place_in chunks.old.items a) (place_in chunks.old.items b) }
-    ensures places { HasPlacesOf chunks.old.items chunks.new.items }
-    ensures chunks { AreChunks M.FULL M.of chunks.new.items }
+    ensures items { flat chunks.new ≡ swap (flat chunks.old) (place_in chunks.old a) (place_in chunks.old b) }
+    ensures places { HasPlacesOf chunks.old chunks.new }
 {
-    exchange(chunks, a, b);
+    exchange(&mut chunks.list, a, b);
 }
 
 // Exchanges the items in their chunks.
@@ -70,7 +63,7 @@ fn exchange<T: Drop, M: Mark>(chunks: &mut Vec<Chunk<T, M>>, a: Place, b: Place)
     exchange_in(chunks.as_mut_slice(), a, b);
 }
 
-// The same in a slice.
+// Exchanges the items in their chunks, which are a slice: it is split between the two.
 fn exchange_in<T: Drop, M: Mark>(chunks: &mut [Chunk<T, M>], a: Place, b: Place)
     requires a { IsPlace chunks.old a }
     requires a_item { IsItem chunks.old a }

@@ -23,4 +23,4 @@ pub mod Setlike
 pub mod Depths
 pub mod Overlapping
 pub mod GapsFound
-pub mod UpdatedKeys
+pub mod Windowed

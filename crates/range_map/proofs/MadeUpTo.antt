@@ -18,20 +18,13 @@ use Rattle.range_collections.proofs.Ascending.{IsAscending-nil}
 use Rattle.range_collections.proofs.Shortest.{count_up_to-none, is_le-cases, le-trans, Less-from_le, Less-then_le}
 use Rattle.range_map.specs.Steps.{Steps, value_at, AreAlike, IsCanonical}
 use Rattle.range_map.specs.Combining.{option_before, IsBelowFrom, IsPut, IsMadeUpTo}
+use Rattle.range_map.specs.Places.{Stands}
 use Rattle.range_map.proofs.Along.{along, along-in, along-below, along-append, value_at-along}
 use Rattle.range_map.proofs.Differing.{one, Differ, Differ-from_adjacent, AllAdjacent-from_differ, not-true, not-false}
 use Rattle.range_map.proofs.FromStart.{All-one, length-one, IsAscending-one, along-one}
 
 module _ {K : Type 0} (order : K → K → Ordering) (o : IsTotalOrder order) where
-  -- k stands behind the keys before place n2, of which those from n on are equal to it
-  pub record Stands (xs : List K) (n n2 : ℕ) (k : K) : Type 0 where
-    pub on : n ≤ n2
-    pub within : n2 ≤ length xs
-    pub past : AllWithin (λ y. is_le (order y k) ≡ true) xs 0 n2
-    pub here : AllWithin (λ y. order y k ≡ Equal) xs n n2
-    pub after : IsBelowFrom order xs n2 k
-
-  pub Stands-at : (xs : List K) → IsAscending order xs → (i : ℕ) (k : K) → i < length xs → ((d : K) → order (get_or xs i d) k ≡ Equal) → Stands xs i (i + 1) k
+  pub Stands-at : (xs : List K) → IsAscending order xs → (i : ℕ) (k : K) → i < length xs → ((d : K) → order (get_or xs i d) k ≡ Equal) → Stands order xs i (i + 1) k
   Stands-at xs up i k within equal = record {
     on = omega arith;
     within = omega (arith, within);
@@ -44,7 +37,7 @@ module _ {K : Type 0} (order : K → K → Ordering) (o : IsTotalOrder order) wh
     after = λ m d low high. Less-from_equal o k (get_or xs i d) (get_or xs m d) (Equal-sym o (get_or xs i d) k (equal d)) (up i m d (omega (arith, low)) high);
   }
 
-  pub Stands-beside : (xs : List K) (n : ℕ) (k y : K) → n ≤ length xs → order y k ≡ Equal → AllWithin (λ x. order x y ≡ Less) xs 0 n → IsBelowFrom order xs n y → Stands xs n n k
+  pub Stands-beside : (xs : List K) (n : ℕ) (k y : K) → n ≤ length xs → order y k ≡ Equal → AllWithin (λ x. order x y ≡ Less) xs 0 n → IsBelowFrom order xs n y → Stands order xs n n k
   Stands-beside xs n k y within equal before above = record {
     on = omega arith;
     within = within;
@@ -53,11 +46,11 @@ module _ {K : Type 0} (order : K → K → Ordering) (o : IsTotalOrder order) wh
     after = λ m d low high. Less-from_equal o k y (get_or xs m d) (Equal-sym o y k equal) (above m d low high);
   }
 
-  count-here : (xs : List K) (n n2 : ℕ) (k x : K) → Stands xs n n2 k → is_le (order k x) ≡ true → AllWithin (λ y. order y x ≡ Greater) xs n2 (length xs) → count_up_to order xs x ≡ n2
+  count-here : (xs : List K) (n n2 : ℕ) (k x : K) → Stands order xs n n2 k → is_le (order k x) ≡ true → AllWithin (λ y. order y x ≡ Greater) xs n2 (length xs) → count_up_to order xs x ≡ n2
   count-here xs n n2 k x s h above =
       count_up_to-split order x xs n2 s.within (λ m d low high. le-trans o (get_or xs m d) k x (s.past m d low high) h) above
 
-  above-too : (xs : List K) (n n2 : ℕ) (k x : K) → Stands xs n n2 k → order k x ≡ Greater → AllWithin (λ y. order y x ≡ Greater) xs n2 (length xs) → AllWithin (λ y. order y x ≡ Greater) xs n (length xs)
+  above-too : (xs : List K) (n n2 : ℕ) (k x : K) → Stands order xs n n2 k → order k x ≡ Greater → AllWithin (λ y. order y x ≡ Greater) xs n2 (length xs) → AllWithin (λ y. order y x ≡ Greater) xs n (length xs)
   above-too xs n n2 k x s g later m d low high =
       elim (cases_lt m n2) as (λ _. order (get_or xs m d) x ≡ Greater) [
         | inl h ↦ o.congr (get_or xs m d) k x (s.here m d low h) ∙ g
@@ -135,8 +128,8 @@ module _ {K U : Type 0} (order : K → K → Ordering) (o : IsTotalOrder order) 
 module _ {K V W U : Type 0} (order : K → K → Ordering) (o : IsTotalOrder order) (E : U → U → Bool) (e : IsEquivalence E)
     (f : Option V → Option W → Option U) (a : Steps K V) (b : Steps K W) where
   -- one more key, of one side or of both
-  IsMadeUpTo-step : (i i2 j j2 : ℕ) (old new : Steps K U) (key : K) (p : Option U) → IsMadeUpTo order E f a b i j old → (put : IsPut order E old key p new) →
-      Stands order o a.keys i i2 put.key_put → Stands order o b.keys j j2 put.key_put → All (λ y. order y put.key_put ≡ Less) old.keys →
+  pub IsMadeUpTo-step : (i i2 j j2 : ℕ) (old new : Steps K U) (key : K) (p : Option U) → IsMadeUpTo order E f a b i j old → (put : IsPut order E old key p new) →
+      Stands order a.keys i i2 put.key_put → Stands order b.keys j j2 put.key_put → All (λ y. order y put.key_put ≡ Less) old.keys →
       AreAlike E p (f (option_before a i2) (option_before b j2)) → IsMadeUpTo order E f a b i2 j2 new
   IsMadeUpTo-step i i2 j j2 old new key p made put in_a in_b below is = record {
     canonical = IsCanonical-put order o E e old new key p made.canonical put below;

@@ -1,14 +1,14 @@
--- Steps put at the end of a list, and lists that are read step by step.
-use Rattle.std.proofs.Common.{◌≡◌, ◌∷◌, ◌++◌, [], ℕ, Bool, true, false, not, Option, None, List, length, get_or, refl, sym, ap, ◌∙◌, subst, All, append_assoc}
+-- Steps put at the end of a list, and copies of steps.
+use Rattle.std.proofs.Common.{◌≡◌, ◌∷◌, ◌++◌, [], ℕ, Bool, true, false, not, Option, None, List, length, get_or, sym, ap, ◌∙◌, All}
 use Rattle.std.proofs.lemmas.List.{append-nil, map-append}
-use Rattle.std.proofs.lemmas.List.Elements.{AllZip-push}
 use Rattle.std.specs.List.{AllZip}
 use Rattle.std.specs.Option.{option_eq}
 use Rattle.std.specs.Cmp.{IsTotalOrder, IsEquivalence}
 use Rattle.std.specs.declared.cmp.Ordering.{Ordering}
 use Rattle.std.specs.declared.cmp.Ordering.TheVariants.{Less, Equal}
 use Rattle.range_merge.proofs.Orders.{Equal-self, Less-then_equal}
-use Rattle.range_map.specs.Steps.{AreAlike, IsCanonical}
+use Rattle.range_collections.proofs.Unions.{copies_are_equal}
+use Rattle.range_map.specs.Steps.{AreAlike, AreEqualSteps, IsCanonical}
 use Rattle.range_map.specs.Combining.{IsPut}
 use Rattle.range_map.specs.Listed.{steps_of}
 use Rattle.range_map.specs.declared.step.Step.{Step}
@@ -59,39 +59,22 @@ module _ {K V : Type 0} where
       IsCanonical-put order o E e (steps_of xs) (steps_of ys) key p canonical (IsPut-behind order o E xs key p n all h k same ys is)
       (λ m d within. Less-then_equal o (get_or (steps_of xs).keys m d) key k (below m d within) same)
 
-  -- all steps are those that were read, of which what was made holds copies, and those that are unread
-  pub record AreCopied (C : K → K → Type 0) (E : V → V → Bool) (all unread made : List (Step K V)) : Type 0 where
-    pub read : List (Step K V)
-    pub split : all ≡ read ++ unread
-    pub keys : AllZip C (steps_of read).keys (steps_of made).keys
-    pub options : AllZip (AreAlike E) (steps_of read).options (steps_of made).options
-
+  -- of copies of steps, step by step
   module _ (C : K → K → Type 0) (E : V → V → Bool) where
-    pub AreCopied-nothing : (all made : List (Step K V)) → made ≡ [] → AreCopied C E all all made
-    AreCopied-nothing all made none = subst (λ (zs : List (Step K V)). AreCopied C E all all zs) (sym none) (record {
-      read = [];
-      split = refl;
-      keys = tt;
-      options = tt;
-    })
+    abbrev pub IsCopy : Step K V → Step K V → Type 0
+    IsCopy s t = C s.key t.key × AreAlike E s.option t.option
 
-    pub AreCopied-more : (all unread made rest new : List (Step K V)) (s t : Step K V) → AreCopied C E all unread made → unread ≡ s ∷ rest → new ≡ made ++ t ∷ [] →
-        C s.key t.key → AreAlike E s.option t.option → AreCopied C E all rest new
-    AreCopied-more all unread made rest new s t h first put copy alike = record {
-      read = h.read ++ s ∷ [];
-      split = h.split ∙ ap (λ zs. h.read ++ zs) first ∙ sym (append_assoc h.read (s ∷ []) rest);
-      keys = subst (λ ks. AllZip C ks (steps_of new).keys) (sym (keys-push h.read (h.read ++ s ∷ []) s refl))
-          (subst (λ ks. AllZip C ((steps_of h.read).keys ++ s.key ∷ []) ks) (sym (keys-push made new t put)) (AllZip-push C (steps_of h.read).keys (steps_of made).keys s.key t.key h.keys copy));
-      options = subst (λ ps. AllZip (AreAlike E) ps (steps_of new).options) (sym (options-push h.read (h.read ++ s ∷ []) s refl))
-          (subst (λ ps. AllZip (AreAlike E) ((steps_of h.read).options ++ s.option ∷ []) ps) (sym (options-push made new t put))
-          (AllZip-push (AreAlike E) (steps_of h.read).options (steps_of made).options s.option t.option h.options alike));
-    }
+    pub copied_keys : (xs ys : List (Step K V)) → AllZip IsCopy xs ys → AllZip C (steps_of xs).keys (steps_of ys).keys
+    copied_keys [] [] h = tt
+    copied_keys [] (y ∷ ys) h = absurd h
+    copied_keys (x ∷ xs) [] h = absurd h
+    copied_keys (x ∷ xs) (y ∷ ys) h = (h.0.0, copied_keys xs ys h.1)
 
-    all_read : (all unread made : List (Step K V)) (h : AreCopied C E all unread made) → unread ≡ [] → h.read ≡ all
-    all_read all unread made h none = sym (h.split ∙ ap (λ zs. h.read ++ zs) none ∙ append-nil h.read)
+    pub copied_options : (xs ys : List (Step K V)) → AllZip IsCopy xs ys → AllZip (AreAlike E) (steps_of xs).options (steps_of ys).options
+    copied_options [] [] h = tt
+    copied_options [] (y ∷ ys) h = absurd h
+    copied_options (x ∷ xs) [] h = absurd h
+    copied_options (x ∷ xs) (y ∷ ys) h = (h.0.1, copied_options xs ys h.1)
 
-    pub copied_keys : (all unread made : List (Step K V)) → AreCopied C E all unread made → unread ≡ [] → AllZip C (steps_of all).keys (steps_of made).keys
-    copied_keys all unread made h none = subst (λ (zs : List (Step K V)). AllZip C (steps_of zs).keys (steps_of made).keys) (all_read all unread made h none) h.keys
-
-    pub copied_options : (all unread made : List (Step K V)) → AreCopied C E all unread made → unread ≡ [] → AllZip (AreAlike E) (steps_of all).options (steps_of made).options
-    copied_options all unread made h none = subst (λ (zs : List (Step K V)). AllZip (AreAlike E) (steps_of zs).options (steps_of made).options) (all_read all unread made h none) h.options
+    pub AreEqualSteps-copied : (order : K → K → Ordering) (o : IsTotalOrder order) → ((x y : K) → C x y → order x y ≡ Equal) → (xs ys : List (Step K V)) → AllZip IsCopy xs ys → AreEqualSteps order E (steps_of xs) (steps_of ys)
+    AreEqualSteps-copied order o equal xs ys h = (copies_are_equal o equal (steps_of xs).keys (steps_of ys).keys (copied_keys xs ys h), copied_options xs ys h)

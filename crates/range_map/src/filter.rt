@@ -1,4 +1,4 @@
-//! Which values of a map stay.
+//! Which values of a map stay: the trait that a caller of `retain` implements.
 ghost use Rattle.std.specs.Prelude.{◌≡◌, Bool};
 
 /// Which values `retain` keeps.

@@ -1,4 +1,4 @@
-//! Why a range was not put in.
+//! Why `insert_free` or `insert_free_from` didn't put a range in.
 use std::fmt;
 
 /// Why a range was not put in. It has the value.

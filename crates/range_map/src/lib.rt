@@ -18,6 +18,7 @@ mod retaining;
 mod runs;
 mod step;
 mod update;
+mod updating;
 mod value;
 mod within;
 

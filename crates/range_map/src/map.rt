@@ -47,7 +47,7 @@ use std::ops::{Range, RangeFrom};
 ///
 /// A range has its start and not its end; an empty or reversed range has no keys. Of two equal keys
 /// where ranges begin, either may stay. If memory runs out, the map is as it was. A value is copied
-/// only where a range becomes two, or into a new map, which `update` makes too.
+/// only where a range becomes two or `update` ends, or into a new map.
 ///
 /// Its keys lie in chunks of at most 128, and a change moves those of one chunk. A search makes at
 /// most 7 comparisons more than the number of keys has binary digits; a range has two keys at most.
@@ -94,8 +94,8 @@ impl<K: Ord, V: Eq> RangeMap<K, V> {
         self.get_counted(key, &mut Comparisons::new())
     }
 
-    /// The same, counted: at most 7 comparisons more than the number of the map's keys has binary
-    /// digits.
+    /// The same as `get`, counted: at most 7 comparisons more than the number of the map's keys has
+    /// binary digits.
     #[inline]
     pub fn get_counted(&self, key: &K, count: &mut Comparisons) -> Option<&V>
         requires { count.old < 2 ^ 64 }
@@ -157,8 +157,8 @@ impl<K: Ord + Drop, V: MapValue> RangeMap<K, V> {
         self.insert_counted(range, value, &mut Comparisons::new())
     }
 
-    /// The same, counted: one comparison of the start with the end, and for each of the two at most
-    /// 7 more than the number of the map's keys has binary digits.
+    /// The same as `insert`, counted: one comparison of the start with the end, and for each of the
+    /// two at most 7 more than the number of the map's keys has binary digits.
     pub fn insert_counted(
         &mut self,
         range: Range<K>,
@@ -190,8 +190,8 @@ impl<K: Ord + Drop, V: MapValue> RangeMap<K, V> {
         self.remove_counted(range, &mut Comparisons::new())
     }
 
-    /// The same, counted: one comparison of the start with the end, and for each of the two at most
-    /// 7 more than the number of the map's keys has binary digits.
+    /// The same as `remove`, counted: one comparison of the start with the end, and for each of the
+    /// two at most 7 more than the number of the map's keys has binary digits.
     pub fn remove_counted(
         &mut self,
         range: Range<K>,

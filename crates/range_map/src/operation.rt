@@ -1,4 +1,4 @@
-//! What is made of two maps at each key.
+//! What is made of two maps at each key: the trait that a caller of `combine` implements.
 ghost use Rattle.std.specs.Prelude.{Option, IfOk, option_copied};
 ghost use Rattle.range_map.specs.Steps.{AreAlike};
 

@@ -1,15 +1,15 @@
 //! Where a range lies among the steps of a map, and what stands at a place.
-ghost use Rattle.std.specs.Prelude.{◌≡◌, ◌<◌, ◌≤◌, ◌+◌, ◌*◌, ◌^◌, ◌∷◌, option_copied, map, None, Some, length, true, get_or, slice_get};
+ghost use Rattle.std.specs.Prelude.{◌≡◌, ◌↔◌, ◌<◌, ◌≤◌, ◌+◌, ◌*◌, ◌^◌, ◌∷◌, option_copied, map, IsTrue, None, Some, length, true, get_or, slice_get};
 ghost use Rattle.std.specs.List.{AllWithin};
 ghost use Rattle.std.specs.Option.{option_eq};
 ghost use Rattle.std.specs.Ordering.{is_le};
-ghost use Rattle.std.specs.declared.cmp.Ordering.TheVariants.{Less, Greater};
+ghost use Rattle.std.specs.declared.cmp.Ordering.TheVariants.{Less, Equal, Greater};
 ghost use Rattle.range_merge.specs.Boundaries.{IsAscending};
 ghost use Rattle.range_merge.specs.Counting.{AddsAtMost};
 ghost use Rattle.range_merge.specs.Runs.{digits};
 ghost use Rattle.range_list.specs.Lists.{joined, place_at, IsPlaceAt};
 ghost use Rattle.range_map.specs.Listed.{steps_in};
-ghost use Rattle.range_map.specs.Places.{ArePlaces, span_of, IsUpToEnd, IsAboveEnd};
+ghost use Rattle.range_map.specs.Places.{ArePlaces, span_of, IsUpToEnd, IsAboveEnd, IsBelowEnd, IsFromEnd, Stands, StandsAtEnd, IsWindow};
 
 use crate::step::{Step, StepKey};
 use range_collections::Comparisons;
@@ -23,6 +23,15 @@ pub struct Places {
     pub to: Place,
     pub starts: bool,
     pub ends: bool,
+}
+
+/// The steps that a range touches: those at its start, if there is one, between, and at its end.
+#[derive(Clone, Copy)]
+pub struct Window {
+    pub from: Place,
+    pub after: Place,
+    pub below: Place,
+    pub to: Place,
 }
 
 /// The places of a range that is given the option.
@@ -47,8 +56,8 @@ pub fn find<K: Ord, V: Eq>(
     Places {
         from,
         to,
-        starts: !is_before(steps, from, option),
-        ends: end.is_some() && !is_before(steps, to, option),
+        starts: !holds_before(steps, from, option),
+        ends: end.is_some() && !holds_before(steps, to, option),
     }
 }
 
@@ -115,8 +124,93 @@ fn place_up_to_end<K: Ord, V>(
     }
 }
 
+/// The window of a range.
+pub fn find_window<K: Ord, V>(steps: &Chunks<Step<K, V>, ()>, start: &K, end: &Option<K>) -> Window
+    requires ascending { IsAscending K.cmp (steps_in steps.now).keys }
+    requires some { (e : K) → end.now ≡ Some e → K.cmp start.now e ≡ Less }
+    ensures { IsWindow K.cmp steps.now start.now end.now result }
+{
+    let from = place_below(steps, start, &mut Comparisons::new());
+    let after = behind_key(steps, from, start);
+    let below = place_below_end(steps, end);
+    let to = behind_end(steps, below, end);
+    Window {
+        from,
+        after,
+        below,
+        to,
+    }
+}
+
+// The place before which all keys are below the end: that of all steps, if there is none.
+fn place_below_end<K: Ord, V>(steps: &Chunks<Step<K, V>, ()>, end: &Option<K>) -> Place
+    requires ascending { IsAscending K.cmp (steps_in steps.now).keys }
+    ensures place { IsPlaceAt steps.now result }
+    ensures within { place_at steps.now result ≤ length (steps_in steps.now).keys }
+    ensures below { AllWithin (IsBelowEnd K.cmp end.now) (steps_in steps.now).keys 0 (place_at steps.now result) }
+    ensures from { AllWithin (IsFromEnd K.cmp end.now) (steps_in steps.now).keys
+        (place_at steps.now result) (length (steps_in steps.now).keys) }
+{
+    match end {
+        Some(end) => place_below(steps, end, &mut Comparisons::new()),
+        None => steps.end(),
+    }
+}
+
+// The place behind the step at the end, if there is one.
+fn behind_end<K: Ord, V>(steps: &Chunks<Step<K, V>, ()>, at: Place, end: &Option<K>) -> Place
+    requires place { IsPlaceAt steps.now at }
+    requires ascending { IsAscending K.cmp (steps_in steps.now).keys }
+    requires within { place_at steps.now at ≤ length (steps_in steps.now).keys }
+    requires below { AllWithin (IsBelowEnd K.cmp end.now) (steps_in steps.now).keys 0 (place_at steps.now at) }
+    requires from { AllWithin (IsFromEnd K.cmp end.now) (steps_in steps.now).keys
+        (place_at steps.now at) (length (steps_in steps.now).keys) }
+    ensures place { IsPlaceAt steps.now result }
+    ensures stands { StandsAtEnd K.cmp (steps_in steps.now).keys (place_at steps.now at)
+        (place_at steps.now result) end.now }
+{
+    match end {
+        Some(end) => behind_key(steps, at, end),
+        None => at,
+    }
+}
+
+// The place behind the step at a place, if its key is this one, and else the place itself.
+fn behind_key<K: Ord, V>(steps: &Chunks<Step<K, V>, ()>, at: Place, key: &K) -> Place
+    requires place { IsPlaceAt steps.now at }
+    requires ascending { IsAscending K.cmp (steps_in steps.now).keys }
+    requires within { place_at steps.now at ≤ length (steps_in steps.now).keys }
+    requires below { AllWithin (λ y. K.cmp y key.now ≡ Less) (steps_in steps.now).keys 0 (place_at steps.now at) }
+    requires from { AllWithin (λ y. is_le (K.cmp key.now y) ≡ true) (steps_in steps.now).keys
+        (place_at steps.now at) (length (steps_in steps.now).keys) }
+    ensures place { IsPlaceAt steps.now result }
+    ensures stands { Stands K.cmp (steps_in steps.now).keys (place_at steps.now at)
+        (place_at steps.now result) key.now }
+{
+    if is_at(steps, at, key) {
+        return steps.place_after(at);
+    }
+    at
+}
+
+// Whether the key at a place is this one.
+fn is_at<K: Ord, V>(steps: &Chunks<Step<K, V>, ()>, at: Place, key: &K) -> bool
+    requires { IsPlaceAt steps.now at }
+    ensures { IsTrue result ↔ ((place_at steps.now at < length (steps_in steps.now).keys)
+        × ((d : K) → K.cmp (get_or (steps_in steps.now).keys (place_at steps.now at) d) key.now ≡ Equal)) }
+{
+    match key_at(steps, at) {
+        Some(own) => own.cmp(key).is_eq(),
+        None => false,
+    }
+}
+
 /// Whether the option before a place equals this one; none stands before the first.
-pub fn is_before<K, V: Eq>(steps: &Chunks<Step<K, V>, ()>, place: Place, option: &Option<V>) -> bool
+pub fn holds_before<K, V: Eq>(
+    steps: &Chunks<Step<K, V>, ()>,
+    place: Place,
+    option: &Option<V>,
+) -> bool
     requires { IsPlaceAt steps.now place }
     ensures { result ≡ option_eq V.eq
         (get_or (None ∷ (steps_in steps.now).options) (place_at steps.now place) None) option.now }

@@ -8,7 +8,7 @@ ghost use Rattle.range_map.specs.Steps.{value_at, AreAlike, IsCanonical};
 ghost use Rattle.range_map.specs.Updated.{kept, kept_step};
 
 use crate::filter::MapFilter;
-use crate::places::is_before;
+use crate::places::holds_before;
 use crate::step::{Step, StepOption};
 use range_list::{Chunks, FRONT, Place};
 
@@ -127,7 +127,7 @@ fn is_like_last<K, V: Eq>(steps: &Chunks<Step<K, V>, ()>, end: Place, at: Place)
         (get_or (steps_in steps.now).options (place_at steps.now at) None) }
 {
     match steps.item_at(at) {
-        Some(step) => is_before(steps, end, &step.option),
+        Some(step) => holds_before(steps, end, &step.option),
         None => true,
     }
 }

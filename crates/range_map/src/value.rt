@@ -1,11 +1,12 @@
-//! The values of a map.
+//! What a map asks of its values: that they can be compared, and copied where one of its ranges
+//! becomes two.
 ghost use Rattle.std.specs.Prelude.{◌≡◌, true, IsOk, IfOk, None, option_copied};
 ghost use Rattle.range_map.specs.Steps.{AreAlike};
 
 use std::alloc::AllocError;
 
 /// A type whose values can be copied, which may fail. A map copies a value only where one of its
-/// ranges becomes two, or into a new map.
+/// ranges becomes two or `update` ends, or into a new map.
 pub trait MapValue: Eq + Drop {
     // A copy of this value never fails.
     ghost is_infallible: { Self → Type 0 };

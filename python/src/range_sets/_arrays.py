@@ -5,8 +5,11 @@ from __future__ import annotations
 from typing import Any
 
 from . import _core
-from ._kinds import AWARE, DELTA, FLOAT, NAT, NO_KIND, UNCOUNTED, Kind, Now, of_some
-from ._numbers import code_of
+from ._floats import FLOAT
+from ._kind import NAT, NO_KIND, UNCOUNTED, Kind, Now
+from ._kinds import kind_of_first
+from ._numbers import typecode_of
+from ._times import AWARE, DELTA
 
 
 def codes_of_each(kind: Kind, values: Any) -> tuple[Any, Any]:
@@ -20,7 +23,7 @@ def codes_of_each(kind: Kind, values: Any) -> tuple[Any, Any]:
     if kind.is_whole and found.dtype.kind in "iu":
         if (found.dtype.kind == "u") != kind.unsigned:
             gone = found < 0 if kind.unsigned else found > kind.most
-        return found.astype(code_of(kind.unsigned)), gone
+        return found.astype(typecode_of(kind.unsigned)), gone
     if kind.dtype is not None and found.dtype.newbyteorder("=") == numpy.dtype(kind.dtype):
         return found.astype(kind.dtype).view("i8"), numpy.isnat(found)
     if kind is FLOAT and found.dtype.kind == "f" and found.dtype.itemsize <= 8:
@@ -32,11 +35,11 @@ def codes_of_each(kind: Kind, values: Any) -> tuple[Any, Any]:
     elements = (numpy.asarray(values, dtype=object) if kind.is_whole else found).reshape(-1).tolist()
     # As which numpy has times of units that Python has no type for.
     if found.dtype.kind in "mM" and any(isinstance(it, int) for it in elements):
-        raise kind.wrong_array(found.dtype)
+        raise kind.array_type_error(found.dtype)
     codes = [None if it != it else kind.code(it) if kind.is_whole else kind.number(it) for it in elements]
     none = [it is None or not kind.least <= it <= kind.most for it in codes]
     numbers = [0 if is_none else it for it, is_none in zip(codes, none)]
-    return numpy.array(numbers, dtype=code_of(kind.unsigned)).reshape(found.shape), numpy.array(none, dtype=bool).reshape(found.shape)
+    return numpy.array(numbers, dtype=typecode_of(kind.unsigned)).reshape(found.shape), numpy.array(none, dtype=bool).reshape(found.shape)
 
 
 def codes_of_floats(floats: Any) -> Any:
@@ -52,7 +55,7 @@ def codes_of_floats(floats: Any) -> Any:
 def contains_each(now: Now, values: Any) -> Any:
     """For each element whether it is a member, as an array of bools. What is no element is none."""
     codes, gone = asked_of(now, values)
-    return (_each(_core.places, now, codes, "i8") >= 0) & ~gone
+    return _each(_core.contains_each, now, codes, "?") & ~gone
 
 
 def asked_of(now: Now, values: Any) -> tuple[Any, Any]:
@@ -62,7 +65,7 @@ def asked_of(now: Now, values: Any) -> tuple[Any, Any]:
     if now[1] is not NO_KIND:
         return codes_of_each(now[1], values)
     found = numpy.asarray(values)
-    of_some(found.reshape(-1)[:1].tolist())
+    kind_of_first(found.reshape(-1)[:1].tolist())
     return numpy.zeros(found.shape, dtype="i8"), numpy.zeros(found.shape, dtype=bool)
 
 
@@ -135,8 +138,8 @@ def times_in_utc(column: Any, kind: Kind | None) -> Any:
     return times
 
 
-def see_no_nat(times: Any) -> None:
-    """Refuses numpy's times if one is NaT, and says which, or in which row of a table of starts and ends."""
+def refuse_nats(times: Any) -> None:
+    """Raises a ValueError if one of numpy's times is NaT. It says which, or in which row of a table of starts and ends."""
     import numpy
 
     at = numpy.flatnonzero(numpy.isnat(times))

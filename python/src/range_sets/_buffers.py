@@ -20,7 +20,7 @@ from . import _core
 from ._arrays import contains_each
 from ._core import Boundaries
 from ._kinds import whole
-from ._numbers import code_of
+from ._numbers import typecode_of
 
 
 class Buffer(Protocol):
@@ -31,12 +31,13 @@ class Buffer(Protocol):
 
 
 def _array(items: Boundaries) -> array[int]:
-    made = array(code_of(not _core.is_signed(items)))
+    made = array(typecode_of(not _core.is_signed(items)))
     made.frombytes(items)  # type: ignore[arg-type]
     return made
 
 
-def _written(answer: Boundaries | int) -> array[int] | int:
+def _array_or_len(answer: Boundaries | int) -> array[int] | int:
+    """A new array of the boundaries, or with `out` the length that was written there."""
     return answer if isinstance(answer, int) else _array(answer)
 
 
@@ -88,7 +89,7 @@ def union(a: Buffer, b: Buffer, *, out: Buffer | None = None) -> array[int] | in
     >>> union(array("q", [0, 10]), array("q", [5, 20]), out=room)
     2
     """
-    return _written(_core.union(a, b, out))
+    return _array_or_len(_core.union(a, b, out))
 
 
 @_of_two
@@ -100,7 +101,7 @@ def intersection(a: Buffer, b: Buffer, *, out: Buffer | None = None) -> array[in
     >>> intersection(array("q", [0, 10]), array("q", [5, 20]))
     array('q', [5, 10])
     """
-    return _written(_core.intersection(a, b, out))
+    return _array_or_len(_core.intersection(a, b, out))
 
 
 @_of_two
@@ -112,7 +113,7 @@ def difference(a: Buffer, b: Buffer, *, out: Buffer | None = None) -> array[int]
     >>> difference(array("q", [0, 10]), array("q", [5, 20]))
     array('q', [0, 5])
     """
-    return _written(_core.difference(a, b, out))
+    return _array_or_len(_core.difference(a, b, out))
 
 
 @_of_two
@@ -124,7 +125,7 @@ def symmetric_difference(a: Buffer, b: Buffer, *, out: Buffer | None = None) -> 
     >>> symmetric_difference(array("q", [0, 10]), array("q", [5, 20]))
     array('q', [0, 5, 10, 20])
     """
-    return _written(_core.symmetric_difference(a, b, out))
+    return _array_or_len(_core.symmetric_difference(a, b, out))
 
 
 @overload
@@ -145,7 +146,7 @@ def negation(a: Buffer, *, out: Buffer | None = None) -> array[int] | int:
     >>> negation(array("Q", [0, 10]))
     array('Q', [10])
     """
-    return _written(_core.negation(a, out))
+    return _array_or_len(_core.negation(a, out))
 
 
 @_of_a_range
@@ -157,7 +158,7 @@ def insert(a: Buffer, start: SupportsIndex, end: SupportsIndex, *, out: Buffer |
     >>> insert(array("q", [0, 10]), 12, 14)
     array('q', [0, 10, 12, 14])
     """
-    return _written(_core.union(a, _range(start, end, a), out))
+    return _array_or_len(_core.union(a, _range(start, end, a), out))
 
 
 @_of_a_range
@@ -169,7 +170,7 @@ def remove(a: Buffer, start: SupportsIndex, end: SupportsIndex, *, out: Buffer |
     >>> remove(array("q", [0, 10]), 3, 7)
     array('q', [0, 3, 7, 10])
     """
-    return _written(_core.difference(a, _range(start, end, a), out))
+    return _array_or_len(_core.difference(a, _range(start, end, a), out))
 
 
 @_of_a_range
@@ -181,7 +182,7 @@ def gaps(a: Buffer, start: SupportsIndex, end: SupportsIndex, *, out: Buffer | N
     >>> gaps(array("q", [0, 10, 20, 30]), 5, 25)
     array('q', [10, 20])
     """
-    return _written(_core.difference(_range(start, end, a), a, out))
+    return _array_or_len(_core.difference(_range(start, end, a), a, out))
 
 
 def from_ranges(numbers: Buffer) -> array[int]:

@@ -41,6 +41,14 @@ static void see_list(const Chunks *self, bool is_signed, List *list)
     if (self->now != NULL && self->is_signed == is_signed) borrow_own(PyTuple_GET_ITEM(self->now, 0), list);
 }
 
+/* How many boundaries the list has. */
+static size_t list_len(const Chunks *self)
+{
+    List list;
+    see_list(self, self->is_signed, &list);
+    return list.len;
+}
+
 /* Makes the chunks of the list. */
 static bool make_handle(Chunks *self, bool is_signed, Chunked *made)
 {
@@ -112,10 +120,9 @@ static PyObject *chunks_now(Chunks *self, void *unused)
     PyObject *bytes = PyBytes_FromStringAndSize(NULL, 8 * len);
     if (bytes == NULL) return NULL;
     void *out = PyBytes_AS_STRING(bytes);
-    range_set_i64 of_signed;
-    range_set_u64 of_unsigned;
-    range_set_status status = self->is_signed ? range_set_i64_chunked_copy(self->handle.i64, out, len, &of_signed)
-                                              : range_set_u64_chunked_copy(self->handle.u64, out, len, &of_unsigned);
+    Made made;
+    range_set_status status = self->is_signed ? range_set_i64_chunked_copy(self->handle.i64, out, len, &made.i64)
+                                              : range_set_u64_chunked_copy(self->handle.u64, out, len, &made.u64);
     if (status != RANGE_SET_DONE) {
         Py_DECREF(bytes);
         return raise_status(status, len);
@@ -217,32 +224,28 @@ static PyObject *chunks_clear(Chunks *self, PyObject *unused)
 /* Writes the ranges that have a number of a range, whole: as many of the first as there is room for. */
 static size_t overlapping(const Chunks *self, Range range, void *out, size_t room)
 {
-    range_set_i64 of_signed;
-    range_set_u64 of_unsigned;
+    Made made;
     range_set_status status =
         self->is_signed
-            ? range.has_end ? range_set_i64_chunked_overlapping(self->handle.i64, range.start, range.end, out, room, &of_signed)
-                            : range_set_i64_chunked_next_ranges(self->handle.i64, range.start, out, room, &of_signed)
-            : range.has_end ? range_set_u64_chunked_overlapping(self->handle.u64, range.start, range.end, out, room, &of_unsigned)
-                            : range_set_u64_chunked_next_ranges(self->handle.u64, range.start, out, room, &of_unsigned);
+            ? range.has_end ? range_set_i64_chunked_overlapping(self->handle.i64, range.start, range.end, out, room, &made.i64)
+                            : range_set_i64_chunked_next_ranges(self->handle.i64, range.start, out, room, &made.i64)
+            : range.has_end ? range_set_u64_chunked_overlapping(self->handle.u64, range.start, range.end, out, room, &made.u64)
+                            : range_set_u64_chunked_next_ranges(self->handle.u64, range.start, out, room, &made.u64);
     bool is_written = status == RANGE_SET_DONE || status == RANGE_SET_MORE;
-    return !is_written ? 0 : self->is_signed ? of_signed.len : of_unsigned.len;
+    return !is_written ? 0 : made.u64.len;
 }
 
 /* As many boundaries are few beside those of the set, in chunks or in a list. */
 static bool are_few(const Chunks *self, size_t len)
 {
-    List list;
-    if (HANDLE(self) != NULL) return len <= 64 || len <= ASK(self, boundaries_len) / 64;
-    see_list(self, self->is_signed, &list);
-    return len <= list.len / 64;
+    return HANDLE(self) != NULL ? len <= 64 || len <= ASK(self, boundaries_len) / 64 : len <= list_len(self) / 64;
 }
 
 /* The set's ranges that have a number of a list, whole, from its chunks. */
 static PyObject *near_in_chunks(const Chunks *self, const List *of)
 {
     size_t len = 0, room = 64;
-    uint64_t *items = PyMem_Malloc(8 * room), *longer;
+    uint64_t *items = PyMem_Malloc(8 * room);
     for (size_t i = 0; items != NULL && 2 * i < of->len && len % 2 == 0;) {
         Range range = range_in(of, i);
         /* Those up to the last end are written. */
@@ -252,14 +255,10 @@ static PyObject *near_in_chunks(const Chunks *self, const List *of)
             len += more;
             i++;
         } else {
-            longer = PyMem_Realloc(items, 8 * (room *= 8));
-            if (longer == NULL) PyMem_Free(items);
-            items = longer;
+            items = with_more_room(items, &room, 8);
         }
     }
-    PyObject *found = items == NULL ? PyErr_NoMemory() : list_of(items, len, self->is_signed);
-    PyMem_Free(items);
-    return found;
+    return list_and_free(items, len, self->is_signed);
 }
 
 static PyObject *list_now(Chunks *self)
@@ -282,6 +281,31 @@ static PyObject *chunks_near(Chunks *self, PyObject *const *args, Py_ssize_t n)
     List of;
     if (!has_arguments(n, 2) || !borrow_own(args[0], &of)) return NULL;
     return self->kind == args[1] ? near(self, &of) : PyObject_GetAttrString(args[1], "nothing");
+}
+
+/* Whether the set has a number of a range. */
+static bool meets_range(const Chunks *self, Range range)
+{
+    return range.has_end ? ASK_OF(self, intersects_range, range.start, range.end) : ASK_OF(self, next_member, range.start, NULL);
+}
+
+/* Whether the set has a number of a list: in chunks, by a search for each range of a short one. Is given the list and its kind. */
+static PyObject *chunks_meets(Chunks *self, PyObject *const *args, Py_ssize_t n)
+{
+    List of, list;
+    bool meets = false;
+    if (!has_arguments(n, 2) || !borrow_own(args[0], &of)) return NULL;
+    if (self->kind != args[1]) Py_RETURN_FALSE;
+    if (!settle(self)) return NULL;
+    if (HANDLE(self) != NULL && are_few(self, of.len)) {
+        for (size_t i = 0; !meets && 2 * i < of.len; i++) meets = meets_range(self, range_in(&of, i));
+        return PyBool_FromLong(meets);
+    }
+    PyObject *mine = list_now(self);
+    if (mine == NULL || !borrow_own(mine, &list)) return NULL;
+    meets = self->is_signed ? range_set_i64_intersects(SET(i64, list), SET(i64, of)) : range_set_u64_intersects(SET(u64, list), SET(u64, of));
+    Py_DECREF(mine);
+    return PyBool_FromLong(meets);
 }
 
 /* A connective with a list, by a change of the chunks for each of its ranges. All are done or none. */
@@ -358,17 +382,13 @@ OPERATION(symmetric_difference, RANGE_SET_SYMMETRIC_DIFFERENCE)
 static Py_ssize_t chunks_len(Chunks *self)
 {
     if (!settle(self)) return -1;
-    if (HANDLE(self) != NULL) return ASK(self, ranges_len);
-    Py_ssize_t len = self->now == NULL ? 0 : PyObject_Size(PyTuple_GET_ITEM(self->now, 0));
-    return len < 0 ? len : (len + 1) / 2;
+    return HANDLE(self) != NULL ? ASK(self, ranges_len) : (list_len(self) + 1) / 2;
 }
 
 static int chunks_bool(Chunks *self)
 {
     if (!settle(self)) return -1;
-    if (HANDLE(self) != NULL) return ASK_OF(self, next_member, least_of(self->is_signed), NULL);
-    Py_ssize_t len = chunks_len(self);
-    return len < 0 ? -1 : len > 0;
+    return HANDLE(self) != NULL ? ASK_OF(self, next_member, least_of(self->is_signed), NULL) : list_len(self) > 0;
 }
 
 static PyObject *chunks_kind(Chunks *self, void *unused)
@@ -378,8 +398,7 @@ static PyObject *chunks_kind(Chunks *self, void *unused)
 
 static PyObject *chunks_sizeof(Chunks *self, PyObject *unused)
 {
-    Py_ssize_t len = self->now == NULL ? 0 : PyObject_Size(PyTuple_GET_ITEM(self->now, 0));
-    return len < 0 ? NULL : PyLong_FromSize_t(sizeof *self + 8 * (len + ASK(self, boundaries_len)));
+    return PyLong_FromSize_t(sizeof *self + 8 * (list_len(self) + ASK(self, boundaries_len)));
 }
 
 /* ---- The type ---- */
@@ -416,7 +435,7 @@ static void chunks_dealloc(Chunks *self)
 
 static PyMethodDef methods[] = {
     METHOD(insert), METHOD(remove), METHOD(union), METHOD(intersection), METHOD(difference), METHOD(symmetric_difference),
-    METHOD(near),
+    METHOD(near), METHOD(meets),
     {"clear", (PyCFunction)chunks_clear, METH_NOARGS, NULL},
     {"__sizeof__", (PyCFunction)chunks_sizeof, METH_NOARGS, NULL},
     {NULL, NULL, 0, NULL},

@@ -63,8 +63,11 @@ static range_set_status check_sorted(const Arguments *given)
     return status;
 }
 
-/* Of which lists a call reads no more than the ranges that have numbers of the span of the other; or that its numbers are no set. */
-enum { NONE = 0, LEFT = 1, RIGHT = 2, BOTH = 3, ANY_ORDER = 4 };
+/* Of which lists a call reads no more than the ranges that have numbers of the span of the other. */
+enum { NONE = 0, LEFT = 1, RIGHT = 2, BOTH = LEFT | RIGHT };
+
+/* Whether a call's lists have to be sets, or its list is any numbers. */
+enum { SORTED = false, ANY_ORDER = true };
 
 /* Cuts the library's own lists. Others are gone over anyway, and `out` mustn't overlap any part of them. */
 static void cut(Arguments *given, int cuts)
@@ -114,55 +117,49 @@ static PyObject *write_into(const Arguments *given, Operation *call, PyObject *o
     return answer;
 }
 
-static PyObject *operate(PyObject *const *args, Py_ssize_t n, int lists, int cuts, Operation *call)
+static PyObject *operate(PyObject *const *args, Py_ssize_t n, int lists, int cuts, bool any_order, Operation *call)
 {
     Arguments given;
     if (!read_arguments(&given, args, n, lists, 0, false, 1)) return NULL;
     if (lists == 2) cut(&given, cuts);
-    given.any_order = cuts == ANY_ORDER;
+    given.any_order = any_order;
     PyObject *out = n > lists ? args[n - 1] : Py_None;
     PyObject *answer = out == Py_None ? write_new(&given, call) : write_into(&given, call, out);
     release_all(&given);
     return answer;
 }
 
-#define WRITE(type, name, arguments) \
-    range_set_##type set = {NULL, 0}; \
-    range_set_status status = range_set_##type##_##name(arguments(type), out, room, &set); \
-    *written = set.len; \
-    return status;
-
-#define OPERATION(name, list_count, cuts, arguments) \
+#define OPERATION(name, list_count, cuts, any_order, arguments) \
     static range_set_status write_##name(const Arguments *given, void *out, size_t room, size_t *written) \
     { \
-        if (given->lists[0].is_signed) { WRITE(i64, name, arguments) } \
-        WRITE(u64, name, arguments) \
+        Made made = {.u64 = {NULL, 0}}; \
+        range_set_status status = given->lists[0].is_signed ? range_set_i64_##name(arguments(i64), out, room, &made.i64) \
+                                                            : range_set_u64_##name(arguments(u64), out, room, &made.u64); \
+        *written = made.u64.len; \
+        return status; \
     } \
     PyObject *core_##name(PyObject *module, PyObject *const *args, Py_ssize_t n) \
-    { return operate(args, n, list_count, cuts, write_##name); }
+    { return operate(args, n, list_count, cuts, any_order, write_##name); }
 
-OPERATION(union, 2, NONE, LISTS)
-OPERATION(intersection, 2, BOTH, LISTS)
-OPERATION(difference, 2, RIGHT, LISTS)
-OPERATION(symmetric_difference, 2, NONE, LISTS)
-OPERATION(negation, 1, NONE, LIST)
-OPERATION(from_values, 1, ANY_ORDER, VALUES)
+OPERATION(union, 2, NONE, SORTED, LISTS)
+OPERATION(intersection, 2, BOTH, SORTED, LISTS)
+OPERATION(difference, 2, RIGHT, SORTED, LISTS)
+OPERATION(symmetric_difference, 2, NONE, SORTED, LISTS)
+OPERATION(negation, 1, NONE, SORTED, LIST)
+OPERATION(from_values, 1, NONE, ANY_ORDER, VALUES)
 
 /* ---- Lists made of a copy, in its place ---- */
 
 typedef range_set_status Arrangement(const List *copy, size_t *written);
 
-#define ARRANGE(type, name, count) \
-    range_set_##type set = {NULL, 0}; \
-    range_set_status status = range_set_##type##_##name(copy->items, count, &set); \
-    *written = set.len; \
-    return status;
-
 #define ARRANGEMENT(name, call, pairs, count) \
     static range_set_status arrange_##name(const List *copy, size_t *written) \
     { \
-        if (copy->is_signed) { ARRANGE(i64, call, count) } \
-        ARRANGE(u64, call, count) \
+        Made made = {.u64 = {NULL, 0}}; \
+        range_set_status status = copy->is_signed ? range_set_i64_##call(copy->items, count, &made.i64) \
+                                                  : range_set_u64_##call(copy->items, count, &made.u64); \
+        *written = made.u64.len; \
+        return status; \
     } \
     static PyObject *core_##name(PyObject *module, PyObject *object) { return arrange(object, pairs, arrange_##name); }
 
@@ -191,33 +188,58 @@ ARRANGEMENT(from_boundaries, view, false, copy->len)
 ARRANGEMENT(from_unsorted, from_unsorted, false, copy->len)
 ARRANGEMENT(from_ranges, from_ranges, true, copy->len / 2)
 
-/* Reads a pair of whole numbers, which are read in tuples alone: their types may run code that changes a list. */
+/* What `from_pairs` is given. It reads tuples alone, since numbers of other types may run code that changes a list. */
+typedef enum { OTHER, PAIR, TUPLE_OF_PAIRS, LIST_OF_PAIRS } Source;
+
+static bool is_pair(PyObject *object)
+{
+    return PyTuple_CheckExact(object) && PyTuple_GET_SIZE(object) == 2 && PyIndex_Check(PyTuple_GET_ITEM(object, 0))
+           && PyIndex_Check(PyTuple_GET_ITEM(object, 1));
+}
+
+/* Its items may be others. */
+static Source source_of(PyObject *object)
+{
+    if (PyList_CheckExact(object)) return LIST_OF_PAIRS;
+    if (is_pair(object)) return PAIR;
+    return PyTuple_CheckExact(object) ? TUPLE_OF_PAIRS : OTHER;
+}
+
 static bool read_pair(PyObject *pair, bool is_signed, uint64_t *out)
 {
-    return PyTuple_CheckExact(pair) && PyTuple_GET_SIZE(pair) == 2 && PyIndex_Check(PyTuple_GET_ITEM(pair, 0))
-           && PyIndex_Check(PyTuple_GET_ITEM(pair, 1)) && read_number(PyTuple_GET_ITEM(pair, 0), is_signed, &out[0])
+    return is_pair(pair) && read_number(PyTuple_GET_ITEM(pair, 0), is_signed, &out[0])
            && read_number(PyTuple_GET_ITEM(pair, 1), is_signed, &out[1]);
 }
 
-/* The union of a pair of whole numbers, or of a list or a tuple of these, or None for anything else. In a list a pair may be a list. */
-static PyObject *core_from_pairs(PyObject *module, PyObject *const *args, Py_ssize_t n)
+/* Reads a tuple of pairs. If it was a list, a pair may be a list too. */
+static bool read_pairs(PyObject *pairs, bool was_list, bool is_signed, uint64_t *out)
 {
-    bool is_list = n == 2 && PyList_CheckExact(args[0]), is_signed = n == 2 && args[1] == Py_False;
-    if (!has_arguments(n, 2)) return NULL;
-    if (!is_list && !PyTuple_CheckExact(args[0])) Py_RETURN_NONE;
-    PyObject *pairs = is_list ? PyList_AsTuple(args[0]) : Py_NewRef(args[0]);
-    Py_ssize_t len = pairs == NULL ? 0 : PyTuple_GET_SIZE(pairs), read = 0;
-    PyObject *bytes = pairs == NULL ? NULL : PyBytes_FromStringAndSize(NULL, 16 * len);
-    uint64_t *out = bytes == NULL ? NULL : (uint64_t *)PyBytes_AS_STRING(bytes);
-    bool is_pair = !is_list && out != NULL && read_pair(pairs, is_signed, out);
-    for (bool fits = out != NULL && !is_pair && !PyErr_Occurred(); fits && read < len; read += fits) {
-        PyObject *item = PyTuple_GET_ITEM(pairs, read), *pair = is_list && PyList_CheckExact(item) ? PyList_AsTuple(item) : Py_NewRef(item);
-        fits = pair != NULL && read_pair(pair, is_signed, &out[2 * read]);
+    bool fits = true;
+    for (Py_ssize_t i = 0; fits && i < PyTuple_GET_SIZE(pairs); i++) {
+        PyObject *item = PyTuple_GET_ITEM(pairs, i), *pair = was_list && PyList_CheckExact(item) ? PyList_AsTuple(item) : Py_NewRef(item);
+        fits = pair != NULL && read_pair(pair, is_signed, &out[2 * i]);
         Py_XDECREF(pair);
     }
-    Py_XDECREF(pairs);
+    return fits;
+}
+
+/* The union of a pair of whole numbers, or of a list or a tuple of these, or None for anything else. */
+static PyObject *core_from_pairs(PyObject *module, PyObject *const *args, Py_ssize_t n)
+{
+    if (!has_arguments(n, 2)) return NULL;
+    bool is_signed = args[1] == Py_False;
+    Source source = source_of(args[0]);
+    if (source == OTHER) Py_RETURN_NONE;
+    PyObject *pairs = source == LIST_OF_PAIRS ? PyList_AsTuple(args[0]) : Py_NewRef(args[0]);
+    if (pairs == NULL) return NULL;
+    size_t len = source == PAIR ? 1 : PyTuple_GET_SIZE(pairs);
+    PyObject *bytes = PyBytes_FromStringAndSize(NULL, 16 * len);
+    uint64_t *out = bytes == NULL ? NULL : (uint64_t *)PyBytes_AS_STRING(bytes);
+    bool fits = out != NULL
+                && (source == PAIR ? read_pair(pairs, is_signed, out) : read_pairs(pairs, source == LIST_OF_PAIRS, is_signed, out));
+    Py_DECREF(pairs);
     if (out == NULL) return NULL;
-    if (is_pair || read == len) return arranged(bytes, is_pair ? 2 : 2 * len, is_signed, arrange_from_ranges);
+    if (fits) return arranged(bytes, 2 * len, is_signed, arrange_from_ranges);
     /* It is read anew, and the error says more. */
     PyErr_Clear();
     Py_DECREF(bytes);
@@ -388,6 +410,28 @@ static PyObject *each(PyObject *const *args, Py_ssize_t n, bool is_rank)
     return bytes;
 }
 
+/* For each number of the second list whether it is a member of the first, as bools in bytes. */
+static PyObject *core_contains_each(PyObject *module, PyObject *const *args, Py_ssize_t n)
+{
+    Arguments given;
+    if (!read_arguments(&given, args, n, 2, 0, false, 0)) return NULL;
+    const List *set = &given.lists[0], *values = &given.lists[1];
+    PyObject *bytes = PyBytes_FromStringAndSize(NULL, values->len);
+    if (bytes != NULL) {
+        bool *found = (bool *)PyBytes_AS_STRING(bytes);
+        PyThreadState *thread = let_others_run(values->len);
+        range_set_status status = set->is_signed ? range_set_i64_contains_each(SET(i64, *set), values->items, values->len, found)
+                                                 : range_set_u64_contains_each(SET(u64, *set), values->items, values->len, found);
+        go_on(thread);
+        if (status != RANGE_SET_DONE) {
+            Py_CLEAR(bytes);
+            raise_status(status, 0);
+        }
+    }
+    release_all(&given);
+    return bytes;
+}
+
 #define EACH_OF(name, is_rank) \
     static PyObject *core_##name(PyObject *module, PyObject *const *args, Py_ssize_t n) { return each(args, n, is_rank); }
 
@@ -405,7 +449,7 @@ static PyMethodDef methods[] = {
     METHOD(is_empty), METHOD(contains), METHOD(contains_range), METHOD(is_disjoint), METHOD(intersects), METHOD(is_subset),
     METHOD(equal), METHOD(range_at), METHOD(split), METHOD(rank), METHOD(first_fit), METHOD(select), METHOD(covered), METHOD(span), METHOD(parse),
     METHOD_OF_ONE(print), METHOD_OF_ONE(pack), METHOD_OF_ONE(unpack), METHOD(over), METHOD(from_values), METHOD(places), METHOD(ranks),
-    METHOD(range_list), METHOD(from_pairs), METHOD(ends_and_values), METHOD(mirror), METHOD_OF_ONE(lengths_of_floats),
+    METHOD(contains_each), METHOD(range_list), METHOD(from_pairs), METHOD(ends_and_values), METHOD(mirror), METHOD_OF_ONE(lengths_of_floats),
     {NULL, NULL, 0, NULL},
 };
 

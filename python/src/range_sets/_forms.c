@@ -20,13 +20,12 @@ PyObject *core_parse(PyObject *module, PyObject *const *args, Py_ssize_t n)
     PyObject *bytes = PyBytes_FromStringAndSize(NULL, 8 * room);
     if (bytes == NULL) return NULL;
     void *items = PyBytes_AS_STRING(bytes);
-    range_set_i64 of_signed = {NULL, 0};
-    range_set_u64 of_unsigned = {NULL, 0};
+    Made made = {.u64 = {NULL, 0}};
     PyThreadState *thread = let_others_run(text_len);
-    range_set_status status = is_signed ? range_set_i64_parse(text, text_len, items, room, &of_signed, &fault)
-                                        : range_set_u64_parse(text, text_len, items, room, &of_unsigned, &fault);
+    range_set_status status = is_signed ? range_set_i64_parse(text, text_len, items, room, &made.i64, &fault)
+                                        : range_set_u64_parse(text, text_len, items, room, &made.u64, &fault);
     go_on(thread);
-    if (status == RANGE_SET_DONE) return list_over(bytes, is_signed ? of_signed.len : of_unsigned.len, is_signed);
+    if (status == RANGE_SET_DONE) return list_over(bytes, made.u64.len, is_signed);
     Py_DECREF(bytes);
     if (status == RANGE_SET_OUT_OF_RANGE) Py_RETURN_NONE;
     return status == RANGE_SET_MALFORMED ? PyLong_FromSize_t(fault) : raise_status(status, 0);

@@ -4,7 +4,6 @@ from __future__ import annotations
 
 import copy
 import sys
-from array import array
 from operator import index
 from pickle import PickleBuffer
 from typing import Any, Self, SupportsIndex
@@ -12,8 +11,10 @@ from typing import Any, Self, SupportsIndex
 from . import _core, _svg
 from ._arrays import array_of
 from ._core import Boundaries
-from ._kinds import FLOAT, NO_KIND, SIGNED, UNSIGNED, Kind, Now, agreed, kind_of
-from ._numbers import code_of
+from ._floats import FLOAT
+from ._kind import NO_KIND, SIGNED, UNSIGNED, Kind, Now
+from ._kinds import agreed, given_kind
+from ._numbers import in_this_order
 
 # `repr` writes a set of more than `_MANY` ranges by `_SHOWN` at either end.
 _MANY, _SHOWN = 1000, 3
@@ -47,16 +48,29 @@ class Attributes:
             self.__setstate__(state)
         return self
 
+    def _shown(self, items: str, kind: Kind) -> str:
+        """What makes a set or a map anew, from what has its items, or nothing."""
+        parts = [items] if items else []
+        if kind is UNSIGNED:
+            parts.append("unsigned=True")
+        elif not items and not kind.is_whole:
+            parts.append(f"kind={kind.name!r}")
+        return f"{type(self).__name__}({', '.join(parts)})"
+
 
 class Kept(Attributes, _core.Set):
-    """What a set is now, and its other forms. A set that changes has another `_now` after each change, perhaps by another thread
-    meanwhile: so a call takes it once. Questions are asked of `_seen`: of a set that changes, in chunks."""
+    """The boundaries of a set and their kind, and its other forms.
+
+    `_now` has both. A set that changes has another `_now` after each change, also by another thread, so a call reads it once.
+    Questions read `_seen`, which has the chunks of a set that changes in place of its boundaries.
+    """
 
     __slots__ = ()
     _own = ("_chunks",)
 
     def _beside(self, other: Now) -> tuple[Boundaries, Boundaries, Kind]:
-        """At least the ranges that have elements of another set, whole; the other's, and the kind of both."""
+        """The boundaries of this set and of another one, and the kind of both. A set that changes may leave out ranges that have no element
+        of the other one; it cuts none."""
         (left, kind), (right, other_kind) = self._now, other
         return (left, right, kind) if kind is other_kind else agreed((left, kind), other)
 
@@ -71,12 +85,7 @@ class Kept(Attributes, _core.Set):
             shown = _pairs(boundaries, kind)
         else:
             shown = f"{_pairs(boundaries[: 2 * _SHOWN], kind)}, ..., {_pairs(boundaries[2 * (count - _SHOWN) :], kind)}"
-        parts = [f"[{shown}]"] if count else []
-        if kind is UNSIGNED:
-            parts.append("unsigned=True")
-        elif not count and not kind.is_whole:
-            parts.append(f"kind={kind.name!r}")
-        return f"{type(self).__name__}({', '.join(parts)})"
+        return self._shown(f"[{shown}]" if count else "", kind)
 
     def __str__(self) -> str:
         boundaries, kind = self._now
@@ -109,7 +118,7 @@ class Kept(Attributes, _core.Set):
         is_far = _are_far_apart(boundaries)
         packed: Any = boundaries if is_far else _core.pack(boundaries)
         memory = PickleBuffer(packed) if index(protocol) >= 5 else bytes(packed)
-        names = () if kind is _kind_of(boundaries) else (kind.name,)
+        names = () if kind is _unnamed_kind(boundaries) else (kind.name,)
         if is_far:
             return _restored, (type(self), memory, kind.unsigned, sys.byteorder, *names), self.__getstate__()
         return _unpacked, (type(self), memory, *names), self.__getstate__()
@@ -128,7 +137,7 @@ def _pairs(boundaries: Boundaries, kind: Kind) -> str:
     return ", ".join(f"({start}, {end})" for start, end in zip(shown[::2], [*shown[1::2], "None"]))
 
 
-def _kind_of(boundaries: Boundaries) -> Kind:
+def _unnamed_kind(boundaries: Boundaries) -> Kind:
     """The kind of elements of a pickle that names none."""
     return UNSIGNED if not _core.is_signed(boundaries) else SIGNED if boundaries else NO_KIND
 
@@ -140,7 +149,7 @@ def _are_far_apart(boundaries: Boundaries) -> bool:
 
 
 def _checked(cls: type[Kept], boundaries: Boundaries, name: str | None) -> Kept:
-    kind = kind_of(name) or _kind_of(boundaries)
+    kind = given_kind(name) or _unnamed_kind(boundaries)
     if not kind.has(boundaries):
         raise ValueError(f"the bytes are no set of the kind {kind.name}")
     return cls._over(boundaries, kind)
@@ -153,9 +162,6 @@ def _unpacked(cls: type[Kept], memory: Any, name: str | None = None) -> Kept:
 
 def _restored(cls: type[Kept], memory: Any, unsigned: bool, order: str, name: str | None = None) -> Kept:
     """The same of one with the boundaries as they lie in memory, as version 0.2 wrote all."""
-    if order != sys.byteorder:
-        numbers = array(code_of(unsigned), bytes(memoryview(memory)))
-        numbers.byteswap()
-        memory = numbers.tobytes()
     # Bytes don't change, so that they aren't copied.
-    return _checked(cls, _core.over(memory if type(memory) is bytes else bytes(memoryview(memory)), unsigned), name)
+    numbers = memory if type(memory) is bytes else bytes(memoryview(memory))
+    return _checked(cls, _core.over(in_this_order(numbers, order, unsigned), unsigned), name)

@@ -57,6 +57,20 @@ PyObject *list_of(const uint64_t *numbers, size_t len, bool is_signed)
     return bytes == NULL ? NULL : list_over(bytes, len, is_signed);
 }
 
+uint64_t *with_more_room(uint64_t *numbers, size_t *room, size_t times)
+{
+    uint64_t *longer = PyMem_Realloc(numbers, 8 * (*room *= times));
+    if (longer == NULL) PyMem_Free(numbers);
+    return longer;
+}
+
+PyObject *list_and_free(uint64_t *numbers, size_t len, bool is_signed)
+{
+    PyObject *made = numbers == NULL ? PyErr_NoMemory() : list_of(numbers, len, is_signed);
+    PyMem_Free(numbers);
+    return made;
+}
+
 PyObject *list_or_error(PyObject *bytes, size_t len, bool is_signed, range_set_status status)
 {
     if (status == RANGE_SET_DONE) return list_over(bytes, len, is_signed);
@@ -292,10 +306,9 @@ PyObject *core_range_list(PyObject *module, PyObject *const *args, Py_ssize_t n)
 range_set_status check_list(const List *list)
 {
     if (list->is_own) return RANGE_SET_DONE;
-    range_set_i64 of_signed;
-    range_set_u64 of_unsigned;
-    return list->is_signed ? range_set_i64_view(list->items, list->len, &of_signed)
-                           : range_set_u64_view(list->items, list->len, &of_unsigned);
+    Made made;
+    return list->is_signed ? range_set_i64_view(list->items, list->len, &made.i64)
+                           : range_set_u64_view(list->items, list->len, &made.u64);
 }
 
 Range range_in(const List *list, size_t place)
@@ -307,15 +320,14 @@ Range range_in(const List *list, size_t place)
 
 PyObject *joined(const List *a, const List *b, unsigned keep)
 {
-    range_set_i64 of_signed = {NULL, 0};
-    range_set_u64 of_unsigned = {NULL, 0};
+    Made made = {.u64 = {NULL, 0}};
     size_t room = a->len + b->len;
     PyObject *bytes = PyBytes_FromStringAndSize(NULL, 8 * room);
     if (bytes == NULL) return NULL;
     void *out = PyBytes_AS_STRING(bytes);
-    range_set_status status = b->is_signed ? range_set_i64_combine(SET(i64, *a), SET(i64, *b), keep, out, room, &of_signed)
-                                           : range_set_u64_combine(SET(u64, *a), SET(u64, *b), keep, out, room, &of_unsigned);
-    return list_or_error(bytes, b->is_signed ? of_signed.len : of_unsigned.len, b->is_signed, status);
+    range_set_status status = b->is_signed ? range_set_i64_combine(SET(i64, *a), SET(i64, *b), keep, out, room, &made.i64)
+                                           : range_set_u64_combine(SET(u64, *a), SET(u64, *b), keep, out, room, &made.u64);
+    return list_or_error(bytes, made.u64.len, b->is_signed, status);
 }
 
 /* The ranges that end at or below its start stand before it, and those that start below its end up to there. */

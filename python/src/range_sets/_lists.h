@@ -29,6 +29,12 @@ typedef struct {
  * don't, and stay within any list. */
 #define SET(type, list) ((range_set_##type){(list).items, (list).len})
 
+/* A set that a call makes, by the sign of its numbers. Either has its length. */
+typedef union {
+    range_set_i64 i64;
+    range_set_u64 u64;
+} Made;
+
 /* Sets an error. */
 bool refuse(PyObject *error, const char *text);
 
@@ -75,6 +81,11 @@ void cut_to_span(List *list, const List *of);
 PyObject *list_of(const uint64_t *numbers, size_t len, bool is_signed);
 PyObject *list_over(PyObject *bytes, size_t len, bool is_signed);
 PyObject *list_or_error(PyObject *bytes, size_t len, bool is_signed, range_set_status status);
+
+/* Numbers in memory that is made this many times as long; NULL where it is refused, and then they are freed. And a list of such, which it
+ * frees. */
+uint64_t *with_more_room(uint64_t *numbers, size_t *room, size_t times);
+PyObject *list_and_free(uint64_t *numbers, size_t len, bool is_signed);
 
 /* Raises what a call for C answers, with the length that it returns. */
 PyObject *raise_status(range_set_status status, size_t needed);

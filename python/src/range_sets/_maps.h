@@ -41,6 +41,9 @@ typedef range_map_u64_stretch Stretch;
 /* The longest range around a key whose keys have one value, or all have none. */
 Stretch stretch_at(const Steps *self, uint64_t key);
 
+/* Whether a stretch ends below a range's end. */
+bool ends_below(const Steps *self, const Stretch *it, Range range);
+
 /* A walk over the ranges that have a value: the keys that are left, and whether the one below them was read. Some ranges are read at
  * once, and anew after a change. */
 enum { FEW = 3, SOME = 16 };
@@ -64,14 +67,22 @@ Steps *new_steps(PyTypeObject *type, bool is_signed);
 /* Does changes of ranges in order, each of which begins where the one before ends or above, in a map that has nothing there. */
 range_set_status put_in_order(Steps *self, const Change *changes, size_t count);
 
-/* Goes back to what the map was before changes that were refused memory midway. */
+/* Goes back to what the map was before changes that were refused memory midway; and forgets what it was. */
 bool settle(Steps *self);
+void forget_undo(Steps *self);
+
+/* Gives the map a kind, and leaves the one before. */
+PyObject *take_kind(Steps *self, PyObject *kind);
 
 /* Drops the values that have no range any more, unless those are to be put back. */
 void drop_unused(Steps *self);
 
 /* The value of a stretch that has one, which is borrowed. */
 PyObject *value_of(const Steps *self, const Stretch *it);
+
+/* Methods that change ranges, or take them into another map. */
+PyObject *steps_change(Steps *self, PyObject *const *args, Py_ssize_t n);
+PyObject *steps_part(Steps *self, PyObject *object);
 
 /* Methods that go over ranges. */
 PyObject *steps_domain(Steps *self, PyObject *const *args, Py_ssize_t n);

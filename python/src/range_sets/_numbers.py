@@ -1,11 +1,14 @@
-"""The two types of numbers."""
+"""The two types of numbers, and numbers in bytes."""
 
 from __future__ import annotations
 
-from typing import Literal
+import sys
+from array import array
+from typing import Iterable, Literal
 
 
-def code_of(unsigned: bool) -> Literal["q", "Q"]:
+def typecode_of(unsigned: bool) -> Literal["q", "Q"]:
+    """The letter of the type in an `array` and in numpy."""
     return "Q" if unsigned else "q"
 
 
@@ -17,5 +20,20 @@ def most(unsigned: bool) -> int:
     return 2**64 - 1 if unsigned else 2**63 - 1
 
 
-def wanted(unsigned: bool) -> str:
+def expected_number(unsigned: bool) -> str:
+    """What an error says was expected."""
     return "a number from 0 to 2**64 - 1" if unsigned else "a number from -2**63 to 2**63 - 1"
+
+
+def packed(numbers: Iterable[int], unsigned: bool) -> bytes:
+    """Numbers as they lie in memory."""
+    return array(typecode_of(unsigned), numbers).tobytes()
+
+
+def in_this_order(numbers: bytes, order: str, unsigned: bool) -> bytes:
+    """Numbers as they lie in this machine's memory, from those of a machine with an order of bytes."""
+    if order == sys.byteorder:
+        return numbers
+    swapped = array(typecode_of(unsigned), numbers)
+    swapped.byteswap()
+    return swapped.tobytes()

@@ -2,11 +2,13 @@
 
 from __future__ import annotations
 
-from typing import TYPE_CHECKING, Any, Never, Self
+from typing import TYPE_CHECKING, Any, Callable, Never, Self
 
 from . import _core
+from ._core import Boundaries
 from ._kept import Kept
-from ._kinds import Now, agreed, whole
+from ._kind import Kind, Now
+from ._kinds import agreed, whole
 
 if TYPE_CHECKING:
     from ._ranges import AnyRangeSet
@@ -16,6 +18,12 @@ class Operators(Kept):
     """What Python writes between two sets or before one."""
 
     __slots__ = ()
+
+    if TYPE_CHECKING:
+
+        def __len__(self) -> int:
+            ...
+
     # Else numpy would answer `set | array` by the bits of the boundaries, and `numpy.isin(array, set)` by which elements are boundaries.
     __array_ufunc__ = None
 
@@ -23,14 +31,26 @@ class Operators(Kept):
         hint = "s.contains(array) says which elements are members, and numpy.asarray(s) has the boundaries"
         raise TypeError(f"numpy.{function.__name__} takes no set: {hint}")
 
+    def _combined(self, call: Callable[[Boundaries, Boundaries], Boundaries], other: Now) -> Self:
+        """What a call makes of this set and another."""
+        left, right, kind = agreed(self._now, other)
+        return self._over(call(left, right), kind)
+
+    def _both(self, other: Operators) -> tuple[Boundaries, Boundaries, Kind]:
+        """At least the ranges of both sets that have elements of the other, and the kind of both. The set of more ranges is read beside the
+        other one alone."""
+        if len(self) < len(other):
+            right, left, kind = other._beside(self._now)
+            return left, right, kind
+        return self._beside(other._now)
+
     # What `|`, `&`, `-` and `^` do if one of the sets changes, or their kinds differ.
 
     def _union(self, other: AnyRangeSet) -> Self:
-        left, right, kind = agreed(self._now, other._now)
-        return self._over(_core.union(left, right), kind)
+        return self._combined(_core.union, other._now)
 
     def _intersection(self, other: AnyRangeSet) -> Self:
-        left, right, kind = self._beside(other._now)
+        left, right, kind = self._both(other)
         return self._over(_core.intersection(left, right), kind)
 
     def _difference(self, other: AnyRangeSet) -> Self:
@@ -38,8 +58,7 @@ class Operators(Kept):
         return self._over(_core.difference(left, right), kind)
 
     def _symmetric_difference(self, other: AnyRangeSet) -> Self:
-        left, right, kind = agreed(self._now, other._now)
-        return self._over(_core.symmetric_difference(left, right), kind)
+        return self._combined(_core.symmetric_difference, other._now)
 
     def __invert__(self) -> Self:
         boundaries, kind = self._now
@@ -50,30 +69,29 @@ class Operators(Kept):
     def __eq__(self, other: object) -> bool:
         if not isinstance(other, Operators):
             return NotImplemented
+        if len(self) != len(other):
+            return False
         (left, kind), (right, other_kind) = self._now, other._now
         return kind.name == other_kind.name and _core.equal(left, right)
 
+    # For `>=` and `>` Python asks the other set by these.
+
     def __le__(self, other: AnyRangeSet) -> bool:
-        if not isinstance(other, Operators):
-            return NotImplemented
-        return other._has(self._now)
+        return other._has(self._now) if isinstance(other, Operators) else NotImplemented
 
     def __lt__(self, other: AnyRangeSet) -> bool:
         if not isinstance(other, Operators):
             return NotImplemented
+        if len(self) >= len(other):
+            if not self <= other:
+                return False
+        else:
+            right, left, _ = other._beside(self._now)
+            if not _core.equal(left, right):
+                return _core.is_subset(left, right)
+        # Now it matters whether a set has more than the other: each is read as it is at one moment.
         left, right, _ = agreed(self._now, other._now)
         return _core.is_subset(left, right) and not _core.equal(left, right)
-
-    def __ge__(self, other: AnyRangeSet) -> bool:
-        if not isinstance(other, Operators):
-            return NotImplemented
-        return self._has(other._now)
-
-    def __gt__(self, other: AnyRangeSet) -> bool:
-        if not isinstance(other, Operators):
-            return NotImplemented
-        left, right, _ = agreed(self._now, other._now)
-        return _core.is_subset(right, left) and not _core.equal(left, right)
 
     def _has(self, other: Now) -> bool:
         """Whether each element of another set is in this one."""

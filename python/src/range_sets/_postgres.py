@@ -8,7 +8,9 @@ from itertools import zip_longest
 from typing import Any, Callable, Iterator, Protocol
 
 from ._errors import ParseError
-from ._kinds import DATE, SIGNED, Kind, Now, kind_of, of
+from ._kind import SIGNED, Kind, Now
+from ._kinds import given_kind, kind_of
+from ._times import DATE
 
 # A bound as the server writes it, with nothing for none, and perhaps in quotes.
 _BOUND = r'("[^"\\]*"|[^"\\,\[\](){}]*)'
@@ -52,7 +54,7 @@ def half_open(lower: Any, lower_inc: bool, upper: Any, upper_inc: bool) -> tuple
 
 def _after(element: Any) -> Any:
     """The next element, which numbers and dates alone have, as the server says too."""
-    kind = of(element)
+    kind = kind_of(element)
     if kind not in (SIGNED, DATE):
         raise ValueError(f"expected a range with its start and without its end, and of {element!r} there is no next one")
     return element + (1 if kind is SIGNED else timedelta(1))
@@ -63,7 +65,7 @@ def read(text: str, kind: Kind | None) -> tuple[list[tuple[Any, Any]], Kind | No
     if not isinstance(text, str):
         raise TypeError(f"expected a text, not {type(text).__name__}")
     if kind is not None:
-        _see_kind(kind)
+        _check_kind(kind)
     pairs = []
     for found in _ranges_in(text):
         if found[1] is None:
@@ -100,7 +102,7 @@ def _element(text: str, position: int, kind: Kind | None) -> tuple[Any, Kind | N
         return None, kind
     plain = text[1:-1] if text.startswith('"') else text
     if kind is None:
-        kind = kind_of(next((name for name, (form, _) in _FORMS.items() if form.fullmatch(plain)), None))
+        kind = given_kind(next((name for name, (form, _) in _FORMS.items() if form.fullmatch(plain)), None))
     if kind is None:
         raise ParseError("a number, a date or a time", position)
     form, read_one = _FORMS[kind.name]
@@ -114,7 +116,8 @@ def _element(text: str, position: int, kind: Kind | None) -> tuple[Any, Kind | N
     raise ParseError(kind.element, position)
 
 
-def _see_kind(kind: Kind) -> None:
+def _check_kind(kind: Kind) -> None:
+    """Raises a TypeError for a kind that no multirange has."""
     if kind.name not in _FORMS:
         raise TypeError(f"PostgreSQL's multiranges are of the kinds {', '.join(_FORMS)}, and not {kind.name}")
 
@@ -122,7 +125,7 @@ def _see_kind(kind: Kind) -> None:
 def written(now: Now) -> str:
     """The text of a set as the server reads it. A start at the least element is none, as an end past the greatest is."""
     boundaries, kind = now
-    _see_kind(kind)
+    _check_kind(kind)
     quote = '"' * kind.name.startswith("datetime")
     bounds = ["" if code == kind.least else f"{quote}{kind.value(code)}{quote}" for code in boundaries]
     ranges = zip_longest(bounds[::2], bounds[1::2], fillvalue="")

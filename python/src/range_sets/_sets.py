@@ -6,13 +6,10 @@ from typing import Any, Callable, Self, overload
 
 from . import _core
 from ._core import Boundaries, Chunks
+from ._kind import NO_KIND, Element, Kind, Now
+from ._kinds import agreed
 from ._ranges import AnyRangeSet
-from ._kinds import NO_KIND, Element, Kind, Now, agreed
 from ._sources import OneRange, Source, bounds_of, intersection_of, range_of, union_of
-
-
-# Beside a list of so few boundaries a set that changes is asked in chunks.
-_FEW = 64
 
 
 class RangeSet(AnyRangeSet):
@@ -169,18 +166,13 @@ class MutableRangeSet(AnyRangeSet):
         return chunks.near(right, kind), right, kind
 
     def __le__(self, other: AnyRangeSet) -> bool:
-        if not isinstance(other, AnyRangeSet):
-            return NotImplemented
-        return self._is_within(other._now)
+        return self._is_within(other._now) if isinstance(other, AnyRangeSet) else NotImplemented
 
     def _is_within(self, other: Now) -> bool:
-        if len(other[0]) > _FEW:
-            return super()._is_within(other)
         chunks = self._chunks
         kind = chunks.kind
         _, right, kind = agreed((kind.nothing, kind), other)
-        outside = _core.negation(right)
-        return _core.is_disjoint(chunks.near(outside, kind), outside)
+        return not chunks.meets(_core.negation(right), kind)
 
     def __len__(self) -> int:
         return len(self._chunks)
@@ -319,21 +311,13 @@ class MutableRangeSet(AnyRangeSet):
         self._change(Chunks.symmetric_difference, self._of(other))
 
     def __ior__(self, other: AnyRangeSet) -> Self:
-        if not isinstance(other, AnyRangeSet):
-            return NotImplemented
-        return self._change(Chunks.union, other._now)
+        return self._change(Chunks.union, other._now) if isinstance(other, AnyRangeSet) else NotImplemented
 
     def __iand__(self, other: AnyRangeSet) -> Self:
-        if not isinstance(other, AnyRangeSet):
-            return NotImplemented
-        return self._change(Chunks.intersection, other._now)
+        return self._change(Chunks.intersection, other._now) if isinstance(other, AnyRangeSet) else NotImplemented
 
     def __isub__(self, other: AnyRangeSet) -> Self:
-        if not isinstance(other, AnyRangeSet):
-            return NotImplemented
-        return self._change(Chunks.difference, other._now)
+        return self._change(Chunks.difference, other._now) if isinstance(other, AnyRangeSet) else NotImplemented
 
     def __ixor__(self, other: AnyRangeSet) -> Self:
-        if not isinstance(other, AnyRangeSet):
-            return NotImplemented
-        return self._change(Chunks.symmetric_difference, other._now)
+        return self._change(Chunks.symmetric_difference, other._now) if isinstance(other, AnyRangeSet) else NotImplemented

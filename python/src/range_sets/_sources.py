@@ -4,17 +4,21 @@ from __future__ import annotations
 
 import reprlib
 from array import array
+from enum import Enum, auto
 from ipaddress import IPv4Network, IPv6Network
 from itertools import chain
 from typing import TYPE_CHECKING, Any, Callable, Iterable, Union
 
 from . import _core
-from ._arrays import codes_of_floats, see_no_nat, times_in_utc
+from ._arrays import codes_of_floats, refuse_nats, times_in_utc
 from ._core import Boundaries
+from ._floats import FLOAT, mirrored
 from ._kept import Kept
-from ._kinds import AWARE, DELTA, FLOAT, NAN, NO_KIND, SIGNED, UNSIGNED, Element, Kind, Now, mirrored, mixed, of, of_dtype, of_some, whole
-from ._numbers import code_of
+from ._kind import NAN, NO_KIND, SIGNED, UNSIGNED, Element, Kind, Now
+from ._kinds import kind_of, kind_of_first, mixed, whole
+from ._numbers import typecode_of
 from ._postgres import Bounds, half_open
+from ._times import AWARE, DELTA, of_dtype
 
 if TYPE_CHECKING:
     from ._ranges import AnyRangeSet
@@ -35,39 +39,39 @@ Source = Union[
 OneRange = Union[Element, range, IPv4Network, Bounds, Pair]
 
 
-def codes_of(start: Any, end: Any, kind: Kind) -> tuple[int, int | None, Kind]:
+def codes_of_range(start: Any, end: Any, kind: Kind) -> tuple[int, int | None, Kind]:
     """The numbers of a start and an end, which may be out of range, and their kind. They are given as two arguments, as a pair, as a
     `range`, as a network or as one element. Without an end, that is `...`."""
     if end is ...:
-        found = of(start)
+        found = kind_of(start)
         if found is not None:
             kind = found if kind is NO_KIND else kind
-            return *kind.one(start), kind
+            return *kind.codes_of_one(start), kind
         start, end = ends_of(start, "a number, a start and an end, a pair or a range")
     if kind is NO_KIND:
-        kind = of_some((start, end)) or SIGNED
+        kind = kind_of_first((start, end)) or SIGNED
     return kind.start(start), kind.end(end), kind
 
 
 def range_of(start: Any, end: Any, kind: Kind) -> Now:
-    """The set of a range that is given as `codes_of` takes it."""
+    """The set of a range that is given as `codes_of_range` takes it."""
     if kind.is_plain and (end is not ... or type(start) is int):
         return _core.range_list(start, end, kind.unsigned), kind
-    first, last, kind = codes_of(start, end, kind)
-    return kind.listed(first, last), kind
+    first, last, kind = codes_of_range(start, end, kind)
+    return kind.range_list(first, last), kind
 
 
-def from_on(element: Any, kind: Kind) -> Now:
-    """The set of an element and of all above it."""
+def all_from(element: Any, kind: Kind) -> Now:
+    """The set of an element and of all greater ones."""
     if element is None:
         raise TypeError("expected an element, not None")
     return range_of(element, None, kind)
 
 
 def bounds_of(start: Any, end: Any, kind: Kind) -> tuple[Any, Any, Kind, Kind]:
-    """What a set in chunks is given of a range: its ends, the kind that was seen, and its kind."""
-    first, last, found = codes_of(start, end, kind)
-    return found.within(first), None if last is None else found.within(last), kind, found
+    """What `Chunks.insert` and `Chunks.remove` take of a range: its numbers, the kind that the set had, and the kind of the range."""
+    first, last, found = codes_of_range(start, end, kind)
+    return found.checked(first), None if last is None else found.checked(last), kind, found
 
 
 def ends_of(item: Any, wanted: str) -> tuple[Any, Any]:
@@ -98,6 +102,37 @@ def ends_of(item: Any, wanted: str) -> tuple[Any, Any]:
     raise TypeError(f"expected {wanted}, not {reprlib.repr(item)}")
 
 
+class Form(Enum):
+    """What a source is that is no set, by which its ranges are read."""
+
+    RANGE = auto()
+    # A list or a tuple of ranges, pairs and sets.
+    ITEMS = auto()
+    # A tuple of two lists, which is refused.
+    STARTS_AND_ENDS = auto()
+    # A data frame, a column or intervals, as pandas has them.
+    COLUMNS = auto()
+    # An array of Python's objects.
+    OBJECTS = auto()
+    # A buffer of numbers or an array of times.
+    TABLE = auto()
+    # Perhaps an iterable.
+    OTHER = auto()
+
+
+def _form_of(source: Any) -> Form:
+    if isinstance(source, (range, IPv4Network, IPv6Network)) or hasattr(source, "lower_inc") or _is_pair(source):
+        return Form.RANGE
+    if isinstance(source, (list, tuple)):
+        is_two = isinstance(source, tuple) and len(source) == 2 and all(map(_is_column, source))
+        return Form.STARTS_AND_ENDS if is_two else Form.ITEMS
+    if hasattr(source, "to_numpy") or _has_intervals(source):
+        return Form.COLUMNS
+    if _dtype_letter(source) == "O" and hasattr(source, "tolist") and not _has_mask(source):
+        return Form.OBJECTS
+    return Form.TABLE if _is_buffer(source) else Form.OTHER
+
+
 def gather(source: Any, kind: Kind | None) -> Now:
     """The union of what a set is made of."""
     if kind is None or kind.is_whole:
@@ -106,19 +141,23 @@ def gather(source: Any, kind: Kind | None) -> Now:
         if plain is not None:
             return plain, kind or (SIGNED if source else NO_KIND)
     if isinstance(source, Kept):
-        return _of_kind(source._now, kind)
-    if isinstance(source, (range, IPv4Network, IPv6Network)) or hasattr(source, "lower_inc") or _is_pair(source):
-        source = (source,)
-    elif not isinstance(source, (list, tuple)):
-        table, kind = _table_of(source, kind)
-        if getattr(getattr(table, "dtype", None), "kind", "") == "O" and hasattr(table, "tolist") and not _has_mask(table):
-            table = table.tolist()
-        if _is_buffer(table):
-            return _ranges_of_table(table, kind)
-        return gather(_items_of(table), kind)
-    elif isinstance(source, tuple) and len(source) == 2 and all(map(_is_column, source)):
-        raise TypeError("a list of starts and one of ends are no ranges: zip(starts, ends) has the pairs")
-    return _gather_each(source, kind)
+        return _of_given_kind(source._now, kind)
+    form = _form_of(source)
+    match form:
+        case Form.RANGE:
+            return _gather_each((source,), kind)
+        case Form.ITEMS:
+            return _gather_each(source, kind)
+        case Form.STARTS_AND_ENDS:
+            raise TypeError("a list of starts and one of ends are no ranges: zip(starts, ends) has the pairs")
+        case Form.COLUMNS:
+            return gather(*_table_of(source, kind))
+        case Form.OBJECTS:
+            return gather(source.tolist(), kind)
+        case Form.TABLE:
+            return _ranges_of_table(source, kind)
+        case Form.OTHER:
+            return gather(_items_of(source), kind)
 
 
 def union_of(sets: list[Now], kind: Kind | None = None) -> Now:
@@ -140,7 +179,7 @@ def of_one_kind(sets: list[Now], kind: Kind | None) -> tuple[list[Boundaries], K
     """The lists of sets of one kind, which a set of nothing takes if its own isn't known."""
     if kind is None:
         kind = next((it for _, it in sets if it is not NO_KIND), NO_KIND)
-    return [_of_kind(it, kind)[0] for it in sets], kind
+    return [_of_given_kind(it, kind)[0] for it in sets], kind
 
 
 def _two_by_two(call: Callable[[Boundaries, Boundaries], Boundaries], lists: list[Boundaries]) -> Boundaries:
@@ -167,7 +206,7 @@ def values_of(items: Any, kind: Kind | None) -> Now:
     """The set of the elements in a buffer or an iterable."""
     numbers, kind = _numbers_of(items, kind)
     if kind is FLOAT:
-        kind.one(None)
+        kind.codes_of_one(None)
     return kind.trimmed(_core.from_values(numbers)), kind
 
 
@@ -180,7 +219,7 @@ def _ranges_of_buffer(items: Any, kind: Kind | None) -> Now:
     shape = tuple(items.shape if hasattr(items, "shape") else memoryview(items).shape or ())
     if len(shape) != 1 and shape[1:] != (2,):
         raise TypeError("expected a list of starts and ends in turn, or a table with two columns")
-    numbers, kind = _side_by_side(items, kind)
+    numbers, kind = _numbers_of_buffer(items, kind)
     return _core.from_ranges(numbers), kind
 
 
@@ -191,44 +230,44 @@ def _numbers_of(items: Any, kind: Kind | None) -> tuple[Any, Kind]:
         if times is not None:
             return _numbers_of_times(times, AWARE)
         values = list(items)
-        found = kind or of_some(values) or NO_KIND
+        found = kind or kind_of_first(values) or NO_KIND
         return _array_of(values, found, kind is not None), found
-    if (items.ndim if hasattr(items, "ndim") else memoryview(items).ndim) != 1:
+    if _dimensions(items) != 1:
         raise TypeError("expected a list, with one dimension")
-    return _side_by_side(items, kind)
+    return _numbers_of_buffer(items, kind)
 
 
-def _side_by_side(items: Any, kind: Kind | None) -> tuple[Any, Kind]:
-    """The numbers of a buffer one after the other and of 64 bits, and the kind of its elements. Smaller whole numbers stay signed or
+def _numbers_of_buffer(items: Any, kind: Kind | None) -> tuple[Any, Kind]:
+    """The numbers of a buffer's elements, as 64 bits each and side by side, and their kind. Smaller whole numbers stay signed or
     unsigned unless a kind is given."""
     if _has_mask(items):
         raise TypeError("expected an array without a mask, as its compressed() gives one")
     if _has_times(items):
         return _numbers_of_times(items, kind)
     buffer = memoryview(items)
-    code = (buffer.format or "B").removeprefix("@")
-    if code not in tuple("bBhHiIlLqQdf"):
+    typecode = (buffer.format or "B").removeprefix("@")
+    if typecode not in tuple("bBhHiIlLqQdf"):
         wanted = "expected whole numbers of at most 64 bits or floats in this machine's order of bytes"
         raise TypeError(f"{wanted}, not those of the format '{buffer.format}'")
-    if code in "df":
-        return _numbers_of_floats(items if hasattr(items, "astype") else memoryview(buffer.tobytes()).cast(code), kind)
-    found = whole(code.isupper())
+    if typecode in "df":
+        return _numbers_of_floats(items if hasattr(items, "astype") else memoryview(buffer.tobytes()).cast(typecode), kind)
+    found = whole(typecode.isupper())
     if kind is not None and not kind.is_whole:
         raise TypeError(mixed(kind, found))
     if buffer.itemsize == 8:
-        if kind not in (None, NO_KIND, found):
-            raise TypeError(f"signed and unsigned numbers don't mix: expected a set of {'un' * (found is SIGNED)}signed ones")
-        return buffer if buffer.c_contiguous else memoryview(buffer.tobytes()).cast(code), found
+        if not (kind is None or kind is NO_KIND or kind is found):
+            raise _sign_error(kind)
+        return buffer if buffer.c_contiguous else memoryview(buffer.tobytes()).cast(typecode), found
     kind = found if kind is None or kind is NO_KIND else kind
     if hasattr(items, "astype") and kind is found:
-        return memoryview(items.astype(code_of(found.unsigned), order="C")), found
-    return _array_of(memoryview(buffer.tobytes()).cast(code).tolist(), kind), kind
+        return memoryview(items.astype(typecode_of(found.unsigned), order="C")), found
+    return _array_of(memoryview(buffer.tobytes()).cast(typecode).tolist(), kind), kind
 
 
 def _numbers_of_floats(floats: Any, kind: Kind | None) -> tuple[Any, Kind]:
     """The numbers of floats. Without a float they have no kind: numpy has an empty list as an array of floats."""
     if not floats.nbytes:
-        return array(code_of(kind is UNSIGNED)), kind or NO_KIND
+        return array(typecode_of(kind is UNSIGNED)), kind or NO_KIND
     if not (kind is None or kind is NO_KIND or kind is FLOAT):
         raise TypeError(mixed(kind, FLOAT))
     if hasattr(floats, "astype"):
@@ -247,10 +286,15 @@ def _has_mask(items: Any) -> bool:
     return mask is not None and not callable(mask)
 
 
+def _dtype_letter(items: Any) -> str:
+    """The letter by which numpy knows a kind of elements, or nothing if it is no array."""
+    letter: str = getattr(getattr(items, "dtype", None), "kind", "")
+    return letter
+
+
 def _has_times(items: Any) -> bool:
-    """Whether it is a numpy array of times, which is no buffer."""
-    dtype = getattr(items, "dtype", None)
-    return getattr(dtype, "kind", "") in ("M", "m") and "," not in str(dtype)
+    """Whether it is a numpy array of times, which is no buffer. A column of pandas may have a time zone, and then a comma."""
+    return _dtype_letter(items) in ("M", "m") and "," not in str(items.dtype)
 
 
 def _numbers_of_times(items: Any, kind: Kind | None) -> tuple[Any, Kind]:
@@ -261,11 +305,11 @@ def _numbers_of_times(items: Any, kind: Kind | None) -> tuple[Any, Kind]:
     if kind is None or kind is NO_KIND:
         kind = DELTA if found.dtype == numpy.dtype(DELTA.dtype) else of_dtype(found.dtype)
     elif kind.dtype is None or numpy.dtype(kind.dtype) != found.dtype:
-        raise kind.wrong_array(found.dtype)
-    see_no_nat(found)
+        raise kind.array_type_error(found.dtype)
+    refuse_nats(found)
     numbers = found.view("i8")
     for it in (numbers.min(), numbers.max()) if numbers.size else ():
-        kind.within(int(it))
+        kind.checked(int(it))
     return memoryview(numbers), kind
 
 
@@ -279,13 +323,14 @@ def _has_intervals(item: Any) -> bool:
 
 
 def _table_of(source: Any, kind: Kind | None) -> tuple[Any, Kind | None]:
-    """The starts and the ends of a data frame or of intervals side by side, or another source as it is; and their kind, if it is known."""
+    """A table of numpy's with the starts and the ends of a data frame or of intervals, or what `to_numpy` makes of another column; and
+    the kind, if it is known."""
     columns = _columns_of(source)
     in_utc = [it for it in (times_in_utc(it, kind) for it in columns) if it is not None]
     if len(in_utc) == 2:
         columns, kind = tuple(in_utc), AWARE
     elif not columns or getattr(source, "ndim", 1) == 2:
-        return source.to_numpy() if hasattr(source, "to_numpy") else source, kind
+        return source.to_numpy(), kind
     import numpy
 
     return numpy.stack(columns, axis=-1).reshape(-1, 2), kind
@@ -302,7 +347,7 @@ def _columns_of(source: Any) -> tuple[Any, ...]:
 
 
 def _is_pair(source: Any) -> bool:
-    return isinstance(source, tuple) and len(source) == 2 and all(end is None or of(end) is not None for end in source)
+    return isinstance(source, tuple) and len(source) == 2 and all(end is None or kind_of(end) is not None for end in source)
 
 
 def _is_column(source: Any) -> bool:
@@ -319,30 +364,39 @@ def _is_buffer(items: Any) -> bool:
         return False
 
 
+def _dimensions(items: Any) -> int:
+    found: int = items.ndim if hasattr(items, "ndim") else memoryview(items).ndim
+    return found
+
+
 def _array_of(items: list[Any], kind: Kind, is_given: bool = True) -> array[int]:
     if kind.is_whole:
         try:
-            return array(code_of(kind.unsigned), items)
+            return array(typecode_of(kind.unsigned), items)
         except (TypeError, OverflowError):
             # One of them isn't a number of the type: it is found, and the error says what is wanted.
             pass
-    return array(code_of(kind.unsigned), map(kind.within, _codes_of(items, kind, is_given)))
+    return array(typecode_of(kind.unsigned), map(kind.checked, _codes_of(items, kind, is_given)))
 
 
-def _of_kind(now: Now, kind: Kind | None) -> Now:
-    """The set, unless another kind is wanted."""
+def _of_given_kind(now: Now, kind: Kind | None) -> Now:
+    """The set, if it is of the kind that was given, or else a TypeError. A set of nothing whose kind isn't known takes that kind."""
     boundaries, found = now
     if kind is None or found is kind:
         return now
     if found is NO_KIND and not boundaries:
         return kind.nothing, kind
     if kind.is_whole and found.is_whole:
-        raise TypeError(f"signed and unsigned numbers don't mix: expected a set of {'unsigned' if kind.unsigned else 'signed'} ones")
+        raise _sign_error(kind)
     raise TypeError(mixed(kind, found))
 
 
+def _sign_error(kind: Kind) -> TypeError:
+    return TypeError(f"signed and unsigned numbers don't mix: expected a set of {'un' * kind.unsigned}signed ones")
+
+
 def _ranges_of_table(table: Any, kind: Kind | None) -> Now:
-    if (table.ndim if hasattr(table, "ndim") else memoryview(table).ndim) != 2:
+    if _dimensions(table) != 2:
         raise TypeError("expected a table with two columns; RangeSet.from_boundaries reads a list of boundaries")
     return _ranges_of_buffer(table, kind)
 
@@ -373,7 +427,7 @@ def _gather_each(items: list[Any] | tuple[Any, ...], kind: Kind | None) -> Now:
     is_given = kind is not None
     if kind is None:
         known = (found for _, found in sets if found is not NO_KIND)
-        kind = next(known, None) or of_some(chain.from_iterable(pairs)) or (SIGNED if pairs else NO_KIND)
+        kind = next(known, None) or kind_of_first(chain.from_iterable(pairs)) or (SIGNED if pairs else NO_KIND)
     codes = _codes_of(chain.from_iterable(it for it in pairs if it[0] is not None and it[1] is not None), kind, is_given)
     open_pairs = [it for it in pairs if it[0] is None or it[1] is None]
     if codes and (min(codes) < kind.least or max(codes) > kind.most):
@@ -382,7 +436,7 @@ def _gather_each(items: list[Any] | tuple[Any, ...], kind: Kind | None) -> Now:
     for start, end in open_pairs:
         first, last = kind.start(start), kind.end(end)
         if last is None:
-            sets.append((kind.listed(first, None), kind))
+            sets.append((kind.range_list(first, None), kind))
         else:
-            codes += kind.within(first), kind.within(last)
-    return union_of([(_core.from_ranges(array(code_of(kind.unsigned), codes)), kind), *sets], kind)
+            codes += kind.checked(first), kind.checked(last)
+    return union_of([(_core.from_ranges(array(typecode_of(kind.unsigned), codes)), kind), *sets], kind)

@@ -7,7 +7,7 @@ import re
 from . import _core
 from ._core import Boundaries
 from ._errors import ParseError
-from ._numbers import wanted
+from ._numbers import expected_number
 
 
 def read(text: str, unsigned: bool) -> Boundaries:
@@ -16,7 +16,7 @@ def read(text: str, unsigned: bool) -> Boundaries:
     if isinstance(found, Boundaries):
         return found
     if found is None:
-        raise ParseError(wanted(unsigned), _first_out_of_range(text, unsigned))
+        raise ParseError(expected_number(unsigned), _first_out_of_range(text, unsigned))
     raise ParseError(_expected_after(text[:found], unsigned), found)
 
 

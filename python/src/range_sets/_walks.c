@@ -7,21 +7,16 @@
 static PyObject *keys_of(const Steps *self, Range range, size_t number)
 {
     size_t len = 0, room = 64;
-    uint64_t *items = PyMem_Malloc(8 * room), *longer;
+    uint64_t *items = PyMem_Malloc(8 * room);
     Stretch it;
     for (Walk walk = {range}; items != NULL && step(self, &walk, &it);) {
         if (number != NONE && it.value != number) continue;
         if (len > 0 && items[len - 1] == it.start) len--;
         else items[len++] = it.start;
         if (it.has_end) items[len++] = it.end;
-        if (len + 2 <= room) continue;
-        longer = PyMem_Realloc(items, 8 * (room *= 2));
-        if (longer == NULL) PyMem_Free(items);
-        items = longer;
+        if (len + 2 > room) items = with_more_room(items, &room, 2);
     }
-    PyObject *found = items == NULL ? PyErr_NoMemory() : list_of(items, len, self->is_signed);
-    PyMem_Free(items);
-    return found;
+    return list_and_free(items, len, self->is_signed);
 }
 
 /* Is given a start and an end. */

@@ -1,79 +1,95 @@
-//! The parts of a range that are in a set or not, in ranges between values; and ranges of any kind
-//! where one is asked for that has an end, or by reference.
+//! The parts of a range that are in a set or not, as ranges between values. Also the ranges that
+//! calls take if they need an end ([`Ended`]), or look at the ends alone ([`Overlaps`]).
 
 use super::sealed::Sealed;
+use super::within::up_to;
 use super::NextValue;
 use crate::chunked::ChunkedRangeSet;
 use crate::entry::RangeSetEntry;
-use crate::generated::range_collections::FromPlace;
+use crate::generated::range_chunks::questions::place_up_to;
+use crate::generated::range_collections::lists::is_odd;
+use crate::generated::range_collections::{Comparisons, FromPlace};
+use crate::generated::range_list::{Chunks, Items};
 use crate::iter::shown;
-use crate::map::Map;
+use crate::map::{Changes, Map};
 use crate::range::RangeSetRange;
 use crate::tracker::ChunkedTracker;
 use crate::view::RangeSetRef;
-use core::cmp;
 use core::fmt;
 use core::iter::FusedIterator;
 use core::ops::{Range, RangeFrom, RangeFull, RangeInclusive, RangeTo, RangeToInclusive};
+use core::slice;
 
-/// What has parts between values.
-pub trait Parted<T> {
-    /// The first part at or above a value whose values are members where `inside` is true, or else
-    /// no members.
-    fn part_from(&self, from: &T, inside: bool) -> Option<RangeSetRange<T>>;
+/// A set, a map or a tracker whose parts are found by one search and then a step for each end.
+pub trait Parted<'a, T: 'a> {
+    /// The ends of the parts above a value, in order.
+    type Ends: Iterator<Item = &'a T> + Clone;
+
+    /// Whether a value is a member, or a key has a value in a map, and where that changes above it.
+    fn ends_above(&'a self, value: &T) -> (bool, Self::Ends);
 }
 
-macro_rules! parted {
-    ($($set:ident)*) => {$(
-        impl<T: Ord + Clone> Parted<T> for $set<T> {
-            fn part_from(&self, from: &T, inside: bool) -> Option<RangeSetRange<T>> {
-                let (start, end) = if inside {
-                    let start = self.next_member(from)?;
-                    (start, self.next_gap(start))
-                } else {
-                    let start = self.next_gap(from)?;
-                    (start, self.next_member(start))
-                };
-                Some(RangeSetRange::of_ends(start.clone(), end.cloned()))
-            }
-        }
-    )*};
-}
+impl<'a, T: Ord + 'a> Parted<'a, T> for RangeSetRef<T> {
+    type Ends = slice::Iter<'a, T>;
 
-parted!(RangeSetRef ChunkedRangeSet);
-
-/// A map has gaps alone: up to its last key, and behind it.
-impl<K: Ord + Clone, V: Eq, C> Parted<K> for Map<K, V, C> {
-    fn part_from(&self, from: &K, _: bool) -> Option<RangeSetRange<K>> {
-        let last = match self.iter().next_back() {
-            Some((last, _)) => last,
-            None => return Some(RangeSetRange::RangeFrom(from.clone()..)),
-        };
-        let last_key = *last.end().unwrap_or(last.start());
-        match self.gaps_between(from..last_key).next() {
-            Some(gap) => Some(RangeSetRange::Range(gap).cloned()),
-            None => {
-                let behind = cmp::max(*last.end()?, from);
-                Some(RangeSetRange::RangeFrom(behind.clone()..))
-            }
-        }
+    fn ends_above(&'a self, value: &T) -> (bool, Self::Ends) {
+        let above = up_to(self, value);
+        (is_odd(above), self.boundaries()[above..].iter())
     }
 }
 
-/// A tracker has gaps alone, and no offset from `u64::MAX` on.
-impl Parted<u64> for ChunkedTracker {
-    fn part_from(&self, from: &u64, _: bool) -> Option<RangeSetRange<u64>> {
-        let gap = self.gaps_between(from..&u64::MAX).next();
-        let (start, end) = gap.map_or((u64::MAX, u64::MAX), |gap| (*gap.start, *gap.end));
-        Some(RangeSetRange::of_ends(
-            start,
-            Some(end).filter(|end| *end < u64::MAX),
-        ))
+impl<'a, T: Ord + 'a> Parted<'a, T> for ChunkedRangeSet<T> {
+    type Ends = Boundaries<'a, T>;
+
+    fn ends_above(&'a self, value: &T) -> (bool, Self::Ends) {
+        chunked_ends(&self.proved().list, value)
     }
+}
+
+/// A map has gaps alone.
+impl<'a, K: Ord + 'a, V: Eq + 'a, C: 'a> Parted<'a, K> for Map<K, V, C> {
+    type Ends = Changes<'a, K, V, C>;
+
+    fn ends_above(&'a self, key: &K) -> (bool, Self::Ends) {
+        self.changes_above(key)
+    }
+}
+
+/// A tracker has gaps alone.
+impl<'a> Parted<'a, u64> for ChunkedTracker {
+    type Ends = Boundaries<'a, u64>;
+
+    fn ends_above(&'a self, value: &u64) -> (bool, Self::Ends) {
+        chunked_ends(self.boundaries(), value)
+    }
+}
+
+/// The boundaries in chunks that are left.
+pub struct Boundaries<'a, T>(Items<'a, T, bool>);
+
+impl<'a, T> Iterator for Boundaries<'a, T> {
+    type Item = &'a T;
+
+    #[inline]
+    fn next(&mut self) -> Option<&'a T> {
+        self.0.take_first()
+    }
+}
+
+impl<T> Clone for Boundaries<'_, T> {
+    fn clone(&self) -> Self {
+        Boundaries(self.0.clone())
+    }
+}
+
+fn chunked_ends<'a, T: Ord>(list: &'a Chunks<T, bool>, value: &T) -> (bool, Boundaries<'a, T>) {
+    let above = place_up_to(list, value, &mut Comparisons::new());
+    let left = list.between(above, list.end());
+    (list.mark_at(above), Boundaries(left))
 }
 
 /// The parts of a range that are in a set or a map or not, in ranges between values, from the
-/// lowest on. It takes no memory, and a step is two searches.
+/// lowest on. It takes no memory. It is made by one search, and a step makes none.
 ///
 /// `gaps` and `ranges_within` make it.
 ///
@@ -88,51 +104,74 @@ impl Parted<u64> for ChunkedTracker {
 /// assert_eq!(free.next(), None);
 /// ```
 #[must_use = "iterators are lazy and do nothing unless consumed"]
-pub struct PartsOf<'a, T, S: ?Sized> {
-    set: &'a S,
-    left: Option<RangeSetRange<T>>,
-    inside: bool,
+pub struct PartsOf<'a, T: 'a, S: Parted<'a, T> + ?Sized> {
+    /// The start of the range, if a part begins there.
+    first: Option<T>,
+    /// `None` behind the last part.
+    ends: Option<S::Ends>,
+    limit: Option<T>,
 }
 
-impl<'a, T, S: ?Sized> PartsOf<'a, T, S> {
+impl<'a, T: Ord + Clone + 'a, S: Parted<'a, T> + ?Sized> PartsOf<'a, T, S> {
+    /// The parts whose values are members where `inside` is true, or else no members.
     pub(super) fn new(set: &'a S, within: RangeSetRange<T>, inside: bool) -> Self {
-        let left = Some(within);
-        PartsOf { set, left, inside }
+        let (start, limit) = within.into_ends();
+        if limit.as_ref().map_or(false, |limit| *limit <= start) {
+            let (first, ends) = (None, None);
+            return PartsOf { first, ends, limit };
+        }
+        let (is_inside, ends) = set.ends_above(&start);
+        PartsOf {
+            first: (is_inside == inside).then_some(start),
+            ends: Some(ends),
+            limit,
+        }
+    }
+
+    /// The start of the next part, if there is one, and its end, if that is below the limit. Behind
+    /// a part that reaches the limit there is none.
+    fn take_ends(&mut self) -> Option<(T, Option<T>)> {
+        let mut ends = self.ends.take()?;
+        let limit = &self.limit;
+        let is_below = |end: &T| limit.as_ref().map_or(true, |limit| end < limit);
+        let start = match self.first.take() {
+            Some(start) => start,
+            None => ends.next().filter(|start| is_below(start))?.clone(),
+        };
+        let end = ends.next().filter(|end| is_below(end)).cloned();
+        if end.is_some() {
+            self.ends = Some(ends);
+        }
+        Some((start, end))
     }
 }
 
-impl<T: Ord + Clone, S: Parted<T> + ?Sized> Iterator for PartsOf<'_, T, S> {
+impl<'a, T: Ord + Clone + 'a, S: Parted<'a, T> + ?Sized> Iterator for PartsOf<'a, T, S> {
     type Item = RangeSetRange<T>;
 
     fn next(&mut self) -> Option<RangeSetRange<T>> {
-        let (from, limit) = self.left.take()?.into_ends();
-        let (start, end) = self.set.part_from(&from, self.inside)?.into_ends();
-        if limit.as_ref().map_or(false, |limit| *limit <= start) {
-            return None;
-        }
-        let end = match (end, limit) {
-            (Some(end), Some(limit)) if limit <= end => Some(limit),
-            (Some(end), limit) => {
-                self.left = Some(RangeSetRange::of_ends(end.clone(), limit));
-                Some(end)
-            }
-            (None, limit) => limit,
-        };
-        Some(RangeSetRange::of_ends(start, end))
+        let (start, end) = self.take_ends()?;
+        Some(RangeSetRange::of_ends(
+            start,
+            end.or_else(|| self.limit.take()),
+        ))
     }
 }
 
-impl<T: Ord + Clone, S: Parted<T> + ?Sized> FusedIterator for PartsOf<'_, T, S> {}
+impl<'a, T: Ord + Clone + 'a, S: Parted<'a, T> + ?Sized> FusedIterator for PartsOf<'a, T, S> {}
 
-impl<T: Clone, S: ?Sized> Clone for PartsOf<'_, T, S> {
+impl<'a, T: Clone + 'a, S: Parted<'a, T> + ?Sized> Clone for PartsOf<'a, T, S> {
     fn clone(&self) -> Self {
-        let left = self.left.clone();
-        PartsOf { left, ..*self }
+        PartsOf {
+            first: self.first.clone(),
+            ends: self.ends.clone(),
+            limit: self.limit.clone(),
+        }
     }
 }
 
 shown! {
-    [T: Ord + Clone + fmt::Debug, S: Parted<T> + ?Sized] PartsOf<'_, T, S>;
+    ['a, T: Ord + Clone + fmt::Debug + 'a, S: Parted<'a, T> + ?Sized] PartsOf<'a, T, S>;
 }
 
 /// A range, of any kind that std has, between values or references to values, that a call looks
@@ -151,7 +190,7 @@ shown! {
 /// assert_eq!(busy.overlapping(12..).next(), busy.overlapping(&12..).next());
 /// ```
 pub trait Overlaps<T>: Sealed {
-    /// What is found for the range.
+    /// Calls `find` with the range by reference.
     #[doc(hidden)]
     fn found<R>(self, find: impl FnOnce(RangeSetRange<&T>) -> R) -> R;
 }
@@ -247,22 +286,4 @@ by_value! {
     RangeInclusive<T>: NextValue;
     RangeToInclusive<T>: RangeSetEntry NextValue;
     RangeSetRange<T>;
-}
-
-/// The ranges from the first one on that isn't before. It takes a step for each that is.
-pub(crate) fn from_first<I: Iterator + Clone>(
-    ranges: I,
-    is_before: impl Fn(&I::Item) -> bool,
-) -> I {
-    let before = ranges.clone().take_while(is_before).count();
-    let mut left = ranges;
-    if before > 0 {
-        left.nth(before - 1);
-    }
-    left
-}
-
-/// Whether a range ends at a value or below.
-pub(crate) fn ends_by<T: Ord>(range: &RangeSetRange<&T>, value: &T) -> bool {
-    range.end().map_or(false, |end| *end <= value)
 }

@@ -6,6 +6,7 @@ use super::NextValue;
 use crate::chunked::ChunkedRangeSet;
 use crate::entry::RangeSetEntry;
 use crate::generated::range_chunks as chunks;
+use crate::generated::range_collections::lists::is_odd;
 use crate::generated::range_collections::{Comparisons, RangesWithin};
 use crate::generated::range_merge::{count_up_to, search};
 use crate::iter::{owned_ranges, shown};
@@ -98,7 +99,7 @@ where
     }
 }
 
-impl<'a, T: Ord + Clone + 'a, S: Parted<T> + ?Sized + 'a> Within<'a, T, S> for Range<T> {
+impl<'a, T: Ord + Clone + 'a, S: Parted<'a, T> + ?Sized + 'a> Within<'a, T, S> for Range<T> {
     type Parts = Map<PartsOf<'a, T, S>, fn(RangeSetRange<T>) -> Range<T>>;
 
     fn parts_of(self, set: &'a S, inside: bool) -> Self::Parts {
@@ -109,37 +110,27 @@ impl<'a, T: Ord + Clone + 'a, S: Parted<T> + ?Sized + 'a> Within<'a, T, S> for R
     }
 }
 
+/// Ranges of values, whose parts are cloned one by one.
 macro_rules! by_value {
-    ($($range:ty $(: $($bound:ident)+)? $(, of $set:ty $(, with $V:ident $C:ident)?)?;)*) => {$(
-        by_value!(@ $range, [$($($bound)+)?] $($set $(, $V $C)?)?);
-    )*};
-    (@ $range:ty, [$($bound:ident)*]) => {
-        impl<'a, T: Ord + Clone $(+ $bound)* + 'a, S: Parted<T> + ?Sized + 'a> Within<'a, T, S> for $range {
-            by_value!(% S);
-        }
-    };
-    (@ $range:ty, [$($bound:ident)*] $set:ty $(, $V:ident $C:ident)?) => {
-        impl<'a, T: Ord + Clone $(+ $bound)* + 'a $(, $V: Eq + 'a, $C: 'a)?> Within<'a, T, $set> for $range {
-            by_value!(% $set);
-        }
-    };
-    (% $set:ty) => {
-        type Parts = PartsOf<'a, T, $set>;
+    ($([$($generics:tt)*] $range:ty, of $set:ty;)*) => {$(
+        impl<'a, $($generics)*> Within<'a, T, $set> for $range {
+            type Parts = PartsOf<'a, T, $set>;
 
-        fn parts_of(self, set: &'a $set, inside: bool) -> Self::Parts {
-            PartsOf::new(set, self.into(), inside)
+            fn parts_of(self, set: &'a $set, inside: bool) -> Self::Parts {
+                PartsOf::new(set, self.into(), inside)
+            }
         }
-    };
+    )*};
 }
 
 by_value! {
-    RangeFrom<T>;
-    RangeTo<T>: RangeSetEntry;
-    RangeInclusive<T>: NextValue;
-    RangeToInclusive<T>: RangeSetEntry NextValue;
-    RangeSetRange<T>;
-    RangeFull: RangeSetEntry, of ChunkedRangeSet<T>;
-    RangeFull: RangeSetEntry, of RangeMapBy<T, V, C>, with V C;
+    [T: Ord + Clone + 'a, S: Parted<'a, T> + ?Sized + 'a] RangeFrom<T>, of S;
+    [T: RangeSetEntry + Clone + 'a, S: Parted<'a, T> + ?Sized + 'a] RangeTo<T>, of S;
+    [T: NextValue + Clone + 'a, S: Parted<'a, T> + ?Sized + 'a] RangeInclusive<T>, of S;
+    [T: RangeSetEntry + NextValue + Clone + 'a, S: Parted<'a, T> + ?Sized + 'a] RangeToInclusive<T>, of S;
+    [T: Ord + Clone + 'a, S: Parted<'a, T> + ?Sized + 'a] RangeSetRange<T>, of S;
+    [T: RangeSetEntry + Clone + 'a] RangeFull, of ChunkedRangeSet<T>;
+    [T: RangeSetEntry + Clone + 'a, V: Eq + 'a, C: 'a] RangeFull, of RangeMapBy<T, V, C>;
 }
 
 macro_rules! between_references {
@@ -252,13 +243,8 @@ impl<'a, T: RangeSetEntry + 'a> Within<'a, T> for RangeFull {
 }
 
 /// How many boundaries are at or below a value.
-fn up_to<T: Ord>(set: &RangeSetRef<T>, value: &T) -> usize {
+pub(super) fn up_to<T: Ord>(set: &RangeSetRef<T>, value: &T) -> usize {
     count_up_to(set.boundaries(), value, &mut Comparisons::new())
-}
-
-/// Whether a value with `n` boundaries at or below it is a member.
-fn is_odd(n: usize) -> bool {
-    n % 2 == 1
 }
 
 /// The parts of `&a..` that are in a set or not, from the lowest on. The last one may have no end.

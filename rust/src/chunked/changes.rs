@@ -1,4 +1,4 @@
-//! Sets in chunks made of ranges, and what changes one.
+//! Calls that make a set in chunks of ranges, or change one.
 
 use crate::any_range::{AnyRange, IntoRange};
 use crate::array::List;
@@ -42,14 +42,14 @@ macro_rules! changes {
             #[doc = $end]
             /// ```
             #[$must_use]
-            pub fn from_ranges<R>(ranges: impl IntoIterator<Item = R>) -> $form::Given<Self>
+            pub fn from_ranges<R>(ranges: impl IntoIterator<Item = R>) -> $form::Returned<Self>
             where
                 R: IntoRange<T>,
             {
                 let ranges = ranges.into_iter().map(Into::into);
                 let list = SmallVec::<T, 2>::of_ranges(ranges, $form::SORTING);
                 let set = list.and_then(List::into_chunks).map(Self::of_proved);
-                $form::given::<T, _, _>(set)
+                $form::returned::<T, _, _>(set)
             }
 
             /// Returns the set of these values, which may come in any order and more than once.
@@ -65,7 +65,7 @@ macro_rules! changes {
             #[doc = $end]
             /// ```
             #[$must_use]
-            pub fn from_values(values: impl IntoIterator<Item = T>) -> $form::Given<Self>
+            pub fn from_values(values: impl IntoIterator<Item = T>) -> $form::Returned<Self>
             where
                 T: FromPlace,
             {
@@ -92,8 +92,8 @@ macro_rules! changes {
             #[doc = $end]
             /// ```
             #[inline]
-            pub fn insert(&mut self, range: impl AnyRange<T>) -> $form::Given<()> {
-                $form::given::<T, _, _>(match range.into() {
+            pub fn insert(&mut self, range: impl AnyRange<T>) -> $form::Returned<()> {
+                $form::returned::<T, _, _>(match range.into() {
                     RangeSetRange::Range(range) => self.changed(|set| set.insert(range)),
                     RangeSetRange::RangeFrom(range) => self.changed(|set| set.insert_from(range)),
                 })
@@ -117,8 +117,8 @@ macro_rules! changes {
             #[doc = $end]
             /// ```
             #[inline]
-            pub fn remove(&mut self, range: impl AnyRange<T>) -> $form::Given<()> {
-                $form::given::<T, _, _>(match range.into() {
+            pub fn remove(&mut self, range: impl AnyRange<T>) -> $form::Returned<()> {
+                $form::returned::<T, _, _>(match range.into() {
                     RangeSetRange::Range(range) => self.changed(|set| set.remove(range)),
                     RangeSetRange::RangeFrom(range) => self.changed(|set| set.remove_from(range)),
                 })
@@ -139,11 +139,11 @@ macro_rules! changes {
             /// assert!(changed && !again);
             #[doc = $end]
             /// ```
-            pub fn insert_changed(&mut self, range: impl AnyRange<T>) -> $form::Given<bool> {
-                $form::given::<T, _, _>(match range.into() {
+            pub fn insert_changed(&mut self, range: impl AnyRange<T>) -> $form::Returned<bool> {
+                $form::returned::<T, _, _>(match range.into() {
                     RangeSetRange::Range(range) => self.changed(|set| set.insert_changed(range)),
                     RangeSetRange::RangeFrom(range) => {
-                        let changes = self.next_gap(&range.start).is_some();
+                        let changes = !self.has_all_from(&range.start);
                         self.changed(|set| set.insert_from(range)).map(|()| changes)
                     }
                 })
@@ -164,11 +164,11 @@ macro_rules! changes {
             /// assert!(changed && !again);
             #[doc = $end]
             /// ```
-            pub fn remove_changed(&mut self, range: impl AnyRange<T>) -> $form::Given<bool> {
-                $form::given::<T, _, _>(match range.into() {
+            pub fn remove_changed(&mut self, range: impl AnyRange<T>) -> $form::Returned<bool> {
+                $form::returned::<T, _, _>(match range.into() {
                     RangeSetRange::Range(range) => self.changed(|set| set.remove_changed(range)),
                     RangeSetRange::RangeFrom(range) => {
-                        let changes = self.next_member(&range.start).is_some();
+                        let changes = self.has_some_from(&range.start);
                         self.changed(|set| set.remove_from(range)).map(|()| changes)
                     }
                 })

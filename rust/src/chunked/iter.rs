@@ -1,10 +1,9 @@
 //! The ranges of a set in chunks, one by one.
 
+use crate::chunks::IntoItems;
 use crate::generated::range_chunks as proved;
-use crate::generated::range_list::chunk::Chunk;
 use crate::iter::{owned_ranges, ranges_by_value, shown, wraps};
 use crate::range::RangeSetRange;
-use alloc::vec;
 use core::fmt;
 use core::ops::Range;
 
@@ -94,62 +93,15 @@ pub use crate::generated::range_chunks::RangesWithin;
 /// }
 /// ```
 #[must_use = "iterators are lazy and do nothing unless consumed"]
-pub struct IntoIter<T>(IntoBoundaries<T>);
+pub struct IntoIter<T>(IntoItems<T, bool>);
 
 impl<T> IntoIter<T> {
     pub(super) fn new(set: proved::ChunkedRangeSet<T>) -> Self
     where
         T: Ord,
     {
-        IntoIter(IntoBoundaries {
-            left: set.boundaries_len(),
-            rest: vec::Vec::new().into_iter(),
-            chunks: set.list.chunks.into_inner().into_iter(),
-            last_first: None,
-            last_rest: vec::Vec::new().into_iter(),
-        })
+        IntoIter(IntoItems::new(set.list))
     }
 }
 
 ranges_by_value!([T] IntoIter<T>);
-
-/// The boundaries of a set that was taken by value: of the lowest chunk, of those between, and of
-/// the highest one.
-struct IntoBoundaries<T> {
-    left: usize,
-    rest: vec::IntoIter<T>,
-    chunks: vec::IntoIter<Chunk<T, bool>>,
-    last_first: Option<T>,
-    last_rest: vec::IntoIter<T>,
-}
-
-impl<T> IntoBoundaries<T> {
-    fn len(&self) -> usize {
-        self.left
-    }
-
-    fn next(&mut self) -> Option<T> {
-        self.left = self.left.checked_sub(1)?;
-        if let Some(boundary) = self.rest.next() {
-            return Some(boundary);
-        }
-        if let Some(Chunk { first, rest, .. }) = self.chunks.next() {
-            self.rest = rest.into_inner().into_iter();
-            return Some(first);
-        }
-        self.last_first.take().or_else(|| self.last_rest.next())
-    }
-
-    fn next_back(&mut self) -> Option<T> {
-        self.left = self.left.checked_sub(1)?;
-        if self.last_rest.len() == 0 && self.last_first.is_none() {
-            if let Some(Chunk { first, rest, .. }) = self.chunks.next_back() {
-                self.last_first = Some(first);
-                self.last_rest = rest.into_inner().into_iter();
-            }
-        }
-        let last = self.last_rest.next_back();
-        last.or_else(|| self.last_first.take())
-            .or_else(|| self.rest.next_back())
-    }
-}

@@ -1,7 +1,11 @@
 //! Whole ranges taken out, or moved between two sets, and whole ranges that meet another.
 
 use super::{ChunkedRangeSet, Iter};
-use crate::any_range::{ends_by, from_first, Overlaps};
+use crate::any_range::Overlaps;
+use crate::chunks;
+use crate::generated::range_chunks as proved;
+use crate::generated::range_chunks::questions::place_up_to;
+use crate::generated::range_collections::Comparisons;
 use crate::range::RangeSetRange;
 use crate::range_set::RangeSetRef;
 use core::mem;
@@ -26,8 +30,8 @@ impl<T: Ord> ChunkedRangeSet<T> {
         *self = kept.filter(|range| keep(range.as_ref())).collect();
     }
 
-    /// Adds the members of `that`, which is empty then. It inserts range after range. If
-    /// something panics meanwhile, the set is empty.
+    /// Adds the members of `that`, which is empty then. It inserts range after range. If something
+    /// panics meanwhile, the set is empty.
     ///
     /// # Examples
     ///
@@ -41,10 +45,7 @@ impl<T: Ord> ChunkedRangeSet<T> {
     /// assert!(more.is_empty());
     /// ```
     pub fn append(&mut self, that: &mut Self) {
-        // Meanwhile the set is empty, so that a panic between two ranges leaves no part of them.
-        let mut own = mem::take(self);
-        own.extend(mem::take(that));
-        *self = own;
+        chunks::append(self, that);
     }
 
     /// Removes the members at and above `at`, and returns the set of them.
@@ -66,16 +67,13 @@ impl<T: Ord> ChunkedRangeSet<T> {
     where
         T: Clone,
     {
-        let mut above = self.clone();
-        above.intersection_with(RangeSetRef::single(at));
+        let above = self.clone_members_of(RangeSetRef::single(at));
         self.remove(at.clone()..);
         above
     }
 
     /// Returns an iterator over the ranges of the set that share a value with a range [of any
-    /// kind](Overlaps), from the lowest on. They aren't cut. A step is a search.
-    ///
-    /// If neither the range nor the set has an end, it takes a step for each range before.
+    /// kind](Overlaps), from the lowest on. They aren't cut.
     ///
     /// # Examples
     ///
@@ -87,14 +85,21 @@ impl<T: Ord> ChunkedRangeSet<T> {
     /// assert_eq!(met, [(&9..&11).into(), (&12..&15).into()]);
     /// ```
     pub fn overlapping(&self, range: impl Overlaps<T>) -> Iter<'_, T> {
-        range.found(|range| match (range, self.span()) {
-            (RangeSetRange::Range(range), _) => Iter::of_proved(self.0.overlapping(range)),
-            (RangeSetRange::RangeFrom(range), Some(RangeSetRange::Range(all))) => {
-                Iter::of_proved(self.0.overlapping(range.start..all.end))
-            }
-            (RangeSetRange::RangeFrom(range), _) => {
-                from_first(self.iter(), |it| ends_by(it, range.start))
-            }
+        range.found(|range| match range {
+            RangeSetRange::Range(range) => Iter::of_proved(self.0.overlapping(range)),
+            RangeSetRange::RangeFrom(range) => self.overlapping_from(range.start),
         })
+    }
+
+    /// The ranges from the one that holds the value on, or else from the next one on.
+    fn overlapping_from(&self, value: &T) -> Iter<'_, T> {
+        let list = &self.0.list;
+        let above = place_up_to(list, value, &mut Comparisons::new());
+        let from = if list.mark_at(above) {
+            list.place_before(above)
+        } else {
+            above
+        };
+        Iter::of_proved(proved::Iter::between(list, from, list.end()))
     }
 }

@@ -1,5 +1,4 @@
-//! What a set in chunks is by std's traits: a collection, a value, something that is compared, a
-//! text.
+//! The traits of std that sets in chunks implement.
 
 use super::{ChunkedRangeSet, IntoIter, Iter};
 use crate::any_range::{IntoRange, NextValue};
@@ -9,7 +8,7 @@ use crate::entry::RangeSetEntry;
 use crate::fallible::EntryClone;
 use crate::forms::{ends, fails};
 use crate::generated::range_chunks as proved;
-use crate::memory::expect_memory;
+use crate::memory::{expect_memory, ByClone};
 use crate::range::RangeSetRange;
 use crate::range_set::{RangeSet, RangeSet2, RangeSetRef};
 use crate::text::{padded, ParseError, Ranges, TextEntry};
@@ -100,12 +99,7 @@ macro_rules! traits {
 
         impl<T: Ord + Hash> Hash for $form::ChunkedRangeSet<T> {
             fn hash<H: Hasher>(&self, state: &mut H) {
-                let mut len = 0;
-                for boundary in self.boundaries() {
-                    boundary.hash(state);
-                    len += 1;
-                }
-                state.write_usize(len);
+                chunks::hash(self.boundaries(), state);
             }
         }
 
@@ -131,7 +125,8 @@ both_forms!(traits);
 
 impl<T: Ord + Clone> Clone for ChunkedRangeSet<T> {
     fn clone(&self) -> Self {
-        let list = chunks::of_refs(&self.proved().list, T::clone);
+        let list = self.proved().list.copied(&ByClone);
+        let list = expect_memory::<T, _, _>(list);
         Self::of_proved(proved::ChunkedRangeSet { list })
     }
 }
@@ -284,17 +279,24 @@ macro_rules! operators {
             }
         }
 
-        impl<T: Ord + Clone, R> $operator<R> for &ChunkedRangeSet<T>
-        where
-            ChunkedRangeSet<T>: $assigning<R>,
-        {
+        operators!(@ $operator $call = $with: &RangeSetRef<T>, |that| that);
+        operators!(@ $operator $call = $with: &RangeSet<A>, |that| that, A);
+        operators!(@ $operator $call = $with: Self, |that| &RangeSet2::from(that));
+        operators!(@ $operator $call = $with: ChunkedRangeSet<T>, |that| &RangeSet2::from(that));
+    )*};
+    (
+        @ $operator:ident $call:ident = $with:ident:
+        $right:ty, |$that:ident| $view:expr $(, $A:ident)?
+    ) => {
+        impl<T: Ord + Clone $(, $A: Array<Item = T>)?> $operator<$right> for &ChunkedRangeSet<T> {
             type Output = ChunkedRangeSet<T>;
 
-            fn $call(self, that: R) -> ChunkedRangeSet<T> {
-                self.clone().$call(that)
+            fn $call(self, $that: $right) -> ChunkedRangeSet<T> {
+                let that: &RangeSetRef<T> = $view;
+                self.with_change(that, |set| set.$with(that), |set| set.$with(that))
             }
         }
-    )*};
+    };
 }
 
 operators! {

@@ -124,6 +124,29 @@ impl<K: Ord, V: MapValue> RangeMap<K, V> {
         self.try_copied()
     }
 
+    /// Gives each key of a range [of any kind](AnyRange) the value if none of them has one. It
+    /// copies nothing.
+    ///
+    /// # Errors
+    ///
+    /// If a key has a value, or memory is refused. The map is then as it was, and the error has the
+    /// value.
+    ///
+    /// # Examples
+    ///
+    /// ```
+    /// use range_sets::fallible::{InsertError, RangeMap};
+    ///
+    /// let mut bookings = RangeMap::new();
+    /// assert_eq!(bookings.insert_free(9..12, "Ada"), Ok(()));
+    /// assert_eq!(bookings.insert_free(11..14, "Bob"), Err(InsertError::NotFree("Bob")));
+    /// assert_eq!(bookings.get(&12), None);
+    /// assert_eq!(bookings.insert_free(20.., "Eve"), Ok(()));
+    /// ```
+    pub fn insert_free(&mut self, range: impl AnyRange<K>, value: V) -> Result<(), InsertError<V>> {
+        self.try_insert_free(range.into(), value)
+    }
+
     /// Puts the ranges in with their values, one after the other.
     ///
     /// # Errors

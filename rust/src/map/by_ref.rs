@@ -1,7 +1,7 @@
 //! Maps of references, so that keys and values are copied by their own `Clone` alone, and only into
 //! the result.
 
-use super::{steps, Kept, Map, RangeMap};
+use super::{steps, ByClone, Kept, Map, RangeMap};
 use crate::generated::range_entry::EntryClone;
 use crate::generated::range_map as proved;
 use crate::memory::AllocError;
@@ -26,10 +26,13 @@ impl<T: Ord> EntryClone for ByRef<'_, T> {
     }
 }
 
+/// A map of references, as the proved operations take it.
+pub(super) type MapByRef<'a, K, V> = proved::RangeMap<ByRef<'a, K>, Kept<ByRef<'a, V>, ByClone>>;
+
 /// The same map over references.
-pub(super) fn by_ref<K: Ord, V: Eq>(map: &RangeMap<K, V>) -> RangeMap<ByRef<'_, K>, ByRef<'_, V>> {
+pub(super) fn by_ref<K: Ord, V: Eq>(map: &RangeMap<K, V>) -> MapByRef<'_, K, V> {
     let steps = steps::of_refs(&map.0.steps, ByRef, |kept| Kept::new(ByRef(&kept.value)));
-    Map(proved::RangeMap { steps })
+    proved::RangeMap { steps }
 }
 
 /// The same set over references.
@@ -38,12 +41,13 @@ pub(super) fn set_by_ref<K>(set: &RangeSetRef<K>) -> RangeSet2<ByRef<'_, K>> {
     RangeSet2::of_list(boundaries.into())
 }
 
-/// The map of clones of the keys, whose values are made of those of another one.
-pub(super) fn owned<K: Ord + Clone, W: Eq, V: Eq>(
-    map: RangeMap<ByRef<'_, K>, W>,
-    value: impl Fn(W) -> V,
-) -> RangeMap<K, V> {
-    let value = |kept: Kept<W, _>| Kept::new(value(kept.value));
-    let steps = steps::of_others(map.0.steps, |key| key.0.clone(), value);
+/// The map with a clone of each key and value.
+pub(super) fn cloned<K, V>(map: MapByRef<'_, K, V>) -> RangeMap<K, V>
+where
+    K: Ord + Clone,
+    V: Eq + Clone,
+{
+    let value = |kept: Kept<ByRef<'_, V>, _>| Kept::new(kept.value.0.clone());
+    let steps = steps::of_others(map.steps, |key| key.0.clone(), value);
     Map(proved::RangeMap { steps })
 }

@@ -1,23 +1,17 @@
-//! What changes a map, in both forms.
+//! Calls that change a map.
 
+use super::forms::both_maps;
+use super::RangeMap;
 use crate::any_range::AnyRange;
 use crate::fallible::MapValue;
 use crate::forms::{ends, fails};
+use crate::generated::range_map::InsertError;
+use crate::memory::out_of_memory;
 
 macro_rules! changes {
-    (ends, $($form:tt)*) => {
-        changes! { @Clone, "from_iter", "RangeMap", r#""Bob""#, ends, $($form)* }
-    };
-    (fails, $($form:tt)*) => {
-        changes! {
-            @MapValue, "from_ranges", "{InsertError, RangeMap}", r#"InsertError::NotFree("Bob")"#,
-            fails, $($form)*
-        }
-    };
     (
-        @$Value:ident, $made:literal, $names:literal, $bob:literal,
-        $form:ident, $Clone:ident, $must_use:meta, $errors:ident,
-        $at:literal, $from:literal, $ok:literal, $end:literal
+        $form:ident, $Clone:ident, $Value:ident, $Fn:ident, $must_use:meta, $errors:ident,
+        $at:literal, $from:literal, $of_pairs:literal, $returned:ident, $ok:literal, $end:literal
     ) => {
         impl<K: Ord, V: Eq + $Value> $form::RangeMap<K, V> {
             /// Gives each key of a range [of any kind](AnyRange) the value, in place of the one
@@ -40,32 +34,8 @@ macro_rules! changes {
             /// assert_eq!(format!("{bookings:?}"), ranges);
             #[doc = $end]
             /// ```
-            pub fn insert(&mut self, range: impl AnyRange<K>, value: V) -> $form::Given<()> {
-                $form::given::<K, _, _>(self.try_insert(range.into(), value))
-            }
-
-            /// Gives each key of a range [of any kind](AnyRange) the value if none of them has one,
-            /// and else gives the value back. It copies nothing.
-            ///
-            #[doc = $errors!("# Errors\n\nThe value, if a key has one." or "If a key has a value, or \
-                memory is refused. The map is then as it was, and the error has the value.")]
-            /// # Examples
-            ///
-            /// ```
-            #[doc = concat!("use ", $at, "::", $names, ";")]
-            ///
-            /// let mut bookings = RangeMap::new();
-            /// assert_eq!(bookings.insert_free(9..12, "Ada"), Ok(()));
-            #[doc = concat!(r#"assert_eq!(bookings.insert_free(11..14, "Bob"), Err("#, $bob, "));")]
-            /// assert_eq!(bookings.get(&12), None);
-            /// assert_eq!(bookings.insert_free(20.., "Eve"), Ok(()));
-            /// ```
-            pub fn insert_free(
-                &mut self,
-                range: impl AnyRange<K>,
-                value: V,
-            ) -> Result<(), $form::NotFree<V>> {
-                $form::if_free::<K, _>(self.try_insert_free(range.into(), value))
+            pub fn insert(&mut self, range: impl AnyRange<K>, value: V) -> $form::Returned<()> {
+                $form::returned::<K, _, _>(self.try_insert(range.into(), value))
             }
 
             /// Takes the value of each key of a range [of any kind](AnyRange) away. An empty or a
@@ -80,17 +50,45 @@ macro_rules! changes {
             /// ```
             #[doc = concat!("use ", $at, "::RangeMap;")]
             ///
-            #[doc = concat!("let mut bookings = RangeMap::", $made, r#"([(9..17, "Ada")])"#, $ok)]
+            #[doc = concat!("let mut bookings = RangeMap::", $of_pairs, r#"([(9..17, "Ada")])"#, $ok)]
             #[doc = concat!("bookings.remove(12..13)", $ok)]
             #[doc = concat!("bookings.remove(16..)", $ok)]
             /// assert_eq!(format!("{bookings:?}"), r#"{9..12: "Ada", 13..16: "Ada"}"#);
             #[doc = $end]
             /// ```
-            pub fn remove(&mut self, range: impl AnyRange<K>) -> $form::Given<()> {
-                $form::given::<K, _, _>(self.try_remove(range.into()))
+            pub fn remove(&mut self, range: impl AnyRange<K>) -> $form::Returned<()> {
+                $form::returned::<K, _, _>(self.try_remove(range.into()))
             }
         }
     };
 }
 
-both_forms!(changes);
+both_maps!(changes);
+
+impl<K: Ord, V: Eq + Clone> RangeMap<K, V> {
+    /// Gives each key of a range [of any kind](AnyRange) the value if none of them has one. It
+    /// copies nothing.
+    ///
+    /// # Errors
+    ///
+    /// The value, if a key has one.
+    ///
+    /// # Examples
+    ///
+    /// ```
+    /// use range_sets::RangeMap;
+    ///
+    /// let mut bookings = RangeMap::new();
+    /// assert_eq!(bookings.insert_free(9..12, "Ada"), Ok(()));
+    /// assert_eq!(bookings.insert_free(11..14, "Bob"), Err("Bob"));
+    /// assert_eq!(bookings.get(&12), None);
+    /// assert_eq!(bookings.insert_free(20.., "Eve"), Ok(()));
+    /// ```
+    pub fn insert_free(&mut self, range: impl AnyRange<K>, value: V) -> Result<(), V> {
+        let result = self.try_insert_free(range.into(), value);
+        result.map_err(|refused| match refused {
+            InsertError::NotFree(value) => value,
+            InsertError::OutOfMemory(_) => out_of_memory::<K>(),
+        })
+    }
+}

@@ -1,12 +1,14 @@
 //! Calls of a map that are made of others: its first and last range, its keys and values, ranges
 //! taken out, two maps in one.
 
-use super::{Iter, Map, RangeMap};
+use super::{steps, Iter, Map, RangeMap};
 use crate::any_range::AnyRange;
+use crate::chunks;
+use crate::generated::range_map as proved;
 use crate::range::RangeSetRange;
+use crate::range_set::RangeSetRef;
 use alloc::vec::Vec;
 use core::iter;
-use core::mem;
 
 /// These are made of [`iter`](Map::iter).
 impl<K: Ord, V: Eq, C> Map<K, V, C> {
@@ -197,14 +199,11 @@ impl<K: Ord + Clone, V: Eq + Clone> RangeMap<K, V> {
     /// assert!(more.is_empty());
     /// ```
     pub fn append(&mut self, that: &mut Self) {
-        // Meanwhile the map is empty, so that a panic between two ranges leaves no part of them.
-        let mut own = mem::take(self);
-        own.extend(mem::take(that));
-        *self = own;
+        chunks::append(self, that);
     }
 
-    /// Takes away the values of the keys at and above `at`, and returns the map with them. It
-    /// clones the whole map.
+    /// Takes away the values of the keys at and above `at`, and returns the map with clones of
+    /// them.
     ///
     /// # Examples
     ///
@@ -217,12 +216,9 @@ impl<K: Ord + Clone, V: Eq + Clone> RangeMap<K, V> {
     /// ```
     #[must_use = "`remove` takes the values away and returns none"]
     pub fn split_off(&mut self, at: &K) -> Self {
-        let mut above = self.clone();
-        if let Some((first, _)) = self.first() {
-            above.remove((*first.start()).clone()..at.clone());
-        }
+        let steps = steps::within(&self.0.steps, RangeSetRef::single(at));
         self.remove(at.clone()..);
-        above
+        Map(proved::RangeMap { steps })
     }
 }
 

@@ -1,6 +1,6 @@
 //! The ranges of a map with their values, one by one.
 
-use super::steps::Steps;
+use super::steps::IntoSteps;
 use super::{Kept, Map};
 use crate::generated::{range_collections, range_map as proved};
 use crate::iter::{owned_ranges, shown, wraps};
@@ -92,13 +92,13 @@ impl<'a, K, V, C> Gaps<'a, K, V, C> {
 /// ```
 #[must_use = "iterators are lazy and do nothing unless consumed"]
 pub struct IntoIter<K, V, C> {
-    steps: Peekable<Steps<K, Kept<V, C>>>,
+    steps: Peekable<IntoSteps<K, Kept<V, C>>>,
 }
 
 impl<K: Ord, V: Eq, C> IntoIter<K, V, C> {
     pub(super) fn new(map: Map<K, V, C>) -> Self {
         IntoIter {
-            steps: Steps::new(map.0.steps).peekable(),
+            steps: IntoSteps::new(map.0.steps).peekable(),
         }
     }
 }

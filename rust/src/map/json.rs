@@ -1,5 +1,6 @@
 //! Maps as sequences of triples, by serde: `[[9,12,"Ada"],[20,null,"Eve"]]`.
 
+use super::forms::both_maps;
 use super::{Copies, Map};
 use crate::fallible::MapValue;
 use crate::forms::{ends, fails};
@@ -23,15 +24,9 @@ impl<K: Ord + Serialize, V: Eq + Serialize, C> Serialize for Map<K, V, C> {
 }
 
 macro_rules! triples {
-    (ends, $($form:tt)*) => {
-        triples! { @Clone, ends, $($form)* }
-    };
-    (fails, $($form:tt)*) => {
-        triples! { @MapValue, fails, $($form)* }
-    };
     (
-        @$Value:ident, $form:ident, $Clone:ident, $must_use:meta, $errors:ident,
-        $at:literal, $from:literal, $ok:literal, $end:literal
+        $form:ident, $Clone:ident, $Value:ident, $Fn:ident, $must_use:meta, $errors:ident,
+        $at:literal, $from:literal, $of_pairs:literal, $returned:ident, $ok:literal, $end:literal
     ) => {
         /// Reads a sequence of triples in any order. Where ranges overlap the later one's value
         /// holds, and a reversed range is empty.
@@ -61,7 +56,7 @@ macro_rules! triples {
     };
 }
 
-both_forms!(triples);
+both_maps!(triples);
 
 /// Reads the triples of a map. Out of memory is another error than the format's.
 struct Triples<K, V, C>(PhantomData<(K, V, C)>);

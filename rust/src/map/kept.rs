@@ -34,6 +34,13 @@ impl<V, C> Kept<V, C> {
     }
 }
 
+impl<V: Clone, C> Clone for Kept<V, C> {
+    #[inline(always)]
+    fn clone(&self) -> Self {
+        Self::new(self.value.clone())
+    }
+}
+
 impl<V: PartialEq, C> PartialEq for Kept<V, C> {
     #[inline(always)]
     fn eq(&self, that: &Self) -> bool {

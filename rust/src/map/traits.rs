@@ -1,9 +1,12 @@
-//! What a map is by std's traits: a collection, a value, something that is compared, a text.
+//! The traits of std that maps implement.
 
-use super::{steps, IntoIter, Iter, Kept, Map, RangeMap};
+use super::{ByClone, IntoIter, Iter, Map, RangeMap};
 use crate::any_range::AnyRange;
+use crate::chunks;
 use crate::generated::range_map as proved;
+use crate::memory::expect_memory;
 use crate::range::RangeSetRange;
+use crate::support::ByBits;
 use core::fmt;
 use core::hash::{Hash, Hasher};
 use core::ops::Index;
@@ -17,9 +20,11 @@ impl<K: Ord, V: Eq, C> Default for Map<K, V, C> {
 
 impl<K: Ord + Clone, V: Eq + Clone> Clone for RangeMap<K, V> {
     fn clone(&self) -> Self {
-        let steps = steps::of_refs(&self.0.steps, K::clone, |kept| {
-            Kept::new(kept.value.clone())
-        });
+        let steps = match ByBits::of_steps_of_numbers() {
+            Some(bits) => self.0.steps.copied(&bits),
+            None => self.0.steps.copied(&ByClone),
+        };
+        let steps = expect_memory::<K, _, _>(steps);
         Map(proved::RangeMap { steps })
     }
 }
@@ -93,12 +98,7 @@ impl<K: Ord, V: Eq, C> Eq for Map<K, V, C> {}
 
 impl<K: Ord + Hash, V: Eq + Hash, C> Hash for Map<K, V, C> {
     fn hash<H: Hasher>(&self, state: &mut H) {
-        let mut len = 0;
-        for entry in self {
-            entry.hash(state);
-            len += 1;
-        }
-        state.write_usize(len);
+        chunks::hash(self.iter(), state);
     }
 }
 

@@ -61,13 +61,13 @@ macro_rules! constructors {
             #[doc = $end]
             /// ```
             #[$must_use]
-            pub fn from_unsorted(boundaries: impl IntoIterator<Item = T>) -> $form::Given<Self>
+            pub fn from_unsorted(boundaries: impl IntoIterator<Item = T>) -> $form::Returned<Self>
             where
                 T: Ord,
             {
                 let list = A::List::collected(boundaries.into_iter());
                 let sorted = list.and_then(|list| list.sorted($form::SORTING));
-                $form::given::<T, _, _>(sorted.map(Self::of_list))
+                $form::returned::<T, _, _>(sorted.map(Self::of_list))
             }
 
             /// Returns the empty set. It takes no memory, and can be a constant.
@@ -107,11 +107,11 @@ macro_rules! constructors {
             #[doc = $end]
             /// ```
             #[$must_use]
-            pub fn all() -> $form::Given<Self>
+            pub fn all() -> $form::Returned<Self>
             where
                 T: RangeSetEntry,
             {
-                $form::given::<T, _, _>(A::List::of_all().map(Self::of_list))
+                $form::returned::<T, _, _>(A::List::of_all().map(Self::of_list))
             }
 
             /// Returns the set of the values that lie in one of the ranges at least.
@@ -133,14 +133,14 @@ macro_rules! constructors {
             #[doc = $end]
             /// ```
             #[$must_use]
-            pub fn from_ranges<R>(ranges: impl IntoIterator<Item = R>) -> $form::Given<Self>
+            pub fn from_ranges<R>(ranges: impl IntoIterator<Item = R>) -> $form::Returned<Self>
             where
                 T: Ord,
                 R: IntoRange<T>,
             {
                 let ranges = ranges.into_iter().map(Into::into);
                 let list = A::List::of_ranges(ranges, $form::SORTING);
-                $form::given::<T, _, _>(list.map(Self::of_list))
+                $form::returned::<T, _, _>(list.map(Self::of_list))
             }
 
             /// Returns the set of these values, which may come in any order and more than once.
@@ -158,7 +158,7 @@ macro_rules! constructors {
             #[doc = $end]
             /// ```
             #[$must_use]
-            pub fn from_values(values: impl IntoIterator<Item = T>) -> $form::Given<Self>
+            pub fn from_values(values: impl IntoIterator<Item = T>) -> $form::Returned<Self>
             where
                 T: FromPlace,
             {
@@ -183,13 +183,13 @@ macro_rules! constructors {
             #[doc = $end]
             /// ```
             #[$must_use]
-            pub fn union_all<S>(sets: impl IntoIterator<Item = S>) -> $form::Given<Self>
+            pub fn union_all<S>(sets: impl IntoIterator<Item = S>) -> $form::Returned<Self>
             where
                 T: Ord + $Clone,
                 S: AsRef<RangeSetRef<T>>,
             {
                 let joined = union_of_sets(sets, &$form::Copier);
-                $form::given::<T, _, _>(joined.map(Self::of_list))
+                $form::returned::<T, _, _>(joined.map(Self::of_list))
             }
 
             /// Returns the set of the members of each of the sets, or of every value if there is no
@@ -213,13 +213,13 @@ macro_rules! constructors {
             #[doc = $end]
             /// ```
             #[$must_use]
-            pub fn intersection_all<S>(sets: impl IntoIterator<Item = S>) -> $form::Given<Self>
+            pub fn intersection_all<S>(sets: impl IntoIterator<Item = S>) -> $form::Returned<Self>
             where
                 T: RangeSetEntry + $Clone,
                 S: AsRef<RangeSetRef<T>>,
             {
                 let common = intersection_of_sets(sets, &$form::Copier);
-                $form::given::<T, _, _>(common.map(Self::of_list))
+                $form::returned::<T, _, _>(common.map(Self::of_list))
             }
 
             /// Returns the list of the boundaries, strictly sorted.

@@ -1,11 +1,11 @@
-//! What changes a set. Of two equal boundaries the set's own stays. All memory is asked for before
-//! anything changes.
+//! Calls that change a set. Of two equal boundaries the set's own stays. They ask for all memory
+//! before they change anything.
 
 use crate::any_range::AnyRange;
 use crate::array::{Array, List};
 use crate::fallible::EntryClone;
 use crate::forms::{ends, fails};
-use crate::generated::range_merge::{DiffOp, IntersectionOp, UnionOp, XorOp};
+use crate::generated::range_merge::{DiffOp, IntersectionOp, MergeOperation, UnionOp, XorOp};
 use crate::view::RangeSetRef;
 
 macro_rules! changes {
@@ -34,8 +34,8 @@ macro_rules! changes {
             #[doc = $end]
             /// ```
             #[inline]
-            pub fn insert(&mut self, range: impl AnyRange<T>) -> $form::Given<()> {
-                $form::given::<T, _, _>(self.list.set_range(range.into(), true))
+            pub fn insert(&mut self, range: impl AnyRange<T>) -> $form::Returned<()> {
+                $form::returned::<T, _, _>(self.list.set_range(range.into(), true))
             }
 
             /// Adds the values of a range, as [`insert`](Self::insert) does. Returns `true` if one
@@ -53,10 +53,10 @@ macro_rules! changes {
             /// assert!(changed && !again);
             #[doc = $end]
             /// ```
-            pub fn insert_changed(&mut self, range: impl AnyRange<T>) -> $form::Given<bool> {
+            pub fn insert_changed(&mut self, range: impl AnyRange<T>) -> $form::Returned<bool> {
                 let range = range.into();
                 let changes = self.view().lacks_some(&range);
-                $form::given::<T, _, _>(self.list.set_range(range, true).map(|()| changes))
+                $form::returned::<T, _, _>(self.list.set_range(range, true).map(|()| changes))
             }
 
             /// Takes the values of a range [of any kind](AnyRange) out. An empty or a reversed
@@ -77,8 +77,8 @@ macro_rules! changes {
             #[doc = $end]
             /// ```
             #[inline]
-            pub fn remove(&mut self, range: impl AnyRange<T>) -> $form::Given<()> {
-                $form::given::<T, _, _>(self.list.set_range(range.into(), false))
+            pub fn remove(&mut self, range: impl AnyRange<T>) -> $form::Returned<()> {
+                $form::returned::<T, _, _>(self.list.set_range(range.into(), false))
             }
 
             /// Takes the values of a range out, as [`remove`](Self::remove) does. Returns `true` if
@@ -96,96 +96,44 @@ macro_rules! changes {
             /// assert!(changed && !again);
             #[doc = $end]
             /// ```
-            pub fn remove_changed(&mut self, range: impl AnyRange<T>) -> $form::Given<bool> {
+            pub fn remove_changed(&mut self, range: impl AnyRange<T>) -> $form::Returned<bool> {
                 let range = range.into();
                 let changes = self.view().has_some(&range);
-                $form::given::<T, _, _>(self.list.set_range(range, false).map(|()| changes))
+                $form::returned::<T, _, _>(self.list.set_range(range, false).map(|()| changes))
             }
         }
 
         /// These make as many comparisons as the operations that make a new set.
         impl<T: Ord + $Clone, A: Array<Item = T>> $form::RangeSet<A> {
+            operations_with! { "RangeSet2", $form, $errors, $at, $ok, $end:
             /// Adds the members of `that`.
-            ///
-            #[doc = $errors!("If memory runs out or a copy of a boundary fails. The set is then as it \
-                was.")]
-            /// # Examples
-            ///
-            /// ```
-            #[doc = concat!("use ", $at, "::RangeSet2;")]
-            /// use range_sets::RangeSetRef;
-            ///
-            #[doc = concat!("let mut set = RangeSet2::", $from, "(0..10)", $ok)]
-            #[doc = concat!("set.union_with(RangeSetRef::single(&20))", $ok)]
-            /// assert_eq!(set.boundaries(), [0, 10, 20]);
-            #[doc = $end]
-            /// ```
-            pub fn union_with(&mut self, that: &RangeSetRef<T>) -> $form::Given<()> {
-                let that = that.boundaries();
-                $form::given::<T, _, _>(self.list.merge_ref(that, &$form::Copier, &UnionOp))
+            pub fn union_with(self, that), 20 => "0..10, 20.." {
+                self.merge_with(that, &UnionOp)
             }
 
             /// Keeps the members that are members of `that` too.
-            ///
-            #[doc = $errors!("If memory runs out or a copy of a boundary fails. The set is then as it \
-                was.")]
-            /// # Examples
-            ///
-            /// ```
-            #[doc = concat!("use ", $at, "::RangeSet2;")]
-            /// use range_sets::RangeSetRef;
-            ///
-            #[doc = concat!("let mut set = RangeSet2::", $from, "(0..10)", $ok)]
-            #[doc = concat!("set.intersection_with(RangeSetRef::single(&5))", $ok)]
-            /// assert_eq!(set.boundaries(), [5, 10]);
-            #[doc = $end]
-            /// ```
-            pub fn intersection_with(&mut self, that: &RangeSetRef<T>) -> $form::Given<()> {
-                let that = that.boundaries();
-                $form::given::<T, _, _>(self.list.merge_ref(that, &$form::Copier, &IntersectionOp))
+            pub fn intersection_with(self, that), 5 => "5..10" {
+                self.merge_with(that, &IntersectionOp)
             }
 
-            /// Takes the members of `that` out.
-            ///
-            #[doc = $errors!("If memory runs out or a copy of a boundary fails. The set is then as it \
-                was.")]
-            /// # Examples
-            ///
-            /// ```
-            #[doc = concat!("use ", $at, "::RangeSet2;")]
-            /// use range_sets::RangeSetRef;
-            ///
-            #[doc = concat!("let mut set = RangeSet2::", $from, "(0..10)", $ok)]
-            #[doc = concat!("set.difference_with(RangeSetRef::single(&5))", $ok)]
-            /// assert_eq!(set.boundaries(), [0, 5]);
-            #[doc = $end]
-            /// ```
-            pub fn difference_with(&mut self, that: &RangeSetRef<T>) -> $form::Given<()> {
-                let that = that.boundaries();
-                $form::given::<T, _, _>(self.list.merge_ref(that, &$form::Copier, &DiffOp))
+            /// Removes the members of `that`.
+            pub fn difference_with(self, that), 5 => "0..5" {
+                self.merge_with(that, &DiffOp)
             }
 
-            /// Takes the members of `that` out and adds those that weren't in.
-            ///
-            #[doc = $errors!("If memory runs out or a copy of a boundary fails. The set is then as it \
-                was.")]
-            /// # Examples
-            ///
-            /// ```
-            #[doc = concat!("use ", $at, "::RangeSet2;")]
-            /// use range_sets::RangeSetRef;
-            ///
-            #[doc = concat!("let mut set = RangeSet2::", $from, "(0..10)", $ok)]
-            #[doc = concat!("set.symmetric_difference_with(RangeSetRef::single(&5))", $ok)]
-            /// assert_eq!(set.boundaries(), [0, 5, 10]);
-            #[doc = $end]
-            /// ```
-            pub fn symmetric_difference_with(
+            /// Removes the members of `that` and adds those that weren't in.
+            pub fn symmetric_difference_with(self, that), 5 => "0..5, 10.." {
+                self.merge_with(that, &XorOp)
+            }
+            }
+
+            fn merge_with<O: MergeOperation>(
                 &mut self,
                 that: &RangeSetRef<T>,
-            ) -> $form::Given<()> {
-                let that = that.boundaries();
-                $form::given::<T, _, _>(self.list.merge_ref(that, &$form::Copier, &XorOp))
+                op: &O,
+            ) -> $form::Returned<()> {
+                let merged = self.list.merge_ref(that.boundaries(), &$form::Copier, op);
+                $form::returned::<T, _, _>(merged)
             }
         }
     };

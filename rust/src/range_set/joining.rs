@@ -1,11 +1,13 @@
-//! Many sets joined into one.
+//! Many sets, or ranges as they are read, joined into one.
 
-use crate::array::List;
+use crate::array::{List, Sorting};
 use crate::entry::RangeSetEntry;
 use crate::generated::range_merge::{Copier, IntersectionOp, UnionOp};
 use crate::memory::AllocError;
+use crate::range::RangeSetRange;
 use crate::view::RangeSetRef;
 use alloc::vec::Vec;
+use core::iter;
 
 /// The boundaries of the union of copies of sets, by halves: each set is copied once, and then
 /// lists are joined in place.
@@ -67,4 +69,24 @@ where
         common.merge_ref(that.as_ref().boundaries(), copier, &IntersectionOp)?;
     }
     Ok(common)
+}
+
+/// The boundaries of the union of ranges that are read one by one. An error of the reader comes
+/// first, and is apart from running out of memory.
+pub(crate) fn union_of_read<L: List, E>(
+    mut next: impl FnMut() -> Result<Option<RangeSetRange<L::Item>>, E>,
+    sorting: Sorting,
+) -> Result<Result<L, AllocError>, E>
+where
+    L::Item: Ord,
+{
+    let mut failed = None;
+    let ranges = iter::from_fn(|| {
+        next().unwrap_or_else(|error| {
+            failed = Some(error);
+            None
+        })
+    });
+    let list = L::of_ranges(ranges, sorting);
+    failed.map_or(Ok(list), Err)
 }

@@ -24,9 +24,9 @@ macro_rules! room {
             #[doc = $end]
             /// ```
             #[$must_use]
-            pub fn with_capacity(boundaries: usize) -> $form::Given<Self> {
+            pub fn with_capacity(boundaries: usize) -> $form::Returned<Self> {
                 let list = A::List::with_capacity(boundaries);
-                $form::room::<T, _>(list.map(Self::of_list), Some(boundaries))
+                $form::reserved::<T, _>(list.map(Self::of_list), Some(boundaries))
             }
 
             /// Returns how many boundaries the set has room for.
@@ -59,9 +59,9 @@ macro_rules! room {
             /// assert!(set.capacity() >= 22);
             #[doc = $end]
             /// ```
-            pub fn reserve(&mut self, boundaries: usize) -> $form::Given<()> {
+            pub fn reserve(&mut self, boundaries: usize) -> $form::Returned<()> {
                 let items = self.boundaries().len().checked_add(boundaries);
-                $form::room::<T, _>(self.list.reserve(boundaries), items)
+                $form::reserved::<T, _>(self.list.reserve(boundaries), items)
             }
 
             /// Gives back the room that the boundaries don't need. They come to lie in the set

@@ -1,4 +1,4 @@
-//! What takes whole ranges out of a set, or moves them between two.
+//! Calls that take whole ranges out of a set, or move them from one set to another.
 
 use crate::array::{Array, List};
 use crate::fallible::EntryClone;
@@ -104,7 +104,7 @@ macro_rules! taking {
             #[doc = $end]
             /// ```
             #[must_use = "`difference_with` takes the values out and returns none"]
-            pub fn split_off(&mut self, at: &T) -> $form::Given<Self>
+            pub fn split_off(&mut self, at: &T) -> $form::Returned<Self>
             where
                 T: $Clone,
             {
@@ -114,7 +114,7 @@ macro_rules! taking {
                     list.merge_ref(from, &$form::Copier, &DiffOp)?;
                     Ok(Self::of_list(above))
                 });
-                $form::given::<T, _, _>(split)
+                $form::returned::<T, _, _>(split)
             }
 
             /// Moves all values of `that` into this set, and leaves `that` empty. It copies none.
@@ -132,10 +132,10 @@ macro_rules! taking {
             /// assert!(yours.is_empty());
             #[doc = $end]
             /// ```
-            pub fn append(&mut self, that: &mut Self) -> $form::Given<()> {
+            pub fn append(&mut self, that: &mut Self) -> $form::Returned<()> {
                 let moved = mem::take(that).list;
                 let merged = self.list.merge_owned(moved, &UnionOp);
-                $form::given::<T, _, _>(merged.map_err(|(refused, back)| {
+                $form::returned::<T, _, _>(merged.map_err(|(refused, back)| {
                     that.list = back;
                     refused
                 }))

@@ -1,4 +1,4 @@
-//! What a set is by std's traits: a view, a value, something that is compared, a text.
+//! The traits of std that sets implement.
 
 use crate::array::{Array, List};
 use crate::fallible::EntryClone;

@@ -1,4 +1,4 @@
-//! What changes a space or searches it, and what it is by std's traits, in both forms.
+//! Calls that change a space or search it, and the traits of std that it implements.
 
 use crate::any_range::{AnyRange, Ended, IntoRange};
 use crate::chunked::{ChunkedRangeSet, IntoIter, Iter};
@@ -49,14 +49,14 @@ macro_rules! changes {
             #[doc = $end]
             /// ```
             #[$must_use]
-            pub fn from_ranges<R>(ranges: impl IntoIterator<Item = R>) -> $form::Given<Self>
+            pub fn from_ranges<R>(ranges: impl IntoIterator<Item = R>) -> $form::Returned<Self>
             where
                 R: IntoRange<T>,
             {
                 let taken = fails::ChunkedRangeSet::from_ranges(ranges);
                 let taken =
                     taken.map(|set| proved::ChunkedSpace::from_set(Global, set.into_proved()));
-                $form::given::<T, _, _>(taken.map(Self::of_proved))
+                $form::returned::<T, _, _>(taken.map(Self::of_proved))
             }
 
             /// Takes the values of a range [of any kind](AnyRange). An empty or a reversed range
@@ -74,8 +74,8 @@ macro_rules! changes {
             #[doc = $end]
             /// ```
             #[inline]
-            pub fn insert(&mut self, range: impl AnyRange<T>) -> $form::Given<()> {
-                $form::given::<T, _, _>(set_taken(self.proved_mut(), range.into(), true))
+            pub fn insert(&mut self, range: impl AnyRange<T>) -> $form::Returned<()> {
+                $form::returned::<T, _, _>(set_taken(self.proved_mut(), range.into(), true))
             }
 
             /// Frees the values of a range [of any kind](AnyRange). An empty or a reversed range
@@ -95,8 +95,8 @@ macro_rules! changes {
             #[doc = $end]
             /// ```
             #[inline]
-            pub fn remove(&mut self, range: impl AnyRange<T>) -> $form::Given<()> {
-                $form::given::<T, _, _>(set_taken(self.proved_mut(), range.into(), false))
+            pub fn remove(&mut self, range: impl AnyRange<T>) -> $form::Returned<()> {
+                $form::returned::<T, _, _>(set_taken(self.proved_mut(), range.into(), false))
             }
 
             /// Takes the values of a range, as [`insert`](Self::insert) does. Returns `true` if one
@@ -114,11 +114,11 @@ macro_rules! changes {
             /// assert!(changed && !again);
             #[doc = $end]
             /// ```
-            pub fn insert_changed(&mut self, range: impl AnyRange<T>) -> $form::Given<bool> {
+            pub fn insert_changed(&mut self, range: impl AnyRange<T>) -> $form::Returned<bool> {
                 let range = range.into();
                 let changes = !self.contains_range(range.clone());
                 let result = set_taken(self.proved_mut(), range, true);
-                $form::given::<T, _, _>(result.map(|()| changes))
+                $form::returned::<T, _, _>(result.map(|()| changes))
             }
 
             /// Frees the values of a range, as [`remove`](Self::remove) does. Returns `true` if one
@@ -136,11 +136,11 @@ macro_rules! changes {
             /// assert!(changed && !again);
             #[doc = $end]
             /// ```
-            pub fn remove_changed(&mut self, range: impl AnyRange<T>) -> $form::Given<bool> {
+            pub fn remove_changed(&mut self, range: impl AnyRange<T>) -> $form::Returned<bool> {
                 let range = range.into();
                 let changes = self.intersects_range(range.clone());
                 let result = set_taken(self.proved_mut(), range, false);
-                $form::given::<T, _, _>(result.map(|()| changes))
+                $form::returned::<T, _, _>(result.map(|()| changes))
             }
 
             /// Frees all values.

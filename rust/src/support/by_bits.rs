@@ -2,13 +2,16 @@
 
 use super::{AllocError, Vec};
 use crate::generated::range_entry::EntryClone;
+use crate::generated::range_map::step::Step;
 use crate::generated::range_merge::Copier;
+use crate::map::Kept;
 use core::any::TypeId;
 use core::marker::PhantomData;
 use core::mem;
 use core::ptr;
 
-/// Copies numbers and characters, where no bound of the type says that they are such.
+/// Copies numbers and characters, where no bound of the type says that they are such, and steps of
+/// a map that have such a key and such a value.
 ///
 /// Not of other items without a drop, though their bits could be moved: a merge that reads short
 /// runs compares copies while the items are there. A comparison that took a `&mut` out of a `Cell`
@@ -24,9 +27,17 @@ impl<K> ByBits<K> {
 
     #[inline(always)]
     fn copied(&self, item: &K) -> K {
-        // SAFETY: `K` is a type of numbers or `char`, or there were no `ByBits` of it. These are
-        // `Copy`.
+        // SAFETY: `K` is a type of numbers or `char`, or a step of these, or there were no `ByBits`
+        // of it. All their fields are `Copy`.
         unsafe { ptr::read(item) }
+    }
+}
+
+impl<K, V, C> ByBits<Step<K, Kept<V, C>>> {
+    /// A copier, if keys and values are numbers or characters.
+    #[inline(always)]
+    pub fn of_steps_of_numbers() -> Option<Self> {
+        (is_number::<K>() && is_number::<V>()).then_some(ByBits(PhantomData))
     }
 }
 
@@ -52,7 +63,17 @@ impl<K> Copier<K> for ByBits<K> {
 
 /// A key that is copied by its own `Clone`.
 #[derive(Clone, PartialEq, Eq, PartialOrd, Ord)]
+#[repr(transparent)]
 pub struct ByValue<K>(pub K);
+
+impl<K> ByValue<K> {
+    /// The key by reference, as one that is copied so.
+    #[inline(always)]
+    pub fn of_ref(key: &K) -> &Self {
+        // SAFETY: `ByValue<K>` is laid out as the `K` in it, and shows no more than that.
+        unsafe { &*(key as *const K).cast::<Self>() }
+    }
+}
 
 impl<K: Ord + Clone> EntryClone for ByValue<K> {
     #[inline(always)]

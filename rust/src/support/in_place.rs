@@ -5,7 +5,7 @@
 //! are [`Opened`].
 
 use super::by_bits::ByBits;
-use super::opened::{Given, Opened};
+use super::opened::{Emptied, Opened};
 use super::slot::{BySlots, OfSlots, Slot};
 use super::{AllocError, SmallVec};
 use crate::generated::range_merge::in_place_memory::{prepared, prepared_copies};
@@ -48,8 +48,8 @@ impl<K, const N: usize> InPlaceMergeState<K, N> {
         if let Err(error) = prepared(a, extra) {
             return Err((error, b));
         }
-        let mut given = Given::over(&mut b);
-        merge_opened(a, OwnedRight::over(&mut given), extra, op, cmp);
+        let mut emptied = Emptied::over(&mut b);
+        merge_opened(a, OwnedRight::over(&mut emptied), extra, op, cmp);
         Ok(())
     }
 }
@@ -80,8 +80,8 @@ impl<K, P: Copier<K>, const N: usize> InPlaceMergeStateRef<K, P, N> {
             return Ok(());
         }
         let mut copies = prepared_copies(a, b, copier)?;
-        let mut given = Given::over(&mut copies);
-        let right = CopiedRight::<_, OfSlots<P>, _>::over(slots, &mut given);
+        let mut emptied = Emptied::over(&mut copies);
+        let right = CopiedRight::<_, OfSlots<P>, _>::over(slots, &mut emptied);
         merge_opened(a, right, b.len(), op, cmp);
         Ok(())
     }

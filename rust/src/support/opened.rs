@@ -210,14 +210,14 @@ impl<K, const N: usize> Drop for Opened<'_, K, N> {
 /// is left empty.
 ///
 /// A merge borrows it, so that what is left is dropped once the merge's own list is closed.
-pub struct Given<'a, K, const N: usize> {
+pub struct Emptied<'a, K, const N: usize> {
     items: *mut Slot<K>,
     front: usize,
     len: usize,
     of: PhantomData<&'a mut SmallVec<K, N>>,
 }
 
-impl<'a, K, const N: usize> Given<'a, K, N> {
+impl<'a, K, const N: usize> Emptied<'a, K, N> {
     /// All items of the list.
     #[inline]
     pub fn over(list: &'a mut SmallVec<K, N>) -> Self {
@@ -225,7 +225,7 @@ impl<'a, K, const N: usize> Given<'a, K, N> {
         let len = list.len();
         // SAFETY: none of its items is within a length of 0.
         unsafe { list.set_len(0) };
-        Given {
+        Emptied {
             items: list.as_mut_ptr().cast(),
             front: 0,
             len,
@@ -244,7 +244,7 @@ impl<'a, K, const N: usize> Given<'a, K, N> {
     }
 }
 
-impl<K, const N: usize> Indexed<Slot<K>> for &mut Given<'_, K, N> {
+impl<K, const N: usize> Indexed<Slot<K>> for &mut Emptied<'_, K, N> {
     #[inline(always)]
     fn len(&self) -> usize {
         self.len
@@ -258,7 +258,7 @@ impl<K, const N: usize> Indexed<Slot<K>> for &mut Given<'_, K, N> {
     }
 }
 
-impl<K, const N: usize> Exchanges<Slot<K>> for &mut Given<'_, K, N> {
+impl<K, const N: usize> Exchanges<Slot<K>> for &mut Emptied<'_, K, N> {
     #[inline(always)]
     fn swap_with(&mut self, at: usize, others: &mut [Slot<K>]) {
         let n = others.len();
@@ -271,7 +271,7 @@ impl<K, const N: usize> Exchanges<Slot<K>> for &mut Given<'_, K, N> {
     }
 }
 
-impl<K, const N: usize> Drop for Given<'_, K, N> {
+impl<K, const N: usize> Drop for Emptied<'_, K, N> {
     fn drop(&mut self) {
         // SAFETY: the items from `front` on are there, and the list itself has none of them.
         unsafe { drop_items(self.items, self.front, self.len) };

@@ -1,4 +1,4 @@
-//! What Rust's library has since a later version than 1.63.
+//! Functions that Rust's library has only since a later version than 1.63.
 
 /// `div_ceil`, since 1.73.
 pub trait DivUp {

@@ -1,15 +1,13 @@
-//! Tests of what the generated code stands on: lists that are open for changes, and the stable
-//! sort.
+//! Tests of what the generated code stands on: merges in place here, and below them numbers, lists
+//! that are open for changes, and the stable sort.
 
 extern crate std;
 
-use super::by_bits::is_number;
-use super::opened::{Given, Opened};
-use super::slot::Slot;
+mod numbers;
+mod opened;
+mod sorting;
+
 use super::*;
-use crate::generated::range_merge::in_place_list::{Exchanges, GrowsByGap};
-use crate::generated::range_merge::indexed::Indexed;
-use crate::generated::range_merge::merge_state::in_place::OwnedRight;
 use crate::generated::range_merge::{
     Compare, Connective, Copier, DiffOp, IntersectionOp, MergeOperation, UnionOp, XorOp,
 };
@@ -240,112 +238,6 @@ fn a_comparison_that_panics_drops_every_item_once() {
     );
 }
 
-/// Compares numbers, or items that hold one, and panics at the comparison with this number.
-struct ByNumber(u128, u128);
-
-impl<K: Clone + Into<u32>> Compare<K> for ByNumber {
-    fn compare(&mut self, a: &K, b: &K) -> Ordering {
-        self.0 += 1;
-        assert!(self.0 != self.1, "a comparison panics");
-        a.clone().into().cmp(&b.clone().into())
-    }
-}
-
-/// The numbers below `below` that `is_in` has, with room for `room` more.
-fn numbers<K: From<u32>>(below: u32, room: usize, is_in: impl Fn(u32) -> bool) -> SmallVec<K, 2> {
-    let mut items = SmallVec::new(Global);
-    for number in (0..below).filter(|&it| is_in(it)) {
-        items.reserve(1).unwrap();
-        items.push_reserved(number.into());
-    }
-    items.shrink_to_fit();
-    items.reserve(room).unwrap();
-    items
-}
-
-#[test]
-fn numbers_of_an_owned_list_are_merged_as_of_a_borrowed_one() {
-    let sizes = [(3, 0), (7, 0), (7, 9), (60, 0), (60, 99), (900, 999)];
-    for (below, room) in sizes {
-        for (of_left, of_right) in [(2, 3), (1, 4), (9, 1), (2, 200)] {
-            let left = || numbers::<u32>(below, room, |it| it * it % 7 % of_left == 0);
-            let right = || numbers::<u32>(below, 0, |it| it * it % 11 % of_right == 0);
-            let (mut owned, mut borrowed) = (left(), left());
-            let mut cmp = ByNumber(0, u128::MAX);
-            assert!(InPlaceMergeState::merge(&mut owned, right(), &XorOp, &mut cmp).is_ok());
-            assert!(cmp.0 <= 2 * (left().len() + right().len()) as u128);
-            InPlaceMergeStateRef::merge(&mut borrowed, &right(), &ByClone, &XorOp, &mut cmp)
-                .unwrap();
-            assert_eq!(owned.as_slice(), borrowed.as_slice());
-        }
-    }
-}
-
-/// A number that isn't known to be one.
-#[derive(Clone, Debug, PartialEq)]
-struct Wrapped(u32);
-
-impl From<u32> for Wrapped {
-    fn from(number: u32) -> Self {
-        Wrapped(number)
-    }
-}
-
-impl From<Wrapped> for u32 {
-    fn from(wrapped: Wrapped) -> Self {
-        wrapped.0
-    }
-}
-
-/// Merges interleaved lists by comparisons that panic in turn. What goes `apart` leaves the left as
-/// it was, else empty.
-#[cfg(panic = "unwind")]
-fn is_left_by_a_panic<K>(below: u32, room: usize, apart: bool)
-where
-    K: Clone + From<u32> + Into<u32> + PartialEq + core::fmt::Debug,
-{
-    use std::panic::{catch_unwind, AssertUnwindSafe};
-
-    for panics_at in 1..u128::from(below) / 2 {
-        let mut left = numbers::<K>(below, room, |it| it % 2 == 0);
-        let before = left.to_vec();
-        let right = numbers(below, 0, |it| it % 2 == 1);
-        let mut cmp = ByNumber(0, panics_at);
-        let merged = catch_unwind(AssertUnwindSafe(|| {
-            InPlaceMergeState::merge(&mut left, right, &UnionOp, &mut cmp).is_ok()
-        }));
-        assert!(merged.is_err(), "{below}, {panics_at}");
-        let after = if apart { &before[..] } else { &[] };
-        assert_eq!(left.as_slice(), after, "{below}, {panics_at}");
-    }
-}
-
-#[cfg(panic = "unwind")]
-#[test]
-fn a_comparison_of_numbers_that_panics_leaves_them_or_none() {
-    for (below, room) in [(4, 0), (20, 0), (20, 10), (200, 0), (200, 100)] {
-        // What has room is written over.
-        is_left_by_a_panic::<u32>(below, room, room == 0);
-        is_left_by_a_panic::<Wrapped>(below, room, false);
-    }
-}
-
-#[test]
-fn numbers_are_those_that_are_plain() {
-    use crate::generated::range_entry::EntryClone;
-
-    macro_rules! are_numbers {
-        ($($number:ty)*) => { $(assert!(is_number::<$number>() && <$number>::is_plain());)* };
-    }
-    are_numbers!(u8 u16 u32 u64 u128 usize i8 i16 i32 i64 i128 isize char);
-    // Of elements that have a lifetime too.
-    fn is_other<'a>(_: &'a str) -> bool {
-        !is_number::<&'a str>() && !is_number::<Cell<&'a u32>>() && !is_number::<&'a mut u32>()
-    }
-    assert!(is_other("borrowed") && !is_number::<Wrapped>() && !is_number::<(u32, u32)>());
-    assert!(!is_number::<Cell<u32>>() && !is_number::<Option<u32>>() && !is_number::<[u8; 4]>());
-}
-
 #[cfg(panic = "unwind")]
 #[test]
 fn a_copy_that_panics_drops_every_item_once() {
@@ -364,114 +256,6 @@ fn a_copy_that_panics_drops_every_item_once() {
 }
 
 #[test]
-fn a_list_that_is_not_closed_is_left_empty() {
-    let there = Rc::new(Cell::new(0));
-    let mut items = list::<4>(0b1111_1111, 0, &there);
-    let mut more = list::<4>(0b111, 1, &there);
-    items.reserve(8).unwrap();
-    let mut opened = Opened::over(&mut items);
-    let mut given = Given::over(&mut more);
-    let mut right = OwnedRight::over(&mut given);
-    opened.move_down(0, 2, 3);
-    assert_eq!(there.get(), 9);
-    opened.put_from(3, 2, &mut right);
-    opened.open_gap(5, 3);
-    opened.put_from(5, 1, &mut right);
-    // SAFETY: it was moved up by the gap.
-    let moved = unsafe { opened.at(8).item().key };
-    assert_eq!((moved, there.get()), (5, 9));
-    drop(opened);
-    assert_eq!((items.len(), there.get()), (0, 0));
-}
-
-#[test]
-fn what_is_not_taken_of_a_list_is_dropped() {
-    let there = Rc::new(Cell::new(0));
-    let mut items = list::<4>(0b1111_1111, 0, &there);
-    let mut room = list::<4>(0b11, 0, &there);
-    let mut opened = Opened::over(&mut room);
-    let mut given = Given::over(&mut items);
-    let mut right = OwnedRight::over(&mut given);
-    opened.truncate(0);
-    assert_eq!(there.get(), 8);
-    opened.open_gap(0, 2);
-    opened.put_from(0, 2, &mut right);
-    assert_eq!(there.get(), 8);
-    drop(given);
-    opened.close();
-    assert_eq!(
-        (seen(&room), items.len(), there.get()),
-        (std::vec![(0, 0), (1, 0)], 0, 2)
-    );
-}
-
-#[test]
-fn a_list_that_is_forgotten_is_left_empty() {
-    let mut items = SmallVec::<u8, 4>::new(Global);
-    items.push_reserved(1);
-    core::mem::forget(Opened::over(&mut items));
-    assert!(items.is_empty());
-}
-
-#[cfg(panic = "unwind")]
-#[test]
-fn a_gap_is_neither_read_nor_closed() {
-    fn panics(change: impl Fn(Opened<'_, u8, 8>)) -> bool {
-        let mut items = SmallVec::<u8, 8>::new(Global);
-        (0..6).for_each(|n| items.push_reserved(n));
-        let mut opened = Opened::over(&mut items);
-        opened.move_down(0, 2, 2);
-        std::panic::catch_unwind(core::panic::AssertUnwindSafe(|| change(opened))).is_err()
-    }
-    fn reads(opened: &Opened<'_, u8, 8>, i: usize) -> u8 {
-        // SAFETY: what `at` gives has an item.
-        unsafe { *opened.at(i).item() }
-    }
-
-    assert!(!panics(|opened| assert_eq!(reads(&opened, 4), 4)));
-    assert!(panics(|opened| assert_eq!(reads(&opened, 3), 3)));
-    assert!(panics(|opened| assert_eq!(reads(&opened, 6), 6)));
-    assert!(panics(|opened| opened.close()));
-    assert!(panics(|mut opened| opened.open_gap(3, 1)));
-    assert!(panics(|mut opened| opened.open_gap(4, 3)));
-    assert!(panics(|mut opened| {
-        let mut more = SmallVec::<u8, 4>::new(Global);
-        more.push_reserved(1);
-        let mut given = Given::over(&mut more);
-        opened.put_from(3, 1, &mut OwnedRight::over(&mut given));
-    }));
-    assert!(panics(|mut opened| opened.move_down(3, 4, 1)));
-    assert!(panics(|mut opened| opened.move_down(2, 4, 3)));
-    assert!(panics(|mut opened| opened.truncate(3)));
-    assert!(!panics(|mut opened| {
-        opened.truncate(2);
-        opened.close();
-    }));
-}
-
-#[cfg(panic = "unwind")]
-#[test]
-fn what_was_taken_of_a_list_is_not_read() {
-    use std::panic::{catch_unwind, AssertUnwindSafe};
-
-    let mut items = SmallVec::<u8, 8>::new(Global);
-    (0..6).for_each(|n| items.push_reserved(n));
-    let mut given = &mut Given::over(&mut items);
-    given.swap_with(1, &mut [Slot::of(0), Slot::of(0)]);
-    for i in [0, 2, 6] {
-        // SAFETY: nothing is given.
-        assert!(catch_unwind(AssertUnwindSafe(|| unsafe { *given.at(i).item() })).is_err());
-    }
-    for at in [2, 6] {
-        assert!(
-            catch_unwind(AssertUnwindSafe(|| given.swap_with(at, &mut [Slot::of(0)]))).is_err()
-        );
-    }
-    // SAFETY: what `at` gives has an item.
-    assert_eq!(unsafe { *given.at(3).item() }, 3);
-}
-
-#[test]
 fn both_items_are_put_at_the_end() {
     let there = Rc::new(Cell::new(0));
     let mut items = SmallVec::<Item, 3>::new(Global);
@@ -483,46 +267,6 @@ fn both_items_are_put_at_the_end() {
     }
     drop(items);
     assert_eq!(there.get(), 0);
-}
-
-#[test]
-fn sorting_is_stable() {
-    let mut seed = 3;
-    for len in (0..60).chain([200, 1000]) {
-        let mut items: alloc::vec::Vec<(u8, usize)> = (0..len)
-            .map(|place| ((made_up(&mut seed) % 16) as u8, place))
-            .collect();
-        let mut expected = items.clone();
-        expected.sort_by_key(|item| item.0);
-        let mut by_first: alloc::vec::Vec<ByFirst> = items.drain(..).map(ByFirst).collect();
-        by_first.sort_in(Global).unwrap();
-        let sorted: alloc::vec::Vec<_> = by_first.iter().map(|item| item.0).collect();
-        assert_eq!(sorted, expected);
-    }
-}
-
-/// A pair that is ordered by its first half.
-#[derive(Clone, Copy, Debug)]
-struct ByFirst((u8, usize));
-
-impl PartialEq for ByFirst {
-    fn eq(&self, other: &Self) -> bool {
-        self.cmp(other).is_eq()
-    }
-}
-
-impl Eq for ByFirst {}
-
-impl PartialOrd for ByFirst {
-    fn partial_cmp(&self, other: &Self) -> Option<Ordering> {
-        Some(self.cmp(other))
-    }
-}
-
-impl Ord for ByFirst {
-    fn cmp(&self, other: &Self) -> Ordering {
-        self.0 .0.cmp(&other.0 .0)
-    }
 }
 
 #[test]

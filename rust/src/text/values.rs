@@ -1,10 +1,10 @@
 //! The texts of characters and addresses, which are no numbers.
 
 use super::{Expected, ParseError, TextEntry};
-use crate::array::{Array, List, Sorting};
+use crate::array::{Array, Sorting};
 use crate::generated::range_collections::EntryClone;
 use crate::range::RangeSetRange;
-use core::iter;
+use crate::range_set::union_of_read;
 #[cfg(feature = "std")]
 use core::str::FromStr;
 #[cfg(feature = "std")]
@@ -45,19 +45,9 @@ fn read_ranges<A: Array>(text: &str, value: Reader<A::Item>) -> Result<A::List, 
 where
     A::Item: Ord,
 {
-    let (mut rest, mut failed) = (text.trim_start(), None);
-    let ranges = iter::from_fn(|| match next_range(text, &mut rest, value) {
-        Ok(range) => range,
-        Err(error) => {
-            failed = Some(error);
-            None
-        }
-    });
-    let list = A::List::of_ranges(ranges, Sorting::Fallible);
-    match failed {
-        Some(error) => Err(error),
-        None => list.map_err(ParseError::from),
-    }
+    let mut rest = text.trim_start();
+    let list = union_of_read(|| next_range(text, &mut rest, value), Sorting::Fallible)?;
+    list.map_err(ParseError::from)
 }
 
 /// The next range of a text, of which `rest` is left, if there is one.

@@ -1,4 +1,4 @@
-//! What both trackers do, and what they are by std's traits: something that is compared, a text.
+//! The calls of both trackers, and the traits of std that they implement.
 
 use super::{ended, ChunkedTracker, Command, TrackError, Tracker};
 use crate::any_range::{AnyRange, Within};

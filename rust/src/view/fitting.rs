@@ -1,5 +1,4 @@
-//! Where values in a row are free, that is, no members, or where members are in a row. Nothing here
-//! takes memory.
+//! Room for values in a row, none of which is a member. None of the calls takes memory.
 
 use crate::any_range::Ended;
 use crate::entry::Length;

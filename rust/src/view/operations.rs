@@ -8,6 +8,42 @@ use crate::generated::range_merge::{DiffOp, IntersectionOp, UnionOp, XorOp};
 use crate::operation::Connective;
 use crate::view::RangeSetRef;
 
+/// Operations with names of their own. An example has the right side, and the result by a name.
+macro_rules! operations_named {
+    (
+        $form:ident, $must_use:meta, $errors:ident,
+        $at:literal, $from:literal, $ok:literal, $end:literal:
+        $(
+            $(#[$does:meta])*
+            pub fn $call:ident by $op:ident, $that:literal => $made:literal, $boundaries:literal;
+        )*
+    ) => {$(
+        $(#[$does])*
+        ///
+        #[doc = $errors!("If memory runs out or a copy fails.")]
+        /// # Examples
+        ///
+        /// ```
+        #[doc = concat!("use ", $at, "::RangeSet2;")]
+        ///
+        #[doc = concat!("let a = RangeSet2::", $from, "(0..10)", $ok)]
+        #[doc = concat!("let b = RangeSet2::", $from, "(", $that, ")", $ok)]
+        #[doc = concat!("let ", $made, ": RangeSet2<i32> = a.", stringify!($call), "(&b)", $ok)]
+        #[doc = concat!("assert_eq!(", $made, ".boundaries(), ", $boundaries, ");")]
+        #[doc = $end]
+        /// ```
+        #[$must_use]
+        pub fn $call<B>(&self, that: &RangeSetRef<T>) -> $form::Returned<$form::RangeSet<B>>
+        where
+            B: Array<Item = T>,
+        {
+            let (left, right) = (self.boundaries(), that.boundaries());
+            let list = B::List::merged(left, right, &$form::Copier, &$op);
+            $form::returned::<T, _, _>(list.map($form::RangeSet::of_list))
+        }
+    )*};
+}
+
 macro_rules! operations {
     (ends, $($form:tt)*) => {
         operations! { @[T: Ord + Clone], RangeSetRef<T>, ends, $($form)* }
@@ -28,104 +64,19 @@ macro_rules! operations {
         /// between. So a range beside 4,096 boundaries takes some seventy comparisons at most, and
         /// two sets with *n* boundaries in all take 2 *n* at most.
         impl<$($generics)*> $Left {
+            operations_named! { $form, $must_use, $errors, $at, $from, $ok, $end:
             /// Returns the set of the members of one of the two sets, or of both.
-            ///
-            #[doc = $errors!("If memory runs out or a copy fails.")]
-            /// # Examples
-            ///
-            /// ```
-            #[doc = concat!("use ", $at, "::RangeSet2;")]
-            ///
-            #[doc = concat!("let a = RangeSet2::", $from, "(0..10)", $ok)]
-            #[doc = concat!("let b = RangeSet2::", $from, "(10..20)", $ok)]
-            #[doc = concat!("let either: RangeSet2<i32> = a.union(&b)", $ok)]
-            /// assert_eq!(either.boundaries(), [0, 20]);
-            #[doc = $end]
-            /// ```
-            #[$must_use]
-            pub fn union<B>(&self, that: &RangeSetRef<T>) -> $form::Given<$form::RangeSet<B>>
-            where
-                B: Array<Item = T>,
-            {
-                let (left, right) = (self.boundaries(), that.boundaries());
-                let list = B::List::merged(left, right, &$form::Copier, &UnionOp);
-                $form::given::<T, _, _>(list.map($form::RangeSet::of_list))
-            }
+            pub fn union by UnionOp, "10..20" => "either", "[0, 20]";
 
             /// Returns the set of the members of both.
-            ///
-            #[doc = $errors!("If memory runs out or a copy fails.")]
-            /// # Examples
-            ///
-            /// ```
-            #[doc = concat!("use ", $at, "::RangeSet2;")]
-            ///
-            #[doc = concat!("let a = RangeSet2::", $from, "(0..10)", $ok)]
-            #[doc = concat!("let b = RangeSet2::", $from, "(5..20)", $ok)]
-            #[doc = concat!("let both: RangeSet2<i32> = a.intersection(&b)", $ok)]
-            /// assert_eq!(both.boundaries(), [5, 10]);
-            #[doc = $end]
-            /// ```
-            #[$must_use]
-            pub fn intersection<B>(&self, that: &RangeSetRef<T>) -> $form::Given<$form::RangeSet<B>>
-            where
-                B: Array<Item = T>,
-            {
-                let (left, right) = (self.boundaries(), that.boundaries());
-                let list = B::List::merged(left, right, &$form::Copier, &IntersectionOp);
-                $form::given::<T, _, _>(list.map($form::RangeSet::of_list))
-            }
+            pub fn intersection by IntersectionOp, "5..20" => "both", "[5, 10]";
 
             /// Returns the set of the members of this set that aren't members of `that`.
-            ///
-            #[doc = $errors!("If memory runs out or a copy fails.")]
-            /// # Examples
-            ///
-            /// ```
-            #[doc = concat!("use ", $at, "::RangeSet2;")]
-            ///
-            #[doc = concat!("let a = RangeSet2::", $from, "(0..10)", $ok)]
-            #[doc = concat!("let b = RangeSet2::", $from, "(5..20)", $ok)]
-            #[doc = concat!("let rest: RangeSet2<i32> = a.difference(&b)", $ok)]
-            /// assert_eq!(rest.boundaries(), [0, 5]);
-            #[doc = $end]
-            /// ```
-            #[$must_use]
-            pub fn difference<B>(&self, that: &RangeSetRef<T>) -> $form::Given<$form::RangeSet<B>>
-            where
-                B: Array<Item = T>,
-            {
-                let (left, right) = (self.boundaries(), that.boundaries());
-                let list = B::List::merged(left, right, &$form::Copier, &DiffOp);
-                $form::given::<T, _, _>(list.map($form::RangeSet::of_list))
-            }
+            pub fn difference by DiffOp, "5..20" => "rest", "[0, 5]";
 
             /// Returns the set of the members of one of the two sets that aren't members of the
             /// other.
-            ///
-            #[doc = $errors!("If memory runs out or a copy fails.")]
-            /// # Examples
-            ///
-            /// ```
-            #[doc = concat!("use ", $at, "::RangeSet2;")]
-            ///
-            #[doc = concat!("let a = RangeSet2::", $from, "(0..10)", $ok)]
-            #[doc = concat!("let b = RangeSet2::", $from, "(5..20)", $ok)]
-            #[doc = concat!("let one: RangeSet2<i32> = a.symmetric_difference(&b)", $ok)]
-            /// assert_eq!(one.boundaries(), [0, 5, 10, 20]);
-            #[doc = $end]
-            /// ```
-            #[$must_use]
-            pub fn symmetric_difference<B>(
-                &self,
-                that: &RangeSetRef<T>,
-            ) -> $form::Given<$form::RangeSet<B>>
-            where
-                B: Array<Item = T>,
-            {
-                let (left, right) = (self.boundaries(), that.boundaries());
-                let list = B::List::merged(left, right, &$form::Copier, &XorOp);
-                $form::given::<T, _, _>(list.map($form::RangeSet::of_list))
+            pub fn symmetric_difference by XorOp, "5..20" => "one", "[0, 5, 10, 20]";
             }
 
             /// Returns the result of any of the sixteen operations on two sets.
@@ -151,14 +102,14 @@ macro_rules! operations {
                 &self,
                 that: &RangeSetRef<T>,
                 op: Connective,
-            ) -> $form::Given<$form::RangeSet<B>>
+            ) -> $form::Returned<$form::RangeSet<B>>
             where
                 B: Array<Item = T>,
                 T: RangeSetEntry,
             {
                 let (left, right) = (self.boundaries(), that.boundaries());
                 let list = B::List::combined(left, right, &$form::Copier, op);
-                $form::given::<T, _, _>(list.map($form::RangeSet::of_list))
+                $form::returned::<T, _, _>(list.map($form::RangeSet::of_list))
             }
         }
     };

@@ -1,4 +1,4 @@
-//! What is asked of one set, or of two. Nothing here takes memory.
+//! Questions of one set, or of two. None takes memory.
 
 use crate::generated::range_collections::{Comparisons, FromPlace};
 use crate::generated::range_merge::NoRoom;
@@ -97,7 +97,7 @@ impl<T: Ord> RangeSetRef<T> {
                     .proved()
                     .has_all_within(&range.start, &range.end, &mut count)
             }
-            RangeSetRange::RangeFrom(range) => self.next_gap(&range.start).is_some(),
+            RangeSetRange::RangeFrom(range) => !self.has_all_from(&range.start),
         }
     }
 
@@ -107,7 +107,7 @@ impl<T: Ord> RangeSetRef<T> {
             RangeSetRange::Range(range) => {
                 self.proved().has_member_within(&range.start, &range.end)
             }
-            RangeSetRange::RangeFrom(range) => self.next_member(&range.start).is_some(),
+            RangeSetRange::RangeFrom(range) => self.has_some_from(&range.start),
         }
     }
 
@@ -219,8 +219,7 @@ impl<T: Ord> RangeSetRef<T> {
             .merge_into(that.proved(), &op, out, &mut Comparisons::new())
     }
 
-    /// Panics where the generated merges would ask for what these two sets and this operation don't
-    /// have.
+    /// Panics if the operation or the lengths of the sets break what the generated merges require.
     fn check_merge(&self, that: &RangeSetRef<T>, op: Connective) {
         assert!(
             !op.neither,

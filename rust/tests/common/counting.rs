@@ -8,6 +8,7 @@ pub struct Counting;
 
 thread_local! {
     static HELD: Cell<isize> = const { Cell::new(0) };
+    static MOST: Cell<isize> = const { Cell::new(0) };
 }
 
 /// How many more bytes this thread asked for than it gave back. It is below zero in a thread that
@@ -17,8 +18,18 @@ pub fn held() -> isize {
     HELD.with(Cell::get)
 }
 
+/// How many bytes more than before this thread holds at most while it makes a call.
+pub fn most_held<R>(call: impl FnOnce() -> R) -> isize {
+    let before = held();
+    MOST.with(|most| most.set(before));
+    call();
+    MOST.with(Cell::get) - before
+}
+
 fn count(more: usize, less: usize) {
-    HELD.with(|held| held.set(held.get() + more as isize - less as isize));
+    let now = held() + more as isize - less as isize;
+    HELD.with(|held| held.set(now));
+    MOST.with(|most| most.set(most.get().max(now)));
 }
 
 // Safety: each call is the system's.

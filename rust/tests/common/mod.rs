@@ -4,6 +4,8 @@
 pub mod counting;
 
 use range_sets::{Array, RangeSet, RangeSetRef};
+use std::collections::hash_map::DefaultHasher;
+use std::hash::{Hash, Hasher};
 
 /// A set as its members among 0 to 63, bit by bit. The highest bit also stands for all values
 /// above.
@@ -27,6 +29,13 @@ pub fn bitmap(set: &RangeSetRef<u8>) -> Bitmap {
     (0..64)
         .filter(|i| set.contains(i))
         .fold(0, |bits, i| bits | 1 << i)
+}
+
+/// The hash of a value, the same in every run.
+pub fn hash(value: &(impl Hash + ?Sized)) -> u64 {
+    let mut hasher = DefaultHasher::new();
+    value.hash(&mut hasher);
+    hasher.finish()
 }
 
 /// The four operations that have names of their own.

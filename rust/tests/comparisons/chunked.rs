@@ -73,16 +73,27 @@ fn two_searches() {
     }
 }
 
-/// Each part is found by two searches, and its ends are compared with the range's.
+/// After one search the ends of each part are compared with the range's.
 #[test]
 fn parts_by_value() {
     let (set, search) = many();
-    let a_part = 2 * search + 2;
-    each! { &set, RANGES, 4 * a_part; |it, from, to|
+    each! { &set, RANGES, search + 1 + 2 * 4; |it, from, to|
         it.gaps(from..to).take(4).count();
         it.gaps(from..).take(4).count();
         it.ranges_within(from..to).take(4).count();
         it.ranges_within(from..).take(4).count();
+    }
+}
+
+/// Also where the last range has no end.
+#[test]
+fn ranges_from_a_value_on() {
+    let (mut set, search) = many();
+    set.insert(Counted(10 * RANGES + 2)..);
+    each! { &set, RANGES, search; |it, from, to|
+        it.overlapping(from..).count();
+        it.overlapping(&from..).next_back();
+        space(it).overlapping(from..).count();
     }
 }
 

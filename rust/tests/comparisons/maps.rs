@@ -50,6 +50,28 @@ fn two_searches() {
     }
 }
 
+/// After one search the ends of each part are compared with the range's.
+#[test]
+fn parts_by_value() {
+    let (map, search) = many();
+    each! { &map, RANGES, search + 1 + 2 * 4; |it, from, to|
+        it.gaps(from..to).take(4).count();
+        it.gaps(from..).take(4).count();
+        it.gaps(..to).take(4).count();
+    }
+}
+
+/// Also where the last range has no end.
+#[test]
+fn ranges_from_a_key_on() {
+    let (mut map, search) = many();
+    map.insert(Counted(10 * RANGES + 2).., 7);
+    each! { &map, RANGES, search; |it, from, to|
+        it.overlapping(from..).count();
+        it.overlapping(&from..).next_back();
+    }
+}
+
 /// One says whether the range is free, with a look at its ends and at the key behind its start.
 #[test]
 fn a_range_that_is_put_where_it_is_free_is_searched_three_times() {

@@ -45,6 +45,27 @@ fn one_search() {
     }
 }
 
+/// Values next to each other in ascending order, however many boundaries there are.
+#[test]
+fn a_cursor_in_ascending_order() {
+    let (set, search) = many();
+    let last = set.boundaries()[set.boundaries().len() - 1].0;
+    for step in 1..100 {
+        let mut cursor = set.cursor();
+        let mut passed = 0;
+        for value in (0..last + 3).step_by(step) {
+            let now = set.boundaries().partition_point(|it| it.0 <= value);
+            let made = count(|| cursor.contains(&Counted(value)));
+            assert!(made <= 2 * digits(now - passed) + 2, "{made} for {value}");
+            passed = now;
+        }
+    }
+    let mut cursor = set.cursor();
+    for value in (0..last + 3).rev() {
+        assert!(count(|| cursor.contains(&Counted(value))) <= 2 * search + 2);
+    }
+}
+
 #[test]
 fn two_searches() {
     let (set, search) = many();
@@ -86,12 +107,11 @@ fn ranges_without_an_end() {
     }
 }
 
-/// Each part is found by two searches, and its ends are compared with the range's.
+/// After one search the ends of each part are compared with the range's.
 #[test]
 fn parts_by_value() {
     let (set, search) = many();
-    let a_part = 2 * search + 2;
-    each! { &set, RANGES, 4 * a_part; |it, from, to|
+    each! { &set, RANGES, search + 1 + 2 * 4; |it, from, to|
         it.gaps(from..to).take(4).count();
         it.gaps(from..).take(4).count();
         it.ranges_within(from..to).take(4).count();
@@ -162,7 +182,7 @@ type Place = fn(u32) -> u32;
 fn orders() -> [(&'static str, Place, usize); 3] {
     let sorts = 2 * digits(MANY as usize);
     [
-        ("in order", |i| i, 3),
+        ("in order", |i| i, 2),
         ("falling", |i| MANY - 1 - i, 9),
         (
             "in no order",
@@ -201,6 +221,26 @@ fn many_ranges_in_any_order() {
             count(|| made = ChunkedRangeSet::from_values(values()).into()),
         ];
         assert_eq!(made.boundaries().len(), 2 * MANY as usize, "{order}");
+        assert!(
+            calls.iter().all(|made| *made <= at_most),
+            "{order}: {calls:?} comparisons, and {at_most} are allowed"
+        );
+    }
+}
+
+/// Ranges that touch become one with no more comparisons than such as lie apart.
+#[test]
+fn many_ranges_that_touch() {
+    for (order, place, a_range) in orders() {
+        let at_most = a_range * MANY as usize;
+        let starts = || (0..MANY).map(place).map(|i| 10 * i);
+        let ranges = || starts().map(|start| Counted(start)..Counted(start + 10));
+        let mut made = [Set::empty(), Set::empty()];
+        let calls = [
+            count(|| made[0] = Set::from_ranges(ranges())),
+            count(|| made[1] = Set::from_values((0..MANY).map(place).map(Counted))),
+        ];
+        assert!(made.iter().all(|it| it.boundaries().len() == 2), "{order}");
         assert!(
             calls.iter().all(|made| *made <= at_most),
             "{order}: {calls:?} comparisons, and {at_most} are allowed"

@@ -442,7 +442,7 @@ fn drops_that_panic_between_windows_far_apart() {
     });
 }
 
-/// A set takes two ranges of another one: a panic leaves none of both, both, or nothing.
+/// A set takes two ranges of another one: a panic leaves nothing.
 #[test]
 fn panics_between_appended_ranges() {
     fn append(plan: Plan, ranges: u16) -> (bool, Vec<u16>) {
@@ -469,8 +469,7 @@ fn panics_between_appended_ranges() {
                         assert_eq!(found, asked);
                         break;
                     }
-                    let is_one_of_three = found == before || found == asked || found.is_empty();
-                    assert!(is_one_of_three, "{ranges} ranges, turn {turn}");
+                    assert!(found.is_empty(), "{ranges} ranges, turn {turn}");
                     turn += 1;
                 }
                 assert!(turn > 1);

@@ -393,3 +393,50 @@ fn a_map_whose_change_panicked_is_of_use() {
         assert!(map.is_empty());
     });
 }
+
+/// Appends two ranges by a plan. Whether the call returned, and the cells of both maps then.
+fn append_by(plan: Plan, ranges: u16, (range, value): &(Range<u16>, u16)) -> (bool, [Cells; 2]) {
+    let found = {
+        let more = [(range.clone(), *value), (90..95, 7)];
+        let more = more.map(|(it, value)| (Hostile::of(it.start)..Hostile::of(it.end), value));
+        let more = more.map(|(range, value)| (range, Hostile::of(value)));
+        let (mut own, mut that) = (map(ranges), more.into_iter().collect());
+        PLAN.with(|it| it.set(plan));
+        let returned = catch_unwind(AssertUnwindSafe(|| own.append(&mut that))).is_ok();
+        PLAN.with(|it| it.set(Plan::Honest));
+        (returned, [read(&own), read(&that)])
+    };
+    assert_eq!(LIVE.with(Cell::get), 0, "of {ranges} ranges and {range:?}");
+    found
+}
+
+/// No value of either map stays on its own if one panics between two ranges.
+#[test]
+fn maps_are_empty_after_an_append_that_panics() {
+    const NONE: Cells = [None; 100];
+    without_messages(|| {
+        for (plan, name) in [
+            (Plan::PanicAtComparison as fn(usize) -> Plan, "comparison"),
+            (Plan::PanicAtClone, "clone"),
+            (Plan::PanicAtDrop, "drop"),
+        ] {
+            let mut panicked = 0;
+            for (ranges, case) in &CASES {
+                let mut asked = cells(*ranges);
+                put(&mut asked, case.0.clone(), Some(case.1));
+                put(&mut asked, 90..95, Some(7));
+                for turn in (0..).step_by(one_in()) {
+                    let (returned, found) = append_by(plan(turn), *ranges, case);
+                    let what = format!("{ranges} ranges and {case:?}, {name} {turn}");
+                    if returned {
+                        assert_eq!(found, [asked, NONE], "{what}");
+                        break;
+                    }
+                    assert_eq!(found, [NONE, NONE], "{what}");
+                    panicked += 1;
+                }
+            }
+            assert!(panicked > 0, "no {name} panicked");
+        }
+    });
+}

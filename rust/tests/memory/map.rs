@@ -304,6 +304,20 @@ fn what_grows_is_refused_in_the_end() {
 }
 
 #[test]
+fn one_refusal_ends_what_extends_a_map() {
+    let all = || (0..3_000u32).map(|i| (10 * i..10 * i + 5, i));
+    for turn in 0..20 {
+        let mut map = RangeMap::new();
+        let (result, refused) = refusing(Refusal::One(turn), || map.extend(all()));
+        assert_eq!((result, refused), (Err(AllocError), 1), "request {turn}");
+        assert!(map.len() < 3_000, "request {turn}");
+        let found = map.iter().map(|(range, &value)| (range.cloned(), value));
+        let before = all().map(|(range, value)| (range.into(), value));
+        assert!(found.eq(before.take(map.len())), "request {turn}");
+    }
+}
+
+#[test]
 fn what_takes_no_memory_asks_for_none() {
     let (empty, _) = refusing(Refusal::From(0), Map::new);
     assert!(empty.is_empty());

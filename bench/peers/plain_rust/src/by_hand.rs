@@ -304,8 +304,9 @@ const ROWS: &[Row] = &[
         pass(set(&in_order(n)), |it| { let mut set = it.clone(); set.retain(|it| **it.start() % 30 != 0); set }),
         pass(in_order(n), |it| { let mut set = it.clone(); set.retain(|it| it.0 % 30 != 0); set })] },
     Row { name: b"contains, as many in order\0", sizes: MANY, is_each: true, make: |n| [
-        pass((set(&in_order(n)), pairs(14, 0, n)), |it|
-            it.1.iter().filter(|value| it.0.contains(&value.0)).count() as i64),
+        pass((set(&in_order(n)), pairs(14, 0, n)), |it| {
+            let mut cursor = it.0.cursor();
+            it.1.iter().filter(|value| cursor.contains(&value.0)).count() as i64 }),
         pass((in_order(n), pairs(14, 0, n)), |it| {
             let mut rest = it.0.as_slice();
             let is_in = |value: &&(i64, i64)| {

@@ -8,9 +8,8 @@ use range_chunks::{ChunkedRangeSet, ChunkedSpace};
 use range_collections::{Countable, FromPlace};
 use std::ops::Range;
 
-// Writes the least multiple of `align` from which `count` numbers lie in the range and none is a
-// member, if there is one. The set remembers what it learns of its
-// gaps.
+// Whether there is a multiple of `align` from which on `count` numbers lie in the range and none is
+// a member, and then writes the least. The set remembers what it learns of its gaps.
 pub(crate) fn first_fit_aligned<T: FromPlace>(
     set: &mut ChunkedSpace<T>,
     within: Range<T>,
@@ -32,8 +31,8 @@ pub(crate) fn first_fit_aligned<T: FromPlace>(
     put(set.first_fit_aligned(within, count, align), at)
 }
 
-// Tells the least number from which on `count` members in a row lie in the range, where there is
-// one.
+// Whether there is a number from which on `count` members in a row lie in the range, and then
+// writes the least.
 pub(crate) fn first_run<T: Countable + Copy>(
     set: &ChunkedRangeSet<T>,
     within: Range<T>,

@@ -1,5 +1,5 @@
-//! Members of a set in chunks one by one: the one before, which has so many others below it, and how
-//! many there are.
+//! Members of a set in chunks one by one: the greatest at or below a number, the one with a given
+//! number of others below it, and how many there are.
 ghost use Rattle.std.specs.Prelude.{◌≡◌, ◌≤◌, ◌^◌, true, false, Some, None, IsTrue};
 ghost use Rattle.std.specs.Ordering.{is_le};
 ghost use Rattle.range_collections.specs.Boundaries.{member};
@@ -10,7 +10,7 @@ use crate::parts::put;
 use range_chunks::ChunkedRangeSet;
 use range_collections::{Countable, FromPlace};
 
-// Tells the greatest member at or below `from`, where there is one.
+// Whether a number at or below `from` is a member, and then writes the greatest.
 pub(crate) fn prev_member<T: FromPlace>(
     set: &ChunkedRangeSet<T>,
     from: &T,
@@ -25,7 +25,7 @@ pub(crate) fn prev_member<T: FromPlace>(
     put(set.prev_member(from), previous)
 }
 
-// Tells the greatest number at or below `from` that isn't a member, where there is one.
+// Whether a number at or below `from` is no member, and then writes the greatest.
 pub(crate) fn prev_gap<T: FromPlace>(set: &ChunkedRangeSet<T>, from: &T, previous: &mut T) -> bool
     ensures previous { IsTrue result →
         IsPrevious T.cmp T.is_value false set.now from.now previous.new }
@@ -36,7 +36,7 @@ pub(crate) fn prev_gap<T: FromPlace>(set: &ChunkedRangeSet<T>, from: &T, previou
     put(set.prev_gap(from), previous)
 }
 
-// Tells the member with so many below it, where there is one.
+// Whether there is a member with `k` others below it, and then writes it.
 pub(crate) fn select<T: FromPlace>(set: &ChunkedRangeSet<T>, k: u64, at: &mut T) -> bool
     ensures member { IsTrue result → member T.cmp set.now at.new ≡ true }
     ensures rank { IsTrue result → members_below T.cmp T.value set.now (T.place at.new) ≡ k }
@@ -54,7 +54,7 @@ pub(crate) fn rank<T: Countable>(set: &ChunkedRangeSet<T>, at: &T) -> u64
     set.rank(at) as u64
 }
 
-// Tells how many numbers are members, where the set has an end.
+// Whether the set has an end, and then writes how many numbers are members.
 pub(crate) fn covered<T: Countable>(set: &ChunkedRangeSet<T>, count: &mut u64) -> bool
     requires few { T.count ≤ 2 ^ 64 }
     ensures value { IsTrue result → covered_of T.cmp T.value T.count set.now ≡ Some count.new }

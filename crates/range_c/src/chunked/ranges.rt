@@ -13,7 +13,7 @@ use crate::chunked::put_ends;
 use crate::parts::tell;
 use range_chunks::{ChunkedRangeSet, Iter};
 
-// Tells the range that holds `value`, where it is a member.
+// Whether `value` is a member, and then writes the range that holds it.
 pub(crate) fn range_at<T: Ord + Copy>(
     set: &ChunkedRangeSet<T>,
     value: &T,
@@ -33,7 +33,7 @@ pub(crate) fn range_at<T: Ord + Copy>(
     tell(set.range_at(value), start, end, has_end)
 }
 
-// Tells the range that holds `value`, or else the next one above it, where there is one.
+// Whether a range holds `value` or lies above it, and then writes the first such range.
 pub(crate) fn range_from<T: Ord + Copy>(
     set: &ChunkedRangeSet<T>,
     value: &T,
@@ -59,7 +59,7 @@ pub(crate) fn range_from<T: Ord + Copy>(
     }
 }
 
-// Tells the first range, where there is one.
+// Whether there is a first range, and then writes it.
 pub(crate) fn first<T: Ord + Copy>(
     set: &ChunkedRangeSet<T>,
     start: &mut T,
@@ -72,7 +72,7 @@ pub(crate) fn first<T: Ord + Copy>(
     tell(set.first(), start, end, has_end)
 }
 
-// Tells the last range, where there is one.
+// Whether there is a last range, and then writes it.
 pub(crate) fn last<T: Ord + Copy>(
     set: &ChunkedRangeSet<T>,
     start: &mut T,

@@ -185,7 +185,7 @@ pub extern "C" fn proved_range_set_i64_chunked_insert(
     done
 }
 
-/// The same of the numbers from `start` on.
+/// Puts the numbers from `start` on in, and answers whether there was memory for it. If there was none, the set is as it was.
 #[unsafe(no_mangle)]
 pub extern "C" fn proved_range_set_i64_chunked_insert_from(
     set: &mut ChunkedI64,
@@ -222,7 +222,7 @@ pub extern "C" fn proved_range_set_i64_chunked_remove(
     done
 }
 
-/// The same of the numbers from `start` on.
+/// Takes the numbers from `start` on out, and answers whether there was memory for it. If there was none, the set is as it was.
 #[unsafe(no_mangle)]
 pub extern "C" fn proved_range_set_i64_chunked_remove_from(
     set: &mut ChunkedI64,
@@ -357,7 +357,7 @@ pub extern "C" fn proved_range_set_i64_chunked_range_at(
     answer
 }
 
-/// Tells the range that holds the number, or else the next one above it, if there is one.
+/// Whether a range holds the number or lies above it, and then writes the first such range: its start, whether it has an end, and that.
 #[unsafe(no_mangle)]
 pub extern "C" fn proved_range_set_i64_chunked_range_from(
     set: &mut ChunkedI64,
@@ -483,7 +483,7 @@ pub extern "C" fn proved_range_set_i64_chunked_next_gap(
     answer
 }
 
-/// Tells the greatest member at or below `from`, if there is one.
+/// Whether a number at or below `from` is a member, and then writes the greatest.
 #[unsafe(no_mangle)]
 pub extern "C" fn proved_range_set_i64_chunked_prev_member(
     set: &mut ChunkedI64,
@@ -505,7 +505,7 @@ pub extern "C" fn proved_range_set_i64_chunked_prev_member(
     answer
 }
 
-/// Tells the greatest number at or below `from` that isn't a member, if there is one.
+/// Whether a number at or below `from` is no member, and then writes the greatest.
 #[unsafe(no_mangle)]
 pub extern "C" fn proved_range_set_i64_chunked_prev_gap(
     set: &mut ChunkedI64,
@@ -527,7 +527,7 @@ pub extern "C" fn proved_range_set_i64_chunked_prev_gap(
     answer
 }
 
-/// Tells the member with `k` others below it, if there is one.
+/// Whether there is a member with `k` others below it, and then writes it.
 #[unsafe(no_mangle)]
 pub extern "C" fn proved_range_set_i64_chunked_select(
     set: &mut ChunkedI64,

@@ -174,7 +174,7 @@ pub extern "C" fn proved_range_map_i64_insert(
     done
 }
 
-/// The same of the keys from `start` on.
+/// Gives the keys from `start` on the value, and answers whether there was memory for it. If there was none, the map is as it was.
 #[unsafe(no_mangle)]
 pub extern "C" fn proved_range_map_i64_insert_from(
     map: &mut MappedI64,
@@ -212,7 +212,7 @@ pub extern "C" fn proved_range_map_i64_remove(
     done
 }
 
-/// The same of the keys from `start` on.
+/// Takes the values of the keys from `start` on away, and answers whether there was memory for it. If there was none, the map is as it was.
 #[unsafe(no_mangle)]
 pub extern "C" fn proved_range_map_i64_remove_from(
     map: &mut MappedI64,
@@ -248,7 +248,7 @@ pub extern "C" fn proved_range_map_i64_get(
     answer
 }
 
-/// Tells the longest range around the key whose keys have one value, or none: its start and its end, where it has them, and as `get` the value.
+/// Whether the key has a value, and then writes it. It also writes the longest range around the key whose keys have one value, or none: its start and its end, and for each whether there is one.
 #[unsafe(no_mangle)]
 pub extern "C" fn proved_range_map_i64_range_at(
     map: &mut MappedI64,

@@ -1,12 +1,15 @@
 //! Where a stretch of values fits beside the members, or in them.
 ghost use Rattle.std.specs.Prelude.{◌≡◌, ◌<◌, ◌≤◌, ◌+◌, ℕ, true, false, cond, Some, None, IfSome, IfNone};
+ghost use Rattle.std.specs.Option.{option_map};
 ghost use Rattle.std.specs.Ordering.{is_le};
 ghost use Rattle.range_merge.specs.Boundaries.{member};
-ghost use Rattle.range_collections.specs.Fits.{Fits, IsMultiple, IsRow};
+ghost use Rattle.range_collections.specs.Fits.{Fits, IsFirstRow, IsMultiple, IsOneOf, IsRow};
 
-use crate::reading::first_fit;
 use crate::set::ChunkedRangeSet;
-use range_collections::{Countable, FromPlace, Multiples, Unsigned, place_in};
+use crate::within::parts_within;
+use range_collections::{
+    Comparisons, Countable, FromPlace, Multiples, Row, Unsigned, first_row_between,
+};
 use std::ops::Range;
 
 impl<T: Unsigned> ChunkedRangeSet<T> {
@@ -54,12 +57,7 @@ impl<T: Countable + Copy> ChunkedRangeSet<T> {
             result ≡ cond (is_le (T.cmp within.start within.end)) (Some within.start) None }
     {
         let Range { start, end } = within;
-        start.known();
-        end.known();
-        if count == 0 {
-            return start.cmp(&end).is_le().then_some(start);
-        }
-        let row = first_fit(self.gaps(&start..&end), count, Multiples::of_one())?;
+        let row = self.first_row(&start, &end, false, count, Multiples::of_one())?;
         Some(row.start)
     }
 
@@ -76,13 +74,32 @@ impl<T: Countable + Copy> ChunkedRangeSet<T> {
             (T.place within.start) (T.place within.end) count n)) }
     {
         let Range { start, end } = within;
-        start.known();
-        end.known();
-        if count == 0 {
-            return start.cmp(&end).is_le().then_some(start);
-        }
-        let row = first_fit(self.ranges_within(&start..&end), count, Multiples::of_one())?;
+        let row = self.first_row(&start, &end, true, count, Multiples::of_one())?;
         Some(row.start)
+    }
+
+    // The first `count` values in a row, from one of the multiples on, which are members exactly if
+    // `inside`. It is inlined, so that nothing is divided for the multiples of 1.
+    #[inline(always)]
+    fn first_row(
+        &self,
+        start: &T,
+        end: &T,
+        inside: bool,
+        count: u128,
+        multiples: Multiples,
+    ) -> Option<Row<T>>
+        requires { 0 < multiples.of }
+        ensures row { IfSome result (IsFirstRow T.cmp T.value T.place inside self.now
+            (T.place start.now) (T.place end.now) count multiples) }
+        ensures below { IfSome result (λ row. row.place < T.count) }
+        ensures none { IfNone result ((n : ℕ) → IsOneOf multiples n → ¬ (IsRow T.cmp T.value inside
+            self.now (T.place start.now) (T.place end.now) count n)) }
+        ensures nothing { count ≡ 0 → multiples.of ≡ 1 → option_map (λ row. row.start) result ≡
+            cond (is_le (T.cmp start.now end.now)) (Some start.now) None }
+    {
+        let parts = parts_within(&self.list, start..end, inside, &mut Comparisons::new());
+        first_row_between(start, end, parts, count, multiples)
     }
 }
 
@@ -120,16 +137,7 @@ impl<T: FromPlace> ChunkedRangeSet<T> {
         ensures none { IfNone result ((n : ℕ) → IsMultiple T.zero align n → ¬ (IsRow T.cmp T.value false
             self.now (T.place start.now) (T.place end.now) count n)) }
     {
-        let multiples = Multiples::among::<T>(align);
-        start.known();
-        end.known();
-        if count == 0 {
-            if !start.cmp(end).is_le() {
-                return None;
-            }
-            return place_in(&(start..end), 0, multiples);
-        }
-        let row = first_fit(self.gaps(start..end), count, multiples)?;
+        let row = self.first_row(start, end, false, count, Multiples::among::<T>(align))?;
         Some(row.place)
     }
 }

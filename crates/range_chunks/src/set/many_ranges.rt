@@ -1,4 +1,5 @@
-//! The set of many ranges, which are added one by one.
+//! The set of many ranges, which are inserted one by one, in any order: nothing has to be sorted
+//! first.
 ghost use Rattle.std.specs.Prelude.{◌≡◌, ◌↔◌, ◌∷◌, [], true, Any, IfOk};
 ghost use Rattle.range_merge.specs.Boundaries.{member};
 ghost use Rattle.range_collections.specs.Ranges.{range_boundaries, range_items, IsInRange};
@@ -38,7 +39,7 @@ impl<T: EntryClone + Drop> ChunkedRangeSet<T> {
         }
     }
 
-    // The same for a range with an end.
+    // Adds the elements of a range with an end, with copies of both ends if it has elements.
     fn add_range(&mut self, range: &Range<T>) -> Result<(), AllocError>
         ensures { IsAdded T.cmp T.is_copy T.is_infallible 0 self.old
             (range_items T.cmp range.now.start range.now.end) self.new result }
@@ -53,7 +54,7 @@ impl<T: EntryClone + Drop> ChunkedRangeSet<T> {
         self.insert(start..end)
     }
 
-    // The same for one without an end.
+    // Adds the elements of a range without an end, with a copy of its start.
     fn add_from(&mut self, start: &T) -> Result<(), AllocError>
         ensures { IsAdded T.cmp T.is_copy T.is_infallible 0 self.old (start.now ∷ [])
             self.new result }

@@ -2,17 +2,29 @@
 ghost use Rattle.std.specs.Prelude.{◌≡◌, ◌<◌, ◌≤◌, ◌+◌, ℕ, false, cond, Some, None, IfSome, IfNone};
 ghost use Rattle.std.specs.Ordering.{is_le};
 ghost use Rattle.range_merge.specs.Boundaries.{member};
-ghost use Rattle.range_collections.specs.Fits.{Fits, IsMultiple, IsOneOf, IsRow};
-ghost use Rattle.range_chunks.specs.Bounds.{IsBound, IsFirstFree, IsPast, IsStep};
+ghost use Rattle.range_collections.specs.Fits.{Fits, IsFirstRow, IsMultiple, IsOneOf, IsRow};
+ghost use Rattle.range_chunks.specs.Bounds.{IsBound, IsPast, IsStep};
 
 use crate::gap_bound::{GapBound, first_above, forget_wasted, stop_of};
-use crate::reading::{Reading, SearchStep, Until, first_row};
 use crate::space::ChunkedSpace;
-use range_collections::{Countable, FromPlace, Multiples, Row, Unsigned};
+use range_collections::{
+    Countable, FromPlace, Multiples, Row, RowWalk, Unsigned, Until, walk_to_row,
+};
 use std::ops::Range;
 
 // How many gaps a bound is for at most.
 const GAPS: usize = 512;
+
+/// What a step of a search found.
+#[derive(Drop)]
+pub enum SearchStep<T> {
+    /// It fits there.
+    At(Row<T>),
+    /// It fits nowhere below.
+    From(T),
+    /// It fits nowhere.
+    Nowhere,
+}
 
 impl<T: Unsigned> ChunkedSpace<T> {
     /// The least number from which `len` numbers lie in the range and are free, or `None` if there
@@ -67,7 +79,7 @@ impl<T: Countable + Copy> ChunkedSpace<T> {
         requires aligned { 0 < multiples.of }
         ensures unchanged { self.new ≡ self.old }
         ensures first { IfSome result
-            (IsFirstFree T.cmp T.value T.place self.old start end count multiples) }
+            (IsFirstRow T.cmp T.value T.place false self.old (T.place start) (T.place end) count multiples) }
         ensures none { IfNone result ((n : ℕ) → IsOneOf multiples n → ¬ (IsRow T.cmp T.value false self.old
             (T.place start) (T.place end) count n)) }
     {
@@ -115,9 +127,9 @@ impl<T: Countable + Copy> ChunkedSpace<T> {
             ranges: GAPS,
             place: stop_of(self.bounds.as_slice(), at, from.place()),
         };
-        match first_row(self.taken.gaps(&from..&end), count, multiples, Some(until)) {
-            Reading::Found(row) => SearchStep::At(row),
-            Reading::Stopped { end: next, most } => {
+        match walk_to_row(self.taken.gaps(&from..&end), count, multiples, Some(until)) {
+            RowWalk::Found(row) => SearchStep::At(row),
+            RowWalk::Stopped { end: next, most } => {
                 let bound = GapBound {
                     start: from,
                     end: next,
@@ -128,7 +140,7 @@ impl<T: Countable + Copy> ChunkedSpace<T> {
                 self.note(at, bound);
                 SearchStep::From(next)
             }
-            Reading::End => SearchStep::Nowhere,
+            RowWalk::End => SearchStep::Nowhere,
         }
     }
 

@@ -127,7 +127,10 @@ impl FromPlace for i8 {
     }
 
     fn from_place(place: u128) -> Option<i8> {
-        i8::try_from(i128::try_from(place).ok()? + i8::MIN as i128).ok()
+        match i8::try_from(place) {
+            Ok(above) => Some(i8::MIN + above),
+            Err(_) => i8::try_from(place - (1 << 7)).ok(),
+        }
     }
 
     fn greatest() -> i8 {
@@ -143,7 +146,10 @@ impl FromPlace for i16 {
     }
 
     fn from_place(place: u128) -> Option<i16> {
-        i16::try_from(i128::try_from(place).ok()? + i16::MIN as i128).ok()
+        match i16::try_from(place) {
+            Ok(above) => Some(i16::MIN + above),
+            Err(_) => i16::try_from(place - (1 << 15)).ok(),
+        }
     }
 
     fn greatest() -> i16 {
@@ -159,7 +165,10 @@ impl FromPlace for i32 {
     }
 
     fn from_place(place: u128) -> Option<i32> {
-        i32::try_from(i128::try_from(place).ok()? + i32::MIN as i128).ok()
+        match i32::try_from(place) {
+            Ok(above) => Some(i32::MIN + above),
+            Err(_) => i32::try_from(place - (1 << 31)).ok(),
+        }
     }
 
     fn greatest() -> i32 {
@@ -175,7 +184,10 @@ impl FromPlace for i64 {
     }
 
     fn from_place(place: u128) -> Option<i64> {
-        i64::try_from(i128::try_from(place).ok()? + i64::MIN as i128).ok()
+        match i64::try_from(place) {
+            Ok(above) => Some(i64::MIN + above),
+            Err(_) => i64::try_from(place - (1 << 63)).ok(),
+        }
     }
 
     fn greatest() -> i64 {
@@ -210,7 +222,10 @@ impl FromPlace for isize {
     }
 
     fn from_place(place: u128) -> Option<isize> {
-        isize::try_from(i128::try_from(place).ok()? + isize::MIN as i128).ok()
+        match isize::try_from(place) {
+            Ok(above) => Some(isize::MIN + above),
+            Err(_) => isize::try_from(place - (isize::MAX as u128 + 1)).ok(),
+        }
     }
 
     fn greatest() -> isize {

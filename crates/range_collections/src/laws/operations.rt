@@ -1,4 +1,5 @@
-//! Laws of sets.
+//! Laws of operations on sets: each has one result, which sides may be exchanged or grouped anew,
+//! and what a subset and disjoint sets are.
 ghost use Rattle.std.specs.Prelude.{◌≡◌, ◌↔◌, ◌⊎◌, ℕ, true, false, List, [], Ok, ◌∷◌, ◌++◌};
 ghost use Rattle.range_merge.specs.Boundaries.{IsAscending, IsSameSet, member};
 ghost use Rattle.range_merge.specs.Connective.{Table, Means, union_table, intersection_table, difference_table, symmetric_difference_table};

@@ -1,4 +1,5 @@
-//! Laws of lists of values.
+//! Laws of sets among all values of a type, where a connective may be on while both sides are off,
+//! as the negation is.
 ghost use Rattle.std.specs.Prelude.{◌≡◌, ◌↔◌, true, false, List, All};
 ghost use Rattle.range_merge.specs.Boundaries.{IsAscending, IsSameSet};
 ghost use Rattle.range_merge.specs.Connective.{Table, Means, table_of, union_table, intersection_table, difference_table};

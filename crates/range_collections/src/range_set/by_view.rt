@@ -23,7 +23,7 @@ use crate::countable::Countable;
 use crate::iter::{Gaps, Iter, RangesWithin};
 use crate::range_set::RangeSet;
 use crate::range_set_range::RangeSetRange;
-use crate::view::RangeSetRef;
+use crate::view::{Cursor, RangeSetRef};
 use range_entry::RangeSetEntry;
 use range_merge::{MergeOperation, NoRoom};
 use std::ops::Range;
@@ -37,8 +37,8 @@ impl<T: Ord, const N: usize> RangeSet<T, N> {
         self.as_ref().contains(value)
     }
 
-    /// The same, counted: at most as many comparisons as the number of boundaries has binary
-    /// digits.
+    /// The same as `contains`, counted: at most as many comparisons as the number of boundaries has
+    /// binary digits.
     #[inline]
     pub fn contains_counted(&self, value: &T, count: &mut Comparisons) -> bool
         requires { count.old < 2 ^ 64 }
@@ -46,6 +46,15 @@ impl<T: Ord, const N: usize> RangeSet<T, N> {
         ensures comparisons { AddsAtMost count.old count.new (digits (length self.now)) }
     {
         self.as_ref().contains_counted(value, count)
+    }
+
+    /// A cursor of the set, before its first boundary.
+    #[inline]
+    pub fn cursor(&self) -> Cursor<'_, T>
+        ensures boundaries { result.set.boundaries.now ≡ self.now }
+        ensures place { result.place ≡ 0 }
+    {
+        self.as_ref().cursor()
     }
 
     /// Whether the set is empty.
@@ -182,8 +191,8 @@ impl<T: Ord, const N: usize> RangeSet<T, N> {
         self.as_ref().range_at(value)
     }
 
-    /// The same, counted: at most as many comparisons as the number of boundaries has binary
-    /// digits.
+    /// The same as `range_at`, counted: at most as many comparisons as the number of boundaries has
+    /// binary digits.
     #[inline]
     pub fn range_at_counted(&self, value: &T, count: &mut Comparisons) -> Option<RangeSetRange<&T>>
         requires { count.old < 2 ^ 64 }
@@ -234,8 +243,8 @@ impl<T: Ord, const N: usize> RangeSet<T, N> {
         self.as_ref().contains_range(range)
     }
 
-    /// The same, counted: at most `d + 2` comparisons, where `d` is the number of binary digits of
-    /// the number of boundaries; one if there are none.
+    /// The same as `contains_range`, counted: at most `d + 2` comparisons, where `d` is the number
+    /// of binary digits of the number of boundaries; one if there are none.
     #[inline]
     pub fn contains_range_counted(&self, range: Range<T>, count: &mut Comparisons) -> bool
     where
@@ -272,8 +281,8 @@ impl<T: Ord, const N: usize> RangeSet<T, N> {
         self.as_ref().split(at)
     }
 
-    /// The same, counted: at most as many comparisons as the number of boundaries has binary
-    /// digits.
+    /// The same as `split`, counted: at most as many comparisons as the number of boundaries has
+    /// binary digits.
     #[inline]
     pub fn split_counted(
         &self,
@@ -305,8 +314,8 @@ impl<T: Ord, const N: usize> RangeSet<T, N> {
         self.as_ref().gaps(within)
     }
 
-    /// The same, counted: at most `2 * d + 1` comparisons, where `d` is the number of binary digits
-    /// of the number of boundaries. The iterator's steps make none.
+    /// The same as `gaps`, counted: at most `2 * d + 1` comparisons, where `d` is the number of
+    /// binary digits of the number of boundaries. The iterator's steps make none.
     #[inline]
     pub fn gaps_counted<'a>(&'a self, within: Range<&'a T>, count: &mut Comparisons) -> Gaps<'a, T>
         requires { count.old < 2 ^ 64 }
@@ -332,8 +341,8 @@ impl<T: Ord, const N: usize> RangeSet<T, N> {
         self.as_ref().ranges_within(within)
     }
 
-    /// The same, counted: at most `2 * d + 1` comparisons, where `d` is the number of binary digits
-    /// of the number of boundaries. The iterator's steps make none.
+    /// The same as `ranges_within`, counted: at most `2 * d + 1` comparisons, where `d` is the
+    /// number of binary digits of the number of boundaries. The iterator's steps make none.
     #[inline]
     pub fn ranges_within_counted<'a>(
         &'a self,

@@ -4,7 +4,16 @@
 //! doesn't on they are put aside, unless the list still lies in the set itself. The starts and the
 //! ends of these are sorted apart: the ranges from the first start to the first end, from the
 //! second to the second, and so on, have the same elements, and come in order.
-ghost use Rattle.std.specs.Prelude.{◌≡◌, ◌+◌, ◌≤◌, ◌<◌, true, false, List, ◌∷◌, ◌++◌, [], length, take, drop, All, IsTrue, IsOk, IfOk, OnOk, Ok, ◌↔◌};
+//!
+//! ```text
+//! add_copy: a borrowed range, copied
+//!     add: an owned range; one at the end of all others goes to `put_at_end` at once
+//!         add_anywhere: any other, to `put_range` or aside
+//!             put_range: one for the list, also if it was aside
+//!                 put_ends: with an end, to `put`, which calls `put_at_end` or `put_within`
+//!                 put_from: without an end, a set of its own, to `add_all`
+//! ```
+ghost use Rattle.std.specs.Prelude.{◌≡◌, ◌+◌, ◌-◌, ◌≤◌, ◌<◌, true, List, ◌∷◌, ◌++◌, [], length, slice_set, take, drop, All, IsTrue, IsOk, IfOk, OnOk, Ok, IfSome, ◌↔◌};
 ghost use Rattle.std.specs.List.{flat_map};
 ghost use Rattle.std.specs.List.Sorted.{IsPermutation, IsSorted, IsStable};
 ghost use Rattle.std.specs.Option.{option_to_list};
@@ -12,7 +21,7 @@ ghost use Rattle.std.specs.declared.cmp.Ordering.TheVariants.{Less};
 ghost use Rattle.range_merge.specs.Boundaries.{IsAscending, is_odd as odd};
 ghost use Rattle.range_merge.specs.Connective.{Means, union_table};
 ghost use Rattle.range_collections.specs.InPlace.{AreOwnElseOf};
-ghost use Rattle.range_collections.specs.ManyRanges.{GivesOwn, IsAddedOwn, NoneStartsAbove, IsUnderway, IsUnderwayByCopies, pairs_of, starts_of, ends_of};
+ghost use Rattle.range_collections.specs.ManyRanges.{EndsBefore, GivesOwn, IsAddedOwn, NoneStartsAbove, IsUnderway, IsUnderwayByCopies, pairs_of, starts_of, ends_of};
 ghost use Rattle.range_collections.specs.Ranges.{range_boundaries, range_items, range_start};
 ghost use Rattle.range_collections.specs.Splicing.{IsCut};
 ghost use Rattle.range_collections.specs.Unions.{GivesUnion};
@@ -28,6 +37,7 @@ use range_entry::EntryClone;
 use range_merge::{Indexed, UnionOp};
 use smallvec::SmallVec;
 use std::alloc::{AllocError, Global};
+use std::cmp::Ordering;
 use std::default::MadeWith;
 use std::ops::{Range, RangeFrom};
 
@@ -111,7 +121,7 @@ impl<T: Ord + Drop> Aside<T> {
         }
     }
 
-    // The same for a range with an end.
+    // Puts a range with an end aside, if it has elements.
     fn push_range(&mut self, range: Range<T>) -> Result<(), AllocError>
         ensures starts { OnOk result (self.new.starts.items ≡
             self.old.starts.items ++ take 1 (range_items T.cmp range.start range.end)) }
@@ -128,9 +138,40 @@ impl<T: Ord + Drop> Aside<T> {
     }
 }
 
-// Adds the elements of the range to the set, or puts it aside.
+// Adds the elements of the range to the set, or puts it aside. In a caller's loop lies only what a
+// range at the end of all others takes.
 #[inline(always)]
 pub(crate) fn add<T: Ord + MadeWith<Global> + Drop, const N: usize>(
+    set: &mut RangeSet<T, N>,
+    aside: &mut Aside<T>,
+    range: RangeSetRange<T>,
+) -> Result<(), AllocError>
+    ensures underway { (ranges : List (Ranged T)) →
+        IsUnderway T.cmp N ranges set.old aside.old.starts.items aside.old.ends.items →
+        OnOk result (IsUnderway T.cmp N (ranges ++ range ∷ []) set.new
+        aside.new.starts.items aside.new.ends.items) }
+    ensures succeeds { (ranges : List (Ranged T)) →
+        IsUnderway T.cmp N ranges set.old aside.old.starts.items aside.old.ends.items →
+        length (flat_map (range_boundaries T.cmp) (ranges ++ range ∷ [])) ≤ N → IsOk result }
+    ensures in_order { length aside.old.starts.items ≡ 0 →
+        NoneStartsAbove T.cmp set.old (range_start range) → aside.new ≡ aside.old }
+{
+    match range {
+        RangeSetRange::Range(range) => match touches_last(set, aside, &range) {
+            Some(touches) => put_at_end(&mut set.list, touches, range.start, range.end),
+            None => add_anywhere(set, aside, RangeSetRange::Range(range)),
+        },
+        RangeSetRange::RangeFrom(range) => add_anywhere(
+            set,
+            aside,
+            RangeSetRange::RangeFrom(range),
+        ),
+    }
+}
+
+// Adds the elements of the range to the set, or puts it aside, wherever it belongs.
+#[inline(never)]
+fn add_anywhere<T: Ord + MadeWith<Global> + Drop, const N: usize>(
     set: &mut RangeSet<T, N>,
     aside: &mut Aside<T>,
     range: RangeSetRange<T>,
@@ -149,6 +190,29 @@ pub(crate) fn add<T: Ord + MadeWith<Global> + Drop, const N: usize>(
         put_range(set, range)
     } else {
         aside.push(range)
+    }
+}
+
+// Whether the range touches the set's last one. `None` if it doesn't come at the end of all others,
+// or has no elements.
+#[inline(always)]
+fn touches_last<T: Ord + Drop, const N: usize>(
+    set: &RangeSet<T, N>,
+    aside: &Aside<T>,
+    range: &Range<T>,
+) -> Option<bool>
+    ensures none_aside { IfSome result (λ _. length aside.now.starts.items ≡ 0) }
+    ensures ends { IfSome result (λ touches. EndsBefore T.cmp touches set.now range.now.start) }
+    ensures less { IfSome result (λ _. T.cmp range.now.start range.now.end ≡ Less) }
+{
+    if !aside.is_empty() {
+        return None;
+    }
+    let touches = touches_end(set.boundaries(), &range.start)?;
+    if has_elements(&range.start, &range.end, &mut Comparisons::new()) {
+        Some(touches)
+    } else {
+        None
     }
 }
 
@@ -275,7 +339,7 @@ fn put_range<T: Ord + MadeWith<Global> + Drop, const N: usize>(
     }
 }
 
-// The same for a range with an end.
+// Adds the elements of a range with an end.
 #[inline(always)]
 fn put_ends<T: Ord + MadeWith<Global> + Drop, const N: usize>(
     list: &mut SmallVec<T, N>,
@@ -293,7 +357,7 @@ fn put_ends<T: Ord + MadeWith<Global> + Drop, const N: usize>(
     put(list, start, end)
 }
 
-// The same for a range without an end.
+// Adds the elements of a range without an end.
 fn put_from<T: Ord + MadeWith<Global> + Drop, const N: usize>(
     set: &mut RangeSet<T, N>,
     range: RangeFrom<T>,
@@ -335,31 +399,71 @@ fn put<T: Ord + MadeWith<Global> + Drop, const N: usize>(
         (start ∷ end ∷ []) list.new.items) }
     ensures succeeds { length list.old.items + 2 ≤ N → IsOk result }
 {
-    if is_after(list.as_slice(), &start) {
-        append_both(list, start, end)
-    } else {
-        put_within(list, start, end)
+    match touches_end(list.as_slice(), &start) {
+        Some(touches) => put_at_end(list, touches, start, end),
+        None => put_within(list, start, end),
     }
 }
 
-// Whether the set with these boundaries has an end, and that lies below the element.
+// Adds the elements from the start up to the end, where the set ends at the start if `touches`, and
+// else below it.
 #[inline(always)]
-fn is_after<T: Ord>(items: &[T], at: &T) -> bool
+fn put_at_end<T: Ord + MadeWith<Global> + Drop, const N: usize>(
+    list: &mut SmallVec<T, N>,
+    touches: bool,
+    start: T,
+    end: T,
+) -> Result<(), AllocError>
+    requires sorted { IsAscending T.cmp list.old.items }
+    requires ends { EndsBefore T.cmp touches list.old.items start }
+    requires less { T.cmp start end ≡ Less }
+    ensures sorted { IsAscending T.cmp list.new.items }
+    ensures means { OnOk result (Means T.cmp union_table list.new.items list.old.items
+        (start ∷ end ∷ [])) }
+    ensures left_own_item { OnOk result (AreOwnElseOf T.cmp list.old.items
+        (start ∷ end ∷ []) list.new.items) }
+    ensures succeeds { length list.old.items + 2 ≤ N → IsOk result }
+{
+    if touches {
+        replace_last(list, end);
+        Ok(())
+    } else {
+        append_both(list, start, end)
+    }
+}
+
+// Puts the item in the place of the last one.
+#[inline(always)]
+fn replace_last<T: MadeWith<Global> + Drop, const N: usize>(list: &mut SmallVec<T, N>, item: T)
+    requires { 0 < length list.old.items }
+    ensures { list.new.items ≡ slice_set list.old.items (length list.old.items - 1) item }
+{
+    let last = list.len() - 1;
+    list.as_mut_slice()[last] = item;
+}
+
+// Whether a range from the element on touches the last one of the set with these boundaries. `None`
+// if that doesn't end at the element or below it.
+#[inline(always)]
+fn touches_end<T: Ord>(items: &[T], at: &T) -> Option<bool>
     requires { IsAscending T.cmp items.now }
-    ensures even { IsTrue result → odd (length items.now) ≡ false }
-    ensures below { IsTrue result → All (λ y. T.cmp y at.now ≡ Less) items.now }
+    ensures { IfSome result (λ touches. EndsBefore T.cmp touches items.now at.now) }
 {
     let len = items.len();
     if is_odd(len) {
-        return false;
+        return None;
     }
     if len == 0 {
-        return true;
+        return Some(false);
     }
-    items[len - 1].cmp(at).is_lt()
+    match items[len - 1].cmp(at) {
+        Ordering::Less => Some(false),
+        Ordering::Equal => Some(true),
+        Ordering::Greater => None,
+    }
 }
 
-// The same as `put`, wherever the range belongs.
+// Adds the elements from the start up to the end, wherever they lie among those of the set.
 fn put_within<T: Ord + MadeWith<Global> + Drop, const N: usize>(
     list: &mut SmallVec<T, N>,
     start: T,

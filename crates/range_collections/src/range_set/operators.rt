@@ -48,7 +48,7 @@ impl<T: EntryClone + MadeWith<Global> + Drop, const N: usize> BitAnd<RangeSet<T,
         GivesOperation T.cmp T.is_copy T.is_infallible intersection_table N a.now b r
         × GivesTheResult T.cmp T.is_copy intersection_table a.now b r };
 
-    /// The same of a reference and a set, which is dropped even if it fails.
+    /// The intersection of a reference and a set, which is dropped even if it fails.
     fn bitand(self, that: RangeSet<T, N>) -> Result<RangeSet<T, N>, AllocError>
         ensures headline { GivesTheResult T.cmp T.is_copy intersection_table
             self.now that result }
@@ -67,7 +67,7 @@ impl<T: EntryClone + MadeWith<Global> + Drop, const N: usize> BitAnd<&RangeSet<T
         GivesOperation T.cmp T.is_copy T.is_infallible intersection_table N a b.now r
         × GivesTheResult T.cmp T.is_copy intersection_table a b.now r };
 
-    /// The same of a set, which is dropped even if it fails, and a reference.
+    /// The intersection of a set, which is dropped even if it fails, and a reference.
     fn bitand(self, that: &RangeSet<T, N>) -> Result<RangeSet<T, N>, AllocError>
         ensures headline { GivesTheResult T.cmp T.is_copy intersection_table
             self that.now result }
@@ -85,7 +85,7 @@ impl<T: EntryClone + MadeWith<Global> + Drop, const N: usize> BitAnd for RangeSe
         GivesOperation T.cmp T.is_copy T.is_infallible intersection_table N a b r
         × GivesTheResult T.cmp T.is_copy intersection_table a b r };
 
-    /// The same of two sets, which are dropped even if it fails.
+    /// The intersection of two sets, which are dropped even if it fails.
     fn bitand(self, that: RangeSet<T, N>) -> Result<RangeSet<T, N>, AllocError>
         ensures headline { GivesTheResult T.cmp T.is_copy intersection_table
             self that result }
@@ -123,7 +123,7 @@ impl<T: EntryClone + MadeWith<Global> + Drop, const N: usize> BitOr<RangeSet<T, 
         GivesOperation T.cmp T.is_copy T.is_infallible union_table N a.now b r
         × GivesTheResult T.cmp T.is_copy union_table a.now b r };
 
-    /// The same of a reference and a set, which is dropped even if it fails.
+    /// The union of a reference and a set, which is dropped even if it fails.
     fn bitor(self, that: RangeSet<T, N>) -> Result<RangeSet<T, N>, AllocError>
         ensures headline { GivesTheResult T.cmp T.is_copy union_table
             self.now that result }
@@ -142,7 +142,7 @@ impl<T: EntryClone + MadeWith<Global> + Drop, const N: usize> BitOr<&RangeSet<T,
         GivesOperation T.cmp T.is_copy T.is_infallible union_table N a b.now r
         × GivesTheResult T.cmp T.is_copy union_table a b.now r };
 
-    /// The same of a set, which is dropped even if it fails, and a reference.
+    /// The union of a set, which is dropped even if it fails, and a reference.
     fn bitor(self, that: &RangeSet<T, N>) -> Result<RangeSet<T, N>, AllocError>
         ensures headline { GivesTheResult T.cmp T.is_copy union_table
             self that.now result }
@@ -160,7 +160,7 @@ impl<T: EntryClone + MadeWith<Global> + Drop, const N: usize> BitOr for RangeSet
         GivesOperation T.cmp T.is_copy T.is_infallible union_table N a b r
         × GivesTheResult T.cmp T.is_copy union_table a b r };
 
-    /// The same of two sets, which are dropped even if it fails.
+    /// The union of two sets, which are dropped even if it fails.
     fn bitor(self, that: RangeSet<T, N>) -> Result<RangeSet<T, N>, AllocError>
         ensures headline { GivesTheResult T.cmp T.is_copy union_table
             self that result }
@@ -199,7 +199,7 @@ impl<T: EntryClone + MadeWith<Global> + Drop, const N: usize> BitXor<RangeSet<T,
         GivesOperation T.cmp T.is_copy T.is_infallible symmetric_difference_table N a.now b r
         × GivesTheResult T.cmp T.is_copy symmetric_difference_table a.now b r };
 
-    /// The same of a reference and a set, which is dropped even if it fails.
+    /// The symmetric difference of a reference and a set, which is dropped even if it fails.
     fn bitxor(self, that: RangeSet<T, N>) -> Result<RangeSet<T, N>, AllocError>
         ensures headline { GivesTheResult T.cmp T.is_copy symmetric_difference_table
             self.now that result }
@@ -218,7 +218,7 @@ impl<T: EntryClone + MadeWith<Global> + Drop, const N: usize> BitXor<&RangeSet<T
         GivesOperation T.cmp T.is_copy T.is_infallible symmetric_difference_table N a b.now r
         × GivesTheResult T.cmp T.is_copy symmetric_difference_table a b.now r };
 
-    /// The same of a set, which is dropped even if it fails, and a reference.
+    /// The symmetric difference of a set, which is dropped even if it fails, and a reference.
     fn bitxor(self, that: &RangeSet<T, N>) -> Result<RangeSet<T, N>, AllocError>
         ensures headline { GivesTheResult T.cmp T.is_copy symmetric_difference_table
             self that.now result }
@@ -236,7 +236,7 @@ impl<T: EntryClone + MadeWith<Global> + Drop, const N: usize> BitXor for RangeSe
         GivesOperation T.cmp T.is_copy T.is_infallible symmetric_difference_table N a b r
         × GivesTheResult T.cmp T.is_copy symmetric_difference_table a b r };
 
-    /// The same of two sets, which are dropped even if it fails.
+    /// The symmetric difference of two sets, which are dropped even if it fails.
     fn bitxor(self, that: RangeSet<T, N>) -> Result<RangeSet<T, N>, AllocError>
         ensures headline { GivesTheResult T.cmp T.is_copy symmetric_difference_table
             self that result }
@@ -274,7 +274,7 @@ impl<T: EntryClone + MadeWith<Global> + Drop, const N: usize> Sub<RangeSet<T, N>
         GivesOperation T.cmp T.is_copy T.is_infallible difference_table N a.now b r
         × GivesTheResult T.cmp T.is_copy difference_table a.now b r };
 
-    /// The same of a reference and a set, which is dropped even if it fails.
+    /// The difference of a reference and a set, which is dropped even if it fails.
     fn sub(self, that: RangeSet<T, N>) -> Result<RangeSet<T, N>, AllocError>
         ensures headline { GivesTheResult T.cmp T.is_copy difference_table
             self.now that result }
@@ -293,7 +293,7 @@ impl<T: EntryClone + MadeWith<Global> + Drop, const N: usize> Sub<&RangeSet<T, N
         GivesOperation T.cmp T.is_copy T.is_infallible difference_table N a b.now r
         × GivesTheResult T.cmp T.is_copy difference_table a b.now r };
 
-    /// The same of a set, which is dropped even if it fails, and a reference.
+    /// The difference of a set, which is dropped even if it fails, and a reference.
     fn sub(self, that: &RangeSet<T, N>) -> Result<RangeSet<T, N>, AllocError>
         ensures headline { GivesTheResult T.cmp T.is_copy difference_table
             self that.now result }
@@ -311,7 +311,7 @@ impl<T: EntryClone + MadeWith<Global> + Drop, const N: usize> Sub for RangeSet<T
         GivesOperation T.cmp T.is_copy T.is_infallible difference_table N a b r
         × GivesTheResult T.cmp T.is_copy difference_table a b r };
 
-    /// The same of two sets, which are dropped even if it fails.
+    /// The difference of two sets, which are dropped even if it fails.
     fn sub(self, that: RangeSet<T, N>) -> Result<RangeSet<T, N>, AllocError>
         ensures headline { GivesTheResult T.cmp T.is_copy difference_table
             self that result }

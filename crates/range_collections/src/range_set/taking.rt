@@ -1,4 +1,4 @@
-//! Whole ranges taken out of a set.
+//! Whole ranges taken out of a set at its ends, which takes no memory.
 ghost use Rattle.std.specs.Prelude.{◌≡◌, ◌++◌, ◌∷◌, [], MatchOption};
 ghost use Rattle.range_merge.specs.Boundaries.{IsAscending};
 ghost use Rattle.range_collections.specs.Ranges.{ranges_of};

@@ -1,4 +1,4 @@
-//! How many values are members of a view.
+//! How many values are members of a view: the lengths of its ranges, added up.
 ghost use Rattle.std.specs.Prelude.{◌≡◌, ◌-◌, ◌<◌, length, IfSome, false};
 ghost use Rattle.std.specs.declared.cmp.Ordering.TheVariants.{Less};
 ghost use Rattle.range_merge.specs.Boundaries.{IsAscending, is_odd as odd};

@@ -27,8 +27,8 @@ impl<'a, T: Ord> RangeSetRef<'a, T> {
         self.contains_counted(value, &mut Comparisons::new())
     }
 
-    /// The same, counted: at most as many comparisons as the number of boundaries has binary
-    /// digits.
+    /// The same as `contains`, counted: at most as many comparisons as the number of boundaries has
+    /// binary digits.
     #[inline]
     pub fn contains_counted(&self, value: &T, count: &mut Comparisons) -> bool
         requires { count.old < 2 ^ 64 }

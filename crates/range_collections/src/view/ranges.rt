@@ -84,8 +84,8 @@ impl<'a, T: Ord> RangeSetRef<'a, T> {
         self.range_at_counted(value, &mut Comparisons::new())
     }
 
-    /// The same, counted: at most as many comparisons as the number of boundaries has binary
-    /// digits.
+    /// The same as `range_at`, counted: at most as many comparisons as the number of boundaries has
+    /// binary digits.
     #[inline]
     pub fn range_at_counted(
         &self,
@@ -146,8 +146,8 @@ impl<'a, T: Ord> RangeSetRef<'a, T> {
         self.contains_range_counted(range, &mut Comparisons::new())
     }
 
-    /// The same, counted: at most `d + 2` comparisons, where `d` is the number of binary digits of
-    /// the number of boundaries; one if there are none.
+    /// The same as `contains_range`, counted: at most `d + 2` comparisons, where `d` is the number
+    /// of binary digits of the number of boundaries; one if there are none.
     #[inline]
     pub fn contains_range_counted(&self, range: Range<T>, count: &mut Comparisons) -> bool
     where

@@ -183,7 +183,7 @@ impl<T: Drop, M: Mark> Chunks<T, M> {
             (L.with_key (get_or (joined self.old) (place_at self.old at) d) key) }
         ensures places { HasPlacesOf self.old self.new }
     {
-        let at = item_place(self.chunks.as_slice(), at);
+        let at = item_place(&self.chunks, at);
         set_key(&mut self.chunks, at, lens, key);
     }
 
@@ -196,8 +196,8 @@ impl<T: Drop, M: Mark> Chunks<T, M> {
         ensures items { joined self.new ≡ swap (joined self.old) (place_at self.old a) (place_at self.old b) }
         ensures places { HasPlacesOf self.old self.new }
     {
-        let a = item_place(self.chunks.as_slice(), a);
-        let b = item_place(self.chunks.as_slice(), b);
+        let a = item_place(&self.chunks, a);
+        let b = item_place(&self.chunks, b);
         swap_items(&mut self.chunks, a, b);
     }
 
@@ -218,10 +218,10 @@ impl<T: Drop, M: Mark> Chunks<T, M> {
         ensures keys { IfOk result (λ list. list.items ≡ map L.key_of (joined self)) }
         ensures handed_back { IfErr result (λ refused. refused.1 ≡ self) }
     {
-        match Vec::with_capacity(*self.chunks.allocator(), self.len) {
+        match Vec::with_capacity(self.chunks.allocator(), self.len) {
             Ok(room) => {
                 let Chunks { chunks, len: _len } = self;
-                Ok(join_up(chunks, room, lens))
+                Ok(join_up(chunks.into_inner(), room, lens))
             }
             Err(error) => Err((error, self)),
         }

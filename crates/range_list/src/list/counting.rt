@@ -19,7 +19,7 @@ impl<T, M: Mark> Chunks<T, M> {
         if self.chunks.is_empty() {
             return 0;
         }
-        len_between(self.chunks.as_slice(), from, to)
+        len_between(&self.chunks, from, to)
     }
 
     // How many items there are without those between two places.

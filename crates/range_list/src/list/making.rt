@@ -1,13 +1,14 @@
-//! Lists made from lists and slices, and clones.
-ghost use Rattle.std.specs.Prelude.{◌≡◌, ◌≤◌, ◌<◌, ◌+◌, [], length, get_or, IsOk, IfOk};
+//! Lists made from lists and slices, and copies.
+ghost use Rattle.std.specs.Prelude.{◌≡◌, ◌<◌, ◌+◌, [], IsOk, IfOk};
 ghost use Rattle.std.specs.List.{AllZip};
 ghost use Rattle.range_list.specs.Lists.{joined};
 
-use crate::copying::{clones, clones_of};
+use crate::chunk_list::ChunkList;
+use crate::copying::{clones_of, copies};
 use crate::list::Chunks;
 use crate::mark::Mark;
 use crate::moving::cut_up;
-use range_collections::EntryClone;
+use range_collections::{Copier, EntryClone, EntryCopier};
 use std::alloc::{AllocError, Global};
 
 impl<T: Drop, M: Mark> Chunks<T, M> {
@@ -17,8 +18,23 @@ impl<T: Drop, M: Mark> Chunks<T, M> {
     {
         let len = list.len();
         Ok(Chunks {
-            chunks: cut_up(list, M::front())?,
+            chunks: ChunkList {
+                list: cut_up(list, M::front())?,
+            },
             len,
+        })
+    }
+}
+
+impl<T: Drop, M: Mark> Chunks<T, M> {
+    /// A list of copies of the items. Of the empty list it takes no memory.
+    pub fn copied<C: Copier<T>>(&self, copier: &C) -> Result<Self, AllocError>
+        ensures copies { IfOk result (λ made. AllZip C.alike (joined self.now) (joined made)) }
+        ensures succeeds { joined self.now ≡ [] → IsOk result }
+    {
+        Ok(Chunks {
+            chunks: copies(self.chunks.allocator(), &self.chunks, copier)?,
+            len: self.len,
         })
     }
 }
@@ -39,9 +55,6 @@ impl<T: EntryClone + Drop, M: Mark> Chunks<T, M> {
         ensures copies { IfOk result (λ made. AllZip T.is_copy (joined self.now) (joined made)) }
         ensures succeeds { joined self.now ≡ [] → IsOk result }
     {
-        Ok(Chunks {
-            chunks: clones(*self.chunks.allocator(), self.chunks.as_slice())?,
-            len: self.len,
-        })
+        self.copied(&EntryCopier)
     }
 }

@@ -57,7 +57,7 @@ impl<T, M: Mark> Chunks<T, M> {
         if self.chunks.is_empty() {
             return FRONT;
         }
-        end(self.chunks.as_slice())
+        end(&self.chunks)
     }
 
     /// The item at a place, or `None` at the end.
@@ -69,7 +69,7 @@ impl<T, M: Mark> Chunks<T, M> {
         if self.chunks.is_empty() {
             return None;
         }
-        item_at(self.chunks.as_slice(), at)
+        item_at(&self.chunks, at)
     }
 
     /// The mark of a place.
@@ -81,7 +81,7 @@ impl<T, M: Mark> Chunks<T, M> {
         if self.chunks.is_empty() {
             return M::front();
         }
-        mark_at(self.chunks.as_slice(), at)
+        mark_at(&self.chunks, at)
     }
 
     /// The place of the item before a place, or the front.
@@ -94,7 +94,7 @@ impl<T, M: Mark> Chunks<T, M> {
         if at.chunk == 0 && at.index == 0 {
             return FRONT;
         }
-        place_before(self.chunks.as_slice(), at)
+        place_before(&self.chunks, at)
     }
 
     /// The place after the item at a place.
@@ -105,7 +105,7 @@ impl<T, M: Mark> Chunks<T, M> {
         ensures place { IsPlaceAt self.now result }
         ensures after { place_at self.now result ≡ place_at self.now at + 1 }
     {
-        place_after(self.chunks.as_slice(), at)
+        place_after(&self.chunks, at)
     }
 
     /// Whether there are items between two places.
@@ -120,7 +120,7 @@ impl<T, M: Mark> Chunks<T, M> {
         if self.chunks.is_empty() {
             return false;
         }
-        is_before(self.chunks.as_slice(), from, to)
+        is_before(&self.chunks, from, to)
     }
 
     /// The item before a place, or `None` at the front.
@@ -131,7 +131,7 @@ impl<T, M: Mark> Chunks<T, M> {
         if self.chunks.is_empty() {
             return None;
         }
-        item_before(self.chunks.as_slice(), at)
+        item_before(&self.chunks, at)
     }
 
     /// The last item.

@@ -1,4 +1,4 @@
-//! A map made of many ranges.
+//! A map made of many ranges, of which later ones replace earlier ones.
 ghost use Rattle.std.specs.Prelude.{◌≡◌, length, IsOk, IfOk, None};
 ghost use Rattle.range_map.specs.Steps.{AreAlike, value_at};
 ghost use Rattle.range_map.specs.Pairs.{last_at};

@@ -14,15 +14,15 @@ ghost use Rattle.range_map.specs.Combining.{IsRun, IsBelowFrom, IsPut, IsMadeUpT
 use crate::borrowed_steps::BorrowedSteps;
 use crate::map::RangeMap;
 use crate::operation::MapOperation;
-use crate::places::is_before;
+use crate::places::holds_before;
 use crate::runs::{left_len, next_run, right_len};
 use crate::step::Step;
 use range_collections::{Comparisons, EntryClone, Run};
 use range_list::Chunks;
 use std::alloc::{AllocError, Global};
 
-// What the operation makes of both.
-pub(super) fn combined<K: EntryClone + Drop, V, W, O: MapOperation<V, W>>(
+/// What the operation makes of both.
+pub fn combined<K: EntryClone + Drop, V, W, O: MapOperation<V, W>>(
     alloc: Global,
     a: &BorrowedSteps<K, V>,
     b: &BorrowedSteps<K, W>,
@@ -111,7 +111,7 @@ fn put_left<K: EntryClone + Drop, V, W, O: MapOperation<V, W>>(
     Ok(())
 }
 
-// The same of the right's steps.
+// Puts the right's steps from a place up to another, which are below the left's from place `i` on.
 #[inline]
 fn put_right<K: EntryClone + Drop, V, W, O: MapOperation<V, W>>(
     made: &mut RangeMap<K, O::Output>,
@@ -174,7 +174,8 @@ pub(super) fn put<K: EntryClone + Drop, U: Eq + Drop>(
     push(&mut made.steps, key, option)
 }
 
-// The same of a list of steps.
+// Puts a step at the end of the list, with a copy of the key, if its option differs from the last
+// one.
 #[inline]
 fn push<K: EntryClone + Drop, U: Eq + Drop>(
     steps: &mut Chunks<Step<K, U>, ()>,
@@ -186,7 +187,7 @@ fn push<K: EntryClone + Drop, U: Eq + Drop>(
     ensures canonical { IsCanonical K.cmp U.eq (steps_in steps.new) }
     ensures put { OnOk result (IsPut K.cmp U.eq (steps_in steps.old) key.now option (steps_in steps.new)) }
 {
-    if is_before(steps, steps.end(), &option) {
+    if holds_before(steps, steps.end(), &option) {
         return Ok(());
     }
     let key = key.entry_clone()?;

@@ -1,15 +1,13 @@
-//! Copies of a map.
-ghost use Rattle.std.specs.Prelude.{◌≡◌, [], IsOk, IfOk, length};
+//! Copies of a map: equal to it, step by step.
+ghost use Rattle.std.specs.Prelude.{◌≡◌, IsOk, IfOk, length};
 ghost use Rattle.std.specs.List.{AllZip};
-ghost use Rattle.range_map.specs.Listed.{steps_of, steps_in};
 ghost use Rattle.range_map.specs.Steps.{AreAlike, AreEqualSteps, IsSameMap};
 
 use crate::map::RangeMap;
 use crate::step::Step;
 use crate::value::{MapValue, copy_option};
-use range_collections::EntryClone;
-use range_list::{Chunks, Items};
-use std::alloc::{AllocError, Global};
+use range_collections::{Copier, EntryClone};
+use std::alloc::AllocError;
 
 impl<K: EntryClone + Drop, V: MapValue> RangeMap<K, V> {
     /// A map of copies of the keys and the values, or an error if memory runs out.
@@ -19,7 +17,7 @@ impl<K: EntryClone + Drop, V: MapValue> RangeMap<K, V> {
         ensures values { IfOk result (λ map. IsSameMap K.cmp V.eq self.now map) }
         ensures succeeds { length self.now.keys ≡ 0 → IsOk result }
     {
-        let steps = copies(self.steps.allocator(), self.steps.items())?;
+        let steps = self.steps.copied(&StepCopier)?;
         Ok(RangeMap { steps })
     }
 }
@@ -36,31 +34,19 @@ impl<K: EntryClone + Drop, V: MapValue> Clone for RangeMap<K, V> {
     }
 }
 
-// A list of copies of the steps.
-fn copies<K: EntryClone + Drop, V: MapValue>(
-    alloc: Global,
-    steps: Items<'_, Step<K, V>, ()>,
-) -> Result<Chunks<Step<K, V>, ()>, AllocError>
-    ensures keys { IfOk result (λ list. AllZip K.is_copy (steps_of steps.entry).keys (steps_in list).keys) }
-    ensures options { IfOk result (λ list.
-        AllZip (λ p q. AreAlike V.eq p q) (steps_of steps.entry).options (steps_in list).options) }
-    ensures succeeds { steps.entry ≡ [] → IsOk result }
-{
-    let mut list = Chunks::new(alloc);
-    let mut unread = steps;
-    while let Some(step) = unread.take_first() {
-        list.push(copy_of(step)?)?;
-    }
-    Ok(list)
-}
+// Copies steps: a clone of the key, and a copy of the value, if there is one.
+struct StepCopier;
 
-// A copy of a step.
-fn copy_of<K: EntryClone + Drop, V: MapValue>(step: &Step<K, V>) -> Result<Step<K, V>, AllocError>
-    ensures key { IfOk result (λ copied. K.is_copy step.now.key copied.key) }
-    ensures option { IfOk result (λ copied. AreAlike V.eq step.now.option copied.option) }
-{
-    Ok(Step {
-        key: step.key.entry_clone()?,
-        option: copy_option(step.option.as_ref())?,
-    })
+impl<K: EntryClone + Drop, V: MapValue> Copier<Step<K, V>> for StepCopier {
+    ghost alike = { λ s t. K.is_copy s.key t.key × AreAlike V.eq s.option t.option };
+
+    ghost is_infallible = { λ _. ⊥ };
+
+    #[inline(always)]
+    fn copy(&self, step: &Step<K, V>) -> Result<Step<K, V>, AllocError> {
+        Ok(Step {
+            key: step.key.entry_clone()?,
+            option: copy_option(step.option.as_ref())?,
+        })
+    }
 }

@@ -1,4 +1,4 @@
-//! Two maps put together.
+//! The union of two maps, in which the values of the left or those of the right go first.
 ghost use Rattle.std.specs.Prelude.{◌≡◌, length, IsOk, IfOk};
 ghost use Rattle.std.specs.Option.{option_or};
 ghost use Rattle.range_map.specs.Changed.{IsCombined};

@@ -1,6 +1,5 @@
-//! What a range has, put anew by what it had.
-ghost use Rattle.std.specs.Prelude.{◌≡◌, cond, false, None, Some, IsOk, OnOk, OnErr};
-ghost use Rattle.std.specs.Option.{is_some};
+//! Values changed by what they were: those of a range by `update`, all of a map by `retain`.
+ghost use Rattle.std.specs.Prelude.{◌≡◌, false, None, Some, IsOk, OnOk, OnErr};
 ghost use Rattle.std.specs.Ordering.{is_lt};
 ghost use Rattle.range_map.specs.Steps.{AreAlike, value_at};
 ghost use Rattle.range_map.specs.Updated.{IsUpdated, kept};
@@ -8,9 +7,10 @@ ghost use Rattle.range_map.specs.Updated.{IsUpdated, kept};
 use crate::filter::MapFilter;
 use crate::map::RangeMap;
 use crate::retaining::retain_values;
-use crate::update::{InRange, MapUpdate};
+use crate::update::MapUpdate;
+use crate::updating::update_range;
 use crate::value::MapValue;
-use range_collections::{Comparisons, EntryClone, has_elements};
+use range_collections::{Comparisons, EntryClone, EntryCopier, has_elements};
 use std::alloc::AllocError;
 use std::ops::{Range, RangeFrom};
 
@@ -18,9 +18,8 @@ impl<K: EntryClone + Drop, V: MapValue> RangeMap<K, V> {
     /// Gives each key of the range what the update makes of its value, or of none. An empty or
     /// reversed range changes nothing.
     ///
-    /// It makes the map anew, so that its time and memory grow with the number of all steps, and
-    /// copies the values outside of the range. If memory runs out, the map is as it was. An empty
-    /// or reversed range takes none.
+    /// It makes the steps of the range anew, and copies the value behind it. If memory runs out, the
+    /// map is as it was. An empty or reversed range takes none.
     pub fn update<O: MapUpdate<V>>(&mut self, range: Range<K>, op: &O) -> Result<(), AllocError>
         ensures values { OnOk result (IsUpdated K.cmp V.eq range.start (Some range.end) (O.gives op.now) self.old self.new) }
         ensures unchanged { OnErr result (self.new ≡ self.old) }
@@ -29,15 +28,13 @@ impl<K: EntryClone + Drop, V: MapValue> RangeMap<K, V> {
         if !has_elements(&range.start, &range.end, &mut Comparisons::new()) {
             return Ok(());
         }
-        let mut within = RangeMap::new(self.steps.allocator());
-        within.insert(range, ())?;
-        self.update_keys(&within, op)
+        let Range { start, end } = range;
+        update_range(&mut self.steps, &start, &Some(end), op, &EntryCopier)
     }
 
     /// Gives each key from the start on what the update makes of its value, or of none.
     ///
-    /// It makes the map anew, so that its time and memory grow with the number of all steps, and
-    /// copies the values below the start. If memory runs out, the map is as it was.
+    /// It makes the steps from there on anew. If memory runs out, the map is as it was.
     pub fn update_from<O: MapUpdate<V>>(
         &mut self,
         range: RangeFrom<K>,
@@ -46,25 +43,7 @@ impl<K: EntryClone + Drop, V: MapValue> RangeMap<K, V> {
         ensures values { OnOk result (IsUpdated K.cmp V.eq range.start None (O.gives op.now) self.old self.new) }
         ensures unchanged { OnErr result (self.new ≡ self.old) }
     {
-        let mut within = RangeMap::new(self.steps.allocator());
-        within.insert_from(range, ())?;
-        self.update_keys(&within, op)
-    }
-
-    // Gives each key that has the unit what the update makes of its value, or of none.
-    fn update_keys<O: MapUpdate<V>>(
-        &mut self,
-        within: &RangeMap<K, ()>,
-        op: &O,
-    ) -> Result<(), AllocError>
-        ensures values { OnOk result ((x : K) → AreAlike V.eq (value_at K.cmp self.new x)
-            (cond (is_some (value_at K.cmp within.now x))
-            (O.gives op.now (value_at K.cmp self.old x)) (value_at K.cmp self.old x))) }
-        ensures unchanged { OnErr result (self.new ≡ self.old) }
-    {
-        let alloc = self.steps.allocator();
-        *self = self.combine(alloc, within, &InRange(op), &mut Comparisons::new())?;
-        Ok(())
+        update_range(&mut self.steps, &range.start, &None, op, &EntryCopier)
     }
 }
 

@@ -68,8 +68,8 @@ pub(crate) fn next_gap<T: Ord + Copy>(set: &ChunkedRangeSet<T>, from: T, next: &
     }
 }
 
-// Tells the least number from which on `count` numbers lie in the range and none is a member, where
-// there is one. The set remembers what it learns of its gaps.
+// Whether there is a number from which on `count` numbers lie in the range and none is a member,
+// and then writes the least. The set remembers what it learns of its gaps.
 pub(crate) fn first_fit<T: Countable + Copy>(
     set: &mut ChunkedSpace<T>,
     within: Range<T>,

@@ -40,8 +40,8 @@ pub(crate) fn get<K: Ord, V: Eq + Copy>(map: &RangeMap<K, V>, key: &K, value: &m
     put(map.get(key).copied(), value)
 }
 
-// Tells the longest range around the key whose keys have one value, or none: its start and its end,
-// where it has them, and as `get` the value.
+// Whether the key has a value, and then writes it. It also writes the longest range around the key
+// whose keys have one value, or none: its start and its end, and for each whether there is one.
 pub(crate) fn range_at<K: Ord + Copy, V: Eq + Copy>(
     map: &RangeMap<K, V>,
     key: &K,

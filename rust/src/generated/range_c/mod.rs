@@ -3,7 +3,7 @@
 //! call takes memory or keeps state.
 //!
 //! A thin layer in C stands before these calls. It makes sets of lists that are strictly sorted,
-//! refuses null pointers with a length and a buffer that overlaps a list, which can't be told here,
+//! refuses null pointers with a length and a buffer that overlaps a list, which can't be seen here,
 //! and answers statuses.
 //!
 //! The exports stand in generated/, one file a type: tools/c-types writes them from one text, since
@@ -12,6 +12,7 @@
 pub(crate) mod calls;
 pub(crate) mod chunked;
 pub(crate) mod combining;
+pub(crate) mod each;
 pub(crate) mod ends;
 pub(crate) mod fitting;
 pub(crate) mod from_least;

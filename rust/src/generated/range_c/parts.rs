@@ -3,7 +3,7 @@
 
 use crate::generated::range_collections::{Countable, RangeSetRange, RangeSetRef, Unsigned};
 
-// Tells the range, where there is one, by its start, its end and whether it has one.
+// Whether there is a range, and then writes its start, whether it has an end, and that.
 pub(crate) fn tell<T: Copy>(
     range: Option<RangeSetRange<&T>>,
     start: &mut T,
@@ -26,7 +26,7 @@ pub(crate) fn tell<T: Copy>(
     }
 }
 
-// Tells the range that holds `value`, where it is a member.
+// Whether `value` is a member, and then writes the range that holds it.
 pub(crate) fn range_at<T: Ord + Copy>(
     a: &[T],
     value: &T,
@@ -42,7 +42,7 @@ pub(crate) fn range_at<T: Ord + Copy>(
     )
 }
 
-// Tells the range that holds `value`, or else the next one above it, where there is one.
+// Whether a range holds `value` or lies above it, and then writes the first such range.
 pub(crate) fn range_from<T: Ord + Copy>(
     a: &[T],
     value: &T,
@@ -56,7 +56,7 @@ pub(crate) fn range_from<T: Ord + Copy>(
     }
 }
 
-// Tells the least member at or above `from`, where there is one.
+// Whether a number at or above `from` is a member, and then writes the least.
 pub(crate) fn next_member<T: Ord + Copy>(a: &[T], from: &T, next: &mut T) -> bool {
     put(
         RangeSetRef::new_unchecked(a).next_member(from).copied(),
@@ -64,7 +64,7 @@ pub(crate) fn next_member<T: Ord + Copy>(a: &[T], from: &T, next: &mut T) -> boo
     )
 }
 
-// Tells the least number at or above `from` that isn't a member, where there is one.
+// Whether a number at or above `from` is no member, and then writes the least.
 pub(crate) fn next_gap<T: Ord + Copy>(a: &[T], from: &T, next: &mut T) -> bool {
     put(RangeSetRef::new_unchecked(a).next_gap(from).copied(), next)
 }
@@ -80,7 +80,7 @@ pub(crate) fn put<T: Copy>(found: Option<T>, place: &mut T) -> bool {
     }
 }
 
-// Tells the range with so many before it, where there is one.
+// Whether there is a range with `index` others before it, and then writes it.
 pub(crate) fn range<T: Ord + Copy>(
     a: &[T],
     index: usize,
@@ -95,7 +95,7 @@ pub(crate) fn range<T: Ord + Copy>(
     first(rest, start, end, has_end)
 }
 
-// Tells the first range, where there is one.
+// Whether there is a first range, and then writes it.
 pub(crate) fn first<T: Ord + Copy>(
     a: &[T],
     start: &mut T,
@@ -105,12 +105,12 @@ pub(crate) fn first<T: Ord + Copy>(
     tell(RangeSetRef::new_unchecked(a).first(), start, end, has_end)
 }
 
-// Tells the last range, where there is one.
+// Whether there is a last range, and then writes it.
 pub(crate) fn last<T: Ord + Copy>(a: &[T], start: &mut T, end: &mut T, has_end: &mut bool) -> bool {
     tell(RangeSetRef::new_unchecked(a).last(), start, end, has_end)
 }
 
-// Tells how many numbers are members, where the set has an end.
+// Whether the set has an end, and then writes how many numbers are members.
 pub(crate) fn covered<T: Countable>(a: &[T], count: &mut u64) -> bool {
     match RangeSetRef::new_unchecked(a).covered() {
         Some(n) => {
@@ -121,8 +121,8 @@ pub(crate) fn covered<T: Countable>(a: &[T], count: &mut u64) -> bool {
     }
 }
 
-// Tells the least number from which on `len` numbers lie between `start` and `end` and none is a
-// member, where there is one.
+// Whether there is a number from which on `len` numbers lie between `start` and `end` and none is a
+// member, and then writes the least.
 pub(crate) fn first_fit<T: Unsigned>(a: &[T], start: T, end: T, len: T, at: &mut T) -> bool {
     put(RangeSetRef::new_unchecked(a).first_fit(start..end, len), at)
 }

@@ -12,7 +12,7 @@ pub(crate) fn from_ranges<E: Ends>(ranges: &mut [E]) -> usize {
     join(ranges)
 }
 
-// The same, of ranges that are sorted by their starts.
+// The same as `from_ranges`, for ranges that are sorted by their starts.
 fn join<E: Ends>(ranges: &mut [E]) -> usize {
     let mut kept = 0;
     for i in 0..ranges.len() {
@@ -61,8 +61,8 @@ pub(crate) fn union_from<E: Ends>(
     }
 }
 
-// The same, where it is told whether `from` is given, and then where the range without an end
-// starts.
+// The same as `union_from`, but `is_open` says whether `from` is given. Returns how many ranges
+// with an end there are, and writes to `from` where the one without an end starts.
 pub(crate) fn union_told<E: Ends>(ranges: &mut [E], is_open: bool, from: &mut E::Number) -> usize {
     let (kept, start) = union_from(ranges, if is_open { Some(*from) } else { None });
     if let Some(start) = start {
@@ -91,7 +91,7 @@ pub(crate) fn lowest<T: Ord + Copy>(other: Option<T>, start: T) -> T {
     }
 }
 
-// Tells whether a range without an end is there, and where it starts then.
+// Writes whether there is a range without an end, and if so where it starts.
 pub(crate) fn tell_start<T: Copy>(start: Option<T>, is_open: &mut bool, from: &mut T) {
     match start {
         Some(start) => {

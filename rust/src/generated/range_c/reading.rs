@@ -28,11 +28,17 @@ pub(crate) fn check<T: WholeNumber + Copy>(bytes: &[u8], told: &mut usize) -> u3
     }
 }
 
-// The same of a text.
+// Which of these a text is, and how many numbers it has, or where it stops being one.
 fn check_text<T: WholeNumber + Copy>(text: &str, told: &mut usize) -> u32 {
+    let (count, are_ranges) = count_numbers::<T>(text);
+    if are_ranges {
+        *told = count;
+        return RANGES;
+    }
     match check_ranges::<T>(text) {
+        // Blanks alone.
         Ok(()) => {
-            *told = count_numbers::<T>(text);
+            *told = count;
             RANGES
         }
         Err(ParseError::Malformed { at, .. }) => {
@@ -43,13 +49,16 @@ fn check_text<T: WholeNumber + Copy>(text: &str, told: &mut usize) -> u32 {
     }
 }
 
-// How many numbers the text has.
-fn count_numbers<T: WholeNumber + Copy>(text: &str) -> usize {
+// How many numbers the text has, and whether each of its parts is a range.
+fn count_numbers<T: WholeNumber + Copy>(text: &str) -> (usize, bool) {
     let mut count = 0;
+    let mut are_ranges = true;
     for part in text.split(',') {
-        count += ends(RangeSetRange::<T>::parse(part));
+        let range = RangeSetRange::<T>::parse(part);
+        are_ranges &= range.is_some();
+        count += ends(range);
     }
-    count
+    (count, are_ranges)
 }
 
 // How many ends a range has, where there is one.
@@ -70,7 +79,7 @@ pub(crate) fn read<E: Ends>(bytes: &[u8], ranges: &mut [E]) -> (usize, Option<E:
     }
 }
 
-// The same of a text.
+// The same as `read`, for bytes that are a text.
 fn read_text<E: Ends>(text: &str, ranges: &mut [E]) -> (usize, Option<E::Number>) {
     let (len, from) = read_ranges(text, ranges);
     let (front, _room) = ranges.split_at_mut(len);

@@ -35,7 +35,7 @@ pub(crate) fn set_range<T: Ord>(
     set_between(list, start, end, inside, count)
 }
 
-// The same where the start is below the end.
+// The same as `set_range`, for a start that is below the end.
 fn set_between<T: Ord>(
     list: &mut Chunks<T, bool>,
     start: T,
@@ -104,7 +104,8 @@ pub(crate) fn cut_at<T: Ord>(
     cut(list, found, at, inside)
 }
 
-// The same, where the element was found or would go.
+// Where the boundaries are cut, as by `cut_at`, around an element that was found, or would go, at a
+// known place.
 #[inline(always)]
 fn cut<T: Ord>(
     list: &Chunks<T, bool>,

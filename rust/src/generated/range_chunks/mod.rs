@@ -11,7 +11,6 @@ pub(crate) mod merging;
 pub(crate) mod overlapping;
 pub(crate) mod questions;
 pub(crate) mod ranges;
-pub(crate) mod reading;
 pub(crate) mod set;
 pub(crate) mod space;
 pub(crate) mod taking;

@@ -56,11 +56,12 @@ pub(crate) use splicing::cut_at;
 /// | Calls | Comparisons, at most | Memory |
 /// |---|---|---|
 /// | `contains`, `range_at`, `split`, `next_member`, `next_gap`, `prev_member`, `prev_gap`, `rank` | `d(n)` | |
+/// | `contains` of a cursor | `2 d(k) + 2` if its place passes `k` boundaries; `2 d(n) + 2` if it goes back | |
 /// | `contains_range` | `d(n) + 2` | |
 /// | `gaps`, `ranges_within`, `overlapping` | `2 d(n) + 1` | |
 /// | `intersects_range` | `d(n) + 2` | |
 /// | `first_fit`, `first_fit_count`, `first_fit_aligned`, `first_run` | `2 d(n) + 1`, then two numbers a boundary | |
-/// | `iter`, `members`, `first`, `last`, `span`, `ranges_len`, `covered`, `select`, `is_empty`, `as_ref`, `boundaries`, `pop_first`, `pop_last` | none | |
+/// | `iter`, `members`, `cursor`, `first`, `last`, `span`, `ranges_len`, `covered`, `select`, `is_empty`, `as_ref`, `boundaries`, `pop_first`, `pop_last` | none | |
 /// | `is_all` | one `is_min_value` | |
 /// | `==`, `eq_ref`, `new` | one a boundary | |
 /// | `intersects`, `is_disjoint`, `is_subset`, `is_superset`, `merge_test`, `merge_len` | `2 w` | |
@@ -72,7 +73,7 @@ pub(crate) use splicing::cut_at;
 /// | `merge_into` a slice | `2 w` | |
 /// | `!` | one `is_min_value` | one boundary; of a reference the result |
 /// | `from_range` | 1 | beyond `N` |
-/// | `from_ranges`, `from_values` | eight a range that comes in order, from the first without an end on `2 d(n) + 5`; of the others also the sorts of their starts and of their ends | the result; of those not in order as much again, and a sort's buffer |
+/// | `from_ranges`, `from_values` | nine a range with an end that comes in order, also behind one without, and `2 d(n) + 5` one without an end; of the others also the sorts of their starts and of their ends | the result; of those not in order as much again, and a sort's buffer |
 /// | `union_all`, `intersection_all` of k sets with l boundaries | `2 l d(k - 1)` | the result |
 /// | `from_unsorted`, `from_json` | a sort's | a sort's buffer |
 /// | `clone`, `to_json` | none | the result |

@@ -2,6 +2,7 @@
 //! A view of a set: a strictly sorted slice of boundaries.
 
 pub(crate) mod counting;
+pub(crate) mod cursor;
 pub(crate) mod endless;
 pub(crate) mod equality;
 pub(crate) mod first_fit;
@@ -12,8 +13,7 @@ pub(crate) mod ranges;
 pub(crate) mod rank;
 
 use crate::generated::range_collections::lists::is_ascending;
-pub(crate) use first_fit::place_in;
-pub use first_fit::Row;
+pub use cursor::Cursor;
 
 /// A borrowed set: a strictly sorted slice of boundaries.
 ///
@@ -34,7 +34,7 @@ pub struct RangeSetRef<'a, T: Ord> {
 }
 
 impl<'a, T: Ord> Clone for RangeSetRef<'a, T> {
-    /// The same view.
+    /// A view of the same boundaries.
     #[inline(always)]
     fn clone(&self) -> Self {
         *self

@@ -2,6 +2,7 @@
 //! What stands behind a place replaced by one item or none, and items put behind all others.
 
 use crate::generated::range_list::chunk::Chunk;
+use crate::generated::range_list::chunk_list::ChunkList;
 use crate::generated::range_list::mark::Mark;
 use crate::generated::range_list::overwriting::overwrite;
 use crate::generated::range_list::place::Place;
@@ -16,21 +17,19 @@ use core::mem;
 /// # Contract
 ///
 /// ```text
-/// requires chunks: AreChunks M.FULL M.of chunks.old.items
-/// requires place: IsPlace chunks.old.items at
-/// ensures items: OnOk result (flat chunks.new.items ≡ take (place_in chunks.old.items at)
-///     (flat chunks.old.items) ++ option_to_list item)
-/// ensures unchanged: OnErr result (flat chunks.new.items ≡ flat chunks.old.items)
-/// ensures succeeds: place_in chunks.old.items at + length (option_to_list item) ≤ length (flat
-///     chunks.old.items) → IsOk result
-/// ensures chunks: AreChunks M.FULL M.of chunks.new.items
+/// requires place: IsPlace chunks.old at
+/// ensures items: OnOk result (flat chunks.new ≡ take (place_in chunks.old at) (flat
+///     chunks.old) ++ option_to_list item)
+/// ensures unchanged: OnErr result (flat chunks.new ≡ flat chunks.old)
+/// ensures succeeds: place_in chunks.old at + length (option_to_list item) ≤ length (flat
+///     chunks.old) → IsOk result
 /// ```
 pub(crate) fn replace_from<T, M: Mark>(
-    chunks: &mut Vec<Chunk<T, M>>,
+    chunks: &mut ChunkList<T, M>,
     at: Place,
     item: Option<T>,
 ) -> Result<(), AllocError> {
-    if item_at(chunks.as_slice(), at).is_some() {
+    if item_at(chunks, at).is_some() {
         let (after, _replaced) = overwrite(chunks, at, item);
         truncate(chunks, after);
         return Ok(());
@@ -47,17 +46,14 @@ pub(crate) fn replace_from<T, M: Mark>(
 /// # Contract
 ///
 /// ```text
-/// requires chunks: AreChunks M.FULL M.of chunks.old.items
-/// requires place: IsPlace chunks.old.items at
-/// ensures items: flat chunks.new.items ≡ take (place_in chunks.old.items at) (flat
-///     chunks.old.items)
-/// ensures chunks: AreChunks M.FULL M.of chunks.new.items
+/// requires place: IsPlace chunks.old at
+/// ensures flat chunks.new ≡ take (place_in chunks.old at) (flat chunks.old)
 /// ```
-pub(crate) fn truncate<T, M: Mark>(chunks: &mut Vec<Chunk<T, M>>, at: Place) {
-    let empty = Vec::new(*chunks.allocator());
+pub(crate) fn truncate<T, M: Mark>(chunks: &mut ChunkList<T, M>, at: Place) {
+    let empty = ChunkList::new(chunks.allocator());
     let mut taken = mem::replace(chunks, empty);
-    let len = cut_behind(&mut taken, at);
-    taken.truncate(len);
+    let len = cut_behind(&mut taken.list, at);
+    taken.list.truncate(len);
     *chunks = taken;
 }
 
@@ -67,20 +63,17 @@ pub(crate) fn truncate<T, M: Mark>(chunks: &mut Vec<Chunk<T, M>>, at: Place) {
 /// # Contract
 ///
 /// ```text
-/// requires chunks: AreChunks M.FULL M.of chunks.old.items
-/// ensures items: OnOk result (flat chunks.new.items ≡ flat chunks.old.items ++ item ∷ [])
-/// ensures unchanged: OnErr result (flat chunks.new.items ≡ flat chunks.old.items)
-/// ensures fills: length chunks.old.items < length chunks.new.items → (d : Chunk T M) → 0 <
-///     length chunks.old.items → M.FULL ≤ length (items_of (get_or chunks.old.items (length
-///     chunks.old.items - 1) d))
-/// ensures chunks: AreChunks M.FULL M.of chunks.new.items
+/// ensures items: OnOk result (flat chunks.new ≡ flat chunks.old ++ item ∷ [])
+/// ensures unchanged: OnErr result (flat chunks.new ≡ flat chunks.old)
+/// ensures fills: length chunks.old < length chunks.new → (d : Chunk T M) → 0 < length
+///     chunks.old → M.FULL ≤ length (items_of (get_or chunks.old (length chunks.old - 1) d))
 /// ```
-pub(crate) fn push<T, M: Mark>(chunks: &mut Vec<Chunk<T, M>>, item: T) -> Result<(), AllocError> {
+pub fn push<T, M: Mark>(chunks: &mut ChunkList<T, M>, item: T) -> Result<(), AllocError> {
     if chunks.is_empty() {
         return push_chunk(chunks, item);
     }
     let last = chunks.len() - 1;
-    if chunks[last].len() < M::FULL {
+    if chunks.list[last].len() < M::FULL {
         push_in(chunks, last, item)
     } else {
         push_chunk(chunks, item)
@@ -89,18 +82,18 @@ pub(crate) fn push<T, M: Mark>(chunks: &mut Vec<Chunk<T, M>>, item: T) -> Result
 
 // Puts an item behind those of the last chunk, which has room.
 fn push_in<T, M: Mark>(
-    chunks: &mut Vec<Chunk<T, M>>,
+    chunks: &mut ChunkList<T, M>,
     last: usize,
     item: T,
 ) -> Result<(), AllocError> {
-    chunks[last].push(item)
+    chunks.list[last].push(item)
 }
 
 // Puts an item behind all others, in a chunk of its own.
-fn push_chunk<T, M: Mark>(chunks: &mut Vec<Chunk<T, M>>, item: T) -> Result<(), AllocError> {
-    let mark = end_mark(chunks.as_slice());
-    let rest = Vec::new(*chunks.allocator());
-    chunks.push(Chunk {
+fn push_chunk<T, M: Mark>(chunks: &mut ChunkList<T, M>, item: T) -> Result<(), AllocError> {
+    let mark = end_mark(chunks);
+    let rest = Vec::new(chunks.allocator());
+    chunks.list.push(Chunk {
         first: item,
         rest,
         mark,

@@ -5,8 +5,9 @@
 //! them. Where neither has, their lists are at least half full, both together.
 
 use crate::generated::range_list::chunk::Chunk;
+use crate::generated::range_list::chunk_list::ChunkList;
 use crate::generated::range_list::mark::Mark;
-use crate::support::{AllocError, Vec};
+use crate::support::AllocError;
 
 /// Joins the small ones among the chunk at an index, the one before it and the two behind it with
 /// their neighbours, where these have room.
@@ -14,13 +15,11 @@ use crate::support::{AllocError, Vec};
 /// # Contract
 ///
 /// ```text
-/// requires chunks: AreChunks M.FULL M.of chunks.old.items
-/// ensures same: flat chunks.new.items ≡ flat chunks.old.items
-/// ensures joins: (i : ℕ) → at ≤ i + 1 → i ≤ at + 1 → CanJoin M.FULL chunks.old.items i →
-///     length chunks.new.items < length chunks.old.items
-/// ensures chunks: AreChunks M.FULL M.of chunks.new.items
+/// ensures same: flat chunks.new ≡ flat chunks.old
+/// ensures joins: (i : ℕ) → at ≤ i + 1 → i ≤ at + 1 → CanJoin M.FULL chunks.old i → length
+///     chunks.new < length chunks.old
 /// ```
-pub(crate) fn join_around<T, M: Mark>(chunks: &mut Vec<Chunk<T, M>>, at: usize) {
+pub fn join_around<T, M: Mark>(chunks: &mut ChunkList<T, M>, at: usize) {
     join_small(chunks, at.saturating_add(1));
     join_small(chunks, at);
     join_small(chunks, at.saturating_sub(1));
@@ -32,52 +31,50 @@ pub(crate) fn join_around<T, M: Mark>(chunks: &mut Vec<Chunk<T, M>>, at: usize) 
 /// # Contract
 ///
 /// ```text
-/// requires chunks: AreChunks M.FULL M.of chunks.old.items
-/// ensures same: flat chunks.new.items ≡ flat chunks.old.items
-/// ensures chunks: AreChunks M.FULL M.of chunks.new.items
+/// ensures flat chunks.new ≡ flat chunks.old
 /// ```
-pub(crate) fn join_where_they_fit<T, M: Mark>(chunks: &mut Vec<Chunk<T, M>>, at: usize) {
-    if fit(chunks.as_slice(), at) && make_room(chunks, at).is_ok() {
+pub fn join_where_they_fit<T, M: Mark>(chunks: &mut ChunkList<T, M>, at: usize) {
+    if fit(chunks, at) && make_room(chunks, at).is_ok() {
         join_behind(chunks, at);
     }
 }
 
 // Whether there are a chunk at an index and one behind it, which both together have no more items than
 // one may have.
-fn fit<T, M: Mark>(chunks: &[Chunk<T, M>], at: usize) -> bool {
+fn fit<T, M: Mark>(chunks: &ChunkList<T, M>, at: usize) -> bool {
     let len = chunks.len();
     if at >= len || at + 1 >= len {
         return false;
     }
-    chunks[at].len() + chunks[at + 1].len() <= M::FULL
+    chunks.list[at].len() + chunks.list[at + 1].len() <= M::FULL
 }
 
 // Makes room in the list of a chunk for the items of the one behind it.
-fn make_room<T, M: Mark>(chunks: &mut Vec<Chunk<T, M>>, at: usize) -> Result<(), AllocError> {
-    let len = chunks[at + 1].len();
-    chunks[at].reserve(len)
+fn make_room<T, M: Mark>(chunks: &mut ChunkList<T, M>, at: usize) -> Result<(), AllocError> {
+    let len = chunks.list[at + 1].len();
+    chunks.list[at].reserve(len)
 }
 
 // Joins the chunk at an index and the one behind it, if one of them is small and one has room.
-fn join_small<T, M: Mark>(chunks: &mut Vec<Chunk<T, M>>, at: usize) {
-    if !has_few(chunks.as_slice(), at) {
+fn join_small<T, M: Mark>(chunks: &mut ChunkList<T, M>, at: usize) {
+    if !has_few(chunks, at) {
         return;
     }
-    if has_room(&chunks[at], &chunks[at + 1]) {
+    if has_room(&chunks.list[at], &chunks.list[at + 1]) {
         join_behind(chunks, at);
-    } else if has_room(&chunks[at + 1], &chunks[at]) {
+    } else if has_room(&chunks.list[at + 1], &chunks.list[at]) {
         join_before(chunks, at);
     }
 }
 
 // Whether there are a chunk at an index and one behind it, one of which is small, and both together
 // have no more items than one may have.
-fn has_few<T, M: Mark>(chunks: &[Chunk<T, M>], at: usize) -> bool {
+fn has_few<T, M: Mark>(chunks: &ChunkList<T, M>, at: usize) -> bool {
     let len = chunks.len();
     if at >= len || at + 1 >= len {
         return false;
     }
-    let (this, next) = (chunks[at].len(), chunks[at + 1].len());
+    let (this, next) = (chunks.list[at].len(), chunks.list[at + 1].len());
     let few = M::FULL / 4;
     (this < few || next < few) && this + next <= M::FULL
 }
@@ -89,13 +86,13 @@ fn has_room<T, M: Mark>(chunk: &Chunk<T, M>, other: &Chunk<T, M>) -> bool {
 }
 
 // Moves the items of the chunk behind another into the list of that, which has room.
-fn join_behind<T, M: Mark>(chunks: &mut Vec<Chunk<T, M>>, at: usize) {
-    let behind = chunks.remove(at + 1);
-    chunks[at].append(behind);
+fn join_behind<T, M: Mark>(chunks: &mut ChunkList<T, M>, at: usize) {
+    let behind = chunks.list.remove(at + 1);
+    chunks.list[at].append(behind);
 }
 
 // Moves the items of a chunk into the list of the one behind it, which has room.
-fn join_before<T, M: Mark>(chunks: &mut Vec<Chunk<T, M>>, at: usize) {
-    let before = chunks.remove(at);
-    chunks[at].prepend(before);
+fn join_before<T, M: Mark>(chunks: &mut ChunkList<T, M>, at: usize) {
+    let before = chunks.list.remove(at);
+    chunks.list[at].prepend(before);
 }

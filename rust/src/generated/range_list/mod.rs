@@ -3,6 +3,7 @@
 
 pub(crate) mod appending;
 pub(crate) mod chunk;
+pub(crate) mod chunk_list;
 pub(crate) mod copying;
 pub(crate) mod counting;
 pub(crate) mod inserting;

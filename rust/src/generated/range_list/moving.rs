@@ -4,7 +4,7 @@
 use crate::generated::range_list::chunk::Chunk;
 use crate::generated::range_list::key_of::IntoKey;
 use crate::generated::range_list::mark::Mark;
-use crate::support::{AllocError, Global, Vec};
+use crate::support::{AllocError, DivUp, Global, Vec};
 
 /// Appends the keys of the items to a list that has room for them.
 ///
@@ -42,7 +42,7 @@ fn with_chunk<T, K, M: Mark, L: IntoKey<T, K>>(
 }
 
 /// The items of a list in chunks, all of which are full but the last, behind items with this mark. It
-/// goes from the end on, so that each item is moved once or twice.
+/// goes from the end on, so that each item is moved once.
 ///
 /// # Contract
 ///
@@ -54,7 +54,7 @@ fn with_chunk<T, K, M: Mark, L: IntoKey<T, K>>(
 /// ```
 pub fn cut_up<T, M: Mark>(list: Vec<T>, mark: M) -> Result<Vec<Chunk<T, M>>, AllocError> {
     let mut unread = list;
-    let mut chunks = Vec::new(*unread.allocator());
+    let mut chunks = Vec::with_capacity(*unread.allocator(), unread.len().div_up(M::FULL))?;
     while !unread.is_empty() {
         chunks.push(last_chunk(&mut unread, mark)?)?;
     }
@@ -65,10 +65,9 @@ pub fn cut_up<T, M: Mark>(list: Vec<T>, mark: M) -> Result<Vec<Chunk<T, M>>, All
 // Takes the last items as a chunk, behind items with this mark. As many stay as some full chunks have.
 fn last_chunk<T, M: Mark>(list: &mut Vec<T>, mark: M) -> Result<Chunk<T, M>, AllocError> {
     let before = (list.len() - 1) / M::FULL * M::FULL;
-    let mut rest = list.split_off(before)?;
-    let first = rest.remove(0);
+    let rest = list.split_off(before + 1)?;
     Ok(Chunk {
-        first,
+        first: list.remove(before),
         rest,
         mark: mark.behind(before),
     })

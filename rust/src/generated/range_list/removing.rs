@@ -2,6 +2,7 @@
 //! Items taken out between two places, which takes no memory.
 
 use crate::generated::range_list::chunk::Chunk;
+use crate::generated::range_list::chunk_list::ChunkList;
 use crate::generated::range_list::mark::Mark;
 use crate::generated::range_list::place::Place;
 use crate::support::Vec;
@@ -12,20 +13,18 @@ use core::mem;
 /// # Contract
 ///
 /// ```text
-/// requires chunks: AreChunks M.FULL M.of chunks.old.items
-/// requires from: IsPlace chunks.old.items from
-/// requires to: IsPlace chunks.old.items to
-/// requires ordered: place_in chunks.old.items from ≤ place_in chunks.old.items to
-/// requires alike: M.of (place_in chunks.old.items from) ≡ M.of (place_in chunks.old.items to)
-/// ensures items: flat chunks.new.items ≡ remove_range (flat chunks.old.items) (place_in
-///     chunks.old.items from) (place_in chunks.old.items to)
-/// ensures chunks: AreChunks M.FULL M.of chunks.new.items
+/// requires from: IsPlace chunks.old from
+/// requires to: IsPlace chunks.old to
+/// requires ordered: place_in chunks.old from ≤ place_in chunks.old to
+/// requires alike: M.of (place_in chunks.old from) ≡ M.of (place_in chunks.old to)
+/// ensures flat chunks.new ≡ remove_range (flat chunks.old) (place_in chunks.old from)
+///     (place_in chunks.old to)
 /// ```
-pub(crate) fn remove_between<T, M: Mark>(chunks: &mut Vec<Chunk<T, M>>, from: Place, to: Place) {
+pub(crate) fn remove_between<T, M: Mark>(chunks: &mut ChunkList<T, M>, from: Place, to: Place) {
     if from.chunk > to.chunk {
         return;
     }
-    if from.chunk == to.chunk && to.index - from.index < chunks[to.chunk].len() {
+    if from.chunk == to.chunk && to.index - from.index < chunks.list[to.chunk].len() {
         remove_in(chunks, from, to.index);
     } else {
         remove_across(chunks, from, to);
@@ -33,24 +32,24 @@ pub(crate) fn remove_between<T, M: Mark>(chunks: &mut Vec<Chunk<T, M>>, from: Pl
 }
 
 // Removes some items of one chunk, but not all.
-fn remove_in<T, M: Mark>(chunks: &mut Vec<Chunk<T, M>>, from: Place, to: usize) {
-    chunks[from.chunk].remove_between(from.index, to);
+fn remove_in<T, M: Mark>(chunks: &mut ChunkList<T, M>, from: Place, to: usize) {
+    chunks.list[from.chunk].remove_between(from.index, to);
 }
 
 // Removes what lies between two places of different chunks, or a whole chunk. In Rust a drop may
 // panic, so the list is empty until what is left of it is whole.
-fn remove_across<T, M: Mark>(chunks: &mut Vec<Chunk<T, M>>, from: Place, to: Place) {
-    let empty = Vec::new(*chunks.allocator());
+fn remove_across<T, M: Mark>(chunks: &mut ChunkList<T, M>, from: Place, to: Place) {
+    let empty = ChunkList::new(chunks.allocator());
     let mut taken = mem::replace(chunks, empty);
     cut_across(&mut taken, from, to);
     *chunks = taken;
 }
 
-// The same in steps, between which the marks are wrong.
-fn cut_across<T, M: Mark>(chunks: &mut Vec<Chunk<T, M>>, from: Place, to: Place) {
-    let low = cut_behind(chunks, from);
-    let high = cut_before(chunks, to);
-    remove_chunks(chunks, low, high);
+// The same as `remove_across`, in steps, between which the marks are wrong.
+fn cut_across<T, M: Mark>(chunks: &mut ChunkList<T, M>, from: Place, to: Place) {
+    let low = cut_behind(&mut chunks.list, from);
+    let high = cut_before(&mut chunks.list, to);
+    remove_chunks(&mut chunks.list, low, high);
 }
 
 /// Removes the chunks between two indices.

@@ -3,6 +3,7 @@
 //! and else in chunks of their own.
 
 use crate::generated::range_list::chunk::{insert_list_reserved, Chunk};
+use crate::generated::range_list::chunk_list::ChunkList;
 use crate::generated::range_list::inserting::split_at;
 use crate::generated::range_list::joining::{join_around, join_where_they_fit};
 use crate::generated::range_list::mark::Mark;
@@ -19,31 +20,27 @@ use core::mem;
 /// # Contract
 ///
 /// ```text
-/// requires chunks: AreChunks M.FULL M.of chunks.old.items
-/// requires from: IsPlace chunks.old.items from
-/// requires to: IsPlace chunks.old.items to
-/// requires ordered: place_in chunks.old.items from ≤ place_in chunks.old.items to
-/// requires alike: place_in chunks.old.items to < length (flat chunks.old.items) → M.of
-///     (place_in chunks.old.items from + length list.items) ≡ M.of (place_in chunks.old.items
-///     to)
-/// ensures items: OnOk result (flat chunks.new.items ≡ take (place_in chunks.old.items from)
-///     (flat chunks.old.items) ++ (list.items ++ drop (place_in chunks.old.items to) (flat
-///     chunks.old.items)))
-/// ensures unchanged: OnErr result (flat chunks.new.items ≡ flat chunks.old.items)
-/// ensures chunks: AreChunks M.FULL M.of chunks.new.items
+/// requires from: IsPlace chunks.old from
+/// requires to: IsPlace chunks.old to
+/// requires ordered: place_in chunks.old from ≤ place_in chunks.old to
+/// requires alike: place_in chunks.old to < length (flat chunks.old) → M.of (place_in
+///     chunks.old from + length list.items) ≡ M.of (place_in chunks.old to)
+/// ensures items: OnOk result (flat chunks.new ≡ take (place_in chunks.old from) (flat
+///     chunks.old) ++ (list.items ++ drop (place_in chunks.old to) (flat chunks.old)))
+/// ensures unchanged: OnErr result (flat chunks.new ≡ flat chunks.old)
 /// ```
 pub(crate) fn replace_between<T, M: Mark>(
-    chunks: &mut Vec<Chunk<T, M>>,
+    chunks: &mut ChunkList<T, M>,
     from: Place,
     to: Place,
     list: Vec<T>,
 ) -> Result<(), AllocError> {
-    if fits(chunks.as_slice(), from, to, list.len()) {
+    if fits(chunks, from, to, list.len()) {
         replace_in(chunks, from, to.index, list)?;
         join_around(chunks, from.chunk);
         return Ok(());
     }
-    let from = up_to(chunks.as_slice(), from, to);
+    let from = up_to(chunks, from, to);
     replace_across(chunks, from, to, list)
 }
 
@@ -52,43 +49,41 @@ pub(crate) fn replace_between<T, M: Mark>(
 /// # Contract
 ///
 /// ```text
-/// requires chunks: AreChunks M.FULL M.of chunks.old.items
-/// requires none: length chunks.old.items ≡ 0
-/// ensures items: OnOk result (flat chunks.new.items ≡ list.items)
-/// ensures unchanged: OnErr result (flat chunks.new.items ≡ [])
-/// ensures chunks: AreChunks M.FULL M.of chunks.new.items
+/// requires none: length chunks.old ≡ 0
+/// ensures items: OnOk result (flat chunks.new ≡ list.items)
+/// ensures unchanged: OnErr result (flat chunks.new ≡ [])
 /// ```
 pub(crate) fn fill_from<T, M: Mark>(
-    chunks: &mut Vec<Chunk<T, M>>,
+    chunks: &mut ChunkList<T, M>,
     list: Vec<T>,
 ) -> Result<(), AllocError> {
     let made = cut_up(list, M::front())?;
-    *chunks = made;
+    chunks.list = made;
     Ok(())
 }
 
 // Whether both places are in one chunk, in which this number of items fits in the place of those between
 // them, and some items stay.
-fn fits<T, M: Mark>(chunks: &[Chunk<T, M>], from: Place, to: Place, len: usize) -> bool {
+fn fits<T, M: Mark>(chunks: &ChunkList<T, M>, from: Place, to: Place, len: usize) -> bool {
     if from.chunk != to.chunk || to.index == 0 {
         return false;
     }
-    let stay = chunks[to.chunk].len() - (to.index - from.index);
+    let stay = chunks.list[to.chunk].len() - (to.index - from.index);
     (stay > 0 || len > 0) && len <= M::FULL - stay
 }
 
 // Replaces the items between two indices of a chunk.
 fn replace_in<T, M: Mark>(
-    chunks: &mut Vec<Chunk<T, M>>,
+    chunks: &mut ChunkList<T, M>,
     from: Place,
     to: usize,
     list: Vec<T>,
 ) -> Result<(), AllocError> {
-    chunks[from.chunk].replace(from.index, to, list)
+    chunks.list[from.chunk].replace(from.index, to, list)
 }
 
 // The first of two places, or the other one if that is of an earlier chunk and as many items stand before.
-fn up_to<T, M: Mark>(chunks: &[Chunk<T, M>], from: Place, to: Place) -> Place {
+fn up_to<T, M: Mark>(chunks: &ChunkList<T, M>, from: Place, to: Place) -> Place {
     if from.chunk > to.chunk {
         to
     } else {
@@ -99,16 +94,15 @@ fn up_to<T, M: Mark>(chunks: &[Chunk<T, M>], from: Place, to: Place) -> Place {
 // Replaces the items between two places by chunks of their own. Small ones are joined with their
 // neighbours.
 fn replace_across<T, M: Mark>(
-    chunks: &mut Vec<Chunk<T, M>>,
+    chunks: &mut ChunkList<T, M>,
     from: Place,
     to: Place,
     list: Vec<T>,
 ) -> Result<(), AllocError> {
-    let made = cut_up(list, mark_at(chunks.as_slice(), from))?;
+    let made = cut_up(list, mark_at(chunks, from))?;
     let count = made.len();
     let high = begin_chunk(chunks, from, to)?;
-    chunks.reserve(count)?;
-    let low = put_chunks(chunks, from, high, made);
+    let low = put_chunks(chunks, from, high, made)?;
     join_where_they_fit(chunks, low.saturating_add(count).saturating_sub(1));
     join_where_they_fit(chunks, low.saturating_sub(1));
     Ok(())
@@ -117,36 +111,37 @@ fn replace_across<T, M: Mark>(
 // Splits the chunk of a place if there are items of it before and behind. Returns the chunk that begins
 // at the place. An earlier place stays as it was.
 fn begin_chunk<T, M: Mark>(
-    chunks: &mut Vec<Chunk<T, M>>,
+    chunks: &mut ChunkList<T, M>,
     from: Place,
     at: Place,
 ) -> Result<usize, AllocError> {
     if at.index == 0 {
         return Ok(at.chunk);
     }
-    if at.index < chunks[at.chunk].len() {
-        chunks.reserve(1)?;
+    if at.index < chunks.list[at.chunk].len() {
         split_at(chunks, at)?;
     }
     Ok(at.chunk + 1)
 }
 
-// Puts chunks in the place of the items from a place up to a chunk, where there is room for them. Returns
-// how many chunks stand before them. In Rust a drop may panic, so the list is empty until it is whole.
+// Puts chunks in the place of the items from a place up to a chunk. Returns how many chunks stand before
+// them. In Rust a drop may panic, so the list is empty until it is whole.
 fn put_chunks<T, M: Mark>(
-    chunks: &mut Vec<Chunk<T, M>>,
+    chunks: &mut ChunkList<T, M>,
     from: Place,
     high: usize,
     made: Vec<Chunk<T, M>>,
-) -> usize {
-    let empty = Vec::new(*chunks.allocator());
-    let mut taken = mem::replace(chunks, empty);
+) -> Result<usize, AllocError> {
+    chunks.list.reserve(made.len())?;
+    let empty = Vec::new(*chunks.list.allocator());
+    let mut taken = mem::replace(&mut chunks.list, empty);
     let low = put_between(&mut taken, from, high, made);
-    *chunks = taken;
-    low
+    chunks.list = taken;
+    Ok(low)
 }
 
-// The same in steps, between which the marks are wrong.
+// The same as `put_chunks`, in a plain list that has the room: in steps, between which the marks
+// are wrong.
 fn put_between<T, M: Mark>(
     chunks: &mut Vec<Chunk<T, M>>,
     from: Place,

@@ -2,6 +2,7 @@
 //! Items taken out at the ends, which takes no memory.
 
 use crate::generated::range_list::chunk::Chunk;
+use crate::generated::range_list::chunk_list::ChunkList;
 use crate::generated::range_list::mark::Mark;
 use crate::support::Vec;
 
@@ -10,17 +11,14 @@ use crate::support::Vec;
 /// # Contract
 ///
 /// ```text
-/// requires chunks: AreChunks M.FULL M.of chunks.old.items
-/// requires alike: M.of 2 ≡ M.of 0
-/// ensures items: MatchOption result ((flat chunks.old.items ≡ []) × (flat chunks.new.items ≡
-///     [])) (λ two. flat chunks.old.items ≡ two.0 ∷ (option_to_list two.1 ++ flat
-///     chunks.new.items))
-/// ensures only: IfSome result (λ two. two.1 ≡ None → flat chunks.new.items ≡ [])
-/// ensures chunks: AreChunks M.FULL M.of chunks.new.items
+/// requires M.of 2 ≡ M.of 0
+/// ensures items: MatchOption result ((flat chunks.old ≡ []) × (flat chunks.new ≡ [])) (λ two.
+///     flat chunks.old ≡ two.0 ∷ (option_to_list two.1 ++ flat chunks.new))
+/// ensures only: IfSome result (λ two. two.1 ≡ None → flat chunks.new ≡ [])
 /// ```
-pub(crate) fn take_two<T, M: Mark>(chunks: &mut Vec<Chunk<T, M>>) -> Option<(T, Option<T>)> {
-    let first = take_first(chunks)?;
-    let second = take_first(chunks);
+pub(crate) fn take_two<T, M: Mark>(chunks: &mut ChunkList<T, M>) -> Option<(T, Option<T>)> {
+    let first = take_first(&mut chunks.list)?;
+    let second = take_first(&mut chunks.list);
     Some((first, second))
 }
 
@@ -41,17 +39,15 @@ fn take_first<T, M: Mark>(chunks: &mut Vec<Chunk<T, M>>) -> Option<T> {
 /// # Contract
 ///
 /// ```text
-/// requires AreChunks M.FULL M.of chunks.old.items
-/// ensures chunks: AreChunks M.FULL M.of chunks.new.items
-/// ensures item: MatchOption result ((flat chunks.old.items ≡ []) × (flat chunks.new.items ≡
-///     [])) (λ item. flat chunks.old.items ≡ flat chunks.new.items ++ item ∷ [])
+/// ensures MatchOption result ((flat chunks.old ≡ []) × (flat chunks.new ≡ [])) (λ item. flat
+///     chunks.old ≡ flat chunks.new ++ item ∷ [])
 /// ```
-pub(crate) fn take_last<T, M: Mark>(chunks: &mut Vec<Chunk<T, M>>) -> Option<T> {
+pub fn take_last<T, M: Mark>(chunks: &mut ChunkList<T, M>) -> Option<T> {
     let last = chunks.len().checked_sub(1)?;
-    match chunks[last].rest.pop() {
+    match chunks.list[last].rest.pop() {
         Some(item) => Some(item),
         None => {
-            let Chunk { first, .. } = chunks.remove(last);
+            let Chunk { first, .. } = chunks.list.remove(last);
             Some(first)
         }
     }

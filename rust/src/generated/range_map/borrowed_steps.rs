@@ -8,7 +8,7 @@ use crate::support::{AllocError, Global, Vec};
 
 /// Keys, and the option that holds from each of them on. A clause reads it as these.
 pub struct BorrowedSteps<'a, K, V> {
-    steps: Vec<Step<&'a K, &'a V>>,
+    pub(crate) steps: Vec<Step<&'a K, &'a V>>,
 }
 
 impl<'a, K, V> BorrowedSteps<'a, K, V> {

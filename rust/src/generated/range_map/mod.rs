@@ -17,6 +17,7 @@ pub(crate) mod retaining;
 pub(crate) mod runs;
 pub(crate) mod step;
 pub(crate) mod update;
+pub(crate) mod updating;
 pub(crate) mod value;
 pub(crate) mod within;
 

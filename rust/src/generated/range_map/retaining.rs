@@ -3,7 +3,7 @@
 
 use crate::generated::range_list::{Chunks, Place, FRONT};
 use crate::generated::range_map::filter::MapFilter;
-use crate::generated::range_map::places::is_before;
+use crate::generated::range_map::places::holds_before;
 use crate::generated::range_map::step::{Step, StepOption};
 
 /// Takes away each value that the filter doesn't keep.
@@ -78,7 +78,7 @@ fn is_kept<V, F: MapFilter<V>>(option: Option<&V>, filter: &F) -> bool {
 // Whether the option at a place equals the one before another.
 fn is_like_last<K, V: Eq>(steps: &Chunks<Step<K, V>, ()>, end: Place, at: Place) -> bool {
     match steps.item_at(at) {
-        Some(step) => is_before(steps, end, &step.option),
+        Some(step) => holds_before(steps, end, &step.option),
         None => true,
     }
 }

@@ -7,24 +7,28 @@ use Rattle.range_list.proofs.appending.push_in.Goals as goal
 
 pub returns-clause-items : goal.returns-clause-items
 returns-clause-items g c =
-    let last : suc c.args.last ≡ length c.args.chunks.now.items = omega (arith, c.requires.last) in
+    rw c.chunks.view_is
+    (let last : suc c.args.last ≡ length c.args.chunks.now = omega (arith, c.requires.last) in
     on_ok_weaker c.push.result
-    (λ put. flat-last c.args.chunks.now.items c.args.last c.index_mut.result.now c.push.new.self last c.index_mut.ensures.value c.args.item put)
-    c.push.ensures.items
+    (λ put. flat-last c.args.chunks.now c.args.last c.index_mut.result.now c.push.new.self last (rw c.chunks.view_is at c.index_mut.ensures.value) c.args.item put)
+    c.push.ensures.items)
 
 pub returns-clause-unchanged : goal.returns-clause-unchanged
 returns-clause-unchanged g c =
-    on_err_weaker c.push.result
-    (λ kept. flat-kept c.args.chunks.now.items c.args.last c.index_mut.result.now c.push.new.self (omega (arith, c.requires.last)) c.index_mut.ensures.value kept)
-    c.push.ensures.unchanged
+    rw c.chunks.view_is
+    (on_err_weaker c.push.result
+    (λ kept. flat-kept c.args.chunks.now c.args.last c.index_mut.result.now c.push.new.self (omega (arith, c.requires.last)) (rw c.chunks.view_is at c.index_mut.ensures.value) kept)
+    c.push.ensures.unchanged)
 
-pub returns-clause-chunks : goal.returns-clause-chunks
-returns-clause-chunks g c =
-    let last : suc c.args.last ≡ length c.args.chunks.now.items = omega (arith, c.requires.last) in
-    AreChunks-last g.M.Mark.of g.M.Mark.moved g.met.M.Mark.adds c.args.chunks.now.items c.args.last c.index_mut.result.now c.push.new.self last c.index_mut.ensures.value c.requires.chunks c.push.ensures.mark
+pub invariant_of-chunks : goal.invariant_of-chunks
+invariant_of-chunks g c =
+    rw c.chunks.view_is
+    (let read = rw c.chunks.view_is at c.index_mut.ensures.value in
+    let last : suc c.args.last ≡ length c.args.chunks.now = omega (arith, c.requires.last) in
+    AreChunks-last g.M.Mark.of g.M.Mark.moved g.met.M.Mark.adds c.args.chunks.now c.args.last c.index_mut.result.now c.push.new.self last read (rw c.chunks.view_is at c.chunks.invariant) c.push.ensures.mark
     (omega (
       arith,
       as_long-pushed c.index_mut.result.now c.push.new.self c.args.item c.push.result c.push.ensures.items c.push.ensures.unchanged,
       c.requires.room c.index_mut.result.now,
-      ap (λ x. length (items_of x)) c.index_mut.ensures.value,
-    ))
+      ap (λ x. length (items_of x)) read,
+    )))

@@ -11,15 +11,25 @@ pub overflow_add-result : goal.overflow_add-result
 overflow_add-result g c =
     omega (
       arith,
-      c.len_of.ensures,
+      rw (c.as_slice-all.ensures.value, c.chunks.view_is) at c.len_of.ensures,
       length-chunks_between c.args.chunks.now c.args.from.chunk c.args.to.chunk (omega (arith, c.if-from-to.false)),
-      start-most c.args.chunks.now c.args.to.chunk g.met.M.Mark.few c.requires.short,
+      start-most c.args.chunks.now c.args.to.chunk g.met.M.Mark.few (rw c.chunks.view_is at c.chunks.invariant).short,
     )
 
 pub overflow_sub-result : goal.overflow_sub-result
 overflow_sub-result g c =
-    omega (arith, c.len_of.ensures, length-chunks_between c.args.chunks.now c.args.from.chunk c.args.to.chunk (omega (arith, c.if-from-to.false)), c.requires.ordered)
+    omega (
+      arith,
+      rw (c.as_slice-all.ensures.value, c.chunks.view_is) at c.len_of.ensures,
+      length-chunks_between c.args.chunks.now c.args.from.chunk c.args.to.chunk (omega (arith, c.if-from-to.false)),
+      c.requires.ordered,
+    )
 
 pub returns : goal.returns
 returns g c =
-    omega (arith, c.len_of.ensures, length-chunks_between c.args.chunks.now c.args.from.chunk c.args.to.chunk (omega (arith, c.if-from-to.false)), c.requires.ordered)
+    omega (
+      arith,
+      rw (c.as_slice-all.ensures.value, c.chunks.view_is) at c.len_of.ensures,
+      length-chunks_between c.args.chunks.now c.args.from.chunk c.args.to.chunk (omega (arith, c.if-from-to.false)),
+      c.requires.ordered,
+    )

@@ -2,7 +2,7 @@ use Rattle.range_list.proofs.Moved.{cut_off-start, cut_off-more}
 use Rattle.range_list.proofs.moving.cut_up.Goals as goal
 
 pub loop-mark-init : goal.loop-mark-init
-loop-mark-init g c = rw c.new-chunks.ensures.items (cut_off-start g.M.Mark.FULL g.M.Mark.of g.M.Mark.moved g.met.M.Mark.adds c.args.mark c.args.list.items)
+loop-mark-init g c = rw c.in_ok-chunks.ensures.items (cut_off-start g.M.Mark.FULL g.M.Mark.of g.M.Mark.moved g.met.M.Mark.adds c.args.mark c.args.list.items)
 
 pub loop-mark-preserved : goal.loop-mark-preserved
 loop-mark-preserved g c =

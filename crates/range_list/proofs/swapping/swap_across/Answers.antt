@@ -4,13 +4,16 @@ use Rattle.range_list.proofs.swapping.swap_across.Goals as goal
 
 pub returns-clause-items : goal.returns-clause-items
 returns-clause-items g c =
-    exchanged-items c.args.chunks.now.items c.args.a c.args.b c.requires.a c.requires.a_item c.requires.b c.requires.b_item c.requires.ordered c.exchange.new.chunks.items (get_or c.args.chunks.now.items c.args.a.chunk c.exchange.ensures.low) c.exchange.ensures
+    let done = rw c.chunks.view_is at c.exchange.ensures in
+    exchanged-items c.args.chunks.now c.args.a c.args.b c.requires.a c.requires.a_item c.requires.b c.requires.b_item c.requires.ordered c.exchange.new.chunks.items (get_or c.args.chunks.now c.args.a.chunk done.low) done
 
 pub returns-clause-places : goal.returns-clause-places
 returns-clause-places g c =
-    exchanged-places c.args.chunks.now.items c.args.a c.args.b c.requires.a c.requires.a_item c.requires.b c.requires.b_item c.requires.ordered c.exchange.new.chunks.items (get_or c.args.chunks.now.items c.args.a.chunk c.exchange.ensures.low) c.exchange.ensures
+    let done = rw c.chunks.view_is at c.exchange.ensures in
+    exchanged-places c.args.chunks.now c.args.a c.args.b c.requires.a c.requires.a_item c.requires.b c.requires.b_item c.requires.ordered c.exchange.new.chunks.items (get_or c.args.chunks.now c.args.a.chunk done.low) done
 
-pub returns-clause-chunks : goal.returns-clause-chunks
-returns-clause-chunks g c =
-    exchanged-AreChunks c.args.chunks.now.items c.args.a c.args.b c.requires.a c.requires.a_item c.requires.b c.requires.b_item c.requires.ordered c.exchange.new.chunks.items (get_or c.args.chunks.now.items c.args.a.chunk c.exchange.ensures.low) c.exchange.ensures
-    g.M.Mark.of g.M.Mark.moved g.met.M.Mark.adds c.requires.chunks
+pub invariant_of-chunks : goal.invariant_of-chunks
+invariant_of-chunks g c =
+    let done = rw c.chunks.view_is at c.exchange.ensures in
+    exchanged-AreChunks c.args.chunks.now c.args.a c.args.b c.requires.a c.requires.a_item c.requires.b c.requires.b_item c.requires.ordered c.exchange.new.chunks.items (get_or c.args.chunks.now c.args.a.chunk done.low) done
+    g.M.Mark.of g.M.Mark.moved g.met.M.Mark.adds (rw c.chunks.view_is at c.chunks.invariant)

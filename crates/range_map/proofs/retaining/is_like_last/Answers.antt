@@ -7,7 +7,7 @@ use Rattle.range_map.proofs.retaining.is_like_last.Goals as goal
 
 pub returns-in-Some : goal.returns-in-Some
 returns-in-Some g c =
-    c.is_before.ensures
+    c.holds_before.ensures
     ∙ ap (option_eq g.V.PartialEq.eq (get_or (None ∷ (steps_in c.args.steps.now).options) (place_at c.args.steps.now c.args.end) None))
     (step-option (joined c.args.steps.now) (place_at c.args.steps.now c.args.at) c.item_at.result c.in-Some.step.now c.item_at.ensures (ap option_copied c.in-Some.is))
 

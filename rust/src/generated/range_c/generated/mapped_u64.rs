@@ -119,7 +119,7 @@ pub unsafe extern "C" fn plain_range_map_u64_insert(
     done
 }
 
-/// The same of the keys from `start` on.
+/// Gives the keys from `start` on the value, and answers whether there was memory for it. If there was none, the map is as it was.
 #[no_mangle]
 pub unsafe extern "C" fn plain_range_map_u64_insert_from(
     map: &mut MappedU64,
@@ -147,7 +147,7 @@ pub unsafe extern "C" fn plain_range_map_u64_remove(
     done
 }
 
-/// The same of the keys from `start` on.
+/// Takes the values of the keys from `start` on away, and answers whether there was memory for it. If there was none, the map is as it was.
 #[no_mangle]
 pub unsafe extern "C" fn plain_range_map_u64_remove_from(map: &mut MappedU64, start: u64) -> bool {
     let alloc = Global;
@@ -171,7 +171,7 @@ pub unsafe extern "C" fn plain_range_map_u64_get(
     answer
 }
 
-/// Tells the longest range around the key whose keys have one value, or none: its start and its end, where it has them, and as `get` the value.
+/// Whether the key has a value, and then writes it. It also writes the longest range around the key whose keys have one value, or none: its start and its end, and for each whether there is one.
 #[no_mangle]
 pub unsafe extern "C" fn plain_range_map_u64_range_at(
     map: &mut MappedU64,

@@ -3,6 +3,7 @@
 
 use crate::generated::range_c::calls::{combine, merge, range_of, split};
 use crate::generated::range_c::combining::combine_within;
+use crate::generated::range_c::each::contains_each;
 use crate::generated::range_c::ends::Ends;
 use crate::generated::range_c::fitting::{first_fit_aligned, first_run};
 use crate::generated::range_c::from_least::combine_from;
@@ -34,6 +35,22 @@ pub unsafe extern "C" fn plain_range_set_u64_contains(
 ) -> bool {
     let a = unsafe { items_at(a, a_len) };
     RangeSetRef::new_unchecked(a).contains(&value)
+}
+
+/// Writes for each value whether it is a member: 1 or 0.
+#[no_mangle]
+pub unsafe extern "C" fn plain_range_set_u64_contains_each(
+    a: *const u64,
+    a_len: usize,
+    values: *const u64,
+    values_len: usize,
+    found: *mut u8,
+    found_len: usize,
+) {
+    let a = unsafe { items_at(a, a_len) };
+    let values = unsafe { items_at(values, values_len) };
+    let found = unsafe { room_at(found, found_len) };
+    contains_each(a, values, found)
 }
 
 /// Whether each number from `start` on, up to below `end`, is a member.
@@ -256,7 +273,7 @@ pub unsafe extern "C" fn plain_range_set_u64_range_at(
     range_at(a, &value, start, end, has_end)
 }
 
-/// Tells the range that holds the number, or else the next one above it, if there is one.
+/// Whether a range holds the number or lies above it, and then writes the first such range: its start, whether it has an end, and that.
 #[no_mangle]
 pub unsafe extern "C" fn plain_range_set_u64_range_from(
     a: *const u64,
@@ -270,7 +287,7 @@ pub unsafe extern "C" fn plain_range_set_u64_range_from(
     range_from(a, &value, start, end, has_end)
 }
 
-/// Tells the least member at or above `from`, if there is one.
+/// Whether a number at or above `from` is a member, and then writes the least.
 #[no_mangle]
 pub unsafe extern "C" fn plain_range_set_u64_next_member(
     a: *const u64,
@@ -282,7 +299,7 @@ pub unsafe extern "C" fn plain_range_set_u64_next_member(
     next_member(a, &from, next)
 }
 
-/// Tells the least number at or above `from` that isn't a member, if there is one.
+/// Whether a number at or above `from` is no member, and then writes the least.
 #[no_mangle]
 pub unsafe extern "C" fn plain_range_set_u64_next_gap(
     a: *const u64,
@@ -294,7 +311,7 @@ pub unsafe extern "C" fn plain_range_set_u64_next_gap(
     next_gap(a, &from, next)
 }
 
-/// Tells the greatest member at or below `from`, if there is one.
+/// Whether a number at or below `from` is a member, and then writes the greatest.
 #[no_mangle]
 pub unsafe extern "C" fn plain_range_set_u64_prev_member(
     a: *const u64,
@@ -306,7 +323,7 @@ pub unsafe extern "C" fn plain_range_set_u64_prev_member(
     prev_member(a, &from, previous)
 }
 
-/// Tells the greatest number at or below `from` that isn't a member, if there is one.
+/// Whether a number at or below `from` is no member, and then writes the greatest.
 #[no_mangle]
 pub unsafe extern "C" fn plain_range_set_u64_prev_gap(
     a: *const u64,
@@ -318,7 +335,7 @@ pub unsafe extern "C" fn plain_range_set_u64_prev_gap(
     prev_gap(a, &from, previous)
 }
 
-/// Tells the member with `k` others below it, if there is one.
+/// Whether there is a member with `k` others below it, and then writes it.
 #[no_mangle]
 pub unsafe extern "C" fn plain_range_set_u64_select(
     a: *const u64,
@@ -344,7 +361,7 @@ pub unsafe extern "C" fn plain_range_set_u64_ranges_len(a: *const u64, a_len: us
     RangeSetRef::new_unchecked(a).ranges_len()
 }
 
-/// Whether there is a range with so many before it, and then writes it: its start, whether it has an end, and that.
+/// Whether there is a range with `index` others before it, and then writes it: its start, whether it has an end, and that.
 #[no_mangle]
 pub unsafe extern "C" fn plain_range_set_u64_range(
     a: *const u64,
@@ -484,7 +501,7 @@ pub unsafe extern "C" fn plain_range_set_u64_from_ranges(
     from_ranges(ranges)
 }
 
-/// The same of the ranges and, if `is_open`, of all numbers from `from` on. What is answered is how many ranges with an end there are; it tells where the one without an end starts.
+/// Moves the ranges with an end of the set of all numbers in the ranges and, if `is_open`, of all from `from` on, to the front, and answers how many these are. If `is_open`, it writes to `from` where the range without an end starts.
 #[no_mangle]
 pub unsafe extern "C" fn plain_range_set_u64_union_from(
     ranges: *mut RangeU64,
@@ -509,7 +526,7 @@ pub unsafe extern "C" fn plain_range_set_u64_print(
     print(a, out)
 }
 
-/// Whether the bytes are a text of ranges, as `0..10, 20..`: 0, and tells how many numbers it has. Else 1 where it stops being one, at the byte that is told, 2 where a number doesn't fit the type, and 3 where the bytes aren't UTF-8, from the byte on that is told.
+/// Answers 0 if the bytes are a text of ranges, as `0..10, 20..`, and writes how many numbers it has. Else it answers 1 and writes the byte at which they stop being one, 2 if a number doesn't fit the type, or 3 and writes the byte from which on they aren't UTF-8.
 #[no_mangle]
 pub unsafe extern "C" fn plain_range_set_u64_check_text(
     text: *const u8,
@@ -520,7 +537,7 @@ pub unsafe extern "C" fn plain_range_set_u64_check_text(
     check::<u64>(text, told)
 }
 
-/// Leaves the ranges with an end of the set of a text's ranges at the front of the buffer, and answers how many these are. It tells whether the set has a range without an end after them, and where that starts.
+/// Leaves the ranges with an end of the set of a text's ranges at the front of the buffer, and answers how many these are. It writes whether the set has a range without an end after them, and if so where that starts.
 #[no_mangle]
 pub unsafe extern "C" fn plain_range_set_u64_parse(
     text: *const u8,

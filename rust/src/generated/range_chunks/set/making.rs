@@ -42,6 +42,10 @@ impl<T: EntryClone> ChunkedRangeSet<T> {
 impl ChunkedRangeSet<u64> {
     /// The set of these parts of a range, with copies of their boundaries.
     ///
+    /// It is for `u64` alone, the offsets of range_chunked_tracker, whose `missing` is the one
+    /// caller. A copy of a number is that number, so the set is exactly `parts`; clones of another
+    /// type would only be equal to them.
+    ///
     /// # Contract
     ///
     /// ```text

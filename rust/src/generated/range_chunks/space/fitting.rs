@@ -2,13 +2,24 @@
 //! The search for the first fit, which passes over gaps that are known to be too short.
 
 use crate::generated::range_chunks::gap_bound::{first_above, forget_wasted, stop_of, GapBound};
-use crate::generated::range_chunks::reading::{first_row, Reading, SearchStep, Until};
 use crate::generated::range_chunks::space::ChunkedSpace;
-use crate::generated::range_collections::{Countable, FromPlace, Multiples, Row};
+use crate::generated::range_collections::{
+    walk_to_row, Countable, FromPlace, Multiples, Row, RowWalk, Until,
+};
 use core::ops::Range;
 
 // How many gaps a bound is for at most.
 const GAPS: usize = 512;
+
+/// What a step of a search found.
+pub enum SearchStep<T> {
+    /// It fits there.
+    At(Row<T>),
+    /// It fits nowhere below.
+    From(T),
+    /// It fits nowhere.
+    Nowhere,
+}
 
 impl<T: Countable + Copy> ChunkedSpace<T> {
     /// The least value from which `count` values lie in the range and are free, or `None` if there
@@ -74,9 +85,9 @@ impl<T: Countable + Copy> ChunkedSpace<T> {
             ranges: GAPS,
             place: stop_of(self.bounds.as_slice(), at, from.place()),
         };
-        match first_row(self.taken.gaps(&from..&end), count, multiples, Some(until)) {
-            Reading::Found(row) => SearchStep::At(row),
-            Reading::Stopped { end: next, most } => {
+        match walk_to_row(self.taken.gaps(&from..&end), count, multiples, Some(until)) {
+            RowWalk::Found(row) => SearchStep::At(row),
+            RowWalk::Stopped { end: next, most } => {
                 let bound = GapBound {
                     start: from,
                     end: next,
@@ -87,7 +98,7 @@ impl<T: Countable + Copy> ChunkedSpace<T> {
                 self.note(at, bound);
                 SearchStep::From(next)
             }
-            Reading::End => SearchStep::Nowhere,
+            RowWalk::End => SearchStep::Nowhere,
         }
     }
 

@@ -6,7 +6,7 @@ use crate::generated::range_collections::countable::Countable;
 use crate::generated::range_collections::iter::{Gaps, Iter, RangesWithin};
 use crate::generated::range_collections::range_set::RangeSet;
 use crate::generated::range_collections::range_set_range::RangeSetRange;
-use crate::generated::range_collections::view::RangeSetRef;
+use crate::generated::range_collections::view::{Cursor, RangeSetRef};
 use crate::generated::range_entry::RangeSetEntry;
 use crate::generated::range_merge::MergeOperation;
 use core::ops::Range;
@@ -22,6 +22,19 @@ impl<T: Ord, const N: usize> RangeSet<T, N> {
     #[inline]
     pub fn contains(&self, value: &T) -> bool {
         self.as_ref().contains(value)
+    }
+
+    /// A cursor of the set, before its first boundary.
+    ///
+    /// # Contract
+    ///
+    /// ```text
+    /// ensures boundaries: result.set.boundaries.now ≡ self.now
+    /// ensures place: result.place ≡ 0
+    /// ```
+    #[inline]
+    pub fn cursor(&self) -> Cursor<'_, T> {
+        self.as_ref().cursor()
     }
 
     /// Whether the set is empty.

@@ -33,8 +33,8 @@ impl<T: Ord, const N: usize> RangeSet<T, N> {
         self.insert_counted(range, &mut Comparisons::new())
     }
 
-    /// The same, counted: one comparison of the start with the end, and for each of the two at most
-    /// as many as the number of boundaries has binary digits.
+    /// The same as `insert`, counted: one comparison of the start with the end, and for each of the
+    /// two at most as many as the number of boundaries has binary digits.
     ///
     /// # Contract
     ///
@@ -100,8 +100,8 @@ impl<T: Ord, const N: usize> RangeSet<T, N> {
         self.remove_counted(range, &mut Comparisons::new())
     }
 
-    /// The same, counted: one comparison of the start with the end, and for each of the two at most
-    /// as many as the number of boundaries has binary digits.
+    /// The same as `remove`, counted: one comparison of the start with the end, and for each of the
+    /// two at most as many as the number of boundaries has binary digits.
     ///
     /// # Contract
     ///

@@ -5,6 +5,15 @@
 //! doesn't on they are put aside, unless the list still lies in the set itself. The starts and the
 //! ends of these are sorted apart: the ranges from the first start to the first end, from the
 //! second to the second, and so on, have the same elements, and come in order.
+//!
+//! ```text
+//! add_copy: a borrowed range, copied
+//!     add: an owned range; one at the end of all others goes to `put_at_end` at once
+//!         add_anywhere: any other, to `put_range` or aside
+//!             put_range: one for the list, also if it was aside
+//!                 put_ends: with an end, to `put`, which calls `put_at_end` or `put_within`
+//!                 put_from: without an end, a set of its own, to `add_all`
+//! ```
 
 use crate::generated::range_collections::comparisons::Comparisons;
 use crate::generated::range_collections::lists::is_odd;
@@ -15,6 +24,7 @@ use crate::generated::range_collections::range_set_range::{has_elements, RangeSe
 use crate::generated::range_entry::EntryClone;
 use crate::generated::range_merge::{Indexed, UnionOp};
 use crate::support::{append_both, AllocError, Global, SmallVec, SortIn, Vec};
+use core::cmp::Ordering;
 use core::ops::{Range, RangeFrom};
 
 // The elements that lie in at least one of the ranges.
@@ -73,7 +83,7 @@ impl<T: Ord> Aside<T> {
         }
     }
 
-    // The same for a range with an end.
+    // Puts a range with an end aside, if it has elements.
     fn push_range(&mut self, range: Range<T>) -> Result<(), AllocError> {
         let Range { start, end } = range;
         if has_elements(&start, &end, &mut Comparisons::new()) {
@@ -84,9 +94,28 @@ impl<T: Ord> Aside<T> {
     }
 }
 
-// Adds the elements of the range to the set, or puts it aside.
+// Adds the elements of the range to the set, or puts it aside. In a caller's loop lies only what a
+// range at the end of all others takes.
 #[inline(always)]
 pub(crate) fn add<T: Ord, const N: usize>(
+    set: &mut RangeSet<T, N>,
+    aside: &mut Aside<T>,
+    range: RangeSetRange<T>,
+) -> Result<(), AllocError> {
+    match range {
+        RangeSetRange::Range(range) => match touches_last(set, aside, &range) {
+            Some(touches) => put_at_end(&mut set.list, touches, range.start, range.end),
+            None => add_anywhere(set, aside, RangeSetRange::Range(range)),
+        },
+        RangeSetRange::RangeFrom(range) => {
+            add_anywhere(set, aside, RangeSetRange::RangeFrom(range))
+        }
+    }
+}
+
+// Adds the elements of the range to the set, or puts it aside, wherever it belongs.
+#[inline(never)]
+fn add_anywhere<T: Ord, const N: usize>(
     set: &mut RangeSet<T, N>,
     aside: &mut Aside<T>,
     range: RangeSetRange<T>,
@@ -95,6 +124,25 @@ pub(crate) fn add<T: Ord, const N: usize>(
         put_range(set, range)
     } else {
         aside.push(range)
+    }
+}
+
+// Whether the range touches the set's last one. `None` if it doesn't come at the end of all others,
+// or has no elements.
+#[inline(always)]
+fn touches_last<T: Ord, const N: usize>(
+    set: &RangeSet<T, N>,
+    aside: &Aside<T>,
+    range: &Range<T>,
+) -> Option<bool> {
+    if !aside.is_empty() {
+        return None;
+    }
+    let touches = touches_end(set.boundaries(), &range.start)?;
+    if has_elements(&range.start, &range.end, &mut Comparisons::new()) {
+        Some(touches)
+    } else {
+        None
     }
 }
 
@@ -194,7 +242,7 @@ fn put_range<T: Ord, const N: usize>(
     }
 }
 
-// The same for a range with an end.
+// Adds the elements of a range with an end.
 #[inline(always)]
 fn put_ends<T: Ord, const N: usize>(
     list: &mut SmallVec<T, N>,
@@ -207,7 +255,7 @@ fn put_ends<T: Ord, const N: usize>(
     put(list, start, end)
 }
 
-// The same for a range without an end.
+// Adds the elements of a range without an end.
 fn put_from<T: Ord, const N: usize>(
     set: &mut RangeSet<T, N>,
     range: RangeFrom<T>,
@@ -234,27 +282,55 @@ fn put<T: Ord, const N: usize>(
     start: T,
     end: T,
 ) -> Result<(), AllocError> {
-    if is_after(list.as_slice(), &start) {
-        append_both(list, start, end)
-    } else {
-        put_within(list, start, end)
+    match touches_end(list.as_slice(), &start) {
+        Some(touches) => put_at_end(list, touches, start, end),
+        None => put_within(list, start, end),
     }
 }
 
-// Whether the set with these boundaries has an end, and that lies below the element.
+// Adds the elements from the start up to the end, where the set ends at the start if `touches`, and
+// else below it.
 #[inline(always)]
-fn is_after<T: Ord>(items: &[T], at: &T) -> bool {
+fn put_at_end<T: Ord, const N: usize>(
+    list: &mut SmallVec<T, N>,
+    touches: bool,
+    start: T,
+    end: T,
+) -> Result<(), AllocError> {
+    if touches {
+        replace_last(list, end);
+        Ok(())
+    } else {
+        append_both(list, start, end)
+    }
+}
+
+// Puts the item in the place of the last one.
+#[inline(always)]
+fn replace_last<T, const N: usize>(list: &mut SmallVec<T, N>, item: T) {
+    let last = list.len() - 1;
+    list.as_mut_slice()[last] = item;
+}
+
+// Whether a range from the element on touches the last one of the set with these boundaries. `None`
+// if that doesn't end at the element or below it.
+#[inline(always)]
+fn touches_end<T: Ord>(items: &[T], at: &T) -> Option<bool> {
     let len = items.len();
     if is_odd(len) {
-        return false;
+        return None;
     }
     if len == 0 {
-        return true;
+        return Some(false);
     }
-    items[len - 1].cmp(at).is_lt()
+    match items[len - 1].cmp(at) {
+        Ordering::Less => Some(false),
+        Ordering::Equal => Some(true),
+        Ordering::Greater => None,
+    }
 }
 
-// The same as `put`, wherever the range belongs.
+// Adds the elements from the start up to the end, wherever they lie among those of the set.
 fn put_within<T: Ord, const N: usize>(
     list: &mut SmallVec<T, N>,
     start: T,

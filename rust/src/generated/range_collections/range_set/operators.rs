@@ -27,7 +27,7 @@ impl<T: EntryClone, const N: usize> BitAnd<&RangeSet<T, N>> for &RangeSet<T, N> 
 impl<T: EntryClone, const N: usize> BitAnd<RangeSet<T, N>> for &RangeSet<T, N> {
     type Output = Result<RangeSet<T, N>, AllocError>;
 
-    /// The same of a reference and a set, which is dropped even if it fails.
+    /// The intersection of a reference and a set, which is dropped even if it fails.
     fn bitand(self, that: RangeSet<T, N>) -> Result<RangeSet<T, N>, AllocError> {
         self & &that
     }
@@ -36,7 +36,7 @@ impl<T: EntryClone, const N: usize> BitAnd<RangeSet<T, N>> for &RangeSet<T, N> {
 impl<T: EntryClone, const N: usize> BitAnd<&RangeSet<T, N>> for RangeSet<T, N> {
     type Output = Result<RangeSet<T, N>, AllocError>;
 
-    /// The same of a set, which is dropped even if it fails, and a reference.
+    /// The intersection of a set, which is dropped even if it fails, and a reference.
     fn bitand(self, that: &RangeSet<T, N>) -> Result<RangeSet<T, N>, AllocError> {
         &self & that
     }
@@ -45,7 +45,7 @@ impl<T: EntryClone, const N: usize> BitAnd<&RangeSet<T, N>> for RangeSet<T, N> {
 impl<T: EntryClone, const N: usize> BitAnd for RangeSet<T, N> {
     type Output = Result<RangeSet<T, N>, AllocError>;
 
-    /// The same of two sets, which are dropped even if it fails.
+    /// The intersection of two sets, which are dropped even if it fails.
     fn bitand(self, that: RangeSet<T, N>) -> Result<RangeSet<T, N>, AllocError> {
         &self & &that
     }
@@ -63,7 +63,7 @@ impl<T: EntryClone, const N: usize> BitOr<&RangeSet<T, N>> for &RangeSet<T, N> {
 impl<T: EntryClone, const N: usize> BitOr<RangeSet<T, N>> for &RangeSet<T, N> {
     type Output = Result<RangeSet<T, N>, AllocError>;
 
-    /// The same of a reference and a set, which is dropped even if it fails.
+    /// The union of a reference and a set, which is dropped even if it fails.
     fn bitor(self, that: RangeSet<T, N>) -> Result<RangeSet<T, N>, AllocError> {
         self | &that
     }
@@ -72,7 +72,7 @@ impl<T: EntryClone, const N: usize> BitOr<RangeSet<T, N>> for &RangeSet<T, N> {
 impl<T: EntryClone, const N: usize> BitOr<&RangeSet<T, N>> for RangeSet<T, N> {
     type Output = Result<RangeSet<T, N>, AllocError>;
 
-    /// The same of a set, which is dropped even if it fails, and a reference.
+    /// The union of a set, which is dropped even if it fails, and a reference.
     fn bitor(self, that: &RangeSet<T, N>) -> Result<RangeSet<T, N>, AllocError> {
         &self | that
     }
@@ -81,7 +81,7 @@ impl<T: EntryClone, const N: usize> BitOr<&RangeSet<T, N>> for RangeSet<T, N> {
 impl<T: EntryClone, const N: usize> BitOr for RangeSet<T, N> {
     type Output = Result<RangeSet<T, N>, AllocError>;
 
-    /// The same of two sets, which are dropped even if it fails.
+    /// The union of two sets, which are dropped even if it fails.
     fn bitor(self, that: RangeSet<T, N>) -> Result<RangeSet<T, N>, AllocError> {
         &self | &that
     }
@@ -100,7 +100,7 @@ impl<T: EntryClone, const N: usize> BitXor<&RangeSet<T, N>> for &RangeSet<T, N> 
 impl<T: EntryClone, const N: usize> BitXor<RangeSet<T, N>> for &RangeSet<T, N> {
     type Output = Result<RangeSet<T, N>, AllocError>;
 
-    /// The same of a reference and a set, which is dropped even if it fails.
+    /// The symmetric difference of a reference and a set, which is dropped even if it fails.
     fn bitxor(self, that: RangeSet<T, N>) -> Result<RangeSet<T, N>, AllocError> {
         self ^ &that
     }
@@ -109,7 +109,7 @@ impl<T: EntryClone, const N: usize> BitXor<RangeSet<T, N>> for &RangeSet<T, N> {
 impl<T: EntryClone, const N: usize> BitXor<&RangeSet<T, N>> for RangeSet<T, N> {
     type Output = Result<RangeSet<T, N>, AllocError>;
 
-    /// The same of a set, which is dropped even if it fails, and a reference.
+    /// The symmetric difference of a set, which is dropped even if it fails, and a reference.
     fn bitxor(self, that: &RangeSet<T, N>) -> Result<RangeSet<T, N>, AllocError> {
         &self ^ that
     }
@@ -118,7 +118,7 @@ impl<T: EntryClone, const N: usize> BitXor<&RangeSet<T, N>> for RangeSet<T, N> {
 impl<T: EntryClone, const N: usize> BitXor for RangeSet<T, N> {
     type Output = Result<RangeSet<T, N>, AllocError>;
 
-    /// The same of two sets, which are dropped even if it fails.
+    /// The symmetric difference of two sets, which are dropped even if it fails.
     fn bitxor(self, that: RangeSet<T, N>) -> Result<RangeSet<T, N>, AllocError> {
         &self ^ &that
     }
@@ -136,7 +136,7 @@ impl<T: EntryClone, const N: usize> Sub<&RangeSet<T, N>> for &RangeSet<T, N> {
 impl<T: EntryClone, const N: usize> Sub<RangeSet<T, N>> for &RangeSet<T, N> {
     type Output = Result<RangeSet<T, N>, AllocError>;
 
-    /// The same of a reference and a set, which is dropped even if it fails.
+    /// The difference of a reference and a set, which is dropped even if it fails.
     fn sub(self, that: RangeSet<T, N>) -> Result<RangeSet<T, N>, AllocError> {
         self - &that
     }
@@ -145,7 +145,7 @@ impl<T: EntryClone, const N: usize> Sub<RangeSet<T, N>> for &RangeSet<T, N> {
 impl<T: EntryClone, const N: usize> Sub<&RangeSet<T, N>> for RangeSet<T, N> {
     type Output = Result<RangeSet<T, N>, AllocError>;
 
-    /// The same of a set, which is dropped even if it fails, and a reference.
+    /// The difference of a set, which is dropped even if it fails, and a reference.
     fn sub(self, that: &RangeSet<T, N>) -> Result<RangeSet<T, N>, AllocError> {
         &self - that
     }
@@ -154,7 +154,7 @@ impl<T: EntryClone, const N: usize> Sub<&RangeSet<T, N>> for RangeSet<T, N> {
 impl<T: EntryClone, const N: usize> Sub for RangeSet<T, N> {
     type Output = Result<RangeSet<T, N>, AllocError>;
 
-    /// The same of two sets, which are dropped even if it fails.
+    /// The difference of two sets, which are dropped even if it fails.
     fn sub(self, that: RangeSet<T, N>) -> Result<RangeSet<T, N>, AllocError> {
         &self - &that
     }

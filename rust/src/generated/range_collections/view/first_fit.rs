@@ -2,8 +2,9 @@
 //! Where a stretch of values fits beside the members of a view, or in them: the first of the gaps,
 //! or of the ranges, that has as many values in a row.
 
+use crate::generated::range_collections::comparisons::Comparisons;
 use crate::generated::range_collections::countable::{Countable, FromPlace, Multiples, Unsigned};
-use crate::generated::range_collections::iter::RangesWithin;
+use crate::generated::range_collections::row::{first_row_between, Row};
 use crate::generated::range_collections::view::RangeSetRef;
 use core::ops::Range;
 
@@ -55,12 +56,7 @@ impl<'a, T: Countable + Copy> RangeSetRef<'a, T> {
     /// ```
     pub fn first_fit_count(&self, within: Range<T>, count: u128) -> Option<T> {
         let Range { start, end } = within;
-        if count == 0 {
-            return start_unless_reversed(start, &end);
-        }
-        // A view that need not live longer than the ends.
-        let set = RangeSetRef::new_unchecked(self.boundaries);
-        let row = first_row(set.gaps(&start..&end), count, Multiples::of_one())?;
+        let row = self.first_row(&start, &end, false, count, Multiples::of_one())?;
         Some(row.start)
     }
 
@@ -82,13 +78,25 @@ impl<'a, T: Countable + Copy> RangeSetRef<'a, T> {
     /// ```
     pub fn first_run(&self, within: Range<T>, count: u128) -> Option<T> {
         let Range { start, end } = within;
-        if count == 0 {
-            return start_unless_reversed(start, &end);
-        }
+        let row = self.first_row(&start, &end, true, count, Multiples::of_one())?;
+        Some(row.start)
+    }
+
+    // The first `count` values in a row, from one of the multiples on, which are members exactly if
+    // `inside`. It is inlined, so that nothing is divided for the multiples of 1.
+    #[inline(always)]
+    fn first_row(
+        &self,
+        start: &T,
+        end: &T,
+        inside: bool,
+        count: u128,
+        multiples: Multiples,
+    ) -> Option<Row<T>> {
         // A view that need not live longer than the ends.
         let set = RangeSetRef::new_unchecked(self.boundaries);
-        let row = first_row(set.ranges_within(&start..&end), count, Multiples::of_one())?;
-        Some(row.start)
+        let parts = set.parts_within(start..end, inside, &mut Comparisons::new());
+        first_row_between(start, end, parts, count, multiples)
     }
 }
 
@@ -121,88 +129,7 @@ impl<'a, T: FromPlace> RangeSetRef<'a, T> {
 
     // The place of that value.
     fn first_aligned_place(&self, start: &T, end: &T, count: u128, align: u128) -> Option<u128> {
-        let multiples = Multiples::among::<T>(align);
-        if count == 0 {
-            if !start.cmp(end).is_le() {
-                return None;
-            }
-            return place_in(&(start..end), 0, multiples);
-        }
-        // A view that need not live longer than the ends.
-        let set = RangeSetRef::new_unchecked(self.boundaries);
-        let row = first_row(set.gaps(start..end), count, multiples)?;
+        let row = self.first_row(start, end, false, count, Multiples::among::<T>(align))?;
         Some(row.place)
-    }
-}
-
-/// Values in a row: the start of the range that has them, and the place of the first.
-pub struct Row<T> {
-    /// The start of the range.
-    pub start: T,
-    /// The place of the first value.
-    pub place: u128,
-}
-
-// The first place, one of the multiples, from which on one of the ranges has `count` values. It is
-// inlined, so that nothing is divided for the multiples of 1.
-#[inline(always)]
-fn first_row<T: Countable + Copy>(
-    ranges: RangesWithin<'_, T>,
-    count: u128,
-    multiples: Multiples,
-) -> Option<Row<T>> {
-    for range in ranges {
-        if let Some(place) = place_in(&range, count, multiples) {
-            return Some(Row {
-                start: *range.start,
-                place,
-            });
-        }
-    }
-    None
-}
-
-/// The first place in the range, one of the multiples, from which on it has `count` values, or
-/// `None` if there is none. The range isn't reversed, and the multiples aren't those of 0.
-///
-/// # Contract
-///
-/// ```text
-/// requires aligned: 0 < multiples.of
-/// requires in_order: T.place range.now.start.now ≤ T.place range.now.end.now
-/// ensures fits: IfSome result (λ at. (T.place range.now.start.now ≤ at) × (at + count ≤
-///     T.place range.now.end.now))
-/// ensures aligned: IfSome result (λ at. IsOneOf multiples at)
-/// ensures least: IfSome result (λ at. (n : ℕ) → IsOneOf multiples n → T.place
-///     range.now.start.now ≤ n → at ≤ n)
-/// ensures none: IfNone result ((n : ℕ) → IsOneOf multiples n → T.place range.now.start.now ≤ n
-///     → T.place range.now.end.now < n + count)
-/// ```
-#[inline(always)]
-pub(crate) fn place_in<T: Countable>(
-    range: &Range<&T>,
-    count: u128,
-    multiples: Multiples,
-) -> Option<u128> {
-    let start = range.start.place();
-    let room = range.end.place() - start;
-    // Without a division where the range is too short.
-    if room < count {
-        return None;
-    }
-    let ahead = multiples.ahead(start);
-    if room.checked_sub(ahead)? < count {
-        None
-    } else {
-        Some(start + ahead)
-    }
-}
-
-// The start, unless it is above the end.
-fn start_unless_reversed<T: Ord + Copy>(start: T, end: &T) -> Option<T> {
-    if start.cmp(end).is_le() {
-        Some(start)
-    } else {
-        None
     }
 }

@@ -27,8 +27,8 @@ impl<'a, T: Ord> RangeSetRef<'a, T> {
         self.split_counted(at, &mut Comparisons::new())
     }
 
-    /// The same, counted: at most as many comparisons as the number of boundaries has binary
-    /// digits.
+    /// The same as `split`, counted: at most as many comparisons as the number of boundaries has
+    /// binary digits.
     ///
     /// # Contract
     ///
@@ -83,8 +83,8 @@ impl<'a, T: Ord> RangeSetRef<'a, T> {
         self.gaps_counted(within, &mut Comparisons::new())
     }
 
-    /// The same, counted: at most `2 * d + 1` comparisons, where `d` is the number of binary digits
-    /// of the number of boundaries. The iterator's steps make none.
+    /// The same as `gaps`, counted: at most `2 * d + 1` comparisons, where `d` is the number of
+    /// binary digits of the number of boundaries. The iterator's steps make none.
     ///
     /// # Contract
     ///
@@ -123,8 +123,8 @@ impl<'a, T: Ord> RangeSetRef<'a, T> {
         self.ranges_within_counted(within, &mut Comparisons::new())
     }
 
-    /// The same, counted: at most `2 * d + 1` comparisons, where `d` is the number of binary digits
-    /// of the number of boundaries. The iterator's steps make none.
+    /// The same as `ranges_within`, counted: at most `2 * d + 1` comparisons, where `d` is the
+    /// number of binary digits of the number of boundaries. The iterator's steps make none.
     ///
     /// # Contract
     ///
@@ -175,7 +175,7 @@ impl<'a, T: Ord> RangeSetRef<'a, T> {
     }
 
     // The parts of `within` whose elements are members where `inside` is true, or else no members.
-    fn parts_within(
+    pub(crate) fn parts_within(
         &self,
         within: Range<&'a T>,
         inside: bool,

@@ -23,8 +23,8 @@ impl<'a, T: Ord> RangeSetRef<'a, T> {
         self.contains_counted(value, &mut Comparisons::new())
     }
 
-    /// The same, counted: at most as many comparisons as the number of boundaries has binary
-    /// digits.
+    /// The same as `contains`, counted: at most as many comparisons as the number of boundaries has
+    /// binary digits.
     ///
     /// # Contract
     ///

@@ -211,7 +211,7 @@ impl<T, M: Mark> Chunks<T, M> {
     /// ensures places: HasPlacesOf self.old self.new
     /// ```
     pub(crate) fn set_key<K, L: SetKey<T, K>>(&mut self, at: Place, lens: &L, key: K) {
-        let at = item_place(self.chunks.as_slice(), at);
+        let at = item_place(&self.chunks, at);
         set_key(&mut self.chunks, at, lens, key);
     }
 
@@ -229,8 +229,8 @@ impl<T, M: Mark> Chunks<T, M> {
     /// ensures places: HasPlacesOf self.old self.new
     /// ```
     pub(crate) fn swap(&mut self, a: Place, b: Place) {
-        let a = item_place(self.chunks.as_slice(), a);
-        let b = item_place(self.chunks.as_slice(), b);
+        let a = item_place(&self.chunks, a);
+        let b = item_place(&self.chunks, b);
         swap_items(&mut self.chunks, a, b);
     }
 
@@ -256,10 +256,10 @@ impl<T, M: Mark> Chunks<T, M> {
     /// ensures handed_back: IfErr result (λ refused. refused.1 ≡ self)
     /// ```
     pub fn into_list<K, L: IntoKey<T, K>>(self, lens: &L) -> Result<Vec<K>, (AllocError, Self)> {
-        match Vec::with_capacity(*self.chunks.allocator(), self.len) {
+        match Vec::with_capacity(self.chunks.allocator(), self.len) {
             Ok(room) => {
                 let Chunks { chunks, len: _len } = self;
-                Ok(join_up(chunks, room, lens))
+                Ok(join_up(chunks.into_inner(), room, lens))
             }
             Err(error) => Err((error, self)),
         }

@@ -76,7 +76,7 @@ impl<T, M: Mark> Chunks<T, M> {
         if self.chunks.is_empty() {
             return FRONT;
         }
-        end(self.chunks.as_slice())
+        end(&self.chunks)
     }
 
     /// The item at a place, or `None` at the end.
@@ -92,7 +92,7 @@ impl<T, M: Mark> Chunks<T, M> {
         if self.chunks.is_empty() {
             return None;
         }
-        item_at(self.chunks.as_slice(), at)
+        item_at(&self.chunks, at)
     }
 
     /// The mark of a place.
@@ -108,7 +108,7 @@ impl<T, M: Mark> Chunks<T, M> {
         if self.chunks.is_empty() {
             return M::front();
         }
-        mark_at(self.chunks.as_slice(), at)
+        mark_at(&self.chunks, at)
     }
 
     /// The place of the item before a place, or the front.
@@ -125,7 +125,7 @@ impl<T, M: Mark> Chunks<T, M> {
         if at.chunk == 0 && at.index == 0 {
             return FRONT;
         }
-        place_before(self.chunks.as_slice(), at)
+        place_before(&self.chunks, at)
     }
 
     /// The place after the item at a place.
@@ -140,7 +140,7 @@ impl<T, M: Mark> Chunks<T, M> {
     /// ```
     #[inline]
     pub(crate) fn place_after(&self, at: Place) -> Place {
-        place_after(self.chunks.as_slice(), at)
+        place_after(&self.chunks, at)
     }
 
     /// Whether there are items between two places.
@@ -159,7 +159,7 @@ impl<T, M: Mark> Chunks<T, M> {
         if self.chunks.is_empty() {
             return false;
         }
-        is_before(self.chunks.as_slice(), from, to)
+        is_before(&self.chunks, from, to)
     }
 
     /// The item before a place, or `None` at the front.
@@ -175,6 +175,6 @@ impl<T, M: Mark> Chunks<T, M> {
         if self.chunks.is_empty() {
             return None;
         }
-        item_before(self.chunks.as_slice(), at)
+        item_before(&self.chunks, at)
     }
 }

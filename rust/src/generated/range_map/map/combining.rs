@@ -7,13 +7,26 @@ use crate::generated::range_list::Chunks;
 use crate::generated::range_map::borrowed_steps::BorrowedSteps;
 use crate::generated::range_map::map::RangeMap;
 use crate::generated::range_map::operation::MapOperation;
-use crate::generated::range_map::places::is_before;
+use crate::generated::range_map::places::holds_before;
 use crate::generated::range_map::runs::{left_len, next_run, right_len};
 use crate::generated::range_map::step::Step;
 use crate::support::{AllocError, Global};
 
-// What the operation makes of both.
-pub(super) fn combined<K: EntryClone, V, W, O: MapOperation<V, W>>(
+/// What the operation makes of both.
+///
+/// # Contract
+///
+/// ```text
+/// requires off: O.gives op.now None None ≡ None
+/// requires a_ascends: IsAscending K.cmp a.now.keys
+/// requires b_ascends: IsAscending K.cmp b.now.keys
+/// requires made: count.old < 2 ^ 64
+/// ensures values: IfOk result (λ map. IsCombined K.cmp O.Output.eq (O.gives op.now) a.now
+///     b.now map)
+/// ensures comparisons: AddsAtMost count.old count.new (2 * weight K.cmp a.now.keys b.now.keys)
+/// ensures succeeds: length a.now.keys ≡ 0 → length b.now.keys ≡ 0 → IsOk result
+/// ```
+pub(crate) fn combined<K: EntryClone, V, W, O: MapOperation<V, W>>(
     alloc: Global,
     a: &BorrowedSteps<K, V>,
     b: &BorrowedSteps<K, W>,
@@ -72,7 +85,7 @@ fn put_left<K: EntryClone, V, W, O: MapOperation<V, W>>(
     Ok(())
 }
 
-// The same of the right's steps.
+// Puts the right's steps from a place up to another, which are below the left's from place `i` on.
 #[inline]
 fn put_right<K: EntryClone, V, W, O: MapOperation<V, W>>(
     made: &mut RangeMap<K, O::Output>,
@@ -114,14 +127,15 @@ pub(super) fn put<K: EntryClone, U: Eq>(
     push(&mut made.steps, key, option)
 }
 
-// The same of a list of steps.
+// Puts a step at the end of the list, with a copy of the key, if its option differs from the last
+// one.
 #[inline]
 fn push<K: EntryClone, U: Eq>(
     steps: &mut Chunks<Step<K, U>, ()>,
     key: &K,
     option: Option<U>,
 ) -> Result<(), AllocError> {
-    if is_before(steps, steps.end(), &option) {
+    if holds_before(steps, steps.end(), &option) {
         return Ok(());
     }
     let key = key.entry_clone()?;

@@ -5,5 +5,5 @@ use Rattle.range_list.proofs.list.Chunks.chunks_len.Goals as goal
 
 pub returns : goal.returns
 returns g c =
-    let n : c.len.result ≡ length c.self.inside.chunks.items = search rules in
-    rw (← c.self.view_is) (omega (arith, n, length-map c.self.inside.chunks.items items_of))
+    let n : c.len.result ≡ length c.self.inside.chunks = search rules in
+    rw (← c.self.view_is) (omega (arith, n, length-map c.self.inside.chunks items_of))

@@ -1,4 +1,4 @@
-use Rattle.std.proofs.Common.{rules, ◌≡◌, ap, length, arith}
+use Rattle.std.proofs.Common.{rules, ◌≡◌, length, arith}
 use Rattle.std.proofs.lemmas.List.{length-map}
 use Rattle.range_list.specs.Chunks.{items_of}
 use Rattle.range_list.proofs.InOrder.{place-within}
@@ -6,35 +6,35 @@ use Rattle.range_list.proofs.Listed.{joined-lists, place-lists, IsPlaceAt-from, 
 use Rattle.range_list.proofs.list.Chunks.place_up_to.Goals as goal
 
 pub up_to-requires-clause-ascending : goal.up_to-requires-clause-ascending
-up_to-requires-clause-ascending g c = rw c.as_slice.ensures.value (rw (← c.self.view_is, joined-lists c.self.inside.chunks.items) at c.requires.ascending)
+up_to-requires-clause-ascending g c = rw (← c.self.view_is, joined-lists c.self.inside.chunks) at c.requires.ascending
 
 pub returns-clause-place : goal.returns-clause-place
-returns-clause-place g c = rw (← c.self.view_is) (IsPlaceAt-from c.self.inside.chunks.items _ (rw c.as_slice.ensures.value at c.up_to.ensures.place))
+returns-clause-place g c = rw (← c.self.view_is) (IsPlaceAt-from c.self.inside.chunks _ c.up_to.ensures.place)
 
 pub returns-clause-within : goal.returns-clause-within
 returns-clause-within g c =
-    let here = rw c.as_slice.ensures.value at c.up_to.ensures.place in
-    rw (← c.self.view_is, joined-lists c.self.inside.chunks.items, place-lists c.self.inside.chunks.items c.up_to.result) (place-within c.self.inside.chunks.items c.up_to.result here)
+    let here = c.up_to.ensures.place in
+    rw (← c.self.view_is, joined-lists c.self.inside.chunks, place-lists c.self.inside.chunks c.up_to.result) (place-within c.self.inside.chunks c.up_to.result here)
 
 pub returns-clause-up_to : goal.returns-clause-up_to
 returns-clause-up_to g c =
-    rw (← c.self.view_is, joined-lists c.self.inside.chunks.items, place-lists c.self.inside.chunks.items c.up_to.result) (rw c.as_slice.ensures.value at c.up_to.ensures.up_to)
+    rw (← c.self.view_is, joined-lists c.self.inside.chunks, place-lists c.self.inside.chunks c.up_to.result) c.up_to.ensures.up_to
 
 pub returns-clause-above : goal.returns-clause-above
 returns-clause-above g c =
-    rw (← c.self.view_is, joined-lists c.self.inside.chunks.items, place-lists c.self.inside.chunks.items c.up_to.result) (rw c.as_slice.ensures.value at c.up_to.ensures.above)
+    rw (← c.self.view_is, joined-lists c.self.inside.chunks, place-lists c.self.inside.chunks c.up_to.result) c.up_to.ensures.above
 
 pub returns-clause-few : goal.returns-clause-few
 returns-clause-few g c =
-    rw (← c.self.view_is) (omega (arith, length-map c.self.inside.chunks.items items_of, ap length c.as_slice.ensures.value, c.as_slice.ensures.len))
+    rw (← c.self.view_is) (omega (arith, length-map c.self.inside.chunks items_of, c.is_empty.ensures.few))
 
 pub returns-then-is_empty-clause-few : goal.returns-then-is_empty-clause-few
 returns-then-is_empty-clause-few g c =
-    let none : length c.self.inside.chunks.items ≡ 0 = search rules in
-    rw (← c.self.view_is) (omega (arith, length-map c.self.inside.chunks.items items_of, none))
+    let none : length c.self.inside.chunks ≡ 0 = search rules in
+    rw (← c.self.view_is) (omega (arith, length-map c.self.inside.chunks items_of, none))
 
 pub returns-then-is_empty-clause-fewer : goal.returns-then-is_empty-clause-fewer
-returns-then-is_empty-clause-fewer g c = rw (← c.self.view_is) (lists-few c.self.inside.chunks.items)
+returns-then-is_empty-clause-fewer g c = rw (← c.self.view_is) (lists-few c.self.inside.chunks)
 
 pub returns-clause-fewer : goal.returns-clause-fewer
-returns-clause-fewer g c = rw (← c.self.view_is) (lists-few c.self.inside.chunks.items)
+returns-clause-fewer g c = rw (← c.self.view_is) (lists-few c.self.inside.chunks)

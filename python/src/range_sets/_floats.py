@@ -1,0 +1,86 @@
+"""Floats as elements."""
+
+from __future__ import annotations
+
+import struct
+from array import array
+from math import inf
+from operator import index
+from typing import Any, Iterator
+
+from . import _core
+from ._core import Boundaries
+from ._kind import LEAST, NAN, UNCOUNTED, Kind
+
+
+def mirrored(numbers: Any) -> memoryview:
+    """The numbers of floats from a buffer of their bits, or the bits from one of the numbers."""
+    made = array("q", bytes(8 * len(numbers)))
+    _core.mirror(numbers, made)
+    return memoryview(made)
+
+
+class Float(Kind):
+    """Floats by their bits; the number of one below zero is minus the bits of its absolute value, so numbers sort as floats do."""
+
+    def __init__(self) -> None:
+        self.infinity = struct.unpack("q", struct.pack("d", inf))[0]
+        super().__init__("float", "a float", -self.infinity, self.infinity, "floats")
+
+    def code(self, value: Any) -> int:
+        if not isinstance(value, float):
+            value = _exact(value, self)
+        if value != value:
+            raise ValueError(NAN)
+        bits: int = struct.unpack("q", struct.pack("d", value))[0]
+        return bits if bits >= 0 else LEAST - bits
+
+    def value(self, code: int) -> float:
+        found: float = struct.unpack("d", struct.pack("q", abs(code)))[0]
+        return found if code >= 0 else -found
+
+    def values(self, codes: Any) -> Iterator[float]:
+        return iter(mirrored(codes).cast("B").cast("d"))
+
+    def codes_of_one(self, value: Any) -> tuple[int, int | None]:
+        raise TypeError(f"{UNCOUNTED}: expected a start and an end")
+
+    def covered(self, boundaries: Boundaries) -> float | None:
+        if len(boundaries) % 2:
+            return None
+        try:
+            # Exact until the division, which rounds once.
+            return sum(count << at for count, at in _core.lengths_of_floats(boundaries)) / 2**1074
+        except OverflowError:
+            return inf
+
+    def count(self, length: Any) -> int:
+        raise TypeError(f"{UNCOUNTED}, so no number of them fits anywhere: look at the lengths of gaps()")
+
+    def shown(self, value: float) -> str:
+        return f"float('{value}')" if value in (inf, -inf) else repr(value)
+
+    def place(self, code: int) -> float:
+        # A quarter, so that differences of two aren't infinite.
+        return self.value(max(min(code, self.infinity - 1), 1 - self.infinity)) / 4
+
+
+def _exact(value: Any, kind: Kind) -> float:
+    """The float of a whole number, or of one of numpy's smaller floats."""
+    number = value
+    if not is_numpy_float(value):
+        try:
+            number = index(value)
+        except TypeError:
+            raise kind.type_error(value) from None
+    found = float(number)
+    if found != number and number == number:
+        raise ValueError(f"{number} is no float")
+    return found
+
+
+def is_numpy_float(value: Any) -> bool:
+    return getattr(getattr(value, "dtype", None), "kind", "") == "f" and not value.ndim
+
+
+FLOAT: Float = Float()

@@ -1,0 +1,281 @@
+"""What maps from ranges to values answer."""
+
+from __future__ import annotations
+
+from ipaddress import IPv4Network
+from typing import Any, Generic, Iterator, Self, TypeVar, Union, overload
+
+from . import _core
+from ._arrays import asked_of
+from ._core import Boundaries, Steps
+from ._kept import Attributes
+from ._kind import NO_KIND, Array, Element, Kind, Now
+from ._kinds import agreed, kind_of_first, mixed
+from ._numbers import least, most
+from ._ranges import AnyRangeSet
+from ._sets import RangeSet
+from ._sources import OneRange, range_of
+
+K = TypeVar("K")
+V = TypeVar("V")
+D = TypeVar("D")
+# A range and its value; the end None says that it has no end.
+Item = tuple[tuple[K, Union[K, None]], V]
+# What stands in the brackets of a change, or of a part.
+Keys = Union[slice, range, IPv4Network, AnyRangeSet]
+# Stands for the value of keys that have none.
+NOTHING: Any = object()
+
+
+class MapQuestions(Attributes, Generic[K, V]):
+    """What is asked of a map: of a key, of its ranges in turn, and in which keys it has values."""
+
+    __slots__ = _own = ("_steps",)
+    _steps: Steps
+
+    @classmethod
+    def _with_steps(cls, steps: Steps) -> Self:
+        made = cls.__new__(cls)
+        made._steps = steps
+        return made
+
+    @classmethod
+    def _empty(cls, kind: Kind) -> Self:
+        return cls._with_steps(Steps(kind, kind.unsigned))
+
+    # ---- Keys ----
+
+    @property
+    def _kind(self) -> Kind:
+        return self._steps.kind
+
+    @property
+    def kind(self) -> str | None:
+        """What the keys are, as `kind=` takes it; None for an empty map without a kind.
+
+        >>> RangeMap([((0, 10), "low")]).kind
+        'int'
+        """
+        kind = self._kind
+        return None if kind is NO_KIND else kind.name
+
+    def _code(self, key: Any) -> int | None:
+        """The number of a key, or None if the map can't have it."""
+        kind = self._kind
+        if kind is NO_KIND:
+            kind_of_first((key,))
+            return None
+        try:
+            return kind.number(key)
+        except OverflowError:
+            return None
+
+    @overload
+    def __getitem__(self, key: Keys) -> Self:
+        ...
+
+    @overload
+    def __getitem__(self, key: K) -> V:
+        ...
+
+    def __getitem__(self, key: Any) -> Any:
+        if isinstance(key, (slice, range, IPv4Network, AnyRangeSet)):
+            return self._part(key)
+        found = self._found(key, NOTHING)
+        if found is NOTHING:
+            raise KeyError(key)
+        return found
+
+    def _part(self, keys: Keys) -> Self:
+        ranges, kind = self._ranges(keys, self._kind)
+        self._check_kind(kind)
+        return self._with_steps(self._steps.part(ranges))
+
+    @overload
+    def get(self, key: Array, default: Any = None) -> Any:
+        ...
+
+    @overload
+    def get(self, key: K) -> V | None:
+        ...
+
+    @overload
+    def get(self, key: K, default: D) -> V | D:
+        ...
+
+    def get(self, key: Any, default: Any = None) -> Any:
+        """The value of a key, or the default if it has none; of a numpy array an array of these.
+
+        Cost: a search for each.
+
+        >>> RangeMap([((0, 10), "low")]).get(10, "high")
+        'high'
+        """
+        if getattr(key, "ndim", 0):
+            return self._found_each(key, default)
+        return self._found(key, default)
+
+    def _found_each(self, keys: Any, default: Any) -> Any:
+        import numpy
+
+        codes, gone = asked_of((self._kind.nothing, self._kind), keys)
+        found, some = (numpy.empty(codes.size, dtype=object) for _ in range(2))
+        # Keys in order are found in half the time.
+        order = numpy.argsort(codes, axis=None, kind="stable")
+        self._steps.get_each(codes.reshape(-1)[order], gone.reshape(-1)[order].tobytes(), default, some)
+        found[order] = some
+        return found.reshape(codes.shape)
+
+    def _found(self, key: Any, default: Any) -> Any:
+        code = self._code(key)
+        return default if code is None else self._steps.get(code, default)
+
+    def __contains__(self, key: Element) -> bool:
+        return self._found(key, NOTHING) is not NOTHING
+
+    def range_at(self, key: K) -> Item[K, V] | None:
+        """The longest range around a key whose keys have its value, and that; None if it has none.
+
+        Cost: a search.
+
+        >>> RangeMap([((0, 10), "low"), ((10, 20), "low")]).range_at(5)
+        ((0, 20), 'low')
+        """
+        code = self._code(key)
+        if code is None:
+            return None
+        start, end, value = self._steps.range_at(code, NOTHING)
+        return None if value is NOTHING else (self._kind.ends(start, end), value)
+
+    @staticmethod
+    def _ranges(keys: Any, kind: Kind) -> Now:
+        """The boundaries of some keys, and their kind."""
+        if isinstance(keys, AnyRangeSet):
+            if kind is NO_KIND and keys.unsigned:
+                raise TypeError("expected a map of numbers without a sign, which RangeMap(unsigned=True) makes")
+            return agreed((kind.nothing, kind), keys._now)[1:]
+        if isinstance(keys, slice) and keys.step is None:
+            return range_of(keys.start, keys.stop, kind)
+        if isinstance(keys, (range, IPv4Network)):
+            return range_of(keys, ..., kind)
+        wanted = "expected a slice without a step, a range, a network or a set"
+        raise TypeError(f"{wanted}, not {keys!r}: m[a:b] has the keys from a to below b")
+
+    # ---- Ranges ----
+
+    def __len__(self) -> int:
+        return len(self._steps)
+
+    def __iter__(self) -> Iterator[tuple[K, K | None]]:
+        return self._steps.keys(None, None)
+
+    def keys(self) -> Iterator[tuple[K, K | None]]:
+        """The ranges, from the lowest on, over which the map iterates too.
+
+        Cost: goes over all ranges.
+
+        >>> list(RangeMap([((20, None), "high"), ((0, 10), "low")]).keys())
+        [(0, 10), (20, None)]
+        """
+        return iter(self)
+
+    def values(self) -> Iterator[V]:
+        """The value of each range, from the lowest on.
+
+        Cost: goes over all ranges.
+
+        >>> list(RangeMap([((20, None), "high"), ((0, 10), "low")]).values())
+        ['low', 'high']
+        """
+        return self._steps.values(None, None)
+
+    def items(self) -> Iterator[Item[K, V]]:
+        """The ranges, from the lowest on, each with its value.
+
+        Cost: goes over all ranges.
+
+        >>> list(RangeMap([((20, None), "high"), ((0, 10), "low")]).items())
+        [((0, 10), 'low'), ((20, None), 'high')]
+        """
+        return self._steps.items(None, None)
+
+    def span(self) -> tuple[K, K | None] | None:
+        """From the start of the first range to the end of the last one, or None if no key has a value.
+
+        Cost: two searches.
+
+        >>> RangeMap([((0, 10), "low"), ((20, 30), "high")]).span()
+        (0, 30)
+        """
+        return self._kind.pair(self._span())
+
+    def _span(self) -> tuple[int, int | None] | None:
+        unsigned = self._kind.unsigned
+        first = self._steps.next(least(unsigned))
+        start, _, value = self._steps.range_at(most(unsigned), NOTHING)
+        return None if first is None else (first[0], start if value is NOTHING else None)
+
+    @overload
+    def overlapping(self, start: OneRange) -> list[Item[K, V]]:
+        ...
+
+    @overload
+    def overlapping(self, start: K | None, end: K | None) -> list[Item[K, V]]:
+        ...
+
+    def overlapping(self, start: Any, end: Any = ...) -> list[Item[K, V]]:
+        """The ranges that have a key from a start up to, not including, an end, each with its value. They aren't cut, as those of
+        `m[start:end]` are. It takes the two, a pair, a `range` or a key.
+
+        Cost: a search, and one for each of them.
+
+        >>> m = RangeMap([((0, 10), "low"), ((20, 30), "high"), ((40, 50), "top")])
+        >>> m.overlapping(5, 25), m.overlapping((30, 40))
+        ([((0, 10), 'low'), ((20, 30), 'high')], [])
+        """
+        wanted, kind = range_of(start, end, self._kind)
+        self._check_kind(kind)
+        return [*self._steps.items(*_ends(wanted))] if wanted else []
+
+    def gaps(self, start: Element | None = None, end: Element | None = None) -> RangeSet:
+        """The keys from `start` up to, not including, `end` that have no value.
+
+        Cost: a search, and one for each range there.
+
+        >>> RangeMap([((0, 10), "low"), ((20, 30), "high")]).gaps(5, 25)
+        RangeSet([(10, 20)])
+        """
+        wanted, kind = range_of(start, end, self._kind)
+        self._check_kind(kind)
+        if wanted and self._kind is kind:
+            wanted = _core.difference(wanted, self._steps.domain(*_ends(wanted)))
+        return RangeSet._over(wanted, kind)
+
+    def domain(self) -> RangeSet:
+        """The keys that have a value.
+
+        Cost: goes over all ranges.
+
+        >>> RangeMap([((0, 10), "low"), ((10, 30), "high")]).domain()
+        RangeSet([(0, 30)])
+        """
+        return RangeSet._over(self._steps.domain(None, None), self._kind)
+
+    def find(self, value: V) -> RangeSet:
+        """The keys that have this value.
+
+        Cost: goes over all ranges.
+
+        >>> RangeMap([((0, 10), "low"), ((10, 30), "high"), ((30, 35), "low")]).find("low")
+        RangeSet([(0, 10), (30, 35)])
+        """
+        return RangeSet._over(self._steps.find(value), self._kind)
+
+    def _check_kind(self, kind: Kind) -> None:
+        if kind is not self._kind and self._kind is not NO_KIND:
+            raise TypeError(mixed(self._kind, kind))
+
+
+def _ends(one: Boundaries) -> tuple[int, int | None]:
+    """The start and the end of one range."""
+    return one[0], one[1] if len(one) > 1 else None

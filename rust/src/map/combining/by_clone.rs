@@ -1,0 +1,96 @@
+//! Operations on maps by `Clone`. Keys and values are cloned only into the result: until then they
+//! are looked at by reference.
+
+use super::ByCall;
+use crate::array::List;
+use crate::forms::ends;
+use crate::generated::range_collections::{has_elements, Comparisons};
+use crate::generated::range_map as proved;
+use crate::generated::range_map::map::combining::combined;
+use crate::generated::range_map::updating::update_range;
+use crate::map::by_ref::{by_ref, cloned, set_by_ref};
+use crate::map::{steps, ByClone, Kept, Map, RangeMap};
+use crate::memory::AllocError;
+use crate::range::RangeSetRange;
+use crate::range_set::RangeSetRef;
+use crate::support::{ByValue, Global};
+use alloc::vec::Vec;
+use core::cell::RefCell;
+use core::ops::Range;
+
+impl<K: Ord + Clone, V: Eq + Clone> RangeMap<K, V> {
+    pub(super) fn try_combine<W: Eq, U: Eq>(
+        &self,
+        that: &RangeMap<K, W>,
+        op: impl FnMut(Option<&V>, Option<&W>) -> Option<U>,
+    ) -> Result<RangeMap<K, U>, AllocError> {
+        let op = RefCell::new(op);
+        let op = ByCall(|a: Option<&V>, b: Option<&W>| Ok((op.borrow_mut())(a, b)));
+        let left = steps::by_value(&self.0.steps);
+        let right = steps::by_value(&that.0.steps);
+        let made = combined(Global, &left, &right, &op, &mut Comparisons::new())?;
+        let steps = steps::of_others(made.steps, |key| key.0, |value| value);
+        Ok(Map(proved::RangeMap { steps }))
+    }
+
+    /// It is the proved `update`, with another copier of keys.
+    pub(super) fn try_update(
+        &mut self,
+        range: RangeSetRange<K>,
+        op: impl FnMut(Option<&V>) -> Option<V>,
+    ) -> Result<(), AllocError> {
+        let op = RefCell::new(op);
+        let op = ByCall(|value: Option<&V>| Ok((op.borrow_mut())(value)));
+        let (start, end) = range.into_ends();
+        match &end {
+            Some(end) if !has_elements(&start, end, &mut Comparisons::new()) => Ok(()),
+            _ => update_range(&mut self.0.steps, &start, &end, &op, &ByClone),
+        }
+    }
+
+    pub(super) fn try_union_with_left(&self, that: &Self) -> Result<Self, AllocError> {
+        let (left, right) = (by_ref(self), by_ref(that));
+        left.union_with_left(Global, &right).map(cloned)
+    }
+
+    pub(super) fn try_union_with_right(&self, that: &Self) -> Result<Self, AllocError> {
+        let (left, right) = (by_ref(self), by_ref(that));
+        left.union_with_right(Global, &right).map(cloned)
+    }
+
+    pub(super) fn try_restrict(&self, set: &RangeSetRef<K>) -> Result<Self, AllocError> {
+        if steps::are_searches_faster(set, &self.0.steps) {
+            let steps = steps::within(&self.0.steps, set);
+            return Ok(Map(proved::RangeMap { steps }));
+        }
+        let (map, set) = (by_ref(self), set_by_ref(set));
+        map.restrict(Global, set.proved()).map(cloned)
+    }
+
+    pub(super) fn try_without(&self, set: &RangeSetRef<K>) -> Result<Self, AllocError> {
+        let (map, set) = (by_ref(self), set_by_ref(set));
+        map.without(Global, set.proved()).map(cloned)
+    }
+
+    pub(super) fn try_domain<L: List<Item = K>>(&self) -> Result<L, AllocError> {
+        let ranges = self.keys().map(|range| range.cloned());
+        L::of_ranges(ranges, ends::SORTING)
+    }
+
+    pub(super) fn try_where_equal<L: List<Item = K>>(&self, value: &V) -> Result<L, AllocError> {
+        let equal = self.iter().filter(|(_, it)| *it == value);
+        L::of_ranges(equal.map(|(range, _)| range.cloned()), ends::SORTING)
+    }
+}
+
+impl<K: Ord + Clone> RangeMap<K, usize> {
+    pub(super) fn try_depth(ranges: &[Range<K>]) -> Result<Self, AllocError> {
+        let ranges: Vec<_> = ranges
+            .iter()
+            .map(|range| ByValue(range.start.clone())..ByValue(range.end.clone()))
+            .collect();
+        let depth = proved::RangeMap::depth(Global, &ranges)?;
+        let steps = steps::of_others(depth.steps, |key| key.0, Kept::new);
+        Ok(Map(proved::RangeMap { steps }))
+    }
+}
