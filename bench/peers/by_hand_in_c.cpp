@@ -65,7 +65,7 @@ std::string text_of(const Pairs& set) {
 
 // A set in chunks.
 struct Chunks {
-    explicit Chunks(const Pairs& of) {
+    explicit Chunks(const Pairs& of) : thousand(of[of.size() / 2 - 1000].first) {
         Boundaries list = list_of(of);
         range_set_i64 all;
         expect(range_set_i64_view(list.data(), list.size(), &all));
@@ -82,6 +82,8 @@ struct Chunks {
     }
 
     range_set_i64_chunked set;
+    // Where the thousand ranges before the middle begin.
+    std::int64_t thousand;
 };
 
 // A pass over what lies ready: `run` answers numbers.
@@ -102,9 +104,6 @@ template <class Call, class Hand> ByHand of_chunks(const char* name, Pairs of(st
                                  over(std::make_shared<Pairs>(of(ranges)), by_hand));
             }};
 }
-
-// The start of a range among those in order.
-constexpr std::int64_t middle = 5000000;
 
 std::int64_t below(const Pairs& set, std::int64_t at) {
     std::int64_t sum = 0;
@@ -194,15 +193,15 @@ std::vector<ByHand> by_hand_in_c() {
             [](const Chunks& it) {
                 Boundaries out(2000);
                 range_set_i64 gaps;
-                expect(range_set_i64_chunked_gaps(it.set, middle, middle + 10000, out.data(), out.size(), &gaps));
+                std::int64_t from = it.thousand;
+                expect(range_set_i64_chunked_gaps(it.set, from, from + 10000, out.data(), out.size(), &gaps));
                 out.resize(gaps.len);
                 return out;
             },
             [](const Pairs& it) {
                 Boundaries out;
-                auto at = std::lower_bound(it.begin(), it.end(), std::pair(middle, middle));
-                for (; at->first < middle + 10000; ++at) {
-                    out.insert(out.end(), {at->second, at[1].first});
+                for (std::size_t i = it.size() / 2 - 1000; i < it.size() / 2; i++) {
+                    out.insert(out.end(), {it[i].second, it[i + 1].first});
                 }
                 return out;
             }),
