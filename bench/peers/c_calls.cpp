@@ -3,6 +3,7 @@
 #include "peers.hpp"
 #include "range_set.h"
 
+#include <algorithm>
 #include <memory>
 #include <new>
 #include <stdexcept>
@@ -61,7 +62,8 @@ struct CCalls {
     static constexpr const char* name = "C calls";
     static constexpr std::int64_t greatest = INT64_MAX;
     static constexpr unsigned offers = Group::new_sets | Group::in_place | Group::tests | Group::lengths |
-                                       Group::contains | Group::split | Group::iter | Group::changes | Group::places;
+                                       Group::contains | Group::in_order | Group::split | Group::iter | Group::changes |
+                                       Group::places;
     using Set = Checked;
 
     static Set made(const Boundaries& boundaries) {
@@ -127,6 +129,12 @@ struct CCalls {
             members += range_set_i64_contains(set.set(), value);
         }
         return members;
+    }
+
+    static std::size_t contains_each(const Set& set, const Boundaries& values) {
+        std::unique_ptr<bool[]> found(new bool[values.size()]);
+        expect(range_set_i64_contains_each(set.set(), values.data(), values.size(), found.get()));
+        return static_cast<std::size_t>(std::count(found.get(), found.get() + values.size(), true));
     }
 
     static std::size_t split(const Set& set, const Boundaries& values) {

@@ -7,6 +7,7 @@
 #include "peer.hpp"
 #include "places.hpp"
 
+#include <algorithm>
 #include <stdexcept>
 #include <utility>
 
@@ -23,6 +24,7 @@ enum class Group : unsigned {
     at_once = 512,
     places = 1024,
     text_lengths = 2048,
+    in_order = 4096,
 };
 
 constexpr unsigned operator|(Group a, Group b) {
@@ -56,6 +58,8 @@ inline Group group_of(Task task) {
         return Group::contains;
     case Task::contains_text:
         return Group::texts;
+    case Task::contains_each:
+        return Group::in_order;
     case Task::split:
     case Task::split_waiting:
         return Group::split;
@@ -82,6 +86,8 @@ public:
             pairs.emplace_back(Kind::made(pair.left), Kind::made(pair.right));
         }
         values = that.values;
+        in_order = values;
+        std::sort(in_order.begin(), in_order.end());
         commands = that.commands;
         text_set.clear();
         text_values.clear();
@@ -212,6 +218,12 @@ private:
                 return run([this](const Sides&, Boundaries*) { return Kind::contains_text(text_set, text_values); });
             }
         }
+        if constexpr (offers(Group::in_order)) {
+            if (task == Task::contains_each) {
+                return run(
+                    [this](const Sides& sides, Boundaries*) { return Kind::contains_each(sides.first, in_order); });
+            }
+        }
         if constexpr (offers(Group::split)) {
             if (task == Task::split) {
                 return run([this](const Sides& sides, Boundaries*) { return Kind::split(sides.first, values); });
@@ -273,6 +285,7 @@ private:
     std::vector<Sides> pairs;
     Places places;
     Boundaries values;
+    Boundaries in_order;
     Commands commands;
     Texts text_set;
     Texts text_values;

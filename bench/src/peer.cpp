@@ -26,6 +26,7 @@ constexpr const char* names[] = {
     "contains",
     "contains, one by one",
     "contains, texts",
+    "contains, in order",
     "split",
     "split, one by one",
     "iter",

@@ -33,6 +33,7 @@ enum class Task {
     contains,
     contains_waiting,
     contains_text,
+    contains_each,
     split,
     split_waiting,
     iter,

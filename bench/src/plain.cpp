@@ -55,6 +55,7 @@ std::size_t right_answer(Task task, const Pair& pair, const Case& that) {
         return plain(Operation::unite, pair.left, pair.right).size();
     case Task::contains:
     case Task::contains_text:
+    case Task::contains_each:
         for (std::int64_t value : that.values) {
             sum += is_member(pair.left, value);
         }

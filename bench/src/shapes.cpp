@@ -250,7 +250,8 @@ std::vector<Job> all_jobs() {
     jobs.push_back({one("1, then 1 to 16", 65536, alternating_then_mixed(65536)), new_sets});
     for (std::size_t size : {2, 10, 1000, 100000, 200000, 1000000}) {
         jobs.push_back(
-            {asked("one set", size), {Task::contains, Task::contains_waiting, Task::split, Task::split_waiting}});
+            {asked("one set", size),
+             {Task::contains, Task::contains_waiting, Task::contains_each, Task::split, Task::split_waiting}});
     }
     for (std::size_t size : {1000, 10000}) {
         jobs.push_back({asked(texts_shape, size), {Task::contains_text}});
