@@ -2,7 +2,7 @@ use Rattle.std.proofs.Common.{◌≡◌, sym, ◌∙◌, rules, false, arith, le
 use Rattle.std.specs.declared.cmp.Ordering.TheVariants.{Less, Equal}
 use Rattle.range_merge.specs.Boundaries.{is_odd}
 use Rattle.range_collections.proofs.ManyRanges.{EndsBefore-at, EndsBefore-below, EndsBefore-none}
-use Rattle.range_collections.proofs.range_set.many_ranges.touches_end.Goals as goal
+use Rattle.range_collections.proofs.range_set.at_end.touches_end.Goals as goal
 
 pub returns-then-len-eq0 : goal.returns-then-len-eq0
 returns-then-len-eq0 g c = EndsBefore-none g.met.T.Ord.total c.args.items.now c.args.at.now c.if-len-eq0.true
