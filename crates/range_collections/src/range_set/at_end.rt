@@ -15,7 +15,6 @@ use crate::lists::{append_both, is_odd};
 use crate::range_set::splicing::cut_at;
 use smallvec::SmallVec;
 use std::alloc::{AllocError, Global};
-use std::cmp::Ordering;
 use std::default::MadeWith;
 
 // Whether a range from the element on touches the last one of the set with these boundaries. `None`
@@ -32,10 +31,14 @@ pub(super) fn touches_end<T: Ord>(items: &[T], at: &T) -> Option<bool>
     if len == 0 {
         return Some(false);
     }
-    match items[len - 1].cmp(at) {
-        Ordering::Less => Some(false),
-        Ordering::Equal => Some(true),
-        Ordering::Greater => None,
+    // One by one, since a `match` makes a number of the three cases first.
+    let order = items[len - 1].cmp(at);
+    if order.is_lt() {
+        Some(false)
+    } else if order.is_eq() {
+        Some(true)
+    } else {
+        None
     }
 }
 

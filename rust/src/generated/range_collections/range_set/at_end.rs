@@ -8,7 +8,6 @@ use crate::generated::range_collections::comparisons::Comparisons;
 use crate::generated::range_collections::lists::is_odd;
 use crate::generated::range_collections::range_set::splicing::cut_at;
 use crate::support::{append_both, AllocError, SmallVec};
-use core::cmp::Ordering;
 
 // Whether a range from the element on touches the last one of the set with these boundaries. `None`
 // if that doesn't end at the element or below it.
@@ -21,10 +20,14 @@ pub(super) fn touches_end<T: Ord>(items: &[T], at: &T) -> Option<bool> {
     if len == 0 {
         return Some(false);
     }
-    match items[len - 1].cmp(at) {
-        Ordering::Less => Some(false),
-        Ordering::Equal => Some(true),
-        Ordering::Greater => None,
+    // One by one, since a `match` makes a number of the three cases first.
+    let order = items[len - 1].cmp(at);
+    if order.is_lt() {
+        Some(false)
+    } else if order.is_eq() {
+        Some(true)
+    } else {
+        None
     }
 }
 
