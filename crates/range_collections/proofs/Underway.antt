@@ -73,7 +73,7 @@ cond_zip R false false x y xs ys e r h = h
 cond_zip R true false x y xs ys e r h = absurd (true≢false e)
 cond_zip R false true x y xs ys e r h = absurd (true≢false (sym e))
 
-All-unit : {X : Type 0} (xs : List X) → All (λ x. ⊤) xs
+pub All-unit : {X : Type 0} (xs : List X) → All (λ x. ⊤) xs
 All-unit xs = λ k d within. tt
 
 -- what follows from a test that fails

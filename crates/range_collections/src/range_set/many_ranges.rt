@@ -21,7 +21,7 @@ ghost use Rattle.std.specs.declared.cmp.Ordering.TheVariants.{Less};
 ghost use Rattle.range_merge.specs.Boundaries.{IsAscending};
 ghost use Rattle.range_merge.specs.Connective.{Means, union_table};
 ghost use Rattle.range_collections.specs.InPlace.{AreOwnElseOf};
-ghost use Rattle.range_collections.specs.ManyRanges.{EndsBefore, GivesOwn, IsAddedOwn, NoneStartsAbove, IsUnderway, IsUnderwayByCopies, pairs_of, starts_of, ends_of};
+ghost use Rattle.range_collections.specs.ManyRanges.{EndsBefore, GivesOwn, IsAddedOwn, NoneStartsAbove, IsRangeAdded, IsUnderway, IsUnderwayByCopies, pairs_of, starts_of, ends_of};
 ghost use Rattle.range_collections.specs.Ranges.{range_boundaries, range_items, range_start};
 ghost use Rattle.range_collections.specs.Unions.{GivesUnion};
 ghost use Rattle.range_collections.specs.declared.range_set_range.RangeSetRange.{RangeSetRange as Ranged};
@@ -144,15 +144,7 @@ pub(crate) fn add<T: Ord + MadeWith<Global> + Drop, const N: usize>(
     aside: &mut Aside<T>,
     range: RangeSetRange<T>,
 ) -> Result<(), AllocError>
-    ensures underway { (ranges : List (Ranged T)) →
-        IsUnderway T.cmp N ranges set.old aside.old.starts.items aside.old.ends.items →
-        OnOk result (IsUnderway T.cmp N (ranges ++ range ∷ []) set.new
-        aside.new.starts.items aside.new.ends.items) }
-    ensures succeeds { (ranges : List (Ranged T)) →
-        IsUnderway T.cmp N ranges set.old aside.old.starts.items aside.old.ends.items →
-        length (flat_map (range_boundaries T.cmp) (ranges ++ range ∷ [])) ≤ N → IsOk result }
-    ensures in_order { length aside.old.starts.items ≡ 0 →
-        NoneStartsAbove T.cmp set.old (range_start range) → aside.new ≡ aside.old }
+    ensures { IsRangeAdded T.cmp N range set.old aside.old set.new aside.new result }
 {
     match range {
         RangeSetRange::Range(range) => match touches_last(set, aside, &range) {
@@ -174,15 +166,7 @@ fn add_anywhere<T: Ord + MadeWith<Global> + Drop, const N: usize>(
     aside: &mut Aside<T>,
     range: RangeSetRange<T>,
 ) -> Result<(), AllocError>
-    ensures underway { (ranges : List (Ranged T)) →
-        IsUnderway T.cmp N ranges set.old aside.old.starts.items aside.old.ends.items →
-        OnOk result (IsUnderway T.cmp N (ranges ++ range ∷ []) set.new
-        aside.new.starts.items aside.new.ends.items) }
-    ensures succeeds { (ranges : List (Ranged T)) →
-        IsUnderway T.cmp N ranges set.old aside.old.starts.items aside.old.ends.items →
-        length (flat_map (range_boundaries T.cmp) (ranges ++ range ∷ [])) ≤ N → IsOk result }
-    ensures in_order { length aside.old.starts.items ≡ 0 →
-        NoneStartsAbove T.cmp set.old (range_start range) → aside.new ≡ aside.old }
+    ensures { IsRangeAdded T.cmp N range set.old aside.old set.new aside.new result }
 {
     if aside.is_empty() && takes(set, &range) {
         put_range(set, range)
