@@ -1,6 +1,6 @@
 -- The ranges from the sorted starts of ranges to their sorted ends: they have the same elements, and
 -- of equal boundaries the same is the first.
-use Rattle.std.proofs.Common.{◌≡◌, ◌⊎◌, inl, inr, ⊎_elim, refl, sym, ap, ap₂, ◌∙◌, subst, ℕ, suc, ◌+◌, ◌<◌, ◌≤◌, Bool, true, false, not, cond, ◌||◌, ◌&&◌, List, [], ◌∷◌, ◌++◌, length, get_or, take, drop, arith, All, Contains, Some, true≢false, Ok, length-append}
+use Rattle.std.proofs.Common.{◌≡◌, ◌⊎◌, inl, inr, ⊎_elim, refl, sym, ap, ap₂, ◌∙◌, subst, ℕ, suc, ◌+◌, ◌<◌, ◌≤◌, Bool, true, false, not, cond, ◌||◌, ◌&&◌, List, [], ◌∷◌, ◌++◌, length, get_or, take, drop, arith, All, Contains, true≢false, Ok, length-append}
 use Rattle.std.specs.Prelude.{⊤, filter, slice_get}
 use Rattle.std.specs.Cmp.{IsTotalOrder}
 use Rattle.std.specs.List.{flat_map, sum_by}
@@ -24,7 +24,7 @@ use Rattle.range_collections.proofs.CountUpTo.{count_up_to-cons_in}
 use Rattle.range_collections.proofs.FirstOf.{ties-is_eq}
 use Rattle.range_collections.proofs.FirstParts.{below_kept, below_none, changes_at, just_below, not_own_opposite}
 use Rattle.range_collections.proofs.ManyRanges.{range_is}
-use Rattle.range_collections.proofs.Shortest.{count_up_to-append, count_up_to-none, is_le-cases, le-trans, Less-from_le, Less-then_le}
+use Rattle.range_collections.proofs.Shortest.{count_up_to-append, count_up_to-none, is_le-cases, le-trans, Less-then_le}
 use Rattle.range_collections.proofs.Values.{member-one, member-two}
 
 abbrev bit : Bool → ℕ

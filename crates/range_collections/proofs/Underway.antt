@@ -1,5 +1,5 @@
 -- Ranges that become one set: some are in it, others are put aside.
-use Rattle.std.proofs.Common.{◌≡◌, ◌⊎◌, inl, inr, refl, sym, ap, ap₂, ◌∙◌, subst, ℕ, ◌+◌, ◌<◌, ◌≤◌, Bool, true, false, cond, ◌||◌, List, [], ◌∷◌, ◌++◌, length, get_or, take, drop, arith, All, Some, true≢false, Result, Ok, Err, IsOk, IsErr, IfSome, OnOk, None, Option, ◌↔◌, append_assoc, length-append}
+use Rattle.std.proofs.Common.{◌≡◌, ◌⊎◌, inl, inr, refl, sym, ap, ap₂, ◌∙◌, subst, ℕ, ◌+◌, ◌<◌, ◌≤◌, Bool, true, false, cond, ◌||◌, List, [], ◌∷◌, ◌++◌, length, get_or, take, drop, arith, All, Some, true≢false, Result, Ok, Err, IsErr, IfSome, OnOk, None, Option, append_assoc, length-append}
 use Rattle.std.specs.Prelude.{⊤, filter, slice_get}
 use Rattle.std.specs.Cmp.{IsTotalOrder}
 use Rattle.std.specs.List.{AllZip, flat_map}
@@ -14,13 +14,13 @@ use Rattle.std.proofs.lemmas.Grind.{flat_map-append}
 use Rattle.std.proofs.lemmas.List.{append-nil, take_more, take-append-drop}
 use Rattle.std.proofs.lemmas.List.Elements.{All-head, All-tail, length_all_zip}
 use Rattle.std.proofs.lemmas.List.Folds.{list_any-append}
-use Rattle.range_merge.specs.Boundaries.{IsAscending, member}
+use Rattle.range_merge.specs.Boundaries.{member}
 use Rattle.range_merge.proofs.Members.{member-nil}
 use Rattle.range_merge.proofs.Orders.{Equal-self}
 use Rattle.range_merge.proofs.SameSet.{IsSameSet-from_items}
 use Rattle.range_collections.specs.ManyRanges.{GivesOwn, IsAddedOwn, IsUnderway, IsUnderwayByCopies, ends_of, pairs_of, starts_of}
 use Rattle.range_collections.specs.Ranges.{AllEnds, AllEndsZip, range_boundaries}
-use Rattle.range_collections.specs.Unions.{GivesUnion, IsAdded, IsAscending-range, IsJoined, is_in_one}
+use Rattle.range_collections.specs.Unions.{GivesUnion, IsAscending-range, IsJoined, is_in_one}
 use Rattle.range_collections.specs.declared.range_set_range.RangeSetRange.{RangeSetRange}
 use Rattle.range_collections.specs.declared.range_set_range.RangeSetRange.TheVariants.{Range, RangeFrom}
 use Rattle.range_collections.proofs.FirstParts.{All-front, All-back}
@@ -73,7 +73,7 @@ cond_zip R false false x y xs ys e r h = h
 cond_zip R true false x y xs ys e r h = absurd (true≢false e)
 cond_zip R false true x y xs ys e r h = absurd (true≢false (sym e))
 
-All-unit : {X : Type 0} (xs : List X) → All (λ x. ⊤) xs
+pub All-unit : {X : Type 0} (xs : List X) → All (λ x. ⊤) xs
 All-unit xs = λ k d within. tt
 
 -- what follows from a test that fails

@@ -6,15 +6,17 @@
 --     GivesOwn, IsAddedOwn                    what an answer to a union, and to an addition, is without copies
 --     IsUnderway order room ranges list starts ends   a list, and what was put aside, of the ranges
 --     IsUnderwayByCopies                      the same of copies of the ranges
-use Rattle.std.specs.Prelude.{◌≡◌, ℕ, ◌-◌, ◌*◌, ◌<◌, ⊤, Bool, true, false, All, List, [], ◌∷◌, ◌++◌, length, take, drop, slice_index_or, Result, Ok}
+--     IsRangeAdded order room range ..        what an addition of a range to these answers
+use Rattle.std.specs.Prelude.{◌≡◌, ℕ, ◌-◌, ◌*◌, ◌<◌, ◌≤◌, ⊤, Bool, true, false, All, List, [], ◌∷◌, ◌++◌, length, take, drop, slice_index_or, Result, Ok, IsOk, OnOk}
 use Rattle.std.specs.List.{AllZip, HoldsAt, flat_map}
 use Rattle.std.specs.Ordering.{is_le}
 use Rattle.std.specs.declared.alloc.AllocError.{AllocError}
 use Rattle.std.specs.declared.cmp.Ordering.{Ordering}
 use Rattle.std.specs.declared.cmp.Ordering.TheVariants.{Less, Equal}
 use Rattle.range_merge.specs.Boundaries.{is_odd}
-use Rattle.range_collections.specs.Ranges.{range_boundaries}
+use Rattle.range_collections.specs.Ranges.{range_boundaries, range_start}
 use Rattle.range_collections.specs.Unions.{GivesUnion, IsAdded, is_in_one}
+use Rattle.range_collections.specs.declared.range_set.many_ranges.Aside.{Aside}
 use Rattle.range_collections.specs.declared.range_set_range.RangeSetRange.{RangeSetRange}
 use Rattle.range_collections.specs.declared.range_set_range.RangeSetRange.TheVariants.{Range, RangeFrom}
 
@@ -76,3 +78,17 @@ module _ {K : Type 0} (order : K → K → Ordering) where
     pub members : (x : K) → is_in_one order (range_boundaries order) copies x
         ≡ is_in_one order (range_boundaries order) ranges x
     pub underway : IsUnderway room copies list starts ends
+
+  -- what is answered where a range is added to a list and to what was put aside: an Ok has both of
+  -- the ranges with this one; it is one where the boundaries of all have room; and a range that
+  -- comes in order isn't put aside
+  pub record IsRangeAdded (room : ℕ) (range : RangeSetRange K) (list : List K) (aside : Aside K)
+      (new_list : List K) (new_aside : Aside K) (r : Result (Unit {0}) AllocError) : Type 0 where
+    pub underway : (ranges : List (RangeSetRange K)) →
+        IsUnderway room ranges list aside.starts.items aside.ends.items → OnOk r (IsUnderway room
+        (ranges ++ range ∷ []) new_list new_aside.starts.items new_aside.ends.items)
+    pub succeeds : (ranges : List (RangeSetRange K)) →
+        IsUnderway room ranges list aside.starts.items aside.ends.items →
+        length (flat_map (range_boundaries order) (ranges ++ range ∷ [])) ≤ room → IsOk r
+    pub in_order : length aside.starts.items ≡ 0 → NoneStartsAbove list (range_start range) →
+        new_aside ≡ aside

@@ -8,6 +8,7 @@ ghost use Rattle.std.specs.List.{AllZip};
 ghost use Rattle.range_merge.specs.Boundaries.{IsAscending, IsSameSet, member};
 ghost use Rattle.range_collections.specs.Sets.{AreEqual};
 
+mod at_end;
 mod by_view;
 mod constructors;
 mod endless;

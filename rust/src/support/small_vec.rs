@@ -129,18 +129,33 @@ pub fn append_both<T, const N: usize>(
     start: T,
     end: T,
 ) -> Result<(), AllocError> {
+    // A list on the heap is a case of its own: asked once where it lies, it takes half the time.
+    if list.0.spilled() && list.0.len() + 2 <= list.0.capacity() {
+        // SAFETY: there is room for two more.
+        unsafe { write_both(&mut list.0, start, end) };
+        return Ok(());
+    }
     list.reserve(2)?;
-    let list = &mut list.0;
+    // SAFETY: room for two more was reserved.
+    unsafe { write_both(&mut list.0, start, end) };
+    Ok(())
+}
+
+/// Writes two items behind the last one.
+///
+/// # Safety
+///
+/// There is room for two more.
+#[inline(always)]
+unsafe fn write_both<T, const N: usize>(list: &mut smallvec::SmallVec<[T; N]>, start: T, end: T) {
     let len = list.len();
-    // SAFETY: there is room for two more, and both are there before anything else looks at the
-    // list.
+    // SAFETY: the room is there, and so are both items before anything else looks at the list.
     unsafe {
         let after = list.as_mut_ptr().add(len);
         list.set_len(len + 2);
         after.write(start);
         after.add(1).write(end);
     }
-    Ok(())
 }
 
 impl<T, const N: usize> From<smallvec::SmallVec<[T; N]>> for SmallVec<T, N> {

@@ -13,31 +13,29 @@
 //!                 put_ends: with an end, to `put`, which calls `put_at_end` or `put_within`
 //!                 put_from: without an end, a set of its own, to `add_all`
 //! ```
-ghost use Rattle.std.specs.Prelude.{◌≡◌, ◌+◌, ◌-◌, ◌≤◌, ◌<◌, true, List, ◌∷◌, ◌++◌, [], length, slice_set, take, drop, All, IsTrue, IsOk, IfOk, OnOk, Ok, IfSome, ◌↔◌};
+ghost use Rattle.std.specs.Prelude.{◌≡◌, ◌+◌, ◌≤◌, ◌<◌, true, List, ◌∷◌, ◌++◌, [], length, take, drop, All, IsTrue, IsOk, IfOk, OnOk, Ok, IfSome, ◌↔◌};
 ghost use Rattle.std.specs.List.{flat_map};
 ghost use Rattle.std.specs.List.Sorted.{IsPermutation, IsSorted, IsStable};
 ghost use Rattle.std.specs.Option.{option_to_list};
 ghost use Rattle.std.specs.declared.cmp.Ordering.TheVariants.{Less};
-ghost use Rattle.range_merge.specs.Boundaries.{IsAscending, is_odd as odd};
+ghost use Rattle.range_merge.specs.Boundaries.{IsAscending};
 ghost use Rattle.range_merge.specs.Connective.{Means, union_table};
 ghost use Rattle.range_collections.specs.InPlace.{AreOwnElseOf};
-ghost use Rattle.range_collections.specs.ManyRanges.{EndsBefore, GivesOwn, IsAddedOwn, NoneStartsAbove, IsUnderway, IsUnderwayByCopies, pairs_of, starts_of, ends_of};
+ghost use Rattle.range_collections.specs.ManyRanges.{EndsBefore, GivesOwn, IsAddedOwn, NoneStartsAbove, IsRangeAdded, IsUnderway, IsUnderwayByCopies, pairs_of, starts_of, ends_of};
 ghost use Rattle.range_collections.specs.Ranges.{range_boundaries, range_items, range_start};
-ghost use Rattle.range_collections.specs.Splicing.{IsCut};
 ghost use Rattle.range_collections.specs.Unions.{GivesUnion};
 ghost use Rattle.range_collections.specs.declared.range_set_range.RangeSetRange.{RangeSetRange as Ranged};
 
 use crate::comparisons::Comparisons;
-use crate::lists::{append_both, is_odd};
 use crate::range_set::RangeSet;
+use crate::range_set::at_end::{cut_near_end, put_at_end, touches_end};
 use crate::range_set::joining::joined;
-use crate::range_set::splicing::{cut_at, splice};
+use crate::range_set::splicing::splice;
 use crate::range_set_range::{RangeSetRange, has_elements};
 use range_entry::EntryClone;
 use range_merge::{Indexed, UnionOp};
 use smallvec::SmallVec;
 use std::alloc::{AllocError, Global};
-use std::cmp::Ordering;
 use std::default::MadeWith;
 use std::ops::{Range, RangeFrom};
 
@@ -146,15 +144,7 @@ pub(crate) fn add<T: Ord + MadeWith<Global> + Drop, const N: usize>(
     aside: &mut Aside<T>,
     range: RangeSetRange<T>,
 ) -> Result<(), AllocError>
-    ensures underway { (ranges : List (Ranged T)) →
-        IsUnderway T.cmp N ranges set.old aside.old.starts.items aside.old.ends.items →
-        OnOk result (IsUnderway T.cmp N (ranges ++ range ∷ []) set.new
-        aside.new.starts.items aside.new.ends.items) }
-    ensures succeeds { (ranges : List (Ranged T)) →
-        IsUnderway T.cmp N ranges set.old aside.old.starts.items aside.old.ends.items →
-        length (flat_map (range_boundaries T.cmp) (ranges ++ range ∷ [])) ≤ N → IsOk result }
-    ensures in_order { length aside.old.starts.items ≡ 0 →
-        NoneStartsAbove T.cmp set.old (range_start range) → aside.new ≡ aside.old }
+    ensures { IsRangeAdded T.cmp N range set.old aside.old set.new aside.new result }
 {
     match range {
         RangeSetRange::Range(range) => match touches_last(set, aside, &range) {
@@ -176,15 +166,7 @@ fn add_anywhere<T: Ord + MadeWith<Global> + Drop, const N: usize>(
     aside: &mut Aside<T>,
     range: RangeSetRange<T>,
 ) -> Result<(), AllocError>
-    ensures underway { (ranges : List (Ranged T)) →
-        IsUnderway T.cmp N ranges set.old aside.old.starts.items aside.old.ends.items →
-        OnOk result (IsUnderway T.cmp N (ranges ++ range ∷ []) set.new
-        aside.new.starts.items aside.new.ends.items) }
-    ensures succeeds { (ranges : List (Ranged T)) →
-        IsUnderway T.cmp N ranges set.old aside.old.starts.items aside.old.ends.items →
-        length (flat_map (range_boundaries T.cmp) (ranges ++ range ∷ [])) ≤ N → IsOk result }
-    ensures in_order { length aside.old.starts.items ≡ 0 →
-        NoneStartsAbove T.cmp set.old (range_start range) → aside.new ≡ aside.old }
+    ensures { IsRangeAdded T.cmp N range set.old aside.old set.new aside.new result }
 {
     if aside.is_empty() && takes(set, &range) {
         put_range(set, range)
@@ -405,64 +387,6 @@ fn put<T: Ord + MadeWith<Global> + Drop, const N: usize>(
     }
 }
 
-// Adds the elements from the start up to the end, where the set ends at the start if `touches`, and
-// else below it.
-#[inline(always)]
-fn put_at_end<T: Ord + MadeWith<Global> + Drop, const N: usize>(
-    list: &mut SmallVec<T, N>,
-    touches: bool,
-    start: T,
-    end: T,
-) -> Result<(), AllocError>
-    requires sorted { IsAscending T.cmp list.old.items }
-    requires ends { EndsBefore T.cmp touches list.old.items start }
-    requires less { T.cmp start end ≡ Less }
-    ensures sorted { IsAscending T.cmp list.new.items }
-    ensures means { OnOk result (Means T.cmp union_table list.new.items list.old.items
-        (start ∷ end ∷ [])) }
-    ensures left_own_item { OnOk result (AreOwnElseOf T.cmp list.old.items
-        (start ∷ end ∷ []) list.new.items) }
-    ensures succeeds { length list.old.items + 2 ≤ N → IsOk result }
-{
-    if touches {
-        replace_last(list, end);
-        Ok(())
-    } else {
-        append_both(list, start, end)
-    }
-}
-
-// Puts the item in the place of the last one.
-#[inline(always)]
-fn replace_last<T: MadeWith<Global> + Drop, const N: usize>(list: &mut SmallVec<T, N>, item: T)
-    requires { 0 < length list.old.items }
-    ensures { list.new.items ≡ slice_set list.old.items (length list.old.items - 1) item }
-{
-    let last = list.len() - 1;
-    list.as_mut_slice()[last] = item;
-}
-
-// Whether a range from the element on touches the last one of the set with these boundaries. `None`
-// if that doesn't end at the element or below it.
-#[inline(always)]
-fn touches_end<T: Ord>(items: &[T], at: &T) -> Option<bool>
-    requires { IsAscending T.cmp items.now }
-    ensures { IfSome result (λ touches. EndsBefore T.cmp touches items.now at.now) }
-{
-    let len = items.len();
-    if is_odd(len) {
-        return None;
-    }
-    if len == 0 {
-        return Some(false);
-    }
-    match items[len - 1].cmp(at) {
-        Ordering::Less => Some(false),
-        Ordering::Equal => Some(true),
-        Ordering::Greater => None,
-    }
-}
-
 // Adds the elements from the start up to the end, wherever they lie among those of the set.
 fn put_within<T: Ord + MadeWith<Global> + Drop, const N: usize>(
     list: &mut SmallVec<T, N>,
@@ -481,27 +405,4 @@ fn put_within<T: Ord + MadeWith<Global> + Drop, const N: usize>(
     let (from, start) = cut_near_end(list.as_slice(), start);
     let (to, end) = cut_near_end(list.as_slice(), end);
     splice(list, from, to, start, end)
-}
-
-// Where the items are cut around an element, so that an odd number stands before, and the element
-// where it has to be put there for that. It is compared with the last two items first.
-#[inline]
-fn cut_near_end<T: Ord + Drop>(items: &[T], at: T) -> (usize, Option<T>)
-    requires { IsAscending T.cmp items.now }
-    ensures { IsCut T.cmp true items.now at result.0 result.1 }
-{
-    let len = items.len();
-    if is_odd(len) {
-        if items[len - 1].cmp(&at).is_le() {
-            return (len, None);
-        }
-        return cut_at(items, at, true, &mut Comparisons::new());
-    }
-    if len == 0 || items[len - 1].cmp(&at).is_lt() {
-        return (len, Some(at));
-    }
-    if items[len - 2].cmp(&at).is_le() {
-        return (len - 1, None);
-    }
-    cut_at(items, at, true, &mut Comparisons::new())
 }

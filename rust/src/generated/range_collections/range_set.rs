@@ -4,6 +4,7 @@
 //! Sets are equal if their members are the same, which is that their boundaries are equal item by
 //! item.
 
+pub(crate) mod at_end;
 pub(crate) mod by_view;
 pub(crate) mod constructors;
 pub(crate) mod endless;

@@ -16,15 +16,16 @@
 //! ```
 
 use crate::generated::range_collections::comparisons::Comparisons;
-use crate::generated::range_collections::lists::is_odd;
+use crate::generated::range_collections::range_set::at_end::{
+    cut_near_end, put_at_end, touches_end,
+};
 use crate::generated::range_collections::range_set::joining::joined;
-use crate::generated::range_collections::range_set::splicing::{cut_at, splice};
+use crate::generated::range_collections::range_set::splicing::splice;
 use crate::generated::range_collections::range_set::RangeSet;
 use crate::generated::range_collections::range_set_range::{has_elements, RangeSetRange};
 use crate::generated::range_entry::EntryClone;
 use crate::generated::range_merge::{Indexed, UnionOp};
-use crate::support::{append_both, AllocError, Global, SmallVec, SortIn, Vec};
-use core::cmp::Ordering;
+use crate::support::{AllocError, Global, SmallVec, SortIn, Vec};
 use core::ops::{Range, RangeFrom};
 
 // The elements that lie in at least one of the ranges.
@@ -288,48 +289,6 @@ fn put<T: Ord, const N: usize>(
     }
 }
 
-// Adds the elements from the start up to the end, where the set ends at the start if `touches`, and
-// else below it.
-#[inline(always)]
-fn put_at_end<T: Ord, const N: usize>(
-    list: &mut SmallVec<T, N>,
-    touches: bool,
-    start: T,
-    end: T,
-) -> Result<(), AllocError> {
-    if touches {
-        replace_last(list, end);
-        Ok(())
-    } else {
-        append_both(list, start, end)
-    }
-}
-
-// Puts the item in the place of the last one.
-#[inline(always)]
-fn replace_last<T, const N: usize>(list: &mut SmallVec<T, N>, item: T) {
-    let last = list.len() - 1;
-    list.as_mut_slice()[last] = item;
-}
-
-// Whether a range from the element on touches the last one of the set with these boundaries. `None`
-// if that doesn't end at the element or below it.
-#[inline(always)]
-fn touches_end<T: Ord>(items: &[T], at: &T) -> Option<bool> {
-    let len = items.len();
-    if is_odd(len) {
-        return None;
-    }
-    if len == 0 {
-        return Some(false);
-    }
-    match items[len - 1].cmp(at) {
-        Ordering::Less => Some(false),
-        Ordering::Equal => Some(true),
-        Ordering::Greater => None,
-    }
-}
-
 // Adds the elements from the start up to the end, wherever they lie among those of the set.
 fn put_within<T: Ord, const N: usize>(
     list: &mut SmallVec<T, N>,
@@ -339,24 +298,4 @@ fn put_within<T: Ord, const N: usize>(
     let (from, start) = cut_near_end(list.as_slice(), start);
     let (to, end) = cut_near_end(list.as_slice(), end);
     splice(list, from, to, start, end)
-}
-
-// Where the items are cut around an element, so that an odd number stands before, and the element
-// where it has to be put there for that. It is compared with the last two items first.
-#[inline]
-fn cut_near_end<T: Ord>(items: &[T], at: T) -> (usize, Option<T>) {
-    let len = items.len();
-    if is_odd(len) {
-        if items[len - 1].cmp(&at).is_le() {
-            return (len, None);
-        }
-        return cut_at(items, at, true, &mut Comparisons::new());
-    }
-    if len == 0 || items[len - 1].cmp(&at).is_lt() {
-        return (len, Some(at));
-    }
-    if items[len - 2].cmp(&at).is_le() {
-        return (len - 1, None);
-    }
-    cut_at(items, at, true, &mut Comparisons::new())
 }

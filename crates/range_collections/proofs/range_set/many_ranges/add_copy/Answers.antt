@@ -1,4 +1,4 @@
-use Rattle.std.proofs.Common.{◌≡◌, ◌≤◌, ◌<◌, sym, subst, length, arith, true≢false}
+use Rattle.std.proofs.Common.{◌<◌, sym, subst, length, arith, true≢false}
 use Rattle.std.proofs.lemmas.Result.{on_ok_weaker}
 use Rattle.range_collections.specs.Ranges.{AllEnds, AllEndsZip, range_boundaries}
 use Rattle.range_collections.proofs.Underway.{AllEnds-from_boundaries, by_copies-more, by_copies-nothing, length-copies, zip_copies}

@@ -1,4 +1,4 @@
-use Rattle.std.proofs.Common.{◌≡◌, subst}
+use Rattle.std.proofs.Common.{subst}
 use Rattle.std.specs.List.Sorted.{IsPermutation, IsStable}
 use Rattle.std.proofs.lemmas.Result.{IfOk-weaker}
 use Rattle.range_collections.proofs.Pairs.{GivesOwn-sorted}

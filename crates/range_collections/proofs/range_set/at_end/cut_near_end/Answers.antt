@@ -4,8 +4,8 @@ use Rattle.range_merge.specs.Boundaries.{is_odd}
 use Rattle.range_collections.specs.Splicing.{IsCut}
 use Rattle.range_collections.proofs.Ascending.{Less-from_is_lt}
 use Rattle.range_collections.proofs.ManyRanges.{IsCut-empty, IsCut-after_last, IsCut-in_last, IsCut-in_open}
-use Rattle.range_collections.proofs.range_set.many_ranges.cut_near_end.Goals.{then-len-eq0-via-then-len-eq0, then-len-eq0-via-else-len-eq0+then-is_lt}
-use Rattle.range_collections.proofs.range_set.many_ranges.cut_near_end.Goals as goal
+use Rattle.range_collections.proofs.range_set.at_end.cut_near_end.Goals.{then-len-eq0-via-then-len-eq0, then-len-eq0-via-else-len-eq0+then-is_lt}
+use Rattle.range_collections.proofs.range_set.at_end.cut_near_end.Goals as goal
 
 pub returns-then-len-eq0 : goal.returns-then-len-eq0
 returns-then-len-eq0 g c =

@@ -3,7 +3,7 @@ use Rattle.std.proofs.lemmas.Result.{on_ok_weaker}
 use Rattle.range_collections.specs.ManyRanges.{EndsBefore}
 use Rattle.range_collections.proofs.Insertion.{IsAscending-answer}
 use Rattle.range_collections.proofs.ManyRanges.{put-after, put-last}
-use Rattle.range_collections.proofs.range_set.many_ranges.put_at_end.Goals as goal
+use Rattle.range_collections.proofs.range_set.at_end.put_at_end.Goals as goal
 
 pub returns-then-touches-clause-sorted : goal.returns-then-touches-clause-sorted
 returns-then-touches-clause-sorted g c =
