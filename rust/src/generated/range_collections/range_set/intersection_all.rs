@@ -2,10 +2,12 @@
 //! The intersection of many sets, by halves: each set is copied once, and then sets are cut in
 //! place.
 
-use crate::generated::range_collections::range_set::joining::copied;
+use crate::generated::range_collections::comparisons::EntryCopier;
+use crate::generated::range_collections::range_set::copying::copied;
 use crate::generated::range_collections::range_set::RangeSet;
 use crate::generated::range_collections::view::RangeSetRef;
 use crate::generated::range_entry::{EntryClone, RangeSetEntry};
+use crate::generated::range_merge::Copier;
 use crate::support::{AllocError, Global};
 
 impl<T: RangeSetEntry + EntryClone, const N: usize> RangeSet<T, N> {
@@ -27,21 +29,22 @@ impl<T: RangeSetEntry + EntryClone, const N: usize> RangeSet<T, N> {
         if sets.is_empty() {
             return RangeSet::all(alloc);
         }
-        intersection_of(alloc, sets)
+        intersection_of(alloc, sets, &EntryCopier)
     }
 }
 
 // The elements that are members of each of the sets, of which there is one at least.
-fn intersection_of<T: EntryClone, const N: usize>(
+pub(crate) fn intersection_of<T: Ord, C: Copier<T>, const N: usize>(
     alloc: Global,
     sets: &[RangeSetRef<T>],
+    copier: &C,
 ) -> Result<RangeSet<T, N>, AllocError> {
     match sets.len() {
-        1 => copied(alloc, &sets[0]),
+        1 => copied(alloc, sets[0], copier),
         len => {
             let (front, back) = sets.split_at(len / 2);
-            let set = intersection_of(alloc, front)?;
-            let that = intersection_of(alloc, back)?;
+            let set = intersection_of(alloc, front, copier)?;
+            let that = intersection_of(alloc, back, copier)?;
             cut_to(set, that)
         }
     }
