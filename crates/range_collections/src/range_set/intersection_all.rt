@@ -2,7 +2,6 @@
 //! place.
 ghost use Rattle.std.specs.Prelude.{◌≡◌, ◌↔◌, ◌+◌, ◌<◌, ◌≤◌, All, length, true, IsOk, IfOk};
 ghost use Rattle.std.specs.List.{flat_map};
-ghost use Rattle.std.specs.declared.cmp.Ordering.TheVariants.{Equal};
 ghost use Rattle.range_merge.specs.Boundaries.{member};
 ghost use Rattle.range_merge.specs.Connective.{Means, intersection_table};
 ghost use Rattle.range_collections.specs.Intersections.{GivesIntersection, is_in_each};
@@ -12,7 +11,6 @@ use crate::range_set::RangeSet;
 use crate::range_set::copying::copied;
 use crate::view::RangeSetRef;
 use range_entry::{EntryClone, RangeSetEntry};
-use range_merge::Copier;
 use std::alloc::{AllocError, Global};
 use std::default::MadeWith;
 
@@ -31,27 +29,25 @@ impl<T: RangeSetEntry + EntryClone + MadeWith<Global> + Drop, const N: usize> Ra
         if sets.is_empty() {
             return RangeSet::all(alloc);
         }
-        intersection_of(alloc, sets, &EntryCopier)
+        intersection_of(alloc, sets)
     }
 }
 
 // The elements that are members of each of the sets, of which there is one at least.
-pub(crate) fn intersection_of<T: Ord + MadeWith<Global> + Drop, C: Copier<T>, const N: usize>(
+fn intersection_of<T: EntryClone + MadeWith<Global> + Drop, const N: usize>(
     alloc: Global,
     sets: &[RangeSetRef<T>],
-    copier: &C,
 ) -> Result<RangeSet<T, N>, AllocError>
-    requires some { 0 < length sets.now }
-    requires copies { (x y : T) → C.alike x y → T.cmp x y ≡ Equal }
-    ensures { GivesIntersection T.cmp C.is_infallible
+    requires { 0 < length sets.now }
+    ensures { GivesIntersection T.cmp T.is_infallible
         (λ set. set.boundaries.now) N sets.now result }
 {
     match sets.len() {
-        1 => copied(alloc, sets[0], copier),
+        1 => copied(alloc, sets[0], &EntryCopier),
         len => {
             let (front, back) = sets.split_at(len / 2);
-            let set = intersection_of(alloc, front, copier)?;
-            let that = intersection_of(alloc, back, copier)?;
+            let set = intersection_of(alloc, front)?;
+            let that = intersection_of(alloc, back)?;
             cut_to(set, that)
         }
     }

@@ -7,7 +7,6 @@ use crate::generated::range_collections::range_set::copying::copied;
 use crate::generated::range_collections::range_set::RangeSet;
 use crate::generated::range_collections::view::RangeSetRef;
 use crate::generated::range_entry::{EntryClone, RangeSetEntry};
-use crate::generated::range_merge::Copier;
 use crate::support::{AllocError, Global};
 
 impl<T: RangeSetEntry + EntryClone, const N: usize> RangeSet<T, N> {
@@ -29,22 +28,21 @@ impl<T: RangeSetEntry + EntryClone, const N: usize> RangeSet<T, N> {
         if sets.is_empty() {
             return RangeSet::all(alloc);
         }
-        intersection_of(alloc, sets, &EntryCopier)
+        intersection_of(alloc, sets)
     }
 }
 
 // The elements that are members of each of the sets, of which there is one at least.
-pub(crate) fn intersection_of<T: Ord, C: Copier<T>, const N: usize>(
+fn intersection_of<T: EntryClone, const N: usize>(
     alloc: Global,
     sets: &[RangeSetRef<T>],
-    copier: &C,
 ) -> Result<RangeSet<T, N>, AllocError> {
     match sets.len() {
-        1 => copied(alloc, sets[0], copier),
+        1 => copied(alloc, sets[0], &EntryCopier),
         len => {
             let (front, back) = sets.split_at(len / 2);
-            let set = intersection_of(alloc, front, copier)?;
-            let that = intersection_of(alloc, back, copier)?;
+            let set = intersection_of(alloc, front)?;
+            let that = intersection_of(alloc, back)?;
             cut_to(set, that)
         }
     }
