@@ -2,6 +2,8 @@
 
 use crate::entry::RangeSetEntry;
 use crate::generated::range_chunks::ChunkedRangeSet;
+use crate::generated::range_collections::range_set::copying::copies;
+use crate::generated::range_collections::range_set::joining::union_of;
 use crate::generated::range_collections::range_set::many_ranges::{self, Aside};
 use crate::generated::range_collections::range_set::splicing::set_range;
 use crate::generated::range_collections::{self as proved, Comparisons, WholeNumber};
@@ -119,6 +121,15 @@ pub trait List: Sized {
     ) -> Result<Self, AllocError>
     where
         Self::Item: Ord;
+
+    /// The boundaries of the union of sets, with copies of theirs.
+    fn union_of<P>(
+        sets: &[proved::RangeSetRef<'_, Self::Item>],
+        copier: &P,
+    ) -> Result<Self, AllocError>
+    where
+        Self::Item: Ord,
+        P: Copier<Self::Item>;
 
     /// The boundaries of one range.
     fn of_range(range: RangeSetRange<Self::Item>) -> Result<Self, AllocError>
@@ -267,16 +278,15 @@ impl<T, const N: usize> List for support::SmallVec<T, N> {
     where
         P: Copier<T>,
     {
-        if items.len() > N {
-            let mut list = support::Vec::with_capacity(Global, items.len())?;
-            copier.append(&mut list, items)?;
-            return Ok(support::SmallVec::from_vec(list));
-        }
-        let mut list = Self::EMPTY;
-        for item in items {
-            list.push_reserved(copier.copy(item)?);
-        }
-        Ok(list)
+        copies(Global, items, copier)
+    }
+
+    fn union_of<P>(sets: &[proved::RangeSetRef<'_, T>], copier: &P) -> Result<Self, AllocError>
+    where
+        T: Ord,
+        P: Copier<T>,
+    {
+        union_of(Global, sets, copier, &mut Comparisons::new()).map(proved::RangeSet::into_inner)
     }
 
     #[inline(always)]

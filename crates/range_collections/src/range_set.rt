@@ -11,6 +11,7 @@ ghost use Rattle.range_collections.specs.Sets.{AreEqual};
 mod at_end;
 mod by_view;
 mod constructors;
+mod copying;
 mod endless;
 mod first_fit;
 mod in_place;
@@ -25,10 +26,12 @@ mod splicing;
 mod taking;
 mod values;
 
+use crate::comparisons::EntryCopier;
 use crate::iter::Iter;
 use crate::lists::is_ascending;
 use crate::range_set_range::RangeSetRange;
 use crate::view::RangeSetRef;
+use copying::copied;
 use range_entry::EntryClone;
 use smallvec::SmallVec;
 pub use splicing::cut_at;
@@ -239,7 +242,7 @@ impl<T: EntryClone + MadeWith<Global> + Drop, const N: usize> RangeSet<T, N> {
         ensures equal { IfOk result (λ set. AreEqual T.cmp self.now set) }
         ensures succeeds { length self.now ≤ N → All T.is_infallible self.now → IsOk result }
     {
-        Ok(RangeSet::new_unchecked(clones(self.allocator(), self.boundaries())?))
+        copied(self.allocator(), self.as_ref(), &EntryCopier)
     }
 }
 
@@ -253,36 +256,4 @@ impl<T: EntryClone + MadeWith<Global> + Drop, const N: usize> Clone for RangeSet
     fn clone(&self) -> Result<Self, AllocError> {
         RangeSet::clone(self)
     }
-}
-
-// A list of clones of the items, in their order. It asks for room once.
-fn clones<T: EntryClone + MadeWith<Global> + Drop, const N: usize>(
-    alloc: Global,
-    items: &[T],
-) -> Result<SmallVec<T, N>, AllocError>
-    ensures copies { IfOk result (λ list. AllZip T.is_copy items.now list.items) }
-    ensures succeeds { length items.now ≤ N → All T.is_infallible items.now → IsOk result }
-{
-    if items.len() <= N {
-        return clones_inline(alloc, items);
-    }
-    let mut list = Vec::with_capacity(alloc, items.len())?;
-    T::append_clones(&mut list, items)?;
-    Ok(SmallVec::from_vec(list))
-}
-
-// Clones of so few items that they have room inline.
-fn clones_inline<T: EntryClone + MadeWith<Global> + Drop, const N: usize>(
-    alloc: Global,
-    items: &[T],
-) -> Result<SmallVec<T, N>, AllocError>
-    requires { length items.now ≤ N }
-    ensures copies { IfOk result (λ list. AllZip T.is_copy items.now list.items) }
-    ensures succeeds { All T.is_infallible items.now → IsOk result }
-{
-    let mut list = SmallVec::new(alloc);
-    for item in items {
-        list.push_reserved(item.entry_clone()?);
-    }
-    Ok(list)
 }

@@ -2,15 +2,14 @@
 
 use crate::array::{List, Sorting};
 use crate::entry::RangeSetEntry;
-use crate::generated::range_merge::{Copier, IntersectionOp, UnionOp};
+use crate::generated::range_merge::{Copier, IntersectionOp};
 use crate::memory::AllocError;
 use crate::range::RangeSetRange;
 use crate::view::RangeSetRef;
 use alloc::vec::Vec;
 use core::iter;
 
-/// The boundaries of the union of copies of sets, by halves: each set is copied once, and then
-/// lists are joined in place.
+/// The boundaries of the union of copies of sets.
 pub(crate) fn union_of_sets<T, L, S, P>(
     sets: impl IntoIterator<Item = S>,
     copier: &P,
@@ -26,27 +25,12 @@ where
         parts.try_reserve(1).map_err(|_| AllocError)?;
         parts.push(set);
     }
-    union_of(&parts, copier)
-}
-
-fn union_of<T, L, S, P>(sets: &[S], copier: &P) -> Result<L, AllocError>
-where
-    T: Ord,
-    L: List<Item = T>,
-    S: AsRef<RangeSetRef<T>>,
-    P: Copier<T>,
-{
-    match sets {
-        [] => Ok(L::EMPTY),
-        [set] => L::copied(set.as_ref().boundaries(), copier),
-        _ => {
-            let (front, back) = sets.split_at(sets.len() / 2);
-            let mut both: L = union_of(front, copier)?;
-            both.merge_owned(union_of(back, copier)?, &UnionOp)
-                .map_err(|(refused, _)| refused)?;
-            Ok(both)
-        }
-    }
+    let mut views = Vec::new();
+    views
+        .try_reserve_exact(parts.len())
+        .map_err(|_| AllocError)?;
+    views.extend(parts.iter().map(|set| set.as_ref().proved()));
+    L::union_of(&views, copier)
 }
 
 /// The boundaries of the intersection of copies of sets, of every value if there is none.

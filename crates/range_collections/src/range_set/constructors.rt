@@ -12,7 +12,7 @@ ghost use Rattle.range_collections.specs.Values.{HasLeastInFront, IsEverything};
 ghost use Rattle.range_collections.specs.Unsorted.{AreDistinctOf, AreFirstOf};
 ghost use Rattle.range_collections.specs.Unions.{GivesUnion};
 
-use crate::comparisons::Comparisons;
+use crate::comparisons::{Comparisons, EntryCopier};
 use crate::range_set::RangeSet;
 use crate::range_set::joining::union_of;
 use crate::range_set::many_ranges::set_of_ranges;
@@ -193,7 +193,7 @@ impl<T: EntryClone + MadeWith<Global> + Drop, const N: usize> RangeSet<T, N> {
             (2 * length (flat_map (λ set. set.boundaries.now) sets.now)
             * digits (length sets.now - 1)) }
     {
-        union_of(alloc, sets, count)
+        union_of(alloc, sets, &EntryCopier, count)
     }
 
     /// The elements that lie in at least one of the ranges. The ranges may come in any order, and

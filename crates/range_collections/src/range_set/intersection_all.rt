@@ -6,8 +6,9 @@ ghost use Rattle.range_merge.specs.Boundaries.{member};
 ghost use Rattle.range_merge.specs.Connective.{Means, intersection_table};
 ghost use Rattle.range_collections.specs.Intersections.{GivesIntersection, is_in_each};
 
+use crate::comparisons::EntryCopier;
 use crate::range_set::RangeSet;
-use crate::range_set::joining::copied;
+use crate::range_set::copying::copied;
 use crate::view::RangeSetRef;
 use range_entry::{EntryClone, RangeSetEntry};
 use std::alloc::{AllocError, Global};
@@ -42,7 +43,7 @@ fn intersection_of<T: EntryClone + MadeWith<Global> + Drop, const N: usize>(
         (λ set. set.boundaries.now) N sets.now result }
 {
     match sets.len() {
-        1 => copied(alloc, &sets[0]),
+        1 => copied(alloc, sets[0], &EntryCopier),
         len => {
             let (front, back) = sets.split_at(len / 2);
             let set = intersection_of(alloc, front)?;

@@ -1,46 +1,42 @@
 //! The union of many sets, by halves: each set is copied once, and then sets are joined in place.
-ghost use Rattle.std.specs.Prelude.{◌≡◌, ◌+◌, ◌-◌, ◌*◌, ◌≤◌, All, length, IsOk, IfOk};
-ghost use Rattle.std.specs.List.{AllZip, flat_map};
-ghost use Rattle.range_merge.specs.Boundaries.{IsAscending};
+ghost use Rattle.std.specs.Prelude.{◌≡◌, ◌+◌, ◌-◌, ◌*◌, length};
+ghost use Rattle.std.specs.List.{flat_map};
+ghost use Rattle.std.specs.declared.cmp.Ordering.TheVariants.{Equal};
 ghost use Rattle.range_merge.specs.Counting.{AddsAtMost};
 ghost use Rattle.range_merge.specs.Runs.{digits};
 ghost use Rattle.range_collections.specs.Unions.{GivesUnion, IsJoined};
-ghost use Rattle.range_collections.specs.Ranges.{range_boundaries};
 
 use crate::comparisons::Comparisons;
 use crate::range_set::RangeSet;
+use crate::range_set::copying::copied;
 use crate::range_set_range::{RangeSetRange, has_elements};
 use crate::view::RangeSetRef;
-use range_entry::EntryClone;
 use range_merge::laws::weight_is_at_most_the_lengths;
-use range_merge::{Indexed, UnionOp};
-use smallvec::SmallVec;
+use range_merge::{Copier, Indexed, UnionOp};
 use std::alloc::{AllocError, Global};
 use std::default::MadeWith;
 
-// What a union is made of, as a set or a range: its boundaries by index.
-pub(super) trait Part<T: Ord>: Indexed<T> {
-    // The boundaries are strictly sorted.
-    ghost ascending: { (part : Self) → IsAscending T.cmp (Self.items part) };
-}
-
-// The elements that are members of at least one part.
-pub(super) fn union_of<T: EntryClone + MadeWith<Global> + Drop, P: Part<T>, const N: usize>(
+// The elements that are members of at least one of the sets.
+pub(crate) fn union_of<T: Ord + MadeWith<Global> + Drop, C: Copier<T>, const N: usize>(
     alloc: Global,
-    parts: &[P],
+    sets: &[RangeSetRef<T>],
+    copier: &C,
     count: &mut Comparisons,
 ) -> Result<RangeSet<T, N>, AllocError>
-    ensures gives { GivesUnion T.cmp T.is_copy T.is_infallible P.items N parts.now result }
+    requires copies { (x y : T) → C.alike x y → T.cmp x y ≡ Equal }
+    ensures gives { GivesUnion T.cmp C.alike C.is_infallible (λ set. set.boundaries.now) N
+        sets.now result }
     ensures comparisons { AddsAtMost count.old count.new
-        (2 * length (flat_map P.items parts.now) * digits (length parts.now - 1)) }
+        (2 * length (flat_map (λ set. set.boundaries.now) sets.now)
+        * digits (length sets.now - 1)) }
 {
-    match parts.len() {
+    match sets.len() {
         0 => Ok(RangeSet::empty(alloc)),
-        1 => copied(alloc, &parts[0]),
+        1 => copied(alloc, sets[0], copier),
         len => {
-            let (front, back) = parts.split_at(len / 2);
-            let set = union_of(alloc, front, count)?;
-            let that = union_of(alloc, back, count)?;
+            let (front, back) = sets.split_at(len / 2);
+            let set = union_of(alloc, front, copier, count)?;
+            let that = union_of(alloc, back, copier, count)?;
             joined(set, that, count)
         }
     }
@@ -64,51 +60,6 @@ pub(super) fn joined<T: Ord + MadeWith<Global> + Drop, const N: usize>(
         Ok(()) => Ok(both),
         Err((error, _)) => Err(error),
     }
-}
-
-// The set of the part's elements, with a copy of each boundary.
-pub(super) fn copied<T: EntryClone + MadeWith<Global> + Drop, P: Part<T>, const N: usize>(
-    alloc: Global,
-    part: &P,
-) -> Result<RangeSet<T, N>, AllocError>
-    ensures copies { IfOk result (λ set. AllZip T.is_copy (P.items part.now) set) }
-    ensures succeeds { length (P.items part.now) ≤ N →
-        All T.is_infallible (P.items part.now) → IsOk result }
-{
-    Ok(RangeSet::new_unchecked(copies(alloc, part)?))
-}
-
-// A copy of each boundary of the part, in their order. It asks for room once.
-fn copies<T: EntryClone + MadeWith<Global> + Drop, P: Part<T>, const N: usize>(
-    alloc: Global,
-    part: &P,
-) -> Result<SmallVec<T, N>, AllocError>
-    ensures copies { IfOk result (λ list. AllZip T.is_copy (P.items part.now) list.items) }
-    ensures succeeds { length (P.items part.now) ≤ N →
-        All T.is_infallible (P.items part.now) → IsOk result }
-{
-    let len = part.len();
-    let mut list = SmallVec::with_capacity(alloc, len)?;
-    for i in 0..len {
-        list.push_reserved(part.at(i).entry_clone()?);
-    }
-    Ok(list)
-}
-
-impl<'a, T: Ord> Indexed<T> for RangeSetRef<'a, T> {
-    ghost items = { λ set. set.boundaries.now };
-
-    fn len(&self) -> usize {
-        self.boundaries.len()
-    }
-
-    fn at(&self, i: usize) -> &T {
-        &self.boundaries[i]
-    }
-}
-
-impl<'a, T: Ord> Part<T> for RangeSetRef<'a, T> {
-    ghost ascending = { λ set. set.sorted };
 }
 
 impl<T: Ord> Indexed<T> for RangeSetRange<T> {
@@ -135,10 +86,4 @@ impl<T: Ord> Indexed<T> for RangeSetRange<T> {
             RangeSetRange::RangeFrom(range) => &range.start,
         }
     }
-}
-
-impl<T: Ord> Part<T> for RangeSetRange<T> {
-    ghost use Rattle.range_collections.specs.Unions.{IsAscending-range};
-
-    ghost ascending = { IsAscending-range T.cmp };
 }

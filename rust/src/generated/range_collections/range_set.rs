@@ -7,6 +7,7 @@
 pub(crate) mod at_end;
 pub(crate) mod by_view;
 pub(crate) mod constructors;
+pub(crate) mod copying;
 pub(crate) mod endless;
 pub(crate) mod first_fit;
 pub(crate) mod in_place;
@@ -20,12 +21,14 @@ pub(crate) mod rank;
 pub(crate) mod splicing;
 pub(crate) mod values;
 
+use crate::generated::range_collections::comparisons::EntryCopier;
 use crate::generated::range_collections::iter::Iter;
 use crate::generated::range_collections::lists::is_ascending;
 use crate::generated::range_collections::range_set_range::RangeSetRange;
 use crate::generated::range_collections::view::RangeSetRef;
 use crate::generated::range_entry::EntryClone;
-use crate::support::{AllocError, Global, SmallVec, Vec};
+use crate::support::{AllocError, Global, SmallVec};
+use copying::copied;
 pub(crate) use splicing::cut_at;
 
 /// A set of values, stored as the sorted list of boundaries between what is in it and what is not.
@@ -227,34 +230,6 @@ impl<T: EntryClone, const N: usize> RangeSet<T, N> {
     /// ensures succeeds: length self.now ≤ N → All T.is_infallible self.now → IsOk result
     /// ```
     pub fn try_clone(&self) -> Result<Self, AllocError> {
-        Ok(RangeSet::new_unchecked(clones(
-            self.allocator(),
-            self.boundaries(),
-        )?))
+        copied(self.allocator(), self.as_ref(), &EntryCopier)
     }
-}
-
-// A list of clones of the items, in their order. It asks for room once.
-fn clones<T: EntryClone, const N: usize>(
-    alloc: Global,
-    items: &[T],
-) -> Result<SmallVec<T, N>, AllocError> {
-    if items.len() <= N {
-        return clones_inline(alloc, items);
-    }
-    let mut list = Vec::with_capacity(alloc, items.len())?;
-    T::append_clones(&mut list, items)?;
-    Ok(SmallVec::from_vec(list))
-}
-
-// Clones of so few items that they have room inline.
-fn clones_inline<T: EntryClone, const N: usize>(
-    alloc: Global,
-    items: &[T],
-) -> Result<SmallVec<T, N>, AllocError> {
-    let mut list = SmallVec::new(alloc);
-    for item in items {
-        list.push_reserved(item.entry_clone()?);
-    }
-    Ok(list)
 }

@@ -2,7 +2,8 @@
 //! The intersection of many sets, by halves: each set is copied once, and then sets are cut in
 //! place.
 
-use crate::generated::range_collections::range_set::joining::copied;
+use crate::generated::range_collections::comparisons::EntryCopier;
+use crate::generated::range_collections::range_set::copying::copied;
 use crate::generated::range_collections::range_set::RangeSet;
 use crate::generated::range_collections::view::RangeSetRef;
 use crate::generated::range_entry::{EntryClone, RangeSetEntry};
@@ -37,7 +38,7 @@ fn intersection_of<T: EntryClone, const N: usize>(
     sets: &[RangeSetRef<T>],
 ) -> Result<RangeSet<T, N>, AllocError> {
     match sets.len() {
-        1 => copied(alloc, &sets[0]),
+        1 => copied(alloc, sets[0], &EntryCopier),
         len => {
             let (front, back) = sets.split_at(len / 2);
             let set = intersection_of(alloc, front)?;

@@ -2,29 +2,27 @@
 //! The union of many sets, by halves: each set is copied once, and then sets are joined in place.
 
 use crate::generated::range_collections::comparisons::Comparisons;
+use crate::generated::range_collections::range_set::copying::copied;
 use crate::generated::range_collections::range_set::RangeSet;
 use crate::generated::range_collections::range_set_range::{has_elements, RangeSetRange};
 use crate::generated::range_collections::view::RangeSetRef;
-use crate::generated::range_entry::EntryClone;
-use crate::generated::range_merge::{Indexed, UnionOp};
-use crate::support::{AllocError, Global, SmallVec};
+use crate::generated::range_merge::{Copier, Indexed, UnionOp};
+use crate::support::{AllocError, Global};
 
-// What a union is made of, as a set or a range: its boundaries by index.
-pub(super) trait Part<T: Ord>: Indexed<T> {}
-
-// The elements that are members of at least one part.
-pub(super) fn union_of<T: EntryClone, P: Part<T>, const N: usize>(
+// The elements that are members of at least one of the sets.
+pub(crate) fn union_of<T: Ord, C: Copier<T>, const N: usize>(
     alloc: Global,
-    parts: &[P],
+    sets: &[RangeSetRef<T>],
+    copier: &C,
     count: &mut Comparisons,
 ) -> Result<RangeSet<T, N>, AllocError> {
-    match parts.len() {
+    match sets.len() {
         0 => Ok(RangeSet::empty(alloc)),
-        1 => copied(alloc, &parts[0]),
+        1 => copied(alloc, sets[0], copier),
         len => {
-            let (front, back) = parts.split_at(len / 2);
-            let set = union_of(alloc, front, count)?;
-            let that = union_of(alloc, back, count)?;
+            let (front, back) = sets.split_at(len / 2);
+            let set = union_of(alloc, front, copier, count)?;
+            let that = union_of(alloc, back, copier, count)?;
             joined(set, that, count)
         }
     }
@@ -45,39 +43,6 @@ pub(super) fn joined<T: Ord, const N: usize>(
         Err((error, _)) => Err(error),
     }
 }
-
-// The set of the part's elements, with a copy of each boundary.
-pub(super) fn copied<T: EntryClone, P: Part<T>, const N: usize>(
-    alloc: Global,
-    part: &P,
-) -> Result<RangeSet<T, N>, AllocError> {
-    Ok(RangeSet::new_unchecked(copies(alloc, part)?))
-}
-
-// A copy of each boundary of the part, in their order. It asks for room once.
-fn copies<T: EntryClone, P: Part<T>, const N: usize>(
-    alloc: Global,
-    part: &P,
-) -> Result<SmallVec<T, N>, AllocError> {
-    let len = part.len();
-    let mut list = SmallVec::with_capacity(alloc, len)?;
-    for i in 0..len {
-        list.push_reserved(part.at(i).entry_clone()?);
-    }
-    Ok(list)
-}
-
-impl<'a, T: Ord> Indexed<T> for RangeSetRef<'a, T> {
-    fn len(&self) -> usize {
-        self.boundaries.len()
-    }
-
-    fn at(&self, i: usize) -> &T {
-        &self.boundaries[i]
-    }
-}
-
-impl<'a, T: Ord> Part<T> for RangeSetRef<'a, T> {}
 
 impl<T: Ord> Indexed<T> for RangeSetRange<T> {
     fn len(&self) -> usize {
@@ -106,5 +71,3 @@ impl<T: Ord> Indexed<T> for RangeSetRange<T> {
         }
     }
 }
-
-impl<T: Ord> Part<T> for RangeSetRange<T> {}
