@@ -38,7 +38,7 @@ INSTEAD = rows("""
     *: let PATH(NAME) = VALUE else { BLOCK; }; → let NAME = match VALUE { PATH(NAME) => NAME, _ => BLOCK, };
     *: #[unsafe(no_mangle)] → #[no_mangle] | <W: fmt::Write> → | , W: fmt::Write> → > | fmt::Formatter<W> → fmt::Formatter<'_>
     // Calls with an allocator, or later than Rust 1.63: of traits of rust/src/support.
-    *: .sort( → .sort_in( | .collect( → .collect_in( | .div_ceil( → .div_up( | .ilog2( → .log2_down(
+    *: .sort( → .sort_in( | .div_ceil( → .div_up( | .ilog2( → .log2_down(
     // A clone of Rust can't fail: one that can has another name.
     range_chunks/set/making, range_map/map/copying: fn clone( → fn try_clone(
     range_collections/range_set, range_collections/range_set_range: fn clone( → fn try_clone(
@@ -102,7 +102,7 @@ ADDED = rows("""
 FIELD = r"(\w+) : Clone :: clone \( & self \. \1 \)"
 COPIED = re.compile(rf"# \[ inline [^\]]*\] fn clone \( & self \) -> Self \{{ (?:\* self|\w+ \{{(?: {FIELD}(?: ,)?)+ \}}) \}}")
 # Names from rust/src/support, which is by hand: lists, boxes, the allocator, digits, merges in place, and traits of the calls above.
-SUPPORT = """AllocError Box Buffer CollectIn DivUp Error Global InPlaceMergeState InPlaceMergeStateRef Integer Log2Down Parts SELECTS
+SUPPORT = """AllocError Box Buffer DivUp Error Global InPlaceMergeState InPlaceMergeStateRef Integer Log2Down Parts SELECTS
     SmallVec SortIn Vec append_both append_within items_at move_last_two room_at select_unpredictable""".split()
 # What rustc says where a type lacks a trait: the generated file has it before the trait.
 SAID = r'# \[ cfg_attr \( range_sets_messages , diagnostic :: on_unimplemented \( message = "[^"]*" , note = "[^"]*" \) \) \] '

@@ -484,16 +484,18 @@ impl<T, const N: usize> List for support::SmallVec<T, N> {
     fn retain(&mut self, mut keep: impl FnMut(RangeSetRange<&T>) -> bool) {
         // If something panics, this list is dropped: its items may be out of order by then.
         let mut list = mem::replace(self, Self::EMPTY);
-        let (mut kept, mut at) = (0, 0);
-        while at < list.len() {
-            let next = list.len().min(at + 2);
-            if keep(RangeSetRange::of_ends(&list[at], list.get(at + 1))) {
-                for i in at..next {
-                    list.as_mut_slice().swap(kept, i);
-                    kept += 1;
-                }
+        let items = list.as_mut_slice();
+        let (mut kept, pairs) = (0, items.len() / 2 * 2);
+        for at in (0..pairs).step_by(2) {
+            if keep(RangeSetRange::of_ends(&items[at], Some(&items[at + 1]))) {
+                items.swap(kept, at);
+                items.swap(kept + 1, at + 1);
+                kept += 2;
             }
-            at = next;
+        }
+        if pairs < items.len() && keep(RangeSetRange::of_ends(&items[pairs], None)) {
+            items.swap(kept, pairs);
+            kept += 1;
         }
         let len = list.len();
         list.drain(kept..len);

@@ -29,13 +29,11 @@ PRELUDE = ("Box", "Vec", "items_at", "room_at")
 
 # Methods that pass the allocator, or that Rust has only since a later version: each is one of a trait of support.
 #   [T]::sort(&mut self, alloc: Global) -> Result<(), AllocError>
-#   Iterator::collect(self, alloc: Global) -> Result<Vec<Self::Item>, AllocError>
 #   usize::div_ceil(self, by: usize) -> usize, since 1.73
 #   usize::ilog2(self) -> u32, since 1.67
 #   u128::checked_next_multiple_of(self, by: u128) -> Option<u128>, since 1.73
 RENAMED = {
     "sort": ("sort_in", "SortIn"),
-    "collect": ("collect_in", "CollectIn"),
     "div_ceil": ("div_up", "DivUp"),
     "ilog2": ("log2_down", "Log2Down"),
     "checked_next_multiple_of": ("next_multiple_up", "NextMultipleUp"),

@@ -1,6 +1,5 @@
--- Ranges read one by one: what a step over the parts of a text leaves, and the ranges that are
--- read.
-use Rattle.std.proofs.Common.{◌≡◌, sym, ap, ap₂, ◌∙◌, ℕ, ◌+◌, ◌*◌, ◌≤◌, Bool, true, false, ◌==◌, ◌&&◌, ◌||◌, Option, Some, None, List, [], ◌∷◌, ◌++◌, length, length-append, append_assoc, subst, arith, refl, lit<}
+-- Ranges read one by one into a buffer, and how many numbers they have.
+use Rattle.std.proofs.Common.{◌≡◌, sym, ap, ap₂, ◌∙◌, ℕ, ◌+◌, ◌*◌, ◌≤◌, Bool, true, false, ◌==◌, ◌&&◌, ◌||◌, Option, Some, None, List, [], ◌∷◌, ◌++◌, length, length-append, append_assoc, subst, arith, refl}
 use Rattle.std.specs.Borrow.{Bor}
 use Rattle.std.specs.Cmp.{IsTotalOrder}
 use Rattle.std.specs.Iterator.{AlwaysYields}
@@ -12,7 +11,6 @@ use Rattle.std.specs.Str.Iter.{split_steps, split_text, split_has_more, split_pa
 use Rattle.std.specs.Str.Pattern.{FindsChar}
 use Rattle.std.specs.declared.cmp.Ordering.{Ordering}
 use Rattle.std.specs.declared.str.Split.{Split}
-use Rattle.std.proofs.lemmas.Iterator.Splits.{YieldsList-from_str_split}
 use Rattle.std.proofs.lemmas.Grind.{flat_map-append}
 use Rattle.std.proofs.lemmas.List.{append-nil}
 use Rattle.std.proofs.lemmas.List.Folds.{list_any-append}
@@ -23,21 +21,11 @@ use Rattle.range_collections.specs.Unions.{is_in_one}
 use Rattle.range_collections.specs.declared.range_set_range.RangeSetRange.{RangeSetRange}
 use Rattle.range_collections.specs.declared.range_set_range.RangeSetRange.TheVariants.{Range, RangeFrom}
 use Rattle.range_collections.proofs.PartsLaws.{member-range_items}
+use Rattle.range_collections.proofs.ReadParts.{next-part, no_part, ranges-step_none, ranges-step_some, yields-parts}
 use Rattle.range_collections.proofs.Sets.{and-assoc}
 use Rattle.range_collections.proofs.Values.{member-one}
 use Rattle.range_c.specs.Ranges.{is_from, is_within}
 use Rattle.range_c.specs.Reading.{numbers_in}
-
--- ---- a step of an iterator that gives a list of items
-
-module _ {S A B : Type 0} (steps : S → Option A → S → Type 0) (v : A → B) where
-  pub yielded-some : (s t : S) (x : A) (ys : List B) → AlwaysYields steps v s ys → steps s (Some x) t → record { rest : List B; is : ys ≡ v x ∷ rest; yields : AlwaysYields steps v t rest }
-  yielded-some s t x [] h k = absurd (h x t k)
-  yielded-some s t x (y ∷ ys) h k = record { rest = ys; is = ap (λ z. z ∷ ys) (sym (h.1 x t k).0); yields = (h.1 x t k).1 }
-
-  pub yielded-none : (s t : S) (ys : List B) → AlwaysYields steps v s ys → steps s None t → ys ≡ []
-  yielded-none s t [] h k = refl
-  yielded-none s t (y ∷ ys) h k = absurd (h.0 t k)
 
 -- ---- the parts of a text
 
@@ -72,17 +60,6 @@ module _ {K : Type 0} (number : List ℕ → Option K) where
       or_true : (b : Bool) → (b || true) ≡ true
       or_true true = refl
       or_true false = refl
-
-  -- the ranges of a part and of the parts after it, where the part has one and where it has none
-  pub ranges-step_some : (done all : List (RangeSetRange K)) (range : RangeSetRange K) (part : List ℕ) (left rest : List (List ℕ)) → left ≡ part ∷ rest → range_in number part ≡ Some range →
-      done ++ filter_map (range_in number) left ≡ all → done ++ (range ∷ filter_map (range_in number) rest) ≡ all
-  ranges-step_some done all range part left rest is found e =
-      sym (ap (λ xs. done ++ filter_map (range_in number) xs) is ∙ ap (λ r. done ++ cons_option r (filter_map (range_in number) rest)) found) ∙ e
-
-  pub ranges-step_none : (done all : List (RangeSetRange K)) (part : List ℕ) (left rest : List (List ℕ)) → left ≡ part ∷ rest → range_in number part ≡ None →
-      done ++ filter_map (range_in number) left ≡ all → done ++ filter_map (range_in number) rest ≡ all
-  ranges-step_none done all part left rest is found e =
-      sym (ap (λ xs. done ++ filter_map (range_in number) xs) is ∙ ap (λ r. done ++ cons_option r (filter_map (range_in number) rest)) found) ∙ e
 
 -- there is room for the ends of the next range
 pub length-next : {K : Type 0} (done rest all : List (RangeSetRange K)) (range : RangeSetRange K) → done ++ (range ∷ rest) ≡ all →
@@ -155,21 +132,6 @@ module _ {P K : Type 0} {order : K → K → Ordering} (o : IsTotalOrder order) 
         ∙ ap₂ (λ b c. b || (c || false)) (h.members x) (sym (member-one o start x))
         ∙ sym (list_any-append (λ part. member order (range_boundaries order part) x) done (RangeFrom (record { start = start }) ∷ []));
   }
-
--- what splitting a text at its commas gives, and one part of it
-module _ (s : Split ℕ) where
-  pub yields-parts : (text : List ℕ) → split_text s ≡ text → split_has_more s ≡ true → split_pattern s ≡ 44 →
-      AlwaysYields (split_steps FindsChar (λ a b. b ≡ a)) (λ x. x.now) s (parts_of text)
-  yields-parts text is more pattern = (YieldsList-from_str_split {s = s} 44 text (lit< tt) is more pattern).runs
-
-  pub next-part : (t : Split ℕ) (x : Bor (List ℕ)) (ys : List (List ℕ)) → AlwaysYields (split_steps FindsChar (λ a b. b ≡ a)) (λ y. y.now) s ys →
-      split_steps FindsChar (λ a b. b ≡ a) s (Some x) t →
-      record { rest : List (List ℕ); is : ys ≡ x.now ∷ rest; yields : AlwaysYields (split_steps FindsChar (λ a b. b ≡ a)) (λ y. y.now) t rest }
-  next-part t x ys h k = yielded-some (split_steps FindsChar (λ a b. b ≡ a)) (λ y. y.now) s t x ys h k
-
-  pub no_part : (t : Split ℕ) (ys : List (List ℕ)) → AlwaysYields (split_steps FindsChar (λ a b. b ≡ a)) (λ y. y.now) s ys →
-      split_steps FindsChar (λ a b. b ≡ a) s None t → ys ≡ []
-  no_part t ys h k = yielded-none (split_steps FindsChar (λ a b. b ≡ a)) (λ y. y.now) s t ys h k
 
 pub none_before : (n : ℕ) → 0 + n ≡ n
 none_before n = omega arith

@@ -39,6 +39,7 @@ pub mod Decimals
 pub mod ManyRanges
 pub mod Pairs
 pub mod Underway
+pub mod ReadParts
 pub mod Next
 pub mod Endless
 pub mod Previous

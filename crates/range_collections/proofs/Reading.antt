@@ -1,19 +1,16 @@
 -- Texts of ranges: what the calls on a text find of a range that a part of it writes, and of a
 -- number.
-use Rattle.std.proofs.Common.{◌≡◌, ◌≢◌, refl, sym, ap, ◌∙◌, ℕ, suc, ◌+◌, ◌^◌, ◌<◌, ◌≤◌, ◌==◌, ℤ, pos, negsuc, Bool, true, false, ◌||◌, cond, List, [], ◌∷◌, length, get_or, drop, All, arith, Option, Some, None, Result, Ok, Err, inl, inr}
+use Rattle.std.proofs.Common.{◌≡◌, ◌≢◌, refl, sym, ap, ◌∙◌, ℕ, ◌+◌, ◌^◌, ◌==◌, ℤ, pos, negsuc, Bool, true, false, ◌||◌, cond, List, [], ◌∷◌, length, drop, arith, Option, Some, None, Result, Ok, Err, inl, inr}
 use Rattle.std.specs.Bool.{Decides}
-use Rattle.std.specs.List.{before_first, after_first, position_or_len, filter_map, cons_option}
+use Rattle.std.specs.List.{before_first, after_first, position_or_len}
 use Rattle.std.specs.Option.{option_and_then}
 use Rattle.std.specs.Result.{result_ok}
 use Rattle.std.specs.Str.{trim, all_ascii_digits}
 use Rattle.std.specs.Str.Parse.{ParsesSigned, ParsesUnsigned, IsNumeral, AllDigits, digits_value, signed_digits_value, without_leading_plus, without_leading_sign}
 use Rattle.std.proofs.lemmas.Bool.Decides.{Decides-ltb, Decides-and, eqb_tells}
 use Rattle.std.proofs.lemmas.List.{drop_all}
-use Rattle.std.proofs.lemmas.List.Elements.{All-nil, All-cons}
-use Rattle.std.proofs.lemmas.List.Splits.{slice_split_none, length-slice_split}
-use Rattle.std.proofs.lemmas.List.Sums.{count_by_more_yes, sum_by-take-drop}
 use Rattle.std.proofs.lemmas.Str.Parse.{numerals_by_value, tells_all_ascii_digits}
-use Rattle.range_collections.specs.Reading.{is_numeral, is_within, unsigned_number, signed_number, range_up_to, range_after_dot, range_of, range_in, parts_of, ranges_in}
+use Rattle.range_collections.specs.Reading.{is_numeral, is_within, unsigned_number, signed_number, range_up_to, range_after_dot, range_of, range_in}
 use Rattle.range_collections.specs.declared.range_set_range.RangeSetRange.{RangeSetRange}
 use mir.Syntax.{Width, w8, w16, w32, w64, w128}
 use mir.Val.{SFits}
@@ -135,10 +132,6 @@ module _ {K : Type 0} (number : List ℕ → Option K) where
   range_in-both part word before after rest start is first second known dot =
       sym (ap (range_after_dot number start) dot) ∙ with_start part word before after start is first second known
 
-  pub one_range : (text : List ℕ) (o : Option (RangeSetRange K)) → parts_of text ≡ text ∷ [] → o ≡ range_in number text → ranges_in number text ≡ cons_option o []
-  unfolding ranges_in
-  one_range text o whole e = ap (filter_map (range_in number)) whole ∙ ap (λ r. cons_option r []) (sym e)
-
 -- truths
 
 pub or_left : (l a b : Bool) → l ≡ a → l ≡ true → l ≡ (a || b)
@@ -148,28 +141,3 @@ or_left l false b e t = cc
 pub or_right : (l a r b : Bool) → l ≡ a → l ≡ false → r ≡ b → r ≡ (a || b)
 or_right l true r b e f g = cc
 or_right l false r b e f g = g
-
--- commas
-
-no_comma_at : (bs : List ℕ) → ((k : ℕ) → k < length bs → get_or bs k 0 ≢ 44) → All (λ b. (b == 44) ≡ false) bs
-no_comma_at [] h = All-nil (λ b. (b == 44) ≡ false)
-no_comma_at (b ∷ bs) h =
-    All-cons (λ b. (b == 44) ≡ false) b bs (not_comma (h 0 (omega arith))) (no_comma_at bs (λ k l. h (suc k) (omega arith)))
-  where
-    not_comma : b ≢ 44 → (b == 44) ≡ false
-    not_comma other =
-        elim (eqb_tells b 44) as (λ _. (b == 44) ≡ false) [
-          | inl same ↦ absurd (other same.1)
-          | inr off ↦ off.0
-        ]
-
--- without a comma the text is the one part
-pub one_part : (text : List ℕ) → ((k : ℕ) → k < length text → get_or text k 0 ≢ 44) → parts_of text ≡ text ∷ []
-one_part text h = slice_split_none (λ b. b == 44) text (no_comma_at text h)
-
--- with one there are more
-pub more_parts : (text : List ℕ) (k : ℕ) → k < length text → get_or text k 0 ≡ 44 → 2 ≤ length (parts_of text)
-more_parts text k l e =
-    let one = count_by_more_yes (λ b. b == 44) text k 0 l (ap (λ b. b == 44) e) in
-    let split = sum_by-take-drop (λ b. cond (b == 44) 1 0) text (k + 1) in
-    omega (arith, one, split, length-slice_split (λ b. b == 44) text)

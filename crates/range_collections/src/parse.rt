@@ -1,6 +1,7 @@
 //! Sets read from a text of ranges, and why a text is not read as one. Where it stops being one is
 //! found character by character: a table says what may follow what.
-ghost use Rattle.std.specs.Prelude.{◌≡◌, ◌≢◌, ◌↔◌, ◌≤◌, true, false, Any, length, IsOk, IfOk, IfErr};
+ghost use Rattle.std.specs.Prelude.{◌≡◌, ◌≢◌, ◌↔◌, ◌≤◌, true, false, Any, length, IsOk, IfOk, IfErr, IfSome};
+ghost use Rattle.std.specs.Option.{is_some};
 ghost use Rattle.range_merge.specs.Boundaries.{member};
 ghost use Rattle.range_collections.specs.Ranges.{IsInRange};
 ghost use Rattle.range_collections.specs.ParseErrors.{IsFaultIn};
@@ -9,6 +10,7 @@ ghost use Rattle.range_collections.specs.declared.parse.ParseError.TheVariants.{
 ghost use Rattle.range_collections.specs.Scanning.{after, expected, is_end, kind_of};
 
 use crate::range_set::RangeSet;
+use crate::range_set::many_ranges::{Aside, add, finished};
 use crate::range_set_range::RangeSetRange;
 use crate::whole_number::WholeNumber;
 use range_entry::EntryClone;
@@ -89,9 +91,9 @@ impl<T: EntryClone + WholeNumber + MadeWith<Global> + Drop, const N: usize> Rang
     /// Reads ranges like `0..10, 20..`: in any order, with commas between them and blanks around
     /// each. A text of blanks is the empty set.
     ///
-    /// The whole text is read before memory is asked for, and one range that fits inline asks for
-    /// none. An error gives the byte at which the text stops being one of ranges, and what was
-    /// expected there; or it says that a number doesn't fit its type, or that memory ran out.
+    /// One range that fits inline asks for no memory. An error gives the byte at which the text
+    /// stops being one of ranges, and what was expected there; or it says that a number doesn't fit
+    /// its type. It says only of a text of ranges that memory ran out.
     pub fn parse(alloc: Global, text: &str) -> Result<Self, ParseError>
         ensures ok { IfOk result (λ set. is_ranges T.number text.now ≡ true) }
         ensures members { IfOk result (λ set. (x : T) → (member T.cmp set x ≡ true) ↔ Any (λ range. IsInRange T.cmp range x) (ranges_in T.number text.now)) }
@@ -100,10 +102,14 @@ impl<T: EntryClone + WholeNumber + MadeWith<Global> + Drop, const N: usize> Rang
         ensures fault { IfErr result (λ error. error ≢ OutOfMemory → IsFaultIn text.now error) }
         ensures out_of_memory { IfErr result (λ error. error ≡ OutOfMemory → is_ranges T.number text.now ≡ true) }
     {
-        if !is_ranges::<T>(text) {
-            return Err(fault_in(text));
+        match read(alloc, text) {
+            Ok(Some(set)) => Ok(set),
+            Ok(None) => Err(fault_in(text)),
+            Err(refused) => {
+                check_ranges::<T>(text)?;
+                Err(ParseError::from(refused))
+            }
         }
-        Ok(read(alloc, text)?)
     }
 }
 
@@ -131,22 +137,28 @@ pub fn check_ranges<T: WholeNumber + Drop>(text: &str) -> Result<(), ParseError>
     }
 }
 
-// The set of the ranges of a text. One range needs no list.
-fn read<T: EntryClone + WholeNumber + MadeWith<Global> + Drop, const N: usize>(
+// The set of the ranges of a text, if it is one of blanks, or of ranges with commas between them.
+fn read<T: Ord + WholeNumber + MadeWith<Global> + Drop, const N: usize>(
     alloc: Global,
     text: &str,
-) -> Result<RangeSet<T, N>, AllocError>
-    ensures members { IfOk result (λ set. (x : T) → (member T.cmp set x ≡ true) ↔ Any (λ range. IsInRange T.cmp range x) (ranges_in T.number text.now)) }
+) -> Result<Option<RangeSet<T, N>>, AllocError>
+    ensures ok { IfOk result (λ read. is_some read ≡ is_ranges T.number text.now) }
+    ensures members { IfOk result (λ read. IfSome read (λ set. (x : T) → (member T.cmp set x ≡ true) ↔ Any (λ range. IsInRange T.cmp range x) (ranges_in T.number text.now))) }
     ensures succeeds { length (parts_of text.now) ≤ 1 → 2 ≤ N → IsOk result }
 {
-    if text.contains(',') {
-        let ranges = ranges_in(alloc, text)?;
-        return RangeSet::from_ranges(alloc, ranges.as_slice());
+    let mut set = RangeSet::empty(alloc);
+    let mut aside = Aside::new(alloc);
+    for part in text.split(',') {
+        match range_in(part) {
+            Some(range) => add(&mut set, &mut aside, range)?,
+            None => {
+                if !text.trim().is_empty() {
+                    return Ok(None);
+                }
+            }
+        }
     }
-    match range_in(text) {
-        Some(range) => RangeSet::from_range_set_range(alloc, range),
-        None => Ok(RangeSet::empty(alloc)),
-    }
+    Ok(Some(finished(alloc, set, aside)?))
 }
 
 // Whether the text is one of blanks, or of ranges with commas between them.
@@ -154,18 +166,6 @@ fn is_ranges<T: WholeNumber + Drop>(text: &str) -> bool
     ensures { result ≡ is_ranges T.number text.now }
 {
     text.trim().is_empty() || text.split(',').all(|part| range_in::<T>(part).is_some())
-}
-
-// The ranges of a text, in order.
-fn ranges_in<T: WholeNumber + Drop>(
-    alloc: Global,
-    text: &str,
-) -> Result<Vec<RangeSetRange<T>>, AllocError>
-    ensures { IfOk result (λ ranges. ranges.items ≡ ranges_in T.number text.now) }
-{
-    text.split(',')
-        .filter_map(|part| range_in::<T>(part))
-        .collect(alloc)
 }
 
 // The range that a part of a text writes, if it writes one.

@@ -18,7 +18,7 @@ mod in_place;
 mod insertion;
 mod intersection_all;
 mod joining;
-mod many_ranges;
+pub(crate) mod many_ranges;
 mod operations;
 mod operators;
 mod rank;

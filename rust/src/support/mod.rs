@@ -38,4 +38,4 @@ pub use since::{select_unpredictable, DivUp, Log2Down, NextMultipleUp, SELECTS};
 pub use small_vec::{append_both, append_within, SmallVec};
 pub use sorting::SortIn;
 pub use turning::move_last_two;
-pub use vec::{CollectIn, Vec};
+pub use vec::Vec;

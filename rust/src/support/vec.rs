@@ -203,18 +203,3 @@ impl<T> From<alloc::vec::Vec<T>> for Vec<T> {
         Vec(list)
     }
 }
-
-/// Collecting into a list, which may be refused.
-pub trait CollectIn: Iterator + Sized {
-    /// The items in a list.
-    fn collect_in(self, alloc: Global) -> Result<Vec<Self::Item>, AllocError> {
-        let mut list = Vec::new(alloc);
-        for item in self {
-            list.reserve(1)?;
-            list.push_reserved(item);
-        }
-        Ok(list)
-    }
-}
-
-impl<I: Iterator> CollectIn for I {}

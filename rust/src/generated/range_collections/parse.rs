@@ -2,11 +2,12 @@
 //! Sets read from a text of ranges, and why a text is not read as one. Where it stops being one is
 //! found character by character: a table says what may follow what.
 
+use crate::generated::range_collections::range_set::many_ranges::{add, finished, Aside};
 use crate::generated::range_collections::range_set::RangeSet;
 use crate::generated::range_collections::range_set_range::RangeSetRange;
 use crate::generated::range_collections::whole_number::WholeNumber;
 use crate::generated::range_entry::EntryClone;
-use crate::support::{AllocError, CollectIn, Error, Global, Vec};
+use crate::support::{AllocError, Error, Global};
 use core::fmt;
 
 /// Why a text isn't read as a set.
@@ -66,9 +67,9 @@ impl<T: EntryClone + WholeNumber, const N: usize> RangeSet<T, N> {
     /// Reads ranges like `0..10, 20..`: in any order, with commas between them and blanks around
     /// each. A text of blanks is the empty set.
     ///
-    /// The whole text is read before memory is asked for, and one range that fits inline asks for
-    /// none. An error gives the byte at which the text stops being one of ranges, and what was
-    /// expected there; or it says that a number doesn't fit its type, or that memory ran out.
+    /// One range that fits inline asks for no memory. An error gives the byte at which the text
+    /// stops being one of ranges, and what was expected there; or it says that a number doesn't fit
+    /// its type. It says only of a text of ranges that memory ran out.
     ///
     /// # Contract
     ///
@@ -85,10 +86,14 @@ impl<T: EntryClone + WholeNumber, const N: usize> RangeSet<T, N> {
     ///     text.now ≡ true)
     /// ```
     pub fn parse(alloc: Global, text: &str) -> Result<Self, ParseError> {
-        if !is_ranges::<T>(text) {
-            return Err(fault_in(text));
+        match read(alloc, text) {
+            Ok(Some(set)) => Ok(set),
+            Ok(None) => Err(fault_in(text)),
+            Err(refused) => {
+                check_ranges::<T>(text)?;
+                Err(ParseError::from(refused))
+            }
         }
-        Ok(read(alloc, text)?)
     }
 }
 
@@ -124,34 +129,29 @@ pub fn check_ranges<T: WholeNumber>(text: &str) -> Result<(), ParseError> {
     }
 }
 
-// The set of the ranges of a text. One range needs no list.
-fn read<T: EntryClone + WholeNumber, const N: usize>(
+// The set of the ranges of a text, if it is one of blanks, or of ranges with commas between them.
+fn read<T: Ord + WholeNumber, const N: usize>(
     alloc: Global,
     text: &str,
-) -> Result<RangeSet<T, N>, AllocError> {
-    if text.contains(',') {
-        let ranges = ranges_in(alloc, text)?;
-        return RangeSet::from_ranges(alloc, ranges.as_slice());
+) -> Result<Option<RangeSet<T, N>>, AllocError> {
+    let mut set = RangeSet::empty(alloc);
+    let mut aside = Aside::new(alloc);
+    for part in text.split(',') {
+        match range_in(part) {
+            Some(range) => add(&mut set, &mut aside, range)?,
+            None => {
+                if !text.trim().is_empty() {
+                    return Ok(None);
+                }
+            }
+        }
     }
-    match range_in(text) {
-        Some(range) => RangeSet::from_range_set_range(alloc, range),
-        None => Ok(RangeSet::empty(alloc)),
-    }
+    Ok(Some(finished(alloc, set, aside)?))
 }
 
 // Whether the text is one of blanks, or of ranges with commas between them.
 fn is_ranges<T: WholeNumber>(text: &str) -> bool {
     text.trim().is_empty() || text.split(',').all(|part| range_in::<T>(part).is_some())
-}
-
-// The ranges of a text, in order.
-fn ranges_in<T: WholeNumber>(
-    alloc: Global,
-    text: &str,
-) -> Result<Vec<RangeSetRange<T>>, AllocError> {
-    text.split(',')
-        .filter_map(|part| range_in::<T>(part))
-        .collect_in(alloc)
 }
 
 // The range that a part of a text writes, if it writes one.

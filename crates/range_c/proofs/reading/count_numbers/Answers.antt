@@ -3,8 +3,9 @@ use Rattle.std.specs.List.{flat_map, filter_map}
 use Rattle.std.specs.Option.{is_some, option_to_list}
 use Rattle.range_collections.specs.Ranges.{range_ends}
 use Rattle.range_collections.specs.Reading.{parts_of, range_in, ranges_in}
+use Rattle.range_collections.proofs.ReadParts.{next-part, no_part, yields-parts}
 use Rattle.range_c.specs.Reading.{numbers_in}
-use Rattle.range_c.proofs.Read.{are_ranges, are_ranges-step, is_ranges-all, next-part, no_part, numbers-step, yields-parts, none_before}
+use Rattle.range_c.proofs.Read.{are_ranges, are_ranges-step, is_ranges-all, numbers-step, none_before}
 use Rattle.range_c.proofs.reading.count_numbers.Goals as goal
 
 pub loop-part-init : goal.loop-part-init

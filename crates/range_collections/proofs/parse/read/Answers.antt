@@ -1,70 +1,58 @@
-use Rattle.std.proofs.Common.{◌≡◌, ◌↔◌, ◌∙◌, ℕ, ◌<◌, refl, sym, ap, subst, true, false, List, [], ◌∷◌, Any, length, get_or, Some, None, lit<, arith}
-use Rattle.std.specs.declared.cmp.Ordering.{Ordering}
-use Rattle.std.proofs.lemmas.Result.{IfOk-weaker}
-use Rattle.std.proofs.lemmas.Str.Pattern.{contains_char}
-use Rattle.range_merge.specs.Boundaries.{count_up_to, member}
-use Rattle.range_collections.specs.Ranges.{IsInRange}
-use Rattle.range_collections.specs.Reading.{parts_of, ranges_in}
-use Rattle.range_collections.specs.declared.range_set_range.RangeSetRange.{RangeSetRange}
-use Rattle.range_collections.proofs.Reading.{one_part, more_parts, one_range}
+use Rattle.std.proofs.Common.{◌==◌, ◌∙◌, sym, ap, length, true≢false}
+use Rattle.range_collections.proofs.ReadParts.{IsReadInto-start, IsReadInto-range, IsReadInto-blank, are_ranges-none, are_ranges-whole, members-whole, room-one, succeeds-whole}
 use Rattle.range_collections.proofs.parse.read.Goals as goal
 
-differ : true ≡ false → ⊥
-differ e = cc
+pub loop-part-init : goal.loop-part-init
+loop-part-init g c =
+    rw (c.into_iter-part-iterator.ensures.into_iter_gives, c.empty-set.ensures.boundaries, c.new-aside.ensures.starts, c.new-aside.ensures.ends)
+    (IsReadInto-start g.met.T.Ord.total g.T.WholeNumber.number g.row.N c.args.text.now c.split-part-items.result
+    c.split-part-items.ensures.text c.split-part-items.ensures.has_more c.split-part-items.ensures.pattern)
 
-module _ {K : Type 0} (order : K → K → Ordering) where
-  -- the members of the set are the elements of the ranges
-  abbrev HasThem : List K → List (RangeSetRange K) → Type 0
-  HasThem set ranges = (x : K) → (member order set x ≡ true) ↔ Any (λ range. IsInRange order range x) ranges
+pub loop-part-preserved-in_ok-add-in-Some-range_in : goal.loop-part-preserved-in_ok-add-in-Some-range_in
+loop-part-preserved-in_ok-add-in-Some-range_in g c =
+    let at = c.loop-part.invariant in
+    IsReadInto-range g.met.T.Ord.total g.T.WholeNumber.number g.row.N c.args.text.now c.loop-part.part-iterator
+    c.loop-part.set c.loop-part.aside.starts.items c.loop-part.aside.ends.items at c.next.new.self c.in-Some.part c.in-Some.ensures.steps
+    c.in-Some-range_in.range c.add.new.set c.add.new.aside.starts.items c.add.new.aside.ends.items
+    (sym c.range_in.ensures ∙ c.in-Some-range_in.is) (c.in_ok-add-in-Some-range_in.ensures.underway at.done at.underway)
 
-  none_has_none : HasThem [] []
-  unfolding count_up_to
-  none_has_none x = (λ h. absurd (differ (sym h)), λ any. absurd (omega (arith, any.2)))
+pub returns-in_err-add-in-Some-range_in-clause-succeeds : goal.returns-in_err-add-in-Some-range_in-clause-succeeds
+returns-in_err-add-in-Some-range_in-clause-succeeds g c =
+    let at = c.loop-part.invariant in
+    λ one two. absurd (true≢false (sym (c.in_err-add-in-Some-range_in.ensures.succeeds at.done at.underway
+    (room-one g.met.T.Ord.total g.T.WholeNumber.number g.row.N c.args.text.now c.loop-part.part-iterator
+    c.loop-part.set c.loop-part.aside.starts.items c.loop-part.aside.ends.items at c.next.new.self c.in-Some.part c.in-Some.ensures.steps
+    c.in-Some-range_in.range one two))))
 
-  in_one : (range : RangeSetRange K) (x : K) → IsInRange order range x ↔ Any (λ r. IsInRange order r x) (range ∷ [])
-  in_one range x = (λ h. (0, range, omega arith, refl, h), λ any. from any.0 any.1 any.2 any.3 any.4) where
-    from : (i : ℕ) (r : RangeSetRange K) → i < length (range ∷ []) → get_or (range ∷ []) i r ≡ r → IsInRange order r x → IsInRange order range x
-    from i r l e h =
-        let first : i ≡ 0 = omega arith in
-        let same : range ≡ r = ap (λ j. get_or (range ∷ []) j r) (sym first) ∙ e in
-        subst (λ s. IsInRange order s x) (sym same) h
+pub returns-then-not-is_empty-clause-ok : goal.returns-then-not-is_empty-clause-ok
+returns-then-not-is_empty-clause-ok g c =
+    sym (are_ranges-none g.met.T.Ord.total g.T.WholeNumber.number g.row.N c.args.text.now c.loop-part.part-iterator
+    c.loop-part.set c.loop-part.aside.starts.items c.loop-part.aside.ends.items c.loop-part.invariant c.next.new.self c.in-Some.part c.in-Some.ensures.steps
+    (sym c.range_in.ensures ∙ c.in-None-range_in.is)
+    (sym (c.is_empty.ensures ∙ ap (λ bs. length bs == 0) c.trim.ensures.trim) ∙ c.if-not-is_empty.true))
 
-  one_has_it : (set : List K) (range : RangeSetRange K) → ((x : K) → (member order set x ≡ true) ↔ IsInRange order range x) → HasThem set (range ∷ [])
-  one_has_it set range h x = (λ m. (in_one range x).0 ((h x).0 m), λ any. (h x).1 ((in_one range x).1 any))
+pub loop-part-preserved : goal.loop-part-preserved
+loop-part-preserved g c =
+    IsReadInto-blank g.met.T.Ord.total g.T.WholeNumber.number g.row.N c.args.text.now c.loop-part.part-iterator
+    c.loop-part.set c.loop-part.aside.starts.items c.loop-part.aside.ends.items c.loop-part.invariant c.next.new.self c.in-Some.part c.in-Some.ensures.steps
+    (sym c.range_in.ensures ∙ c.in-None-range_in.is)
+    (sym (c.is_empty.ensures ∙ ap (λ bs. length bs == 0) c.trim.ensures.trim) ∙ c.if-not-is_empty.false)
 
-pub returns-in_err-ranges-clause-succeeds : goal.returns-in_err-ranges-clause-succeeds
-returns-in_err-ranges-clause-succeeds g c =
-    let comma = (contains_char 44 c.args.text.now c.contains.result c.contains.ensures.cases (lit< tt)).0 c.if-contains.true in
-    λ few room. absurd (omega (arith, few, more_parts c.args.text.now comma.0 comma.1 comma.2))
+pub returns-in_err-finished-clause-succeeds : goal.returns-in_err-finished-clause-succeeds
+returns-in_err-finished-clause-succeeds g c =
+    let at = c.loop-part.invariant in
+    λ one two. absurd (true≢false (sym (succeeds-whole g.met.T.Ord.total g.T.WholeNumber.number g.row.N c.args.text.now c.loop-part.part-iterator
+    c.loop-part.set c.loop-part.aside.starts.items c.loop-part.aside.ends.items at c.next.new.self c.in-None.ensures.steps
+    _ (c.in_err-finished.ensures at.done at.underway) one two)))
 
-pub returns-then-contains-clause-members : goal.returns-then-contains-clause-members
-returns-then-contains-clause-members g c = rw (sym c.in_ok-ranges.ensures ∙ sym c.as_slice.ensures.value) c.from_ranges.ensures.members
+pub returns-clause-ok : goal.returns-clause-ok
+returns-clause-ok g c =
+    sym (are_ranges-whole g.met.T.Ord.total g.T.WholeNumber.number g.row.N c.args.text.now c.loop-part.part-iterator
+    c.loop-part.set c.loop-part.aside.starts.items c.loop-part.aside.ends.items c.loop-part.invariant c.next.new.self c.in-None.ensures.steps)
 
-pub returns-then-contains-clause-succeeds : goal.returns-then-contains-clause-succeeds
-returns-then-contains-clause-succeeds g c =
-    let comma = (contains_char 44 c.args.text.now c.contains.result c.contains.ensures.cases (lit< tt)).0 c.if-contains.true in
-    λ few room. absurd (omega (arith, few, more_parts c.args.text.now comma.0 comma.1 comma.2))
-
-pub returns-in-Some-clause-members : goal.returns-in-Some-clause-members
-returns-in-Some-clause-members g c =
-    let whole : parts_of c.args.text.now ≡ c.args.text.now ∷ [] =
-    one_part c.args.text.now
-    (λ k l e. differ (sym ((contains_char 44 c.args.text.now c.contains.result c.contains.ensures.cases (lit< tt)).1 k l e) ∙ c.if-contains.false))
-    in
-    let ranges : ranges_in g.T.WholeNumber.number c.args.text.now ≡ c.in-Some.range ∷ [] =
-    one_range g.T.WholeNumber.number c.args.text.now (Some c.in-Some.range) whole (sym c.in-Some.is ∙ c.range_in.ensures)
-    in
-    rw ranges
-    (IfOk-weaker c.from_range_set_range.result _ _ (λ set h. one_has_it g.T.Ord.cmp set c.in-Some.range h) c.from_range_set_range.ensures.members)
-
-pub returns-in-None-clause-members : goal.returns-in-None-clause-members
-returns-in-None-clause-members g c =
-    let whole : parts_of c.args.text.now ≡ c.args.text.now ∷ [] =
-    one_part c.args.text.now
-    (λ k l e. differ (sym ((contains_char 44 c.args.text.now c.contains.result c.contains.ensures.cases (lit< tt)).1 k l e) ∙ c.if-contains.false))
-    in
-    let ranges : ranges_in g.T.WholeNumber.number c.args.text.now ≡ [] =
-    one_range g.T.WholeNumber.number c.args.text.now None whole (sym c.in-None.is ∙ c.range_in.ensures)
-    in
-    subst (λ rs. HasThem g.T.Ord.cmp c.empty.result rs) (sym ranges)
-    (subst (λ set. HasThem g.T.Ord.cmp set []) (sym c.empty.ensures.boundaries) (none_has_none g.T.Ord.cmp))
+pub returns-clause-members : goal.returns-clause-members
+returns-clause-members g c =
+    let at = c.loop-part.invariant in
+    members-whole g.met.T.Ord.total g.T.WholeNumber.number g.row.N c.args.text.now c.loop-part.part-iterator
+    c.loop-part.set c.loop-part.aside.starts.items c.loop-part.aside.ends.items at c.next.new.self c.in-None.ensures.steps
+    _ (c.in_ok-finished.ensures at.done at.underway)
