@@ -125,10 +125,8 @@ impl FromPlace for i8 {
     }
 
     fn from_place(place: u128) -> Option<i8> {
-        match i8::try_from(place) {
-            Ok(above) => Some(i8::MIN + above),
-            Err(_) => i8::try_from(place - (1 << 7)).ok(),
-        }
+        let above = u8::try_from(place).ok()?;
+        i8::try_from(i16::from(above) - (1 << 7)).ok()
     }
 
     fn greatest() -> i8 {
@@ -142,10 +140,8 @@ impl FromPlace for i16 {
     }
 
     fn from_place(place: u128) -> Option<i16> {
-        match i16::try_from(place) {
-            Ok(above) => Some(i16::MIN + above),
-            Err(_) => i16::try_from(place - (1 << 15)).ok(),
-        }
+        let above = u16::try_from(place).ok()?;
+        i16::try_from(i32::from(above) - (1 << 15)).ok()
     }
 
     fn greatest() -> i16 {
@@ -159,10 +155,8 @@ impl FromPlace for i32 {
     }
 
     fn from_place(place: u128) -> Option<i32> {
-        match i32::try_from(place) {
-            Ok(above) => Some(i32::MIN + above),
-            Err(_) => i32::try_from(place - (1 << 31)).ok(),
-        }
+        let above = u32::try_from(place).ok()?;
+        i32::try_from(i64::from(above) - (1 << 31)).ok()
     }
 
     fn greatest() -> i32 {
@@ -176,10 +170,8 @@ impl FromPlace for i64 {
     }
 
     fn from_place(place: u128) -> Option<i64> {
-        match i64::try_from(place) {
-            Ok(above) => Some(i64::MIN + above),
-            Err(_) => i64::try_from(place - (1 << 63)).ok(),
-        }
+        let above = u64::try_from(place).ok()?;
+        i64::try_from(i128::from(above) - (1 << 63)).ok()
     }
 
     fn greatest() -> i64 {
@@ -210,10 +202,8 @@ impl FromPlace for isize {
     }
 
     fn from_place(place: u128) -> Option<isize> {
-        match isize::try_from(place) {
-            Ok(above) => Some(isize::MIN + above),
-            Err(_) => isize::try_from(place - (isize::MAX as u128 + 1)).ok(),
-        }
+        let above = usize::try_from(place).ok()?;
+        isize::try_from(above as i128 - (isize::MAX as i128 + 1)).ok()
     }
 
     fn greatest() -> isize {
