@@ -273,6 +273,6 @@ impl<K: Ord, V: Eq> RangeMap<K, V> {
         ensures ascending { IfOk result (λ side. IsAscending K.cmp side.keys) }
         ensures succeeds { length self.now.keys ≡ 0 → IsOk result }
     {
-        BorrowedSteps::of_steps(alloc, self.steps.items())
+        BorrowedSteps::of_steps(alloc, &self.steps)
     }
 }

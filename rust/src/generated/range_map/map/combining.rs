@@ -206,6 +206,6 @@ impl<K: Ord, V: Eq> RangeMap<K, V> {
         &self,
         alloc: Global,
     ) -> Result<BorrowedSteps<'_, K, V>, AllocError> {
-        BorrowedSteps::of_steps(alloc, self.steps.items())
+        BorrowedSteps::of_steps(alloc, &self.steps)
     }
 }
