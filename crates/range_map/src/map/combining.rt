@@ -238,7 +238,7 @@ impl<K: EntryClone + Drop, V: Eq> RangeMap<K, V> {
 }
 
 impl<K: Ord + Drop, V: Eq> RangeMap<K, V> {
-    // The same, with copies of keys by any copier.
+    // What the operation makes of both maps, with copies of keys by any copier.
     pub(crate) fn combine_by<W: Eq, O: MapOperation<V, W>, C: Copier<K>>(
         &self,
         alloc: Global,

@@ -4,7 +4,7 @@
 use super::ByCall;
 use crate::array::List;
 use crate::forms::ends;
-use crate::generated::range_collections::{has_elements, Comparisons};
+use crate::generated::range_collections::Comparisons;
 use crate::generated::range_map as proved;
 use crate::generated::range_map::map::depth::depth_of;
 use crate::generated::range_map::updating::update_range;
@@ -15,7 +15,7 @@ use crate::range::RangeSetRange;
 use crate::range_set::RangeSetRef;
 use crate::support::Global;
 use core::cell::RefCell;
-use core::ops::Range;
+use core::ops::{Range, RangeFrom};
 
 impl<K: Ord + Clone, V: Eq + Clone> RangeMap<K, V> {
     pub(super) fn try_combine<W: Eq, U: Eq>(
@@ -30,7 +30,6 @@ impl<K: Ord + Clone, V: Eq + Clone> RangeMap<K, V> {
         made.map(Map)
     }
 
-    /// It is the proved `update`, with another copier of keys.
     pub(super) fn try_update(
         &mut self,
         range: RangeSetRange<K>,
@@ -38,10 +37,11 @@ impl<K: Ord + Clone, V: Eq + Clone> RangeMap<K, V> {
     ) -> Result<(), AllocError> {
         let op = RefCell::new(op);
         let op = ByCall(|value: Option<&V>| Ok((op.borrow_mut())(value)));
-        let (start, end) = range.into_ends();
-        match &end {
-            Some(end) if !has_elements(&start, end, &mut Comparisons::new()) => Ok(()),
-            _ => update_range(&mut self.0.steps, &start, &end, &op, &ByClone),
+        match range {
+            RangeSetRange::Range(range) => self.0.update_by(range, &op, &ByClone),
+            RangeSetRange::RangeFrom(RangeFrom { start }) => {
+                update_range(&mut self.0.steps, &start, &None, &op, &ByClone)
+            }
         }
     }
 
