@@ -278,7 +278,7 @@ MUTANTS = [
     Mutant("keys without a value are left out of an update", "map/combining/by_clone.rs",
            "Ok((op.borrow_mut())(value))", "Ok(value.and_then(|value| (op.borrow_mut())(Some(value))))", "map"),
     Mutant("of two maps the other one's value stays", "map/combining/by_clone.rs", "left.union_with_left(", "left.union_with_right(", "composed"),
-    Mutant("a map keeps what lies outside of a set", "map/combining/by_clone.rs", "map.restrict(", "map.without(", "map"),
+    Mutant("a map keeps what lies outside of a set", "map/combining/by_clone.rs", "set.proved(), true, &ByClone", "set.proved(), false, &ByClone", "map"),
     Mutant("what is found of a map begins behind a set's start", "map/steps.rs", "key: start.clone(),\n            option: Some(value.clone()),", "key: start.clone(),\n            option: None,", "map"),
     Mutant("what is found of a map goes on behind a set's end", "map/steps.rs", "end.filter(|_| goes_on)", "end.filter(|_| false)", "map"),
     Mutant("an iterator from the back runs from the front", "iter.rs", "self.0.next_back()$(.map($of))?", "self.0.next()$(.map($of))?", "map"),

@@ -1,13 +1,14 @@
 //! The steps of a map that is combined with another, or those of a set, by reference.
 ghost use Rattle.std.specs.Prelude.{◌≡◌, ◌<◌, ◌≤◌, [], true, IsOk, IfOk, map, length, drop, option_copied, HoldsAt};
+ghost use Rattle.range_list.specs.Lists.{joined};
 ghost use Rattle.range_map.specs.Combining.{option_before};
-ghost use Rattle.range_map.specs.Listed.{steps_of};
+ghost use Rattle.range_map.specs.Listed.{steps_in};
 ghost use Rattle.range_map.specs.Read.{steps_read};
 ghost use Rattle.range_map.specs.Units.{on_off, unit_if};
 
 use crate::step::Step;
 use range_collections::RangeSetRef;
-use range_list::Items;
+use range_list::Chunks;
 use std::alloc::{AllocError, Global};
 use std::marker::Model;
 
@@ -28,9 +29,9 @@ impl<'a, K, V> Model for BorrowedSteps<'a, K, V> {
 
 impl<'a, K, V> BorrowedSteps<'a, K, V> {
     /// The steps of a map.
-    pub fn of_steps(alloc: Global, steps: Items<'a, Step<K, V>, ()>) -> Result<Self, AllocError>
-        ensures steps { IfOk result (λ side. side ≡ steps_of steps.entry) }
-        ensures succeeds { steps.entry ≡ [] → IsOk result }
+    pub fn of_steps(alloc: Global, steps: &'a Chunks<Step<K, V>, ()>) -> Result<Self, AllocError>
+        ensures steps { IfOk result (λ side. side ≡ steps_in steps.now) }
+        ensures succeeds { joined steps.now ≡ [] → IsOk result }
     {
         let steps = references(alloc, steps)?;
         Ok(BorrowedSteps { steps })
@@ -91,14 +92,14 @@ impl<'a, K: Ord> BorrowedSteps<'a, K, ()> {
 // References to the steps, in order.
 fn references<'a, K, V>(
     alloc: Global,
-    steps: Items<'a, Step<K, V>, ()>,
+    steps: &'a Chunks<Step<K, V>, ()>,
 ) -> Result<Vec<Step<&'a K, &'a V>>, AllocError>
-    ensures keys { IfOk result (λ list. (steps_read list.items).keys ≡ (steps_of steps.entry).keys) }
-    ensures options { IfOk result (λ list. (steps_read list.items).options ≡ (steps_of steps.entry).options) }
-    ensures succeeds { steps.entry ≡ [] → IsOk result }
+    ensures keys { IfOk result (λ list. (steps_read list.items).keys ≡ (steps_in steps.now).keys) }
+    ensures options { IfOk result (λ list. (steps_read list.items).options ≡ (steps_in steps.now).options) }
+    ensures succeeds { joined steps.now ≡ [] → IsOk result }
 {
-    let mut list = Vec::new(alloc);
-    let mut unread = steps;
+    let mut list = Vec::with_capacity(alloc, steps.len())?;
+    let mut unread = steps.items();
     while let Some(step) = unread.take_first() {
         list.push(Step {
             key: &step.key,

@@ -5,8 +5,6 @@ use super::{steps, ByClone, Kept, Map, RangeMap};
 use crate::generated::range_entry::EntryClone;
 use crate::generated::range_map as proved;
 use crate::memory::AllocError;
-use crate::range_set::{RangeSet2, RangeSetRef};
-use smallvec::SmallVec;
 
 /// A key or a value by reference. A copy of it is the same reference.
 #[derive(PartialEq, Eq, PartialOrd, Ord)]
@@ -33,12 +31,6 @@ pub(super) type MapByRef<'a, K, V> = proved::RangeMap<ByRef<'a, K>, Kept<ByRef<'
 pub(super) fn by_ref<K: Ord, V: Eq>(map: &RangeMap<K, V>) -> MapByRef<'_, K, V> {
     let steps = steps::of_refs(&map.0.steps, ByRef, |kept| Kept::new(ByRef(&kept.value)));
     proved::RangeMap { steps }
-}
-
-/// The same set over references.
-pub(super) fn set_by_ref<K>(set: &RangeSetRef<K>) -> RangeSet2<ByRef<'_, K>> {
-    let boundaries: SmallVec<[_; 2]> = set.boundaries().iter().map(ByRef).collect();
-    RangeSet2::of_list(boundaries.into())
 }
 
 /// The map with a clone of each key and value.

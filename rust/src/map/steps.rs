@@ -4,12 +4,10 @@ use super::Kept;
 use crate::chunks::{self, IntoItems};
 use crate::generated::range_collections::Comparisons;
 use crate::generated::range_list::{Chunks, Items};
-use crate::generated::range_map::borrowed_steps::BorrowedSteps;
 use crate::generated::range_map::places::{option_before, place_below, place_up_to};
 use crate::generated::range_map::step::Step;
 use crate::memory::expect_memory;
 use crate::range_set::RangeSetRef;
-use crate::support::ByValue;
 use alloc::vec;
 
 impl<K: Clone, V: Clone> Clone for Step<K, V> {
@@ -45,22 +43,6 @@ pub(super) fn of_refs<'a, K, V, L, W>(
         key: key(&step.key),
         option: step.option.as_ref().map(&value),
     })
-}
-
-/// The steps by reference, with keys that are copied by their own `Clone`.
-pub(super) fn by_value<'a, K, V>(
-    steps: &'a Chunks<Step<K, V>, ()>,
-) -> BorrowedSteps<'a, ByValue<K>, V> {
-    let borrowed = |step: &'a Step<K, V>| Step {
-        key: ByValue::of_ref(&step.key),
-        option: step.option.as_ref(),
-    };
-    let mut list = vec::Vec::with_capacity(steps.len);
-    for chunk in steps.chunks.list.iter() {
-        list.push(borrowed(&chunk.first));
-        list.extend(chunk.rest.iter().map(borrowed));
-    }
-    BorrowedSteps { steps: list.into() }
 }
 
 /// Whether two searches for each range of a set are faster than a walk over all steps.

@@ -1,7 +1,6 @@
 //! Copies of numbers, for calls that ask for an order alone.
 
 use super::{AllocError, Vec};
-use crate::generated::range_entry::EntryClone;
 use crate::generated::range_map::step::Step;
 use crate::generated::range_merge::Copier;
 use crate::map::Kept;
@@ -61,29 +60,8 @@ impl<K> Copier<K> for ByBits<K> {
     }
 }
 
-/// A key that is copied by its own `Clone`.
-#[derive(Clone, PartialEq, Eq, PartialOrd, Ord)]
-#[repr(transparent)]
-pub struct ByValue<K>(pub K);
-
-impl<K> ByValue<K> {
-    /// The key by reference, as one that is copied so.
-    #[inline(always)]
-    pub fn of_ref(key: &K) -> &Self {
-        // SAFETY: `ByValue<K>` is laid out as the `K` in it, and shows no more than that.
-        unsafe { &*(key as *const K).cast::<Self>() }
-    }
-}
-
-impl<K: Ord + Clone> EntryClone for ByValue<K> {
-    #[inline(always)]
-    fn entry_clone(&self) -> Result<Self, AllocError> {
-        Ok(self.clone())
-    }
-}
-
 /// Whether `K` is one of std's types of whole numbers, or `char`: those that are plain by their
-/// `EntryClone`. Or one of these by value.
+/// `EntryClone`.
 ///
 /// The answer is known when the call is compiled.
 #[inline(always)]
@@ -91,7 +69,7 @@ pub fn is_number<K>() -> bool {
     let id = id::<K>();
     macro_rules! is_one_of {
         ($($number:ty)*) => {
-            false $(|| id == TypeId::of::<$number>() || id == TypeId::of::<ByValue<$number>>())*
+            false $(|| id == TypeId::of::<$number>())*
         };
     }
     is_one_of!(u8 u16 u32 u64 u128 usize i8 i16 i32 i64 i128 isize char)

@@ -27,7 +27,7 @@ mod vec;
 pub use alloc_error::{AllocError, AllocFailed, Global};
 #[cfg(feature = "c")]
 pub use boxed::{items_at, room_at, Box, Parts};
-pub use by_bits::{is_number, ByBits, ByValue};
+pub use by_bits::{is_number, ByBits};
 #[cfg(feature = "c")]
 pub use decimal::{Buffer, Integer};
 pub use error::Error;

@@ -2,7 +2,7 @@
 //! its option differs from the last one.
 ghost use Rattle.std.specs.Prelude.{◌≡◌, ◌+◌, ◌*◌, ◌^◌, ◌<◌, ◌≤◌, None, length, All, IsOk, IfOk, OnOk};
 ghost use Rattle.std.specs.List.{AllWithin};
-ghost use Rattle.std.specs.declared.cmp.Ordering.TheVariants.{Less};
+ghost use Rattle.std.specs.declared.cmp.Ordering.TheVariants.{Less, Equal};
 ghost use Rattle.range_merge.specs.Boundaries.{IsAscending};
 ghost use Rattle.range_merge.specs.Counting.{AddsAtMost};
 ghost use Rattle.range_merge.specs.Runs.{weight};
@@ -17,22 +17,24 @@ use crate::operation::MapOperation;
 use crate::places::holds_before;
 use crate::runs::{left_len, next_run, right_len};
 use crate::step::Step;
-use range_collections::{Comparisons, EntryClone, Run};
+use range_collections::{Comparisons, Copier, EntryClone, EntryCopier, Run};
 use range_list::Chunks;
 use std::alloc::{AllocError, Global};
 
 /// What the operation makes of both.
-pub fn combined<K: EntryClone + Drop, V, W, O: MapOperation<V, W>>(
+pub fn combined<K: Ord + Drop, V, W, O: MapOperation<V, W>, C: Copier<K>>(
     alloc: Global,
     a: &BorrowedSteps<K, V>,
     b: &BorrowedSteps<K, W>,
     op: &O,
+    copier: &C,
     count: &mut Comparisons,
 ) -> Result<RangeMap<K, O::Output>, AllocError>
     requires off { O.gives op.now None None ≡ None }
     requires a_ascends { IsAscending K.cmp a.now.keys }
     requires b_ascends { IsAscending K.cmp b.now.keys }
     requires made { count.old < 2 ^ 64 }
+    requires copies { (x y : K) → C.alike x y → K.cmp x y ≡ Equal }
     ensures values { IfOk result (λ map. IsCombined K.cmp O.Output.eq (O.gives op.now) a.now b.now map) }
     ensures comparisons { AddsAtMost count.old count.new
         (2 * weight K.cmp a.now.keys b.now.keys) }
@@ -45,18 +47,18 @@ pub fn combined<K: EntryClone + Drop, V, W, O: MapOperation<V, W>>(
     let mut j = 0;
     while i < a_len && j < b_len {
         let run = next_run(a, i, b, j, count);
-        put_run(&mut made, a, i, b, j, run, op)?;
+        put_run(&mut made, a, i, b, j, run, op, copier)?;
         i += left_len(run);
         j += right_len(run);
     }
-    put_left(&mut made, a, i, a_len, b, j, op)?;
-    put_right(&mut made, a, a_len, b, j, b_len, op)?;
+    put_left(&mut made, a, i, a_len, b, j, op, copier)?;
+    put_right(&mut made, a, a_len, b, j, b_len, op, copier)?;
     Ok(made)
 }
 
 // Puts the steps of a run.
 #[inline]
-fn put_run<K: EntryClone + Drop, V, W, O: MapOperation<V, W>>(
+fn put_run<K: Ord + Drop, V, W, O: MapOperation<V, W>, C: Copier<K>>(
     made: &mut RangeMap<K, O::Output>,
     a: &BorrowedSteps<K, V>,
     i: usize,
@@ -64,6 +66,7 @@ fn put_run<K: EntryClone + Drop, V, W, O: MapOperation<V, W>>(
     j: usize,
     run: Run,
     op: &O,
+    copier: &C,
 ) -> Result<(), AllocError>
     requires run { IsRun K.cmp a.now.keys i b.now.keys j run }
     requires left_within { i ≤ length a.now.keys }
@@ -73,19 +76,20 @@ fn put_run<K: EntryClone + Drop, V, W, O: MapOperation<V, W>>(
     requires a_ascends { IsAscending K.cmp a.now.keys }
     requires b_ascends { IsAscending K.cmp b.now.keys }
     requires made { IsMadeUpTo K.cmp O.Output.eq (O.gives op.now) a.now b.now i j made.old }
+    requires copies { (x y : K) → C.alike x y → K.cmp x y ≡ Equal }
     ensures { OnOk result (IsMadeUpTo K.cmp O.Output.eq (O.gives op.now) a.now b.now
         (i + left_len run) (j + right_len run) made.new) }
 {
     match run {
-        Run::Left(n) => put_left(made, a, i, i + n, b, j, op),
-        Run::Right(n) => put_right(made, a, i, b, j, j + n, op),
-        Run::Both => put_both(made, a, i, b, j, op),
+        Run::Left(n) => put_left(made, a, i, i + n, b, j, op, copier),
+        Run::Right(n) => put_right(made, a, i, b, j, j + n, op, copier),
+        Run::Both => put_both(made, a, i, b, j, op, copier),
     }
 }
 
 // Puts the left's steps from a place up to another, which are below the right's from place `j` on.
 #[inline]
-fn put_left<K: EntryClone + Drop, V, W, O: MapOperation<V, W>>(
+fn put_left<K: Ord + Drop, V, W, O: MapOperation<V, W>, C: Copier<K>>(
     made: &mut RangeMap<K, O::Output>,
     a: &BorrowedSteps<K, V>,
     i: usize,
@@ -93,6 +97,7 @@ fn put_left<K: EntryClone + Drop, V, W, O: MapOperation<V, W>>(
     b: &BorrowedSteps<K, W>,
     j: usize,
     op: &O,
+    copier: &C,
 ) -> Result<(), AllocError>
     requires ordered { i ≤ to }
     requires left_within { to ≤ length a.now.keys }
@@ -101,19 +106,20 @@ fn put_left<K: EntryClone + Drop, V, W, O: MapOperation<V, W>>(
     requires a_ascends { IsAscending K.cmp a.now.keys }
     requires b_ascends { IsAscending K.cmp b.now.keys }
     requires made { IsMadeUpTo K.cmp O.Output.eq (O.gives op.now) a.now b.now i j made.old }
+    requires copies { (x y : K) → C.alike x y → K.cmp x y ≡ Equal }
     ensures made { OnOk result (IsMadeUpTo K.cmp O.Output.eq (O.gives op.now) a.now b.now to j made.new) }
     ensures none { i ≡ to → IsOk result }
 {
     for n in i..to {
         let option = op.apply(a.option_before(n + 1), b.option_before(j))?;
-        put(made, a.key(n), option)?;
+        put(made, a.key(n), option, copier)?;
     }
     Ok(())
 }
 
 // Puts the right's steps from a place up to another, which are below the left's from place `i` on.
 #[inline]
-fn put_right<K: EntryClone + Drop, V, W, O: MapOperation<V, W>>(
+fn put_right<K: Ord + Drop, V, W, O: MapOperation<V, W>, C: Copier<K>>(
     made: &mut RangeMap<K, O::Output>,
     a: &BorrowedSteps<K, V>,
     i: usize,
@@ -121,6 +127,7 @@ fn put_right<K: EntryClone + Drop, V, W, O: MapOperation<V, W>>(
     j: usize,
     to: usize,
     op: &O,
+    copier: &C,
 ) -> Result<(), AllocError>
     requires ordered { j ≤ to }
     requires left_within { i ≤ length a.now.keys }
@@ -129,25 +136,27 @@ fn put_right<K: EntryClone + Drop, V, W, O: MapOperation<V, W>>(
     requires a_ascends { IsAscending K.cmp a.now.keys }
     requires b_ascends { IsAscending K.cmp b.now.keys }
     requires made { IsMadeUpTo K.cmp O.Output.eq (O.gives op.now) a.now b.now i j made.old }
+    requires copies { (x y : K) → C.alike x y → K.cmp x y ≡ Equal }
     ensures made { OnOk result (IsMadeUpTo K.cmp O.Output.eq (O.gives op.now) a.now b.now i to made.new) }
     ensures none { j ≡ to → IsOk result }
 {
     for n in j..to {
         let option = op.apply(a.option_before(i), b.option_before(n + 1))?;
-        put(made, b.key(n), option)?;
+        put(made, b.key(n), option, copier)?;
     }
     Ok(())
 }
 
 // Puts one step of both, whose keys are equal.
 #[inline]
-fn put_both<K: EntryClone + Drop, V, W, O: MapOperation<V, W>>(
+fn put_both<K: Ord + Drop, V, W, O: MapOperation<V, W>, C: Copier<K>>(
     made: &mut RangeMap<K, O::Output>,
     a: &BorrowedSteps<K, V>,
     i: usize,
     b: &BorrowedSteps<K, W>,
     j: usize,
     op: &O,
+    copier: &C,
 ) -> Result<(), AllocError>
     requires run { IsRun K.cmp a.now.keys i b.now.keys j Run.Both }
     requires a_few { length a.now.keys < 2 ^ 64 }
@@ -155,42 +164,47 @@ fn put_both<K: EntryClone + Drop, V, W, O: MapOperation<V, W>>(
     requires a_ascends { IsAscending K.cmp a.now.keys }
     requires b_ascends { IsAscending K.cmp b.now.keys }
     requires made { IsMadeUpTo K.cmp O.Output.eq (O.gives op.now) a.now b.now i j made.old }
+    requires copies { (x y : K) → C.alike x y → K.cmp x y ≡ Equal }
     ensures { OnOk result (IsMadeUpTo K.cmp O.Output.eq (O.gives op.now) a.now b.now (i + 1) (j + 1) made.new) }
 {
     let option = op.apply(a.option_before(i + 1), b.option_before(j + 1))?;
-    put(made, a.key(i), option)
+    put(made, a.key(i), option, copier)
 }
 
 // Puts a step at the end, with a copy of the key, if its option differs from the last one.
 #[inline]
-pub(super) fn put<K: EntryClone + Drop, U: Eq + Drop>(
+pub(super) fn put<K: Ord + Drop, U: Eq + Drop, C: Copier<K>>(
     made: &mut RangeMap<K, U>,
     key: &K,
     option: Option<U>,
+    copier: &C,
 ) -> Result<(), AllocError>
-    requires { All (λ k. K.cmp k key.now ≡ Less) made.old.keys }
+    requires below { All (λ k. K.cmp k key.now ≡ Less) made.old.keys }
+    requires copies { (x y : K) → C.alike x y → K.cmp x y ≡ Equal }
     ensures { OnOk result (IsPut K.cmp U.eq made.old key.now option made.new) }
 {
-    push(&mut made.steps, key, option)
+    push(&mut made.steps, key, option, copier)
 }
 
 // Puts a step at the end of the list, with a copy of the key, if its option differs from the last
 // one.
 #[inline]
-fn push<K: EntryClone + Drop, U: Eq + Drop>(
+fn push<K: Ord + Drop, U: Eq + Drop, C: Copier<K>>(
     steps: &mut Chunks<Step<K, U>, ()>,
     key: &K,
     option: Option<U>,
+    copier: &C,
 ) -> Result<(), AllocError>
     requires canonical { IsCanonical K.cmp U.eq (steps_in steps.old) }
     requires below { All (λ k. K.cmp k key.now ≡ Less) (steps_in steps.old).keys }
+    requires copies { (x y : K) → C.alike x y → K.cmp x y ≡ Equal }
     ensures canonical { IsCanonical K.cmp U.eq (steps_in steps.new) }
     ensures put { OnOk result (IsPut K.cmp U.eq (steps_in steps.old) key.now option (steps_in steps.new)) }
 {
     if holds_before(steps, steps.end(), &option) {
         return Ok(());
     }
-    let key = key.entry_clone()?;
+    let key = copier.copy(key)?;
     steps.push(Step { key, option })
 }
 
@@ -219,9 +233,32 @@ impl<K: EntryClone + Drop, V: Eq> RangeMap<K, V> {
             (2 * weight K.cmp self.now.keys that.now.keys) }
         ensures succeeds { length self.now.keys ≡ 0 → length that.now.keys ≡ 0 → IsOk result }
     {
+        self.combine_by(alloc, that, op, &EntryCopier, count)
+    }
+}
+
+impl<K: Ord + Drop, V: Eq> RangeMap<K, V> {
+    // What the operation makes of both maps, with copies of keys by any copier.
+    pub(crate) fn combine_by<W: Eq, O: MapOperation<V, W>, C: Copier<K>>(
+        &self,
+        alloc: Global,
+        that: &RangeMap<K, W>,
+        op: &O,
+        copier: &C,
+        count: &mut Comparisons,
+    ) -> Result<RangeMap<K, O::Output>, AllocError>
+        requires off { O.gives op.now None None ≡ None }
+        requires made { count.old < 2 ^ 64 }
+        requires copies { (x y : K) → C.alike x y → K.cmp x y ≡ Equal }
+        ensures values { IfOk result (λ map.
+            IsCombined K.cmp O.Output.eq (O.gives op.now) self.now that.now map) }
+        ensures comparisons { AddsAtMost count.old count.new
+            (2 * weight K.cmp self.now.keys that.now.keys) }
+        ensures succeeds { length self.now.keys ≡ 0 → length that.now.keys ≡ 0 → IsOk result }
+    {
         let left = self.borrowed_steps(alloc)?;
         let right = that.borrowed_steps(alloc)?;
-        combined(alloc, &left, &right, op, count)
+        combined(alloc, &left, &right, op, copier, count)
     }
 }
 
@@ -236,6 +273,6 @@ impl<K: Ord, V: Eq> RangeMap<K, V> {
         ensures ascending { IfOk result (λ side. IsAscending K.cmp side.keys) }
         ensures succeeds { length self.now.keys ≡ 0 → IsOk result }
     {
-        BorrowedSteps::of_steps(alloc, self.steps.items())
+        BorrowedSteps::of_steps(alloc, &self.steps)
     }
 }

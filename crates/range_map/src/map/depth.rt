@@ -2,6 +2,7 @@
 ghost use Rattle.std.specs.Prelude.{ℕ, ◌≡◌, ◌⊎◌, ◌+◌, ◌<◌, ◌≤◌, true, length, HoldsAt, IsOk, IfOk, OnOk, cond, Some, nat_eq, get_or};
 ghost use Rattle.std.specs.List.Sorted.{IsPermutation, IsSorted};
 ghost use Rattle.std.specs.Ordering.{is_le};
+ghost use Rattle.std.specs.declared.cmp.Ordering.TheVariants.{Equal};
 ghost use Rattle.range_merge.specs.Boundaries.{count_up_to};
 ghost use Rattle.range_map.specs.Steps.{AreAlike, value_at};
 ghost use Rattle.range_map.specs.Changed.{is_in_range};
@@ -9,7 +10,7 @@ ghost use Rattle.range_map.specs.Depth.{AreDepths, IsDifference, depth_at, numbe
 
 use crate::map::RangeMap;
 use crate::map::combining::put;
-use range_collections::{Comparisons, EntryClone, has_elements};
+use range_collections::{Comparisons, Copier, EntryClone, EntryCopier, has_elements};
 use std::alloc::{AllocError, Global};
 use std::ops::Range;
 
@@ -24,12 +25,25 @@ impl<K: EntryClone + Drop> RangeMap<K, usize> {
         ensures depths { IfOk result (λ map. AreDepths K.cmp ranges.now map) }
         ensures succeeds { length ranges.now ≡ 0 → IsOk result }
     {
-        if ranges.is_empty() {
-            return Ok(RangeMap::new(alloc));
-        }
-        let ends = sorted_ends(alloc, ranges)?;
-        swept(alloc, &ends.starts, &ends.ends)
+        depth_of(alloc, ranges, &EntryCopier)
     }
+}
+
+// The map that gives each key the number of the ranges that hold it, if some do.
+pub(crate) fn depth_of<K: Ord + Drop, C: Copier<K>>(
+    alloc: Global,
+    ranges: &[Range<K>],
+    copier: &C,
+) -> Result<RangeMap<K, usize>, AllocError>
+    requires copies { (x y : K) → C.alike x y → K.cmp x y ≡ Equal }
+    ensures depths { IfOk result (λ map. AreDepths K.cmp ranges.now map) }
+    ensures succeeds { length ranges.now ≡ 0 → IsOk result }
+{
+    if ranges.is_empty() {
+        return Ok(RangeMap::new(alloc));
+    }
+    let ends = sorted_ends(alloc, ranges, copier)?;
+    swept(alloc, &ends.starts, &ends.ends, copier)
 }
 
 // Copies of where ranges start, and of where they end.
@@ -40,10 +54,12 @@ struct Ends<K> {
 }
 
 // The ends of the ranges that have keys, in order.
-fn sorted_ends<K: EntryClone + Drop>(
+fn sorted_ends<K: Ord + Drop, C: Copier<K>>(
     alloc: Global,
     ranges: &[Range<K>],
+    copier: &C,
 ) -> Result<Ends<K>, AllocError>
+    requires copies { (x y : K) → C.alike x y → K.cmp x y ≡ Equal }
     ensures depths { IfOk result (λ made. (x : K) →
         depth_at K.cmp ranges.now x + count_up_to K.cmp made.ends.items x ≡
         count_up_to K.cmp made.starts.items x) }
@@ -51,7 +67,7 @@ fn sorted_ends<K: EntryClone + Drop>(
     ensures starts { IfOk result (λ made. IsSorted K.cmp made.starts.items) }
     ensures ends { IfOk result (λ made. IsSorted K.cmp made.ends.items) }
 {
-    let Ends { starts, ends } = ends_of(alloc, ranges)?;
+    let Ends { starts, ends } = ends_of(alloc, ranges, copier)?;
     Ok(Ends {
         starts: sorted(alloc, starts)?,
         ends: sorted(alloc, ends)?,
@@ -68,7 +84,12 @@ fn sorted<K: Ord + Drop>(alloc: Global, mut items: Vec<K>) -> Result<Vec<K>, All
 }
 
 // The ends of the ranges that have keys.
-fn ends_of<K: EntryClone + Drop>(alloc: Global, ranges: &[Range<K>]) -> Result<Ends<K>, AllocError>
+fn ends_of<K: Ord + Drop, C: Copier<K>>(
+    alloc: Global,
+    ranges: &[Range<K>],
+    copier: &C,
+) -> Result<Ends<K>, AllocError>
+    requires copies { (x y : K) → C.alike x y → K.cmp x y ≡ Equal }
     ensures depths { IfOk result (λ made. (x : K) →
         depth_at K.cmp ranges.now x + count_up_to K.cmp made.ends.items x ≡
         count_up_to K.cmp made.starts.items x) }
@@ -79,14 +100,19 @@ fn ends_of<K: EntryClone + Drop>(alloc: Global, ranges: &[Range<K>]) -> Result<E
         ends: Vec::with_capacity(alloc, ranges.len())?,
     };
     for i in 0..ranges.len() {
-        add_ends(&mut made, &ranges[i])?;
+        add_ends(&mut made, &ranges[i], copier)?;
     }
     Ok(made)
 }
 
 // Adds the ends of the range, if it has keys.
 #[inline]
-fn add_ends<K: EntryClone + Drop>(made: &mut Ends<K>, range: &Range<K>) -> Result<(), AllocError>
+fn add_ends<K: Ord + Drop, C: Copier<K>>(
+    made: &mut Ends<K>,
+    range: &Range<K>,
+    copier: &C,
+) -> Result<(), AllocError>
+    requires copies { (x y : K) → C.alike x y → K.cmp x y ≡ Equal }
     ensures depths { OnOk result ((n : ℕ) (x : K) →
         n + count_up_to K.cmp made.old.ends.items x ≡ count_up_to K.cmp made.old.starts.items x →
         n + cond (is_in_range K.cmp range.now.start (Some range.now.end) x) 1 0 +
@@ -95,22 +121,24 @@ fn add_ends<K: EntryClone + Drop>(made: &mut Ends<K>, range: &Range<K>) -> Resul
         length made.new.starts.items ≡ length made.new.ends.items) }
 {
     if has_elements(&range.start, &range.end, &mut Comparisons::new()) {
-        made.starts.push(range.start.entry_clone()?)?;
-        made.ends.push(range.end.entry_clone()?)?;
+        made.starts.push(copier.copy(&range.start)?)?;
+        made.ends.push(copier.copy(&range.end)?)?;
     }
     Ok(())
 }
 
 // The map that gives each key the number of the starts at or below it less that of the ends.
-fn swept<K: EntryClone + Drop>(
+fn swept<K: Ord + Drop, C: Copier<K>>(
     alloc: Global,
     starts: &[K],
     ends: &[K],
+    copier: &C,
 ) -> Result<RangeMap<K, usize>, AllocError>
     requires starts { IsSorted K.cmp starts.now }
     requires ends { IsSorted K.cmp ends.now }
     requires as_many { length starts.now ≡ length ends.now }
     requires fewer { (x : K) → count_up_to K.cmp ends.now x ≤ count_up_to K.cmp starts.now x }
+    requires copies { (x y : K) → C.alike x y → K.cmp x y ≡ Equal }
     ensures { IfOk result (λ map. IsDifference K.cmp starts.now ends.now map) }
 {
     let mut made = RangeMap::new(alloc);
@@ -120,7 +148,7 @@ fn swept<K: EntryClone + Drop>(
         let key = first_of(starts, i, &ends[j]);
         i = past(starts, i, key);
         j = past(ends, j, key);
-        put(&mut made, key, number_or_none(i - j))?;
+        put(&mut made, key, number_or_none(i - j), copier)?;
     }
     Ok(made)
 }

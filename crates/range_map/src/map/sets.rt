@@ -3,6 +3,7 @@
 ghost use Rattle.std.specs.Prelude.{◌≡◌, Some, None, cond, length, IsOk, IfOk};
 ghost use Rattle.std.specs.Bool.{beq};
 ghost use Rattle.std.specs.Option.{option_eq, is_some};
+ghost use Rattle.std.specs.declared.cmp.Ordering.TheVariants.{Equal};
 ghost use Rattle.range_merge.specs.Boundaries.{member};
 ghost use Rattle.range_map.specs.Steps.{AreAlike, value_at};
 
@@ -12,7 +13,7 @@ use crate::map::combining::combined;
 use crate::operations::{HasThis, HasValue, Within};
 use crate::step::StepKey;
 use crate::value::MapValue;
-use range_collections::{Comparisons, EntryClone, RangeSet, RangeSetRef};
+use range_collections::{Comparisons, Copier, EntryClone, EntryCopier, RangeSet, RangeSetRef};
 use smallvec::SmallVec;
 use std::alloc::{AllocError, Global};
 use std::default::MadeWith;
@@ -58,7 +59,7 @@ impl<K: EntryClone + Drop, V: MapValue> RangeMap<K, V> {
             (cond (member K.cmp set.entry.boundaries.now x) (value_at K.cmp self.now x) None)) }
         ensures succeeds { length self.now.keys ≡ 0 → IsOk result }
     {
-        self.within(alloc, set, true)
+        self.within(alloc, set, true, &EntryCopier)
     }
 
     /// The map without the members of the set.
@@ -67,13 +68,20 @@ impl<K: EntryClone + Drop, V: MapValue> RangeMap<K, V> {
             (cond (member K.cmp set.entry.boundaries.now x) None (value_at K.cmp self.now x))) }
         ensures succeeds { length self.now.keys ≡ 0 → IsOk result }
     {
-        self.within(alloc, set, false)
+        self.within(alloc, set, false, &EntryCopier)
     }
 }
 
-impl<K: EntryClone + Drop, V: MapValue> RangeMap<K, V> {
+impl<K: Ord + Drop, V: MapValue> RangeMap<K, V> {
     // The map on the members of the set, or else on the others.
-    fn within(&self, alloc: Global, set: RangeSetRef<K>, inside: bool) -> Result<Self, AllocError>
+    pub(crate) fn within<C: Copier<K>>(
+        &self,
+        alloc: Global,
+        set: RangeSetRef<K>,
+        inside: bool,
+        copier: &C,
+    ) -> Result<Self, AllocError>
+        requires copies { (x y : K) → C.alike x y → K.cmp x y ≡ Equal }
         ensures values { IfOk result (λ map. (x : K) → AreAlike V.eq (value_at K.cmp map x)
             (cond (beq (member K.cmp set.entry.boundaries.now x) inside)
             (value_at K.cmp self.now x) None)) }
@@ -89,6 +97,7 @@ impl<K: EntryClone + Drop, V: MapValue> RangeMap<K, V> {
             &left,
             &right,
             &Within { inside },
+            copier,
             &mut Comparisons::new(),
         )
     }

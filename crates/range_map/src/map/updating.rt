@@ -1,6 +1,7 @@
 //! Values changed by what they were: those of a range by `update`, all of a map by `retain`.
 ghost use Rattle.std.specs.Prelude.{◌≡◌, false, None, Some, IsOk, OnOk, OnErr};
 ghost use Rattle.std.specs.Ordering.{is_lt};
+ghost use Rattle.std.specs.declared.cmp.Ordering.TheVariants.{Equal};
 ghost use Rattle.range_map.specs.Steps.{AreAlike, value_at};
 ghost use Rattle.range_map.specs.Updated.{IsUpdated, kept};
 
@@ -10,7 +11,7 @@ use crate::retaining::retain_values;
 use crate::update::MapUpdate;
 use crate::updating::update_range;
 use crate::value::MapValue;
-use range_collections::{Comparisons, EntryClone, EntryCopier, has_elements};
+use range_collections::{Comparisons, Copier, EntryClone, EntryCopier, has_elements};
 use std::alloc::AllocError;
 use std::ops::{Range, RangeFrom};
 
@@ -25,11 +26,7 @@ impl<K: EntryClone + Drop, V: MapValue> RangeMap<K, V> {
         ensures unchanged { OnErr result (self.new ≡ self.old) }
         ensures empty { is_lt (K.cmp range.start range.end) ≡ false → (self.new ≡ self.old) × IsOk result }
     {
-        if !has_elements(&range.start, &range.end, &mut Comparisons::new()) {
-            return Ok(());
-        }
-        let Range { start, end } = range;
-        update_range(&mut self.steps, &start, &Some(end), op, &EntryCopier)
+        self.update_by(range, op, &EntryCopier)
     }
 
     /// Gives each key from the start on what the update makes of its value, or of none.
@@ -44,6 +41,27 @@ impl<K: EntryClone + Drop, V: MapValue> RangeMap<K, V> {
         ensures unchanged { OnErr result (self.new ≡ self.old) }
     {
         update_range(&mut self.steps, &range.start, &None, op, &EntryCopier)
+    }
+}
+
+impl<K: Ord + Drop, V: MapValue> RangeMap<K, V> {
+    // Updates the range, with copies of keys by any copier.
+    pub(crate) fn update_by<O: MapUpdate<V>, C: Copier<K>>(
+        &mut self,
+        range: Range<K>,
+        op: &O,
+        copier: &C,
+    ) -> Result<(), AllocError>
+        requires copies { (x y : K) → C.alike x y → K.cmp x y ≡ Equal }
+        ensures values { OnOk result (IsUpdated K.cmp V.eq range.start (Some range.end) (O.gives op.now) self.old self.new) }
+        ensures unchanged { OnErr result (self.new ≡ self.old) }
+        ensures empty { is_lt (K.cmp range.start range.end) ≡ false → (self.new ≡ self.old) × IsOk result }
+    {
+        if !has_elements(&range.start, &range.end, &mut Comparisons::new()) {
+            return Ok(());
+        }
+        let Range { start, end } = range;
+        update_range(&mut self.steps, &start, &Some(end), op, copier)
     }
 }
 

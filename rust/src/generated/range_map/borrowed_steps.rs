@@ -2,7 +2,7 @@
 //! The steps of a map that is combined with another, or those of a set, by reference.
 
 use crate::generated::range_collections::RangeSetRef;
-use crate::generated::range_list::Items;
+use crate::generated::range_list::Chunks;
 use crate::generated::range_map::step::Step;
 use crate::support::{AllocError, Global, Vec};
 
@@ -17,10 +17,10 @@ impl<'a, K, V> BorrowedSteps<'a, K, V> {
     /// # Contract
     ///
     /// ```text
-    /// ensures steps: IfOk result (λ side. side ≡ steps_of steps.entry)
-    /// ensures succeeds: steps.entry ≡ [] → IsOk result
+    /// ensures steps: IfOk result (λ side. side ≡ steps_in steps.now)
+    /// ensures succeeds: joined steps.now ≡ [] → IsOk result
     /// ```
-    pub fn of_steps(alloc: Global, steps: Items<'a, Step<K, V>, ()>) -> Result<Self, AllocError> {
+    pub fn of_steps(alloc: Global, steps: &'a Chunks<Step<K, V>, ()>) -> Result<Self, AllocError> {
         let steps = references(alloc, steps)?;
         Ok(BorrowedSteps { steps })
     }
@@ -101,10 +101,10 @@ impl<'a, K: Ord> BorrowedSteps<'a, K, ()> {
 // References to the steps, in order.
 fn references<'a, K, V>(
     alloc: Global,
-    steps: Items<'a, Step<K, V>, ()>,
+    steps: &'a Chunks<Step<K, V>, ()>,
 ) -> Result<Vec<Step<&'a K, &'a V>>, AllocError> {
-    let mut list = Vec::new(alloc);
-    let mut unread = steps;
+    let mut list = Vec::with_capacity(alloc, steps.len())?;
+    let mut unread = steps.items();
     while let Some(step) = unread.take_first() {
         list.push(Step {
             key: &step.key,

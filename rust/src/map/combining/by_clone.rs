@@ -1,22 +1,21 @@
-//! Operations on maps by `Clone`. Keys and values are cloned only into the result: until then they
-//! are looked at by reference.
+//! Operations on maps by `Clone`. Keys and values are cloned only into the result: a union looks at
+//! them by reference until then.
 
 use super::ByCall;
 use crate::array::List;
 use crate::forms::ends;
-use crate::generated::range_collections::{has_elements, Comparisons};
+use crate::generated::range_collections::Comparisons;
 use crate::generated::range_map as proved;
-use crate::generated::range_map::map::combining::combined;
+use crate::generated::range_map::map::depth::depth_of;
 use crate::generated::range_map::updating::update_range;
-use crate::map::by_ref::{by_ref, cloned, set_by_ref};
+use crate::map::by_ref::{by_ref, cloned};
 use crate::map::{steps, ByClone, Kept, Map, RangeMap};
 use crate::memory::AllocError;
 use crate::range::RangeSetRange;
 use crate::range_set::RangeSetRef;
-use crate::support::{ByValue, Global};
-use alloc::vec::Vec;
+use crate::support::Global;
 use core::cell::RefCell;
-use core::ops::Range;
+use core::ops::{Range, RangeFrom};
 
 impl<K: Ord + Clone, V: Eq + Clone> RangeMap<K, V> {
     pub(super) fn try_combine<W: Eq, U: Eq>(
@@ -26,14 +25,11 @@ impl<K: Ord + Clone, V: Eq + Clone> RangeMap<K, V> {
     ) -> Result<RangeMap<K, U>, AllocError> {
         let op = RefCell::new(op);
         let op = ByCall(|a: Option<&V>, b: Option<&W>| Ok((op.borrow_mut())(a, b)));
-        let left = steps::by_value(&self.0.steps);
-        let right = steps::by_value(&that.0.steps);
-        let made = combined(Global, &left, &right, &op, &mut Comparisons::new())?;
-        let steps = steps::of_others(made.steps, |key| key.0, |value| value);
-        Ok(Map(proved::RangeMap { steps }))
+        let count = &mut Comparisons::new();
+        let made = self.0.combine_by(Global, &that.0, &op, &ByClone, count);
+        made.map(Map)
     }
 
-    /// It is the proved `update`, with another copier of keys.
     pub(super) fn try_update(
         &mut self,
         range: RangeSetRange<K>,
@@ -41,10 +37,11 @@ impl<K: Ord + Clone, V: Eq + Clone> RangeMap<K, V> {
     ) -> Result<(), AllocError> {
         let op = RefCell::new(op);
         let op = ByCall(|value: Option<&V>| Ok((op.borrow_mut())(value)));
-        let (start, end) = range.into_ends();
-        match &end {
-            Some(end) if !has_elements(&start, end, &mut Comparisons::new()) => Ok(()),
-            _ => update_range(&mut self.0.steps, &start, &end, &op, &ByClone),
+        match range {
+            RangeSetRange::Range(range) => self.0.update_by(range, &op, &ByClone),
+            RangeSetRange::RangeFrom(RangeFrom { start }) => {
+                update_range(&mut self.0.steps, &start, &None, &op, &ByClone)
+            }
         }
     }
 
@@ -63,13 +60,13 @@ impl<K: Ord + Clone, V: Eq + Clone> RangeMap<K, V> {
             let steps = steps::within(&self.0.steps, set);
             return Ok(Map(proved::RangeMap { steps }));
         }
-        let (map, set) = (by_ref(self), set_by_ref(set));
-        map.restrict(Global, set.proved()).map(cloned)
+        let within = self.0.within(Global, set.proved(), true, &ByClone);
+        within.map(Map)
     }
 
     pub(super) fn try_without(&self, set: &RangeSetRef<K>) -> Result<Self, AllocError> {
-        let (map, set) = (by_ref(self), set_by_ref(set));
-        map.without(Global, set.proved()).map(cloned)
+        let without = self.0.within(Global, set.proved(), false, &ByClone);
+        without.map(Map)
     }
 
     pub(super) fn try_domain<L: List<Item = K>>(&self) -> Result<L, AllocError> {
@@ -85,12 +82,7 @@ impl<K: Ord + Clone, V: Eq + Clone> RangeMap<K, V> {
 
 impl<K: Ord + Clone> RangeMap<K, usize> {
     pub(super) fn try_depth(ranges: &[Range<K>]) -> Result<Self, AllocError> {
-        let ranges: Vec<_> = ranges
-            .iter()
-            .map(|range| ByValue(range.start.clone())..ByValue(range.end.clone()))
-            .collect();
-        let depth = proved::RangeMap::depth(Global, &ranges)?;
-        let steps = steps::of_others(depth.steps, |key| key.0, Kept::new);
-        Ok(Map(proved::RangeMap { steps }))
+        let depth = depth_of(Global, ranges, &ByClone)?;
+        Ok(Map::of_others(depth, Kept::new))
     }
 }

@@ -2,7 +2,7 @@
 //! What an operation makes of two maps: run by run, each step is put at the end of the result if
 //! its option differs from the last one.
 
-use crate::generated::range_collections::{Comparisons, EntryClone, Run};
+use crate::generated::range_collections::{Comparisons, Copier, EntryClone, EntryCopier, Run};
 use crate::generated::range_list::Chunks;
 use crate::generated::range_map::borrowed_steps::BorrowedSteps;
 use crate::generated::range_map::map::RangeMap;
@@ -21,16 +21,18 @@ use crate::support::{AllocError, Global};
 /// requires a_ascends: IsAscending K.cmp a.now.keys
 /// requires b_ascends: IsAscending K.cmp b.now.keys
 /// requires made: count.old < 2 ^ 64
+/// requires copies: (x y : K) → C.alike x y → K.cmp x y ≡ Equal
 /// ensures values: IfOk result (λ map. IsCombined K.cmp O.Output.eq (O.gives op.now) a.now
 ///     b.now map)
 /// ensures comparisons: AddsAtMost count.old count.new (2 * weight K.cmp a.now.keys b.now.keys)
 /// ensures succeeds: length a.now.keys ≡ 0 → length b.now.keys ≡ 0 → IsOk result
 /// ```
-pub(crate) fn combined<K: EntryClone, V, W, O: MapOperation<V, W>>(
+pub(crate) fn combined<K: Ord, V, W, O: MapOperation<V, W>, C: Copier<K>>(
     alloc: Global,
     a: &BorrowedSteps<K, V>,
     b: &BorrowedSteps<K, W>,
     op: &O,
+    copier: &C,
     count: &mut Comparisons,
 ) -> Result<RangeMap<K, O::Output>, AllocError> {
     let mut made = RangeMap::new(alloc);
@@ -40,18 +42,18 @@ pub(crate) fn combined<K: EntryClone, V, W, O: MapOperation<V, W>>(
     let mut j = 0;
     while i < a_len && j < b_len {
         let run = next_run(a, i, b, j, count);
-        put_run(&mut made, a, i, b, j, run, op)?;
+        put_run(&mut made, a, i, b, j, run, op, copier)?;
         i += left_len(run);
         j += right_len(run);
     }
-    put_left(&mut made, a, i, a_len, b, j, op)?;
-    put_right(&mut made, a, a_len, b, j, b_len, op)?;
+    put_left(&mut made, a, i, a_len, b, j, op, copier)?;
+    put_right(&mut made, a, a_len, b, j, b_len, op, copier)?;
     Ok(made)
 }
 
 // Puts the steps of a run.
 #[inline]
-fn put_run<K: EntryClone, V, W, O: MapOperation<V, W>>(
+fn put_run<K: Ord, V, W, O: MapOperation<V, W>, C: Copier<K>>(
     made: &mut RangeMap<K, O::Output>,
     a: &BorrowedSteps<K, V>,
     i: usize,
@@ -59,17 +61,18 @@ fn put_run<K: EntryClone, V, W, O: MapOperation<V, W>>(
     j: usize,
     run: Run,
     op: &O,
+    copier: &C,
 ) -> Result<(), AllocError> {
     match run {
-        Run::Left(n) => put_left(made, a, i, i + n, b, j, op),
-        Run::Right(n) => put_right(made, a, i, b, j, j + n, op),
-        Run::Both => put_both(made, a, i, b, j, op),
+        Run::Left(n) => put_left(made, a, i, i + n, b, j, op, copier),
+        Run::Right(n) => put_right(made, a, i, b, j, j + n, op, copier),
+        Run::Both => put_both(made, a, i, b, j, op, copier),
     }
 }
 
 // Puts the left's steps from a place up to another, which are below the right's from place `j` on.
 #[inline]
-fn put_left<K: EntryClone, V, W, O: MapOperation<V, W>>(
+fn put_left<K: Ord, V, W, O: MapOperation<V, W>, C: Copier<K>>(
     made: &mut RangeMap<K, O::Output>,
     a: &BorrowedSteps<K, V>,
     i: usize,
@@ -77,17 +80,18 @@ fn put_left<K: EntryClone, V, W, O: MapOperation<V, W>>(
     b: &BorrowedSteps<K, W>,
     j: usize,
     op: &O,
+    copier: &C,
 ) -> Result<(), AllocError> {
     for n in i..to {
         let option = op.apply(a.option_before(n + 1), b.option_before(j))?;
-        put(made, a.key(n), option)?;
+        put(made, a.key(n), option, copier)?;
     }
     Ok(())
 }
 
 // Puts the right's steps from a place up to another, which are below the left's from place `i` on.
 #[inline]
-fn put_right<K: EntryClone, V, W, O: MapOperation<V, W>>(
+fn put_right<K: Ord, V, W, O: MapOperation<V, W>, C: Copier<K>>(
     made: &mut RangeMap<K, O::Output>,
     a: &BorrowedSteps<K, V>,
     i: usize,
@@ -95,50 +99,54 @@ fn put_right<K: EntryClone, V, W, O: MapOperation<V, W>>(
     j: usize,
     to: usize,
     op: &O,
+    copier: &C,
 ) -> Result<(), AllocError> {
     for n in j..to {
         let option = op.apply(a.option_before(i), b.option_before(n + 1))?;
-        put(made, b.key(n), option)?;
+        put(made, b.key(n), option, copier)?;
     }
     Ok(())
 }
 
 // Puts one step of both, whose keys are equal.
 #[inline]
-fn put_both<K: EntryClone, V, W, O: MapOperation<V, W>>(
+fn put_both<K: Ord, V, W, O: MapOperation<V, W>, C: Copier<K>>(
     made: &mut RangeMap<K, O::Output>,
     a: &BorrowedSteps<K, V>,
     i: usize,
     b: &BorrowedSteps<K, W>,
     j: usize,
     op: &O,
+    copier: &C,
 ) -> Result<(), AllocError> {
     let option = op.apply(a.option_before(i + 1), b.option_before(j + 1))?;
-    put(made, a.key(i), option)
+    put(made, a.key(i), option, copier)
 }
 
 // Puts a step at the end, with a copy of the key, if its option differs from the last one.
 #[inline]
-pub(super) fn put<K: EntryClone, U: Eq>(
+pub(super) fn put<K: Ord, U: Eq, C: Copier<K>>(
     made: &mut RangeMap<K, U>,
     key: &K,
     option: Option<U>,
+    copier: &C,
 ) -> Result<(), AllocError> {
-    push(&mut made.steps, key, option)
+    push(&mut made.steps, key, option, copier)
 }
 
 // Puts a step at the end of the list, with a copy of the key, if its option differs from the last
 // one.
 #[inline]
-fn push<K: EntryClone, U: Eq>(
+fn push<K: Ord, U: Eq, C: Copier<K>>(
     steps: &mut Chunks<Step<K, U>, ()>,
     key: &K,
     option: Option<U>,
+    copier: &C,
 ) -> Result<(), AllocError> {
     if holds_before(steps, steps.end(), &option) {
         return Ok(());
     }
-    let key = key.entry_clone()?;
+    let key = copier.copy(key)?;
     steps.push(Step { key, option })
 }
 
@@ -171,9 +179,23 @@ impl<K: EntryClone, V: Eq> RangeMap<K, V> {
         op: &O,
         count: &mut Comparisons,
     ) -> Result<RangeMap<K, O::Output>, AllocError> {
+        self.combine_by(alloc, that, op, &EntryCopier, count)
+    }
+}
+
+impl<K: Ord, V: Eq> RangeMap<K, V> {
+    // What the operation makes of both maps, with copies of keys by any copier.
+    pub(crate) fn combine_by<W: Eq, O: MapOperation<V, W>, C: Copier<K>>(
+        &self,
+        alloc: Global,
+        that: &RangeMap<K, W>,
+        op: &O,
+        copier: &C,
+        count: &mut Comparisons,
+    ) -> Result<RangeMap<K, O::Output>, AllocError> {
         let left = self.borrowed_steps(alloc)?;
         let right = that.borrowed_steps(alloc)?;
-        combined(alloc, &left, &right, op, count)
+        combined(alloc, &left, &right, op, copier, count)
     }
 }
 
@@ -184,6 +206,6 @@ impl<K: Ord, V: Eq> RangeMap<K, V> {
         &self,
         alloc: Global,
     ) -> Result<BorrowedSteps<'_, K, V>, AllocError> {
-        BorrowedSteps::of_steps(alloc, self.steps.items())
+        BorrowedSteps::of_steps(alloc, &self.steps)
     }
 }

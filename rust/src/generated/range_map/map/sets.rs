@@ -2,7 +2,9 @@
 //! Maps and sets: the keys that have a value, or this one; a map on the members of a set, or on the
 //! others.
 
-use crate::generated::range_collections::{Comparisons, EntryClone, RangeSet, RangeSetRef};
+use crate::generated::range_collections::{
+    Comparisons, Copier, EntryClone, EntryCopier, RangeSet, RangeSetRef,
+};
 use crate::generated::range_map::borrowed_steps::BorrowedSteps;
 use crate::generated::range_map::map::combining::combined;
 use crate::generated::range_map::map::RangeMap;
@@ -64,7 +66,7 @@ impl<K: EntryClone, V: MapValue> RangeMap<K, V> {
     /// ensures succeeds: length self.now.keys ≡ 0 → IsOk result
     /// ```
     pub fn restrict(&self, alloc: Global, set: RangeSetRef<K>) -> Result<Self, AllocError> {
-        self.within(alloc, set, true)
+        self.within(alloc, set, true, &EntryCopier)
     }
 
     /// The map without the members of the set.
@@ -77,13 +79,19 @@ impl<K: EntryClone, V: MapValue> RangeMap<K, V> {
     /// ensures succeeds: length self.now.keys ≡ 0 → IsOk result
     /// ```
     pub fn without(&self, alloc: Global, set: RangeSetRef<K>) -> Result<Self, AllocError> {
-        self.within(alloc, set, false)
+        self.within(alloc, set, false, &EntryCopier)
     }
 }
 
-impl<K: EntryClone, V: MapValue> RangeMap<K, V> {
+impl<K: Ord, V: MapValue> RangeMap<K, V> {
     // The map on the members of the set, or else on the others.
-    fn within(&self, alloc: Global, set: RangeSetRef<K>, inside: bool) -> Result<Self, AllocError> {
+    pub(crate) fn within<C: Copier<K>>(
+        &self,
+        alloc: Global,
+        set: RangeSetRef<K>,
+        inside: bool,
+        copier: &C,
+    ) -> Result<Self, AllocError> {
         if self.steps.is_empty() {
             return Ok(RangeMap::new(alloc));
         }
@@ -94,6 +102,7 @@ impl<K: EntryClone, V: MapValue> RangeMap<K, V> {
             &left,
             &right,
             &Within { inside },
+            copier,
             &mut Comparisons::new(),
         )
     }

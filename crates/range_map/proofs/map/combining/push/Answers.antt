@@ -21,7 +21,7 @@ returns-clause-canonical g c =
     let step : Step g.row.K.Denot g.row.U.Denot = record { key = k; option = c.args.option } in
     canonical-answer order E c.push.result items new (items ++ step ∷ []) c.push.ensures.items c.push.ensures.unchanged
     (λ is.
-    IsCanonical-behind order o E g.met.U.Eq.laws items c.args.key.now c.args.option _ c.end.ensures.all (sym c.holds_before.ensures ∙ c.if-holds_before.false) k c.in_ok-key.ensures.same new is
+    IsCanonical-behind order o E g.met.U.Eq.laws items c.args.key.now c.args.option _ c.end.ensures.all (sym c.holds_before.ensures ∙ c.if-holds_before.false) k (c.requires.copies c.args.key.now c.in_ok-key.key c.in_ok-key.ensures.alike) new is
     c.requires.canonical c.requires.below)
     c.requires.canonical
 
@@ -30,5 +30,5 @@ returns-clause-put g c =
     on_ok_weaker c.push.result
     (λ is.
     IsPut-behind g.K.Ord.cmp g.met.K.Ord.total g.U.PartialEq.eq (joined c.args.steps.now) c.args.key.now c.args.option _ c.end.ensures.all (sym c.holds_before.ensures ∙ c.if-holds_before.false)
-    c.in_ok-key.key c.in_ok-key.ensures.same (joined c.push.new.self) is)
+    c.in_ok-key.key (c.requires.copies c.args.key.now c.in_ok-key.key c.in_ok-key.ensures.alike) (joined c.push.new.self) is)
     c.push.ensures.items

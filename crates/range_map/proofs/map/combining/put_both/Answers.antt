@@ -7,8 +7,8 @@ on_ok : {X F P Q : Type 0} (r : Result X F) → (P → Q) → OnOk r P → OnOk 
 on_ok (Ok x) to h = to h
 on_ok (Err e) to h = h
 
-pub put-requires : goal.put-requires
-put-requires g c = λ m f within.
+pub put-requires-clause-below : goal.put-requires-clause-below
+put-requires-clause-below g c = λ m f within.
     let key = c.key.result.now in
     ap (g.K.Ord.cmp (get_or c.args.made.now.keys m f)) (c.key.ensures key) ∙ c.requires.made.left_apart m f within c.args.i key (omega arith) (omega (arith, c.requires.run.0))
 

@@ -4,8 +4,8 @@ use Rattle.range_map.specs.Combining.{IsBelowFrom}
 use Rattle.range_map.proofs.MadeUpTo.{IsMadeUpTo-right}
 use Rattle.range_map.proofs.map.combining.put_right.Goals as goal
 
-pub put-requires : goal.put-requires
-put-requires g c = λ m f within.
+pub put-requires-clause-below : goal.put-requires-clause-below
+put-requires-clause-below g c = λ m f within.
     let key = c.key.result.now in
     ap (g.K.Ord.cmp (get_or c.loop-n.made.keys m f)) (c.key.ensures key)
     ∙ c.loop-n.invariant.right_apart m f within c.loop-n.n key (omega arith) (omega (arith, c.loop-n-test.true, c.requires.right_within))

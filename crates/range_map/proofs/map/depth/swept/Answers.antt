@@ -14,8 +14,8 @@ past-j-requires-clause-from g c =
     (first_ahead g.K.Ord.cmp c.args.starts.now c.args.ends.now g.met.K.Ord.total c.requires.starts c.requires.ends c.requires.fewer c.loop-j.i c.loop-j.j c.loop-j.made c.loop-j.invariant
     c.first_of-key.result.now c.index-ends-j.result c.loop-j-test.true c.index-ends-j.is c.first_of-key.ensures.one).ends_read
 
-pub put-requires : goal.put-requires
-put-requires g c =
+pub put-requires-clause-below : goal.put-requires-clause-below
+put-requires-clause-below g c =
     (first_ahead g.K.Ord.cmp c.args.starts.now c.args.ends.now g.met.K.Ord.total c.requires.starts c.requires.ends c.requires.fewer c.loop-j.i c.loop-j.j c.loop-j.made c.loop-j.invariant
     c.first_of-key.result.now c.index-ends-j.result c.loop-j-test.true c.index-ends-j.is c.first_of-key.ensures.one).below
 
