@@ -1,4 +1,5 @@
 pub mod Searched
+pub mod InTurn
 pub mod Changed
 pub mod ToTheEnd
 pub mod Around
