@@ -120,24 +120,23 @@ range_set_status NAME(chunked_gaps)(CHUNKED set, NUMBER start, NUMBER end, NUMBE
     return NAME(write_result)(len, out, room, result);
 }
 
-/* By a list of both, beside one of the set, unless a change of the set is enough: for a union or a difference whose ranges have an end. */
+/* By a list of both, beside one of the set, but for a union with few ranges or the difference from them: these change the set where they lie. */
 range_set_status NAME(chunked_combine)(CHUNKED *set, SET other, unsigned keep)
 {
     size_t other_len = other.boundaries ? other.len : 0, len, room;
     NUMBER *items;
     SET list;
     CHUNKED made = {NULL};
-    bool inserts, done;
+    bool done;
     range_set_status status = RANGE_SET_NO_MEMORY;
     if (set == NULL || set->at == NULL || overlap(set, sizeof *set, other.boundaries, other_len * sizeof *items))
         return RANGE_SET_BAD_ARGUMENT;
     keep &= RANGE_SET_UNION | RANGE_SET_NEITHER;
-    inserts = keep == RANGE_SET_UNION;
-    if (other_len % 2 == 0 && (inserts || keep == RANGE_SET_DIFFERENCE)) {
-        done = inserts ? EXPORT(chunked_insert_all)(set, LIST(other)) : EXPORT(chunked_remove_all)(set, LIST(other));
+    len = NAME(chunked_boundaries_len)(*set), room = len + other_len + 1;
+    if (other_len <= len / 64 + 2 && (keep == RANGE_SET_UNION || keep == RANGE_SET_DIFFERENCE)) {
+        done = keep == RANGE_SET_UNION ? EXPORT(chunked_insert_all)(set, LIST(other)) : EXPORT(chunked_remove_all)(set, LIST(other));
         return done ? RANGE_SET_DONE : RANGE_SET_NO_MEMORY;
     }
-    len = NAME(chunked_boundaries_len)(*set), room = len + other_len + 1;
     items = len + room <= PTRDIFF_MAX / sizeof *items ? range_heap_malloc((len + room) * sizeof *items) : NULL;
     if (items == NULL) return RANGE_SET_NO_MEMORY;
     if (NAME(chunked_copy)(*set, items, len, &list) == RANGE_SET_DONE

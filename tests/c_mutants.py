@@ -364,7 +364,7 @@ HELD = [
     Mutant("gaps in chunks are written anywhere", SETS, "if (len < room) out[len] = number;", "out[len] = number;"),
     Mutant("gaps in chunks take any buffer", SETS,
            f"    if (!is_array(out, room, sizeof *out) || !NAME(is_result)(result, out, room)) {BAD}    if (start < end && !", "    if (start < end && !"),
-    Mutant("a difference from one range is a union", SETS, "NAME(combine_one)(set, other, keep == RANGE_SET_UNION)", "NAME(combine_one)(set, other, true)"),
+    Mutant("a difference from few ranges is a union", SETS, "done = keep == RANGE_SET_UNION ? EXPORT(chunked_insert_all)", "done = keep != 0 ? EXPORT(chunked_insert_all)"),
     Mutant("one range without an end has one", SETS, "    if (range.len == 1) return inserts", "    if (range.len == 3) return inserts"),
     Mutant("contains_each takes any array", SETS,
            "    if (!is_array(values, count, sizeof *values) || !is_array(found, count, sizeof *found)\n        || overlap(found", "    if (overlap(found"),

@@ -1,5 +1,5 @@
 -- Several ranges set one by one in a list of boundaries.
-use Rattle.std.proofs.Common.{zero, suc, ◌*◌, ◌≡◌, ◌≢◌, refl, sym, ap, ap₂, ◌∙◌, subst, ⊎_elim, ℕ, inl, inr, ◌⊎◌, ◌<◌, ◌≤◌, ◌+◌, ◌-◌, ◌%◌, ◌/◌, ◌==◌, Option, Some, None, Bool, true, false, not, cond, ◌&&◌, List, [], ◌∷◌, ◌++◌, length, take, drop, get_or, arith, All, Contains, true≢false, append_assoc, length-append, reverse, Result, Ok, Err, OnOk, IsOk}
+use Rattle.std.proofs.Common.{zero, suc, ◌*◌, ◌≡◌, ◌≢◌, refl, sym, ap, ap₂, ◌∙◌, subst, ⊎_elim, ℕ, inl, inr, ◌⊎◌, ◌<◌, ◌≤◌, ◌+◌, ◌-◌, ◌%◌, ◌/◌, ◌==◌, Option, Some, None, Bool, true, false, not, cond, ◌&&◌, List, [], ◌∷◌, ◌++◌, length, take, drop, get_or, arith, All, Contains, true≢false, append_assoc, length-append, reverse, Result, Ok, Err, OnOk, OnErr, IsOk}
 use Rattle.std.specs.List.{HoldsAt, AllWithin}
 use Rattle.std.specs.Option.{option_to_list}
 use Rattle.std.specs.Cmp.{IsTotalOrder}
@@ -11,20 +11,20 @@ use Rattle.std.proofs.lemmas.Cmp.{tied_back}
 use Rattle.std.proofs.lemmas.List.{length-take-le, length-drop, get_or-take, get_or-drop, get_or_at, take_more, take-append-drop, reverse-append}
 use Rattle.std.proofs.Math.Seq.{take-append_seam}
 use Rattle.range_list.proofs.Flat.{drop-add}
-use Rattle.std.proofs.lemmas.List.Elements.{All-head, All-weaker, All-contains, All-contains_itself, Contains-append_left, Contains-append_right, Contains-get_or}
+use Rattle.std.proofs.lemmas.List.Elements.{All-nil, All-cons, All-head, All-get_or, All-weaker, All-contains, All-contains_itself, Contains-append_left, Contains-append_right, Contains-get_or}
 use Rattle.range_merge.specs.Boundaries.{IsAscending, count_up_to, is_odd, member}
 use Rattle.range_merge.specs.Connective.{Means, differ}
 use Rattle.range_merge.proofs.Members.{by_Ordering}
 use Rattle.range_merge.proofs.Orders.{Greater-from_less, Less-from_equal, Less-from_greater, Less-trans, Equal-self}
-use Rattle.range_merge.proofs.Parity.{is_odd-add, is_odd-suc}
+use Rattle.range_merge.proofs.Parity.{differ-comm, differ-false, differ-not_left, is_odd-add, is_odd-suc}
 use Rattle.range_collections.specs.Splicing.{IsCut, range_table, spliced}
 use Rattle.range_collections.proofs.CountUpTo.{count_up_to-split}
-use Rattle.range_collections.proofs.Insertion.{cuts_ordered, IsAscending-spliced, IsCut-put, Means-spliced}
+use Rattle.range_collections.proofs.Insertion.{cuts_ordered, IsAscending-append, IsAscending-spliced, IsCut-put, Means-spliced}
 use Rattle.range_collections.proofs.ManyRanges.{range_is}
 use Rattle.range_collections.proofs.Points.{member-odd}
 use Rattle.range_collections.proofs.Shortest.{count_up_to-all, count_up_to-append, is_le-cases, le-from_greater, le-trans, Less-from_le, Less-then_le}
-use Rattle.range_collections.proofs.Values.{member-two, not-not}
-use Rattle.range_chunks.specs.Several.{IsGap, IsSettled, AreSettled, IsPutBetween, IsSet, IsPutAt, ArePutIn}
+use Rattle.range_collections.proofs.Values.{IsAscending-one, member-one, member-two, not-not}
+use Rattle.range_chunks.specs.Several.{AreKeptAbove, IsGap, IsSettled, IsSettledFrom, AreSettled, IsPutBetween, IsSet, IsPutAt, ArePutIn}
 use Rattle.range_chunks.proofs.Changed.{same_rest}
 use Rattle.range_chunks.proofs.Measured.{length-spliced}
 
@@ -171,6 +171,120 @@ module _ {K : Type 0} {order : K → K → Ordering} (o : IsTotalOrder order) wh
                     absurd (unsettled same x y i j settled)
               ]
 
+    -- ---- a range without an end
+    module _ (a : List K) (start : K) (n : ℕ) (ps : Option K) (p : IsCut order inside a start n ps) where
+      put_is_new : (x : K) → ps ≡ Some x → All (λ y. order y start ≢ Equal) a
+      put_is_new x is =
+          let put : All (λ z. (z ≡ start) × All (λ y. order y start ≢ Equal) a) (x ∷ []) = subst (λ (z : Option K). All (λ z. (z ≡ start) × All (λ y. order y start ≢ Equal) a) (option_to_list z)) is p.is_put in
+          (All-head (λ z. (z ≡ start) × All (λ y. order y start ≢ Equal) a) x [] put).1
+
+      not_at_end : n ≡ length a → (x : K) → ps ≡ Some x → IsSettledFrom order inside a start → ⊥
+      not_at_end end x ps_is (inl (y, (k, within, is), high)) =
+          let low : is_le (order y start) ≡ true = subst (λ v. is_le (order v start) ≡ true) is (p.before k y (omega arith) (omega (arith, within, end))) in
+          All-contains (λ y. order y start ≢ Equal) a y (put_is_new x ps_is) (k, within, is) (Equal-both y start low high)
+      not_at_end end x ps_is (inr is_member) =
+          let counted : count_up_to order a start ≡ n = count_up_to-split order start a n p.within p.before (λ k d low high. absurd (omega (arith, low, high, end))) in
+          let one : n + length (option_to_list ps) ≡ suc n = omega (arith, ap (λ (z : Option K). length (option_to_list z)) ps_is) in
+          other_than_itself (is_odd n) (sym (is_odd-suc n) ∙ sym (ap is_odd one) ∙ p.parity ∙ sym is_member ∙ ap is_odd counted)
+
+      pub no_longer_from : IsSettledFrom order inside a start → n + length (option_to_list ps) ≤ length a
+      no_longer_from settled = by_put ps refl
+        where
+          by_put : (x : Option K) → ps ≡ x → n + length (option_to_list ps) ≤ length a
+          by_put None is = omega (arith, p.within, ap (λ (z : Option K). length (option_to_list z)) is)
+          by_put (Some x) is =
+              elim (cases_lt n (length a)) as (λ _. n + length (option_to_list ps) ≤ length a) [
+                | inl less ↦ omega (arith, less, ap (λ (z : Option K). length (option_to_list z)) is)
+                | inr more ↦
+                    let end : n ≡ length a = omega (arith, more, p.within) in
+                    absurd (not_at_end end x is settled)
+              ]
+
+    module _ (a : List K) (start : K) where
+      pub pushed : IsAscending order a → All (λ y. order y start ≡ Less) a → is_odd (length a) ≡ not inside → Means order (range_table inside) (a ++ start ∷ []) a (start ∷ [])
+      pushed up low even = record {
+        sorted =
+            IsAscending-append o a (start ∷ []) up (IsAscending-one o start)
+            (λ k d within. All-cons (λ y. order (get_or a k d) y ≡ Less) start [] (low k d within) (All-nil (λ y. order (get_or a k d) y ≡ Less)));
+        members = λ x.
+            ap is_odd (count_up_to-append order a (start ∷ []) x)
+            ∙ is_odd-add (count_up_to order a x) (count_up_to order (start ∷ []) x)
+            ∙ ap (differ (member order a x)) (member-one o start x)
+            ∙ by_le x (is_le (order start x)) refl
+            ∙ ap (range_table inside (member order a x)) (sym (member-one o start x));
+      }
+        where
+          by_le : (x : K) (b : Bool) → is_le (order start x) ≡ b → differ (member order a x) (is_le (order start x)) ≡ range_table inside (member order a x) (is_le (order start x))
+          by_le x true h =
+              let all : count_up_to order a x ≡ length a = count_up_to-all order x a (λ k d within. le-trans o (get_or a k d) start x (ap is_le (low k d within)) h) in
+              ap (differ (member order a x)) h
+              ∙ ap (λ m. differ m true) (ap is_odd all ∙ even)
+              ∙ differ-not_left inside true
+              ∙ ap not (differ-comm inside true)
+              ∙ not-not inside
+              ∙ sym (ap (range_table inside (member order a x)) h)
+          by_le x false h = ap (differ (member order a x)) h ∙ differ-false (member order a x) ∙ sym (ap (range_table inside (member order a x)) h)
+
+      pub settled_far : (n : ℕ) → n < length a → AllWithin (λ y. is_le (order start y) ≡ true) a n (length a) → IsSettledFrom order inside a start
+      settled_far n more from = inl (get_or a n start, Contains-get_or a n start more, from n start (omega arith) more)
+
+      pub settled_near : (n : ℕ) → n ≡ length a → AllWithin (λ y. order y start ≡ Less) a 0 n → is_odd n ≡ inside → IsSettledFrom order inside a start
+      settled_near n end before odd =
+          inr (ap is_odd (count_up_to-split order start a n (omega (arith, end)) (λ k d low high. ap is_le (before k d low high)) (λ k d low high. absurd (omega (arith, low, high, end)))) ∙ odd)
+
+    -- ranges with an end, and one without behind them
+    module _ (ranges : List K) (start : K) (even : is_odd (length ranges) ≡ false) (below : All (λ y. order y start ≡ Less) ranges) (a mid new : List K) where
+      none_from_start : (x : K) → is_le (order start x) ≡ true → member order ranges x ≡ false
+      none_from_start x h =
+          ap is_odd (count_up_to-all order x ranges (λ k d within. le-trans o (get_or ranges k d) start x (ap is_le (below k d within)) h)) ∙ even
+
+      member-with_open : (x : K) → member order (ranges ++ start ∷ []) x ≡ differ (member order ranges x) (member order (start ∷ []) x)
+      member-with_open x = ap is_odd (count_up_to-append order ranges (start ∷ []) x) ∙ is_odd-add (count_up_to order ranges x) (count_up_to order (start ∷ []) x)
+
+      not_in_both : (x : K) → member order (start ∷ []) x ≡ true → member order ranges x ≡ false
+      not_in_both x h = none_from_start x (sym (member-one o start x) ∙ h)
+
+      first_then : (was f p : Bool) → (p ≡ true → f ≡ false) → range_table inside (range_table inside was f) p ≡ range_table inside was (differ f p)
+      first_then was true true h = absurd (true≢false (h refl))
+      first_then was true false h = refl
+      first_then was false true h = refl
+      first_then was false false h = refl
+
+      last_then : (was f p : Bool) → (p ≡ true → f ≡ false) → range_table inside (range_table inside was p) f ≡ range_table inside was (differ f p)
+      last_then was true true h = absurd (true≢false (h refl))
+      last_then was true false h = refl
+      last_then was false true h = refl
+      last_then was false false h = refl
+
+      pub Means-then_open : Means order (range_table inside) mid a ranges → Means order (range_table inside) new mid (start ∷ []) → Means order (range_table inside) new a (ranges ++ start ∷ [])
+      Means-then_open first last = record {
+        sorted = last.sorted;
+        members = λ x.
+            last.members x
+            ∙ ap (λ m. range_table inside m (member order (start ∷ []) x)) (first.members x)
+            ∙ first_then (member order a x) (member order ranges x) (member order (start ∷ []) x) (not_in_both x)
+            ∙ ap (range_table inside (member order a x)) (sym (member-with_open x));
+      }
+
+      pub Means-behind_open : Means order (range_table inside) mid a (start ∷ []) → Means order (range_table inside) new mid ranges → Means order (range_table inside) new a (ranges ++ start ∷ [])
+      Means-behind_open first last = record {
+        sorted = last.sorted;
+        members = λ x.
+            last.members x
+            ∙ ap (λ m. range_table inside m (member order ranges x)) (first.members x)
+            ∙ last_then (member order a x) (member order ranges x) (member order (start ∷ []) x) (not_in_both x)
+            ∙ ap (range_table inside (member order a x)) (sym (member-with_open x));
+      }
+
+      pub settled_from_still : Means order (range_table inside) mid a ranges → AreKeptAbove order ranges a mid → IsSettledFrom order inside a start → IsSettledFrom order inside mid start
+      settled_from_still first kept (inl (y, has, high)) =
+          inl (y, kept y has (λ k d within. Less-then_le o (get_or ranges k d) start y (below k d within) high), high)
+      settled_from_still first kept (inr m) = inr (first.members start ∙ stays (member order ranges start) (member order a start) m)
+        where
+          stays : (b : Bool) (m : Bool) → m ≡ inside → range_table inside m b ≡ inside
+          stays true m is = refl
+          stays false m is = is
+
     -- ---- what is settled stays so
     module _ (a new : List K) (s e : K) (less : order s e ≡ Less) (it : IsSet order inside a s e new) where
       in_range : (x : K) → is_le (order s x) ≡ true → order x e ≡ Less → member order new x ≡ inside
@@ -224,6 +338,11 @@ module _ {K : Type 0} {order : K → K → Ordering} (o : IsTotalOrder order) wh
 
         pub AreSettled-set : (high : ℕ) → 2 * high ≤ length that → AreSettled order inside a that high → AreSettled order inside new that high
         AreSettled-set high fits all n d below = settled_after n d (omega (arith, fits, below)) (all n d below)
+
+        pub kept_more : (old : List K) → AreKeptAbove order that old a → AreKeptAbove order that old new
+        kept_more old so_far y has below =
+            All-contains (λ v. (order v (get_or that (2 * i) y) ≡ Less) ⊎ (order (get_or that (2 * i + 1) y) v ≡ Less) → Contains new v) a y (it y).kept (so_far y has below)
+            (inr (All-get_or (λ z. order z y ≡ Less) that (2 * i + 1) y within below))
 
         module _ (x : K) where
           abbrev s : K
@@ -451,6 +570,11 @@ module _ {K : Type 0} {order : K → K → Ordering} (o : IsTotalOrder order) wh
     less_from_read up before =
         subst (λ z. order s z ≡ Less) (get_or_same that k s e more_too ∙ sym e_is) (subst (λ z. order z (get_or that k s) ≡ Less) (sym s_is) (up j k s before more_too))
 
+    pub settled_read : (a : List K) → ((d : K) → IsSettled order inside a (get_or that j d) (get_or that k d)) → IsSettled order inside a s e
+    settled_read a it =
+        subst (λ z. IsSettled order inside a z e) (sym s_is)
+        (subst (λ z. IsSettled order inside a (get_or that j s) z) (get_or_same that k s e more_too ∙ sym e_is) (it s))
+
     pub IsSet-read : (a new : List K) → IsSet order inside a s e new → (d : K) → IsSet order inside a (get_or that j d) (get_or that k d) new
     IsSet-read a new it d =
         subst (λ z. IsSet order inside a z (get_or that k d) new) (s_is ∙ get_or_same that j s d more)
@@ -505,6 +629,13 @@ module _ {K : Type 0} {order : K → K → Ordering} (o : IsTotalOrder order) wh
         by_step (inl (same, _)) = ap (λ l. member order l x) same ∙ so_far x none
         by_step (inr (it, one)) = outside_still inside that that_up cur new i within (set_by_put it) x none ∙ so_far x none
 
+    pub kept_after : (old : List K) → AreKeptAbove order that old cur → AreKeptAbove order that old new
+    kept_after old so_far = by_step step
+      where
+        by_step : ((new ≡ cur) × (noted ≡ was)) ⊎ (((d : K) → IsPutBetween order inside cur (get_or that (2 * i) d) (get_or that (2 * i + 1) d) new) × (noted ≡ was ++ (2 * i) ∷ [])) → AreKeptAbove order that old new
+        by_step (inl (same, none)) = subst (λ (l : List K). AreKeptAbove order that old l) (sym same) so_far
+        by_step (inr (it, one)) = kept_more inside that that_up cur new i within (set_by_put it) old so_far
+
     pub settled_more : AreSettled order inside cur that i → ((d : K) → IsSettled order inside new (get_or that (2 * i) d) (get_or that (2 * i + 1) d)) → AreSettled order inside new that (i + 1)
     settled_more so_far now n d below =
         elim (cases_lt n i) as (λ _. IsSettled order inside new (get_or that (2 * n) d) (get_or that (2 * n + 1) d)) [
@@ -532,6 +663,17 @@ module _ {K : Type 0} {order : K → K → Ordering} (o : IsTotalOrder order) wh
     sorted_still before h =
         let last = at_last before h in
         subst (λ (l : List K). IsAscending order l) (sym (taken last.0 last.1)) last.1.sorted
+
+-- nothing is undone where a call is done
+pub nothing_undone : {E : Type 0} (r : Result (Unit {0}) E) (P : Type 0) → IsOk r → OnErr r P
+nothing_undone (Ok x) P done = tt
+nothing_undone (Err e) P done = absurd (true≢false (sym done))
+
+pub two_items : {K : Type 0} (xs : List K) (x y : K) → length xs ≡ 2 → x ≡ get_or xs 0 x → y ≡ get_or xs 1 y → xs ≡ x ∷ y ∷ []
+two_items [] x y h p q = absurd (omega (arith, h))
+two_items (a ∷ []) x y h p q = absurd (omega (arith, h))
+two_items (a ∷ b ∷ []) x y h p q = ap₂ (λ c d. c ∷ d ∷ []) (sym p) (sym q)
+two_items (a ∷ b ∷ c ∷ l) x y h p q = absurd (omega (arith, h))
 
 pub Greater-from_not_le : (r : Ordering) → is_le r ≡ false → r ≡ Greater
 Greater-from_not_le Less h = absurd (true≢false h)

@@ -1,9 +1,11 @@
 -- Several ranges set one by one in a list of boundaries; contracts of private functions use these words.
 --     IsGap order inside items start end n        the range makes the list longer: place n is where it goes
 --     IsSettled order inside items start end      the range makes the list no longer
---     AreSettled order inside items that          none of these ranges does
+--     IsSettledFrom order inside items start      the range from the start on makes the list no longer
+--     AreSettled order inside items that high     none of the first ranges of a list does
 --     IsPutBetween order inside items start end new   it was put there
 --     IsSet order inside items start end new      the range was set, and what lies outside of it stays
+--     AreKeptAbove order that items new           boundaries above all of the other list's stay
 --     IsPutAt order that at items new             both ends of the range at an index were put at one place
 --     ArePutIn order that before indices items    so were those at some indices, the first index last
 use Rattle.std.specs.Prelude.{◌≡◌, ◌⊎◌, ℕ, ◌+◌, ◌*◌, ◌≤◌, ◌<◌, Bool, true, not, All, Contains, Some, List, [], ◌∷◌, length, get_or}
@@ -31,6 +33,12 @@ module _ {K : Type 0} (order : K → K → Ordering) (inside : Bool) where
       ((y : K) × Contains items y × (is_le (order start y) ≡ true) × (is_le (order y end) ≡ true))
       ⊎ (member order items start ≡ inside)
 
+  -- a boundary is the start or lies above it; or the start is a member already, or is none where
+  -- `inside` is false
+  abbrev pub IsSettledFrom : List K → K → Type 0
+  IsSettledFrom items start =
+      ((y : K) × Contains items y × (is_le (order start y) ≡ true)) ⊎ (member order items start ≡ inside)
+
   -- that is so of the ranges before an index
   abbrev pub AreSettled : List K → List K → ℕ → Type 0
   AreSettled items that high =
@@ -49,6 +57,11 @@ module _ {K : Type 0} (order : K → K → Ordering) (inside : Bool) where
     pub kept : All (λ y. (order y start ≡ Less) ⊎ (order end y ≡ Less) → Contains new y) items
 
 module _ {K : Type 0} (order : K → K → Ordering) (that : List K) where
+  -- boundaries above all of the other list's stay
+  abbrev pub AreKeptAbove : List K → List K → Type 0
+  AreKeptAbove items new =
+      (y : K) → Contains items y → All (λ z. order z y ≡ Less) that → Contains new y
+
   -- both ends of the range at an index were put at one place of the items
   pub record IsPutAt (at : ℕ) (items new : List K) : Type 0 where
     pub place : ℕ

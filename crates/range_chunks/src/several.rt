@@ -2,22 +2,106 @@
 //!
 //! Only a range that makes the list longer takes memory. Such ranges are put first. If memory runs out
 //! they are taken out again, which takes none, and neither do the other ranges.
-ghost use Rattle.std.specs.Prelude.{◌≡◌, ◌≤◌, ◌+◌, ◌*◌, ◌<◌, ◌∷◌, ◌++◌, ◌/◌, ◌⊎◌, [], true, false, List, get_or, length, reverse, OnOk, OnErr, IfSome, IfNone, HoldsAt};
+ghost use Rattle.std.specs.Prelude.{◌≡◌, ◌≤◌, ◌+◌, ◌*◌, ◌<◌, ◌∷◌, ◌++◌, ◌/◌, ◌⊎◌, [], true, false, not, All, List, get_or, length, reverse, OnOk, OnErr, IfSome, IfNone, HoldsAt};
 ghost use Rattle.std.specs.declared.cmp.Ordering.TheVariants.{Less};
 ghost use Rattle.range_merge.specs.Boundaries.{IsAscending, is_odd as odd, member};
 ghost use Rattle.range_merge.specs.Connective.{Means};
 ghost use Rattle.range_collections.specs.Splicing.{range_table, spliced};
 ghost use Rattle.range_list.specs.Lists.{joined, place_at, IsPlaceAt};
-ghost use Rattle.range_chunks.specs.Several.{IsGap, IsSettled, AreSettled, IsPutBetween, IsSet, IsPutAt, ArePutIn};
+ghost use Rattle.range_chunks.specs.Several.{IsGap, IsSettled, IsSettledFrom, AreKeptAbove, AreSettled, IsPutBetween, IsPutAt, ArePutIn};
 
-use crate::cutting::{cut_at, splice};
+use crate::cutting::{set_between, splice};
+use crate::to_the_end::set_from;
 use range_collections::Comparisons;
 use range_list::{Chunks, Itself, Place};
 use std::alloc::AllocError;
 
-/// Leaves the boundaries of the same members, but that the members of `that`, whose ranges have an end,
-/// are members where `inside` is true, and else no members. If memory runs out, the list is as it was.
-pub fn set_ranges<T: Ord + Copy>(
+/// Leaves the boundaries of the same members, but that the members of `that` are members where `inside`
+/// is true, and else no members. If memory runs out, the list is as it was.
+pub fn set_all<T: Ord + Copy>(
+    list: &mut Chunks<T, bool>,
+    that: &[T],
+    inside: bool,
+) -> Result<(), AllocError>
+    requires sorted { IsAscending T.cmp (joined list.old) }
+    requires that_sorted { IsAscending T.cmp that.now }
+    ensures sorted { IsAscending T.cmp (joined list.new) }
+    ensures means { OnOk result (Means T.cmp (range_table inside) (joined list.new)
+        (joined list.old) that.now) }
+    ensures unchanged { OnErr result (joined list.new ≡ joined list.old) }
+{
+    if that.len() == 2 {
+        return set_between(list, that[0], that[1], inside, &mut Comparisons::new());
+    }
+    let (ranges, open) = that.split_at(that.len() / 2 * 2);
+    match open.first() {
+        Some(start) => set_with_open(list, ranges, *start, inside),
+        None => set_ranges(list, ranges, inside),
+    }
+}
+
+// The same for ranges with an end and one without.
+fn set_with_open<T: Ord + Copy>(
+    list: &mut Chunks<T, bool>,
+    ranges: &[T],
+    start: T,
+    inside: bool,
+) -> Result<(), AllocError>
+    requires sorted { IsAscending T.cmp (joined list.old) }
+    requires ranges_sorted { IsAscending T.cmp ranges.now }
+    requires even { odd (length ranges.now) ≡ false }
+    requires below { All (λ y. T.cmp y start ≡ Less) ranges.now }
+    ensures sorted { IsAscending T.cmp (joined list.new) }
+    ensures means { OnOk result (Means T.cmp (range_table inside) (joined list.new)
+        (joined list.old) (ranges.now ++ start ∷ [])) }
+    ensures unchanged { OnErr result (joined list.new ≡ joined list.old) }
+{
+    if is_longer_from(list, &start, inside) {
+        return set_behind_open(list, ranges, start, inside);
+    }
+    set_ranges(list, ranges, inside)?;
+    set_from(list, start, inside, &mut Comparisons::new())
+}
+
+// The same where the range without an end makes the list longer: it is put first.
+fn set_behind_open<T: Ord + Copy>(
+    list: &mut Chunks<T, bool>,
+    ranges: &[T],
+    start: T,
+    inside: bool,
+) -> Result<(), AllocError>
+    requires sorted { IsAscending T.cmp (joined list.old) }
+    requires ranges_sorted { IsAscending T.cmp ranges.now }
+    requires even { odd (length ranges.now) ≡ false }
+    requires below { All (λ y. T.cmp y start ≡ Less) ranges.now }
+    requires all_below { All (λ y. T.cmp y start ≡ Less) (joined list.old) }
+    requires longer { odd (length (joined list.old)) ≡ not inside }
+    ensures sorted { IsAscending T.cmp (joined list.new) }
+    ensures means { OnOk result (Means T.cmp (range_table inside) (joined list.new)
+        (joined list.old) (ranges.now ++ start ∷ [])) }
+    ensures unchanged { OnErr result (joined list.new ≡ joined list.old) }
+{
+    list.push(start)?;
+    if let Err(error) = set_ranges(list, ranges, inside) {
+        list.truncate(list.place_before(list.end()));
+        return Err(error);
+    }
+    Ok(())
+}
+
+// Whether the range from the start on makes the list longer.
+fn is_longer_from<T: Ord>(list: &Chunks<T, bool>, start: &T, inside: bool) -> bool
+    requires sorted { IsAscending T.cmp (joined list.now) }
+    ensures all_below { result ≡ true → All (λ y. T.cmp y start.now ≡ Less) (joined list.now) }
+    ensures longer { result ≡ true → odd (length (joined list.now)) ≡ not inside }
+    ensures settled { result ≡ false → IsSettledFrom T.cmp inside (joined list.now) start.now }
+{
+    let at = list.place_below(&Itself, start, &mut Comparisons::new());
+    !list.is_before(at, list.end()) && list.mark_at(at) != inside
+}
+
+// The same as `set_all` for ranges with an end.
+fn set_ranges<T: Ord + Copy>(
     list: &mut Chunks<T, bool>,
     that: &[T],
     inside: bool,
@@ -28,6 +112,7 @@ pub fn set_ranges<T: Ord + Copy>(
     ensures sorted { IsAscending T.cmp (joined list.new) }
     ensures means { OnOk result (Means T.cmp (range_table inside) (joined list.new)
         (joined list.old) that.now) }
+    ensures kept { OnOk result (AreKeptAbove T.cmp that.now (joined list.old) (joined list.new)) }
     ensures unchanged { OnErr result (joined list.new ≡ joined list.old) }
 {
     let mut put = Vec::new(list.allocator());
@@ -54,6 +139,7 @@ fn put_longer<T: Ord + Copy>(
         (joined list.new) }
     ensures outside { (x : T) → member T.cmp that.now x ≡ false →
         member T.cmp (joined list.new) x ≡ member T.cmp (joined list.old) x }
+    ensures kept { AreKeptAbove T.cmp that.now (joined list.old) (joined list.new) }
     ensures settled { OnOk result (AreSettled T.cmp inside (joined list.new) that.now
         (length that.now / 2)) }
 {
@@ -144,21 +230,11 @@ fn settle<T: Ord + Copy>(list: &mut Chunks<T, bool>, that: &[T], inside: bool)
     requires that_sorted { IsAscending T.cmp that.now }
     requires even { odd (length that.now) ≡ false }
     requires settled { AreSettled T.cmp inside (joined list.old) that.now (length that.now / 2) }
-    ensures { Means T.cmp (range_table inside) (joined list.new) (joined list.old) that.now }
+    ensures means { Means T.cmp (range_table inside) (joined list.new) (joined list.old) that.now }
+    ensures kept { AreKeptAbove T.cmp that.now (joined list.old) (joined list.new) }
 {
     for i in 0..that.len() / 2 {
-        settle_range(list, that[2 * i], that[2 * i + 1], inside);
+        let (start, end) = (that[2 * i], that[2 * i + 1]);
+        let _set = set_between(list, start, end, inside, &mut Comparisons::new());
     }
-}
-
-// Sets a range that makes the list no longer.
-fn settle_range<T: Ord + Copy>(list: &mut Chunks<T, bool>, start: T, end: T, inside: bool)
-    requires sorted { IsAscending T.cmp (joined list.old) }
-    requires less { T.cmp start end ≡ Less }
-    requires settled { IsSettled T.cmp inside (joined list.old) start end }
-    ensures { IsSet T.cmp inside (joined list.old) start end (joined list.new) }
-{
-    let (from, start) = cut_at(list, start, inside, &mut Comparisons::new());
-    let (to, end) = cut_at(list, end, inside, &mut Comparisons::new());
-    let _set = splice(list, from, to, start, end);
 }

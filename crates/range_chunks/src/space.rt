@@ -1,7 +1,7 @@
 //! A set whose gaps are searched again and again: it remembers how long they are at most.
-ghost use Rattle.std.specs.Prelude.{◌≡◌, ◌&&◌, ◌||◌, ◌∷◌, [], not, false, length, OnOk, OnErr};
+ghost use Rattle.std.specs.Prelude.{◌≡◌, ◌&&◌, ◌||◌, ◌∷◌, [], not, false, OnOk, OnErr};
 ghost use Rattle.std.specs.Ordering.{is_le, is_lt};
-ghost use Rattle.range_merge.specs.Boundaries.{is_odd as odd, member};
+ghost use Rattle.range_merge.specs.Boundaries.{member};
 ghost use Rattle.range_merge.specs.Connective.{Means, union_table, difference_table};
 ghost use Rattle.range_collections.specs.Insertion.{IsChangedByRange};
 ghost use Rattle.range_collections.specs.Ranges.{range_items};
@@ -148,7 +148,6 @@ impl<T: Countable + Copy> ChunkedSpace<T> {
 
     /// Takes the members of `that`, as `ChunkedRangeSet::insert_all`.
     pub fn insert_all(&mut self, that: RangeSetRef<T>) -> Result<(), AllocError>
-        requires ended { odd (length that.boundaries.now) ≡ false }
         ensures means { OnOk result (Means T.cmp union_table
             self.new self.old that.entry.boundaries.now) }
         ensures members { OnOk result ((x : T) → member T.cmp self.new x ≡
@@ -159,15 +158,18 @@ impl<T: Countable + Copy> ChunkedSpace<T> {
     }
 
     /// Frees the members of `that`, as `ChunkedRangeSet::remove_all`. It forgets all that is remembered
-    /// of gaps, if they are more than one range.
+    /// of gaps, unless `that` is one range with an end.
     pub fn remove_all(&mut self, that: RangeSetRef<T>) -> Result<(), AllocError>
-        requires ended { odd (length that.boundaries.now) ≡ false }
         ensures means { OnOk result (Means T.cmp difference_table
             self.new self.old that.entry.boundaries.now) }
         ensures members { OnOk result ((x : T) → member T.cmp self.new x ≡
             (member T.cmp self.old x && not (member T.cmp that.entry.boundaries.now x))) }
         ensures unchanged { OnErr result (self.new ≡ self.old) }
     {
+        let boundaries = that.boundaries();
+        if boundaries.len() == 2 {
+            return self.remove(boundaries[0]..boundaries[1]);
+        }
         self.bounds.clear();
         self.taken.remove_all(that)
     }

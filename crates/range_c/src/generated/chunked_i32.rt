@@ -6,7 +6,7 @@ ghost use Rattle.std.specs.Int.{w32};
 ghost use Rattle.std.specs.Ordering.{int_cmp, is_le, is_lt};
 ghost use Rattle.range_collections.specs.Countable.{signed_place, signed_value};
 ghost use Rattle.range_collections.specs.Fits.{IsMultiple, IsRow};
-ghost use Rattle.range_collections.specs.Boundaries.{IsAscending, is_odd, member};
+ghost use Rattle.range_collections.specs.Boundaries.{IsAscending, member};
 ghost use Rattle.range_collections.specs.Connective.{Means, union_table, difference_table};
 ghost use Rattle.range_collections.specs.Covered.{covered_of, members_below};
 ghost use Rattle.range_collections.specs.Extent.{HasAllWithin};
@@ -241,7 +241,7 @@ pub extern "C" fn proved_range_set_i32_chunked_remove_from(
     done
 }
 
-/// Puts the members of a list in, all of whose ranges have an end, and answers whether there was memory for it. If there was none, the set is as it was.
+/// Puts the members of a list in, and answers whether there was memory for it. If there was none, the set is as it was.
 #[unsafe(no_mangle)]
 pub extern "C" fn proved_range_set_i32_chunked_insert_all(
     set: &mut ChunkedI32,
@@ -250,7 +250,6 @@ pub extern "C" fn proved_range_set_i32_chunked_insert_all(
 ) -> bool
     requires some { IsSome set.old.set }
     requires sorted { IsAscending int_cmp b.now }
-    requires ended { is_odd (length b.now) ≡ false }
     ensures means { OnOk (outcome result) (Means int_cmp union_table
         (held set.new.set) (held set.old.set) b.now) }
     ensures unchanged { OnErr (outcome result) (held set.new.set ≡ held set.old.set) }
@@ -262,7 +261,7 @@ pub extern "C" fn proved_range_set_i32_chunked_insert_all(
     done
 }
 
-/// Takes the members of a list out, all of whose ranges have an end, and answers whether there was memory for it. If there was none, the set is as it was.
+/// Takes the members of a list out, and answers whether there was memory for it. If there was none, the set is as it was.
 #[unsafe(no_mangle)]
 pub extern "C" fn proved_range_set_i32_chunked_remove_all(
     set: &mut ChunkedI32,
@@ -271,7 +270,6 @@ pub extern "C" fn proved_range_set_i32_chunked_remove_all(
 ) -> bool
     requires some { IsSome set.old.set }
     requires sorted { IsAscending int_cmp b.now }
-    requires ended { is_odd (length b.now) ≡ false }
     ensures means { OnOk (outcome result) (Means int_cmp difference_table
         (held set.new.set) (held set.old.set) b.now) }
     ensures unchanged { OnErr (outcome result) (held set.new.set ≡ held set.old.set) }

@@ -4,26 +4,77 @@
 //! Only a range that makes the list longer takes memory. Such ranges are put first. If memory runs out
 //! they are taken out again, which takes none, and neither do the other ranges.
 
-use crate::generated::range_chunks::cutting::{cut_at, splice};
+use crate::generated::range_chunks::cutting::{set_between, splice};
+use crate::generated::range_chunks::to_the_end::set_from;
 use crate::generated::range_collections::Comparisons;
 use crate::generated::range_list::{Chunks, Itself, Place};
 use crate::support::{AllocError, Vec};
 
-/// Leaves the boundaries of the same members, but that the members of `that`, whose ranges have an end,
-/// are members where `inside` is true, and else no members. If memory runs out, the list is as it was.
+/// Leaves the boundaries of the same members, but that the members of `that` are members where `inside`
+/// is true, and else no members. If memory runs out, the list is as it was.
 ///
 /// # Contract
 ///
 /// ```text
 /// requires sorted: IsAscending T.cmp (joined list.old)
 /// requires that_sorted: IsAscending T.cmp that.now
-/// requires even: odd (length that.now) ≡ false
 /// ensures sorted: IsAscending T.cmp (joined list.new)
 /// ensures means: OnOk result (Means T.cmp (range_table inside) (joined list.new) (joined
 ///     list.old) that.now)
 /// ensures unchanged: OnErr result (joined list.new ≡ joined list.old)
 /// ```
-pub(crate) fn set_ranges<T: Ord + Copy>(
+pub(crate) fn set_all<T: Ord + Copy>(
+    list: &mut Chunks<T, bool>,
+    that: &[T],
+    inside: bool,
+) -> Result<(), AllocError> {
+    if that.len() == 2 {
+        return set_between(list, that[0], that[1], inside, &mut Comparisons::new());
+    }
+    let (ranges, open) = that.split_at(that.len() / 2 * 2);
+    match open.first() {
+        Some(start) => set_with_open(list, ranges, *start, inside),
+        None => set_ranges(list, ranges, inside),
+    }
+}
+
+// The same for ranges with an end and one without.
+fn set_with_open<T: Ord + Copy>(
+    list: &mut Chunks<T, bool>,
+    ranges: &[T],
+    start: T,
+    inside: bool,
+) -> Result<(), AllocError> {
+    if is_longer_from(list, &start, inside) {
+        return set_behind_open(list, ranges, start, inside);
+    }
+    set_ranges(list, ranges, inside)?;
+    set_from(list, start, inside, &mut Comparisons::new())
+}
+
+// The same where the range without an end makes the list longer: it is put first.
+fn set_behind_open<T: Ord + Copy>(
+    list: &mut Chunks<T, bool>,
+    ranges: &[T],
+    start: T,
+    inside: bool,
+) -> Result<(), AllocError> {
+    list.push(start)?;
+    if let Err(error) = set_ranges(list, ranges, inside) {
+        list.truncate(list.place_before(list.end()));
+        return Err(error);
+    }
+    Ok(())
+}
+
+// Whether the range from the start on makes the list longer.
+fn is_longer_from<T: Ord>(list: &Chunks<T, bool>, start: &T, inside: bool) -> bool {
+    let at = list.place_below(&Itself, start, &mut Comparisons::new());
+    !list.is_before(at, list.end()) && list.mark_at(at) != inside
+}
+
+// The same as `set_all` for ranges with an end.
+fn set_ranges<T: Ord + Copy>(
     list: &mut Chunks<T, bool>,
     that: &[T],
     inside: bool,
@@ -102,13 +153,7 @@ fn take_out_at<T: Ord>(list: &mut Chunks<T, bool>, that: &[T], at: usize) {
 // Sets ranges that make the list no longer, which takes no memory.
 fn settle<T: Ord + Copy>(list: &mut Chunks<T, bool>, that: &[T], inside: bool) {
     for i in 0..that.len() / 2 {
-        settle_range(list, that[2 * i], that[2 * i + 1], inside);
+        let (start, end) = (that[2 * i], that[2 * i + 1]);
+        let _set = set_between(list, start, end, inside, &mut Comparisons::new());
     }
-}
-
-// Sets a range that makes the list no longer.
-fn settle_range<T: Ord + Copy>(list: &mut Chunks<T, bool>, start: T, end: T, inside: bool) {
-    let (from, start) = cut_at(list, start, inside, &mut Comparisons::new());
-    let (to, end) = cut_at(list, end, inside, &mut Comparisons::new());
-    let _set = splice(list, from, to, start, end);
 }

@@ -149,31 +149,33 @@ impl<T: Countable + Copy> ChunkedSpace<T> {
     /// # Contract
     ///
     /// ```text
-    /// requires ended: odd (length that.boundaries.now) ≡ false
     /// ensures means: OnOk result (Means T.cmp union_table self.new self.old
     ///     that.entry.boundaries.now)
     /// ensures members: OnOk result ((x : T) → member T.cmp self.new x ≡ (member T.cmp self.old x
     ///     || member T.cmp that.entry.boundaries.now x))
     /// ensures unchanged: OnErr result (self.new ≡ self.old)
     /// ```
-    pub(crate) fn insert_all(&mut self, that: RangeSetRef<T>) -> Result<(), AllocError> {
+    pub fn insert_all(&mut self, that: RangeSetRef<T>) -> Result<(), AllocError> {
         self.taken.insert_all(that)
     }
 
     /// Frees the members of `that`, as `ChunkedRangeSet::remove_all`. It forgets all that is remembered
-    /// of gaps, if they are more than one range.
+    /// of gaps, unless `that` is one range with an end.
     ///
     /// # Contract
     ///
     /// ```text
-    /// requires ended: odd (length that.boundaries.now) ≡ false
     /// ensures means: OnOk result (Means T.cmp difference_table self.new self.old
     ///     that.entry.boundaries.now)
     /// ensures members: OnOk result ((x : T) → member T.cmp self.new x ≡ (member T.cmp self.old x
     ///     && not (member T.cmp that.entry.boundaries.now x)))
     /// ensures unchanged: OnErr result (self.new ≡ self.old)
     /// ```
-    pub(crate) fn remove_all(&mut self, that: RangeSetRef<T>) -> Result<(), AllocError> {
+    pub fn remove_all(&mut self, that: RangeSetRef<T>) -> Result<(), AllocError> {
+        let boundaries = that.boundaries();
+        if boundaries.len() == 2 {
+            return self.remove(boundaries[0]..boundaries[1]);
+        }
         self.bounds.clear();
         self.taken.remove_all(that)
     }

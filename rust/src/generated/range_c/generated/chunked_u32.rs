@@ -161,7 +161,7 @@ pub unsafe extern "C" fn plain_range_set_u32_chunked_remove_from(
     done
 }
 
-/// Puts the members of a list in, all of whose ranges have an end, and answers whether there was memory for it. If there was none, the set is as it was.
+/// Puts the members of a list in, and answers whether there was memory for it. If there was none, the set is as it was.
 #[no_mangle]
 pub unsafe extern "C" fn plain_range_set_u32_chunked_insert_all(
     set: &mut ChunkedU32,
@@ -176,7 +176,7 @@ pub unsafe extern "C" fn plain_range_set_u32_chunked_insert_all(
     done
 }
 
-/// Takes the members of a list out, all of whose ranges have an end, and answers whether there was memory for it. If there was none, the set is as it was.
+/// Takes the members of a list out, and answers whether there was memory for it. If there was none, the set is as it was.
 #[no_mangle]
 pub unsafe extern "C" fn plain_range_set_u32_chunked_remove_all(
     set: &mut ChunkedU32,
