@@ -120,7 +120,8 @@ range_set_status NAME(chunked_gaps)(CHUNKED set, NUMBER start, NUMBER end, NUMBE
     return NAME(write_result)(len, out, room, result);
 }
 
-/* By a list of both, beside one of the set, but for a union with few ranges or the difference from them: these change the set where they lie. */
+/* A union with few ranges, or the difference from them, changes the set where these lie. Else it is by a list of both, beside one of the
+ * set. */
 range_set_status NAME(chunked_combine)(CHUNKED *set, SET other, unsigned keep)
 {
     size_t other_len = other.boundaries ? other.len : 0, len, room;

@@ -365,7 +365,7 @@ HELD = [
     Mutant("gaps in chunks take any buffer", SETS,
            f"    if (!is_array(out, room, sizeof *out) || !NAME(is_result)(result, out, room)) {BAD}    if (start < end && !", "    if (start < end && !"),
     Mutant("a difference from few ranges is a union", SETS, "done = keep == RANGE_SET_UNION ? EXPORT(chunked_insert_all)", "done = keep != 0 ? EXPORT(chunked_insert_all)"),
-    Mutant("one range without an end has one", SETS, "    if (range.len == 1) return inserts", "    if (range.len == 3) return inserts"),
+    Mutant("few ranges are taken out by each connective", SETS, " && (keep == RANGE_SET_UNION || keep == RANGE_SET_DIFFERENCE)) {", ") {"),
     Mutant("contains_each takes any array", SETS,
            "    if (!is_array(values, count, sizeof *values) || !is_array(found, count, sizeof *found)\n        || overlap(found", "    if (overlap(found"),
     Mutant("contains_each answers in its values", SETS, "        || overlap(found, size, values, count * sizeof *values)\n", ""),

@@ -4,6 +4,7 @@
 #include "test_questions.h"
 #include "test_texts.h"
 #include "test_chunked.h"
+#include "test_combined.h"
 #include "test_owned.h"
 #include "test_arguments.h"
 

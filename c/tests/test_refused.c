@@ -206,7 +206,7 @@ enum { MANY = 1500 };
             left = -1; \
             check(range_set_##number##_chunked_copy(set, copy, ROOM, &result) == RANGE_SET_DONE, "few ranges: copy"); \
             if (status == RANGE_SET_DONE) break; \
-            check(status == RANGE_SET_NO_MEMORY && range_set_##number##_equal(result, view), "few ranges: what is refused changes the set"); \
+            check(status == RANGE_SET_NO_MEMORY && range_set_##number##_equal(result, view), "few ranges: what is refused"); \
         } \
         check(k > 3, "few ranges take some requests"); \
         check(range_set_##number##_equal(result, made), "few ranges: the set"); \

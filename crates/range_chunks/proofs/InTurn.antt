@@ -1,5 +1,5 @@
 -- Several ranges set one by one in a list of boundaries.
-use Rattle.std.proofs.Common.{zero, suc, ◌*◌, ◌≡◌, ◌≢◌, refl, sym, ap, ap₂, ◌∙◌, subst, ⊎_elim, ℕ, inl, inr, ◌⊎◌, ◌<◌, ◌≤◌, ◌+◌, ◌-◌, ◌%◌, ◌/◌, ◌==◌, Option, Some, None, Bool, true, false, not, cond, ◌&&◌, List, [], ◌∷◌, ◌++◌, length, take, drop, get_or, arith, All, Contains, true≢false, append_assoc, length-append, reverse, Result, Ok, Err, OnOk, OnErr, IsOk}
+use Rattle.std.proofs.Common.{zero, suc, ◌*◌, ◌≡◌, ◌≢◌, refl, sym, ap, ap₂, ◌∙◌, subst, ⊎_elim, ℕ, inl, inr, ◌⊎◌, ◌<◌, ◌≤◌, ◌+◌, ◌-◌, ◌%◌, ◌==◌, Option, Some, None, Bool, true, false, not, ◌&&◌, List, [], ◌∷◌, ◌++◌, length, take, drop, get_or, arith, All, Contains, true≢false, append_assoc, Result, Ok, Err, OnOk, OnErr, IsOk}
 use Rattle.std.specs.List.{HoldsAt, AllWithin}
 use Rattle.std.specs.Option.{option_to_list}
 use Rattle.std.specs.Cmp.{IsTotalOrder}
@@ -8,27 +8,25 @@ use Rattle.std.specs.declared.cmp.Ordering.{Ordering}
 use Rattle.std.specs.declared.cmp.Ordering.TheVariants.{Less, Equal, Greater}
 use Rattle.std.proofs.lemmas.Bool.{cases_lt}
 use Rattle.std.proofs.lemmas.Cmp.{tied_back}
-use Rattle.std.proofs.lemmas.List.{length-take-le, length-drop, get_or-take, get_or-drop, get_or_at, take_more, take-append-drop, reverse-append}
-use Rattle.std.proofs.Math.Seq.{take-append_seam}
-use Rattle.range_list.proofs.Flat.{drop-add}
-use Rattle.std.proofs.lemmas.List.Elements.{All-nil, All-cons, All-head, All-get_or, All-weaker, All-contains, All-contains_itself, Contains-append_left, Contains-append_right, Contains-get_or}
+use Rattle.std.proofs.lemmas.List.{length-take-le, length-drop, get_or-take, get_or-drop, take_more}
+use Rattle.std.proofs.lemmas.List.Elements.{All-head, All-get_or, All-weaker, All-contains, All-contains_itself, Contains-append_left, Contains-append_right, Contains-get_or}
 use Rattle.range_merge.specs.Boundaries.{IsAscending, count_up_to, is_odd, member}
 use Rattle.range_merge.specs.Connective.{Means, differ}
 use Rattle.range_merge.proofs.Members.{by_Ordering}
 use Rattle.range_merge.proofs.Orders.{Greater-from_less, Less-from_equal, Less-from_greater, Less-trans, Equal-self}
-use Rattle.range_merge.proofs.Parity.{differ-comm, differ-false, differ-not_left, is_odd-add, is_odd-suc}
+use Rattle.range_merge.proofs.Parity.{is_odd-add, is_odd-suc}
 use Rattle.range_collections.specs.Splicing.{IsCut, range_table, spliced}
 use Rattle.range_collections.proofs.CountUpTo.{count_up_to-split}
-use Rattle.range_collections.proofs.Insertion.{cuts_ordered, IsAscending-append, IsAscending-spliced, IsCut-put, Means-spliced}
+use Rattle.range_collections.proofs.Insertion.{cuts_ordered, IsCut-put, Means-spliced}
 use Rattle.range_collections.proofs.ManyRanges.{range_is}
 use Rattle.range_collections.proofs.Points.{member-odd}
-use Rattle.range_collections.proofs.Shortest.{count_up_to-all, count_up_to-append, is_le-cases, le-from_greater, le-trans, Less-from_le, Less-then_le}
-use Rattle.range_collections.proofs.Values.{IsAscending-one, member-one, member-two, not-not}
-use Rattle.range_chunks.specs.Several.{AreKeptAbove, IsGap, IsSettled, IsSettledFrom, AreSettled, IsPutBetween, IsSet, IsPutAt, ArePutIn}
+use Rattle.range_collections.proofs.Shortest.{count_up_to-all, count_up_to-append, le-from_greater, le-trans, Less-from_le, Less-then_le}
+use Rattle.range_collections.proofs.Values.{member-two, not-not}
+use Rattle.range_chunks.specs.Several.{AreKeptAbove, IsGap, IsSettled, AreSettled, IsSet}
 use Rattle.range_chunks.proofs.Changed.{same_rest}
 use Rattle.range_chunks.proofs.Measured.{length-spliced}
 
-other_than_itself : (b : Bool) → not b ≡ b → ⊥
+pub other_than_itself : (b : Bool) → not b ≡ b → ⊥
 other_than_itself true h = true≢false (sym h)
 other_than_itself false h = true≢false h
 
@@ -46,16 +44,16 @@ pub what_is_done : {E : Type 0} (r : Result (Unit {0}) E) (P : Type 0) → OnOk 
 what_is_done (Ok x) P h done = h
 what_is_done (Err e) P h done = absurd (true≢false (sym done))
 
-get_or_same : {K : Type 0} (xs : List K) (i : ℕ) (d c : K) → i < length xs → get_or xs i d ≡ get_or xs i c
+pub get_or_same : {K : Type 0} (xs : List K) (i : ℕ) (d c : K) → i < length xs → get_or xs i d ≡ get_or xs i c
 get_or_same [] i d c within = absurd (omega (arith, within))
 get_or_same (x ∷ xs) zero d c within = refl
 get_or_same (x ∷ xs) (suc i) d c within = get_or_same xs i d c (omega (arith, within))
 
 module _ {K : Type 0} {order : K → K → Ordering} (o : IsTotalOrder order) where
-  not_both : (x y : K) → order x y ≡ Less → is_le (order y x) ≡ true → ⊥
+  pub not_both : (x y : K) → order x y ≡ Less → is_le (order y x) ≡ true → ⊥
   not_both x y l h = true≢false (sym h ∙ ap is_le (Greater-from_less o x y l))
 
-  Equal-both : (x y : K) → is_le (order x y) ≡ true → is_le (order y x) ≡ true → order x y ≡ Equal
+  pub Equal-both : (x y : K) → is_le (order x y) ≡ true → is_le (order y x) ≡ true → order x y ≡ Equal
   Equal-both x y h k =
       by_Ordering (order x y) (λ l. absurd (not_both x y l k)) (λ e. e) (λ g. absurd (true≢false (sym h ∙ ap is_le g)))
 
@@ -170,120 +168,6 @@ module _ {K : Type 0} {order : K → K → Ordering} (o : IsTotalOrder order) wh
                     let same : from ≡ to = omega (arith, none, ordered) in
                     absurd (unsettled same x y i j settled)
               ]
-
-    -- ---- a range without an end
-    module _ (a : List K) (start : K) (n : ℕ) (ps : Option K) (p : IsCut order inside a start n ps) where
-      put_is_new : (x : K) → ps ≡ Some x → All (λ y. order y start ≢ Equal) a
-      put_is_new x is =
-          let put : All (λ z. (z ≡ start) × All (λ y. order y start ≢ Equal) a) (x ∷ []) = subst (λ (z : Option K). All (λ z. (z ≡ start) × All (λ y. order y start ≢ Equal) a) (option_to_list z)) is p.is_put in
-          (All-head (λ z. (z ≡ start) × All (λ y. order y start ≢ Equal) a) x [] put).1
-
-      not_at_end : n ≡ length a → (x : K) → ps ≡ Some x → IsSettledFrom order inside a start → ⊥
-      not_at_end end x ps_is (inl (y, (k, within, is), high)) =
-          let low : is_le (order y start) ≡ true = subst (λ v. is_le (order v start) ≡ true) is (p.before k y (omega arith) (omega (arith, within, end))) in
-          All-contains (λ y. order y start ≢ Equal) a y (put_is_new x ps_is) (k, within, is) (Equal-both y start low high)
-      not_at_end end x ps_is (inr is_member) =
-          let counted : count_up_to order a start ≡ n = count_up_to-split order start a n p.within p.before (λ k d low high. absurd (omega (arith, low, high, end))) in
-          let one : n + length (option_to_list ps) ≡ suc n = omega (arith, ap (λ (z : Option K). length (option_to_list z)) ps_is) in
-          other_than_itself (is_odd n) (sym (is_odd-suc n) ∙ sym (ap is_odd one) ∙ p.parity ∙ sym is_member ∙ ap is_odd counted)
-
-      pub no_longer_from : IsSettledFrom order inside a start → n + length (option_to_list ps) ≤ length a
-      no_longer_from settled = by_put ps refl
-        where
-          by_put : (x : Option K) → ps ≡ x → n + length (option_to_list ps) ≤ length a
-          by_put None is = omega (arith, p.within, ap (λ (z : Option K). length (option_to_list z)) is)
-          by_put (Some x) is =
-              elim (cases_lt n (length a)) as (λ _. n + length (option_to_list ps) ≤ length a) [
-                | inl less ↦ omega (arith, less, ap (λ (z : Option K). length (option_to_list z)) is)
-                | inr more ↦
-                    let end : n ≡ length a = omega (arith, more, p.within) in
-                    absurd (not_at_end end x is settled)
-              ]
-
-    module _ (a : List K) (start : K) where
-      pub pushed : IsAscending order a → All (λ y. order y start ≡ Less) a → is_odd (length a) ≡ not inside → Means order (range_table inside) (a ++ start ∷ []) a (start ∷ [])
-      pushed up low even = record {
-        sorted =
-            IsAscending-append o a (start ∷ []) up (IsAscending-one o start)
-            (λ k d within. All-cons (λ y. order (get_or a k d) y ≡ Less) start [] (low k d within) (All-nil (λ y. order (get_or a k d) y ≡ Less)));
-        members = λ x.
-            ap is_odd (count_up_to-append order a (start ∷ []) x)
-            ∙ is_odd-add (count_up_to order a x) (count_up_to order (start ∷ []) x)
-            ∙ ap (differ (member order a x)) (member-one o start x)
-            ∙ by_le x (is_le (order start x)) refl
-            ∙ ap (range_table inside (member order a x)) (sym (member-one o start x));
-      }
-        where
-          by_le : (x : K) (b : Bool) → is_le (order start x) ≡ b → differ (member order a x) (is_le (order start x)) ≡ range_table inside (member order a x) (is_le (order start x))
-          by_le x true h =
-              let all : count_up_to order a x ≡ length a = count_up_to-all order x a (λ k d within. le-trans o (get_or a k d) start x (ap is_le (low k d within)) h) in
-              ap (differ (member order a x)) h
-              ∙ ap (λ m. differ m true) (ap is_odd all ∙ even)
-              ∙ differ-not_left inside true
-              ∙ ap not (differ-comm inside true)
-              ∙ not-not inside
-              ∙ sym (ap (range_table inside (member order a x)) h)
-          by_le x false h = ap (differ (member order a x)) h ∙ differ-false (member order a x) ∙ sym (ap (range_table inside (member order a x)) h)
-
-      pub settled_far : (n : ℕ) → n < length a → AllWithin (λ y. is_le (order start y) ≡ true) a n (length a) → IsSettledFrom order inside a start
-      settled_far n more from = inl (get_or a n start, Contains-get_or a n start more, from n start (omega arith) more)
-
-      pub settled_near : (n : ℕ) → n ≡ length a → AllWithin (λ y. order y start ≡ Less) a 0 n → is_odd n ≡ inside → IsSettledFrom order inside a start
-      settled_near n end before odd =
-          inr (ap is_odd (count_up_to-split order start a n (omega (arith, end)) (λ k d low high. ap is_le (before k d low high)) (λ k d low high. absurd (omega (arith, low, high, end)))) ∙ odd)
-
-    -- ranges with an end, and one without behind them
-    module _ (ranges : List K) (start : K) (even : is_odd (length ranges) ≡ false) (below : All (λ y. order y start ≡ Less) ranges) (a mid new : List K) where
-      none_from_start : (x : K) → is_le (order start x) ≡ true → member order ranges x ≡ false
-      none_from_start x h =
-          ap is_odd (count_up_to-all order x ranges (λ k d within. le-trans o (get_or ranges k d) start x (ap is_le (below k d within)) h)) ∙ even
-
-      member-with_open : (x : K) → member order (ranges ++ start ∷ []) x ≡ differ (member order ranges x) (member order (start ∷ []) x)
-      member-with_open x = ap is_odd (count_up_to-append order ranges (start ∷ []) x) ∙ is_odd-add (count_up_to order ranges x) (count_up_to order (start ∷ []) x)
-
-      not_in_both : (x : K) → member order (start ∷ []) x ≡ true → member order ranges x ≡ false
-      not_in_both x h = none_from_start x (sym (member-one o start x) ∙ h)
-
-      first_then : (was f p : Bool) → (p ≡ true → f ≡ false) → range_table inside (range_table inside was f) p ≡ range_table inside was (differ f p)
-      first_then was true true h = absurd (true≢false (h refl))
-      first_then was true false h = refl
-      first_then was false true h = refl
-      first_then was false false h = refl
-
-      last_then : (was f p : Bool) → (p ≡ true → f ≡ false) → range_table inside (range_table inside was p) f ≡ range_table inside was (differ f p)
-      last_then was true true h = absurd (true≢false (h refl))
-      last_then was true false h = refl
-      last_then was false true h = refl
-      last_then was false false h = refl
-
-      pub Means-then_open : Means order (range_table inside) mid a ranges → Means order (range_table inside) new mid (start ∷ []) → Means order (range_table inside) new a (ranges ++ start ∷ [])
-      Means-then_open first last = record {
-        sorted = last.sorted;
-        members = λ x.
-            last.members x
-            ∙ ap (λ m. range_table inside m (member order (start ∷ []) x)) (first.members x)
-            ∙ first_then (member order a x) (member order ranges x) (member order (start ∷ []) x) (not_in_both x)
-            ∙ ap (range_table inside (member order a x)) (sym (member-with_open x));
-      }
-
-      pub Means-behind_open : Means order (range_table inside) mid a (start ∷ []) → Means order (range_table inside) new mid ranges → Means order (range_table inside) new a (ranges ++ start ∷ [])
-      Means-behind_open first last = record {
-        sorted = last.sorted;
-        members = λ x.
-            last.members x
-            ∙ ap (λ m. range_table inside m (member order ranges x)) (first.members x)
-            ∙ last_then (member order a x) (member order ranges x) (member order (start ∷ []) x) (not_in_both x)
-            ∙ ap (range_table inside (member order a x)) (sym (member-with_open x));
-      }
-
-      pub settled_from_still : Means order (range_table inside) mid a ranges → AreKeptAbove order ranges a mid → IsSettledFrom order inside a start → IsSettledFrom order inside mid start
-      settled_from_still first kept (inl (y, has, high)) =
-          inl (y, kept y has (λ k d within. Less-then_le o (get_or ranges k d) start y (below k d within) high), high)
-      settled_from_still first kept (inr m) = inr (first.members start ∙ stays (member order ranges start) (member order a start) m)
-        where
-          stays : (b : Bool) (m : Bool) → m ≡ inside → range_table inside m b ≡ inside
-          stays true m is = refl
-          stays false m is = is
 
     -- ---- what is settled stays so
     module _ (a new : List K) (s e : K) (less : order s e ≡ Less) (it : IsSet order inside a s e new) where
@@ -451,81 +335,6 @@ module _ {K : Type 0} {order : K → K → Ordering} (o : IsTotalOrder order) wh
         by_that x true h = ap (range_table inside (member order mid x)) h ∙ sym (ap (range_table inside (member order old x)) h)
         by_that x false h = ap (range_table inside (member order mid x)) h ∙ outside x h ∙ sym (ap (range_table inside (member order old x)) h)
 
-  -- ---- a range that was put is found and taken out
-  module _ (that : List K) (at : ℕ) (items cur : List K) (it : IsPutAt order that at items cur) where
-    front_len : length (take it.place items) ≡ it.place
-    front_len = length-take-le it.place items it.within
-
-    pub two_longer : length cur ≡ length items + 2
-    two_longer = by_default that it.within_that
-      where
-        by_default : (l : List K) → at + 1 < length l → length cur ≡ length items + 2
-        by_default [] h = absurd (omega (arith, h))
-        by_default (d ∷ l) h =
-            omega (
-              arith,
-              ap length (it.put d),
-              length-append (take it.place items) (get_or that at d ∷ get_or that (at + 1) d ∷ drop it.place items),
-              front_len,
-              length-drop it.place items,
-              it.within,
-            )
-
-    start_is_there : (d : K) → get_or cur it.place d ≡ get_or that at d
-    start_is_there d =
-        ap (λ l. get_or l it.place d) (it.put d)
-        ∙ get_or_at (take it.place items) (get_or that at d) (get_or that (at + 1) d ∷ drop it.place items) d it.place front_len
-
-    pub place_is : (up : IsAscending order cur) (start : K) (m : ℕ) → start ≡ get_or that at start → m ≤ length cur →
-        AllWithin (λ y. order y start ≡ Less) cur 0 m → AllWithin (λ y. is_le (order start y) ≡ true) cur m (length cur) → m ≡ it.place
-    place_is up start m is within before from =
-        let here : get_or cur it.place start ≡ start = start_is_there start ∙ sym is in
-        let more : it.place < length cur = omega (arith, two_longer, it.within) in
-        elim (cases_lt m it.place) as (λ _. m ≡ it.place) [
-          | inl low ↦
-              let below : order (get_or cur m start) start ≡ Less = subst (λ z. order (get_or cur m start) z ≡ Less) here (up m it.place start low more) in
-              absurd (not_both (get_or cur m start) start below (from m start (omega arith) (omega (arith, low, more))))
-          | inr not_low ↦
-              elim (cases_lt it.place m) as (λ _. m ≡ it.place) [
-                | inl high ↦
-                    let below : order start start ≡ Less = subst (λ z. order z start ≡ Less) here (before it.place start (omega arith) high) in
-                    absurd (not_both start start below (ap is_le (Equal-self o start)))
-                | inr not_high ↦ omega (arith, not_low, not_high)
-              ]
-        ]
-
-    pub taken_out : (m to : ℕ) → m ≡ it.place → to ≡ m + 1 + 1 → spliced cur m to None None ≡ items
-    taken_out m to here two = by_default that it.within_that
-      where
-        by_default : (l : List K) → at + 1 < length l → spliced cur m to None None ≡ items
-        by_default [] h = absurd (omega (arith, h))
-        by_default (d ∷ l) h =
-            let front : List K = take it.place items in
-            let rest : List K = get_or that at d ∷ get_or that (at + 1) d ∷ drop it.place items in
-            let first : m ≡ length front = here ∙ sym front_len in
-            let last : to ≡ length front + 2 = omega (arith, two, first) in
-            ap₂ (λ j k. take j cur ++ drop k cur) first last
-            ∙ ap (λ l. take (length front) l ++ drop (length front + 2) l) (it.put d)
-            ∙ ap₂ (λ l k. l ++ k) (take-append_seam front rest) (drop-add front rest 2)
-            ∙ take-append-drop it.place items
-
-  pub put_at : (that : List K) (at : ℕ) (items new : List K) → IsAscending order items → at + 1 < length that → (inside : Bool) →
-      ((d : K) → IsPutBetween order inside items (get_or that at d) (get_or that (at + 1) d) new) → IsPutAt order that at items new
-  put_at that at items new up within inside it = by_default that within
-    where
-      by_default : (l : List K) → at + 1 < length l → IsPutAt order that at items new
-      by_default [] h = absurd (omega (arith, h))
-      by_default (d ∷ l) h = record {
-        place = (it d).place;
-        within = (it d).gap.within;
-        within_that = within;
-        sorted = up;
-        put = λ c.
-            let first : get_or that at d ≡ get_or that at c = get_or_same that at d c (omega (arith, within)) in
-            let second : get_or that (at + 1) d ≡ get_or that (at + 1) c = get_or_same that (at + 1) d c within in
-            (it d).put ∙ ap₂ (λ s e. spliced items (it d).place (it d).place (Some s) (Some e)) first second;
-      }
-
   -- ---- where a range goes
   module _ (inside : Bool) (a : List K) (s e : K) (n : ℕ) (less : order s e ≡ Less) where
     pub settled_at : n < length a → HoldsAt (λ y. order y s ≡ Equal) a n → IsSettled order inside a s e
@@ -588,81 +397,6 @@ module _ {K : Type 0} {order : K → K → Ordering} (o : IsTotalOrder order) wh
         settled_now inside a new (get_or that j d) (get_or that k d)
         (subst (λ z. order z (get_or that k d) ≡ Less) (s_is ∙ get_or_same that j s d more) (subst (λ z. order s z ≡ Less) (e_is ∙ get_or_same that k e d more_too) less))
         (IsSet-read a new it d)
-
-  -- ---- a step of the loop that puts what makes the list longer
-  module _ (inside : Bool) (that : List K) (that_up : IsAscending order that) (cur new : List K) (i : ℕ) (within : 2 * i + 1 < length that) (was noted : List ℕ) (up : IsAscending order cur)
-      (step : ((new ≡ cur) × (noted ≡ was)) ⊎ (((d : K) → IsPutBetween order inside cur (get_or that (2 * i) d) (get_or that (2 * i + 1) d) new) × (noted ≡ was ++ (2 * i) ∷ []))) where
-    set_by_put : ((d : K) → IsPutBetween order inside cur (get_or that (2 * i) d) (get_or that (2 * i + 1) d) new) → (d : K) → IsSet order inside cur (get_or that (2 * i) d) (get_or that (2 * i + 1) d) new
-    set_by_put it d =
-        let s : K = get_or that (2 * i) d in
-        let e : K = get_or that (2 * i + 1) d in
-        let less : order s e ≡ Less = less_at inside that that_up i d within in
-        let n : ℕ = (it d).place in
-        IsSet-spliced inside cur s e n n (Some s) (Some e) up less (cut_by_start inside cur s e n up less (it d).gap) (cut_by_end inside cur s e n up less (it d).gap) new (it d).put
-
-    pub sorted_after : IsAscending order new
-    sorted_after = by_step step
-      where
-        by_default : (l : List K) → 2 * i + 1 < length l → ((d : K) → IsSet order inside cur (get_or that (2 * i) d) (get_or that (2 * i + 1) d) new) → IsAscending order new
-        by_default [] h it = absurd (omega (arith, h))
-        by_default (d ∷ l) h it = (it d).means.sorted
-
-        by_step : ((new ≡ cur) × (noted ≡ was)) ⊎ (((d : K) → IsPutBetween order inside cur (get_or that (2 * i) d) (get_or that (2 * i + 1) d) new) × (noted ≡ was ++ (2 * i) ∷ [])) → IsAscending order new
-        by_step (inl (same, none)) = subst (λ (l : List K). IsAscending order l) (sym same) up
-        by_step (inr (it, one)) = by_default that within (set_by_put it)
-
-    pub put_after : (old : List K) → ArePutIn order that old (reverse was) cur → ArePutIn order that old (reverse noted) new
-    put_after old so_far = by_step step
-      where
-        by_step : ((new ≡ cur) × (noted ≡ was)) ⊎ (((d : K) → IsPutBetween order inside cur (get_or that (2 * i) d) (get_or that (2 * i + 1) d) new) × (noted ≡ was ++ (2 * i) ∷ [])) → ArePutIn order that old (reverse noted) new
-        by_step (inl (same, none)) =
-            subst (λ (l : List ℕ). ArePutIn order that old (reverse l) new) (sym none) (subst (λ (l : List K). ArePutIn order that old (reverse was) l) (sym same) so_far)
-        by_step (inr (it, one)) =
-            subst (λ (l : List ℕ). ArePutIn order that old l new) (sym (ap reverse one ∙ reverse-append was ((2 * i) ∷ [])))
-            (cur, put_at that (2 * i) cur new up within inside it, so_far)
-
-    pub outside_after : (old : List K) → ((x : K) → member order that x ≡ false → member order cur x ≡ member order old x) →
-        (x : K) → member order that x ≡ false → member order new x ≡ member order old x
-    outside_after old so_far x none = by_step step
-      where
-        by_step : ((new ≡ cur) × (noted ≡ was)) ⊎ (((d : K) → IsPutBetween order inside cur (get_or that (2 * i) d) (get_or that (2 * i + 1) d) new) × (noted ≡ was ++ (2 * i) ∷ [])) → member order new x ≡ member order old x
-        by_step (inl (same, _)) = ap (λ l. member order l x) same ∙ so_far x none
-        by_step (inr (it, one)) = outside_still inside that that_up cur new i within (set_by_put it) x none ∙ so_far x none
-
-    pub kept_after : (old : List K) → AreKeptAbove order that old cur → AreKeptAbove order that old new
-    kept_after old so_far = by_step step
-      where
-        by_step : ((new ≡ cur) × (noted ≡ was)) ⊎ (((d : K) → IsPutBetween order inside cur (get_or that (2 * i) d) (get_or that (2 * i + 1) d) new) × (noted ≡ was ++ (2 * i) ∷ [])) → AreKeptAbove order that old new
-        by_step (inl (same, none)) = subst (λ (l : List K). AreKeptAbove order that old l) (sym same) so_far
-        by_step (inr (it, one)) = kept_more inside that that_up cur new i within (set_by_put it) old so_far
-
-    pub settled_more : AreSettled order inside cur that i → ((d : K) → IsSettled order inside new (get_or that (2 * i) d) (get_or that (2 * i + 1) d)) → AreSettled order inside new that (i + 1)
-    settled_more so_far now n d below =
-        elim (cases_lt n i) as (λ _. IsSettled order inside new (get_or that (2 * n) d) (get_or that (2 * n + 1) d)) [
-          | inl before ↦ by_step step n d before
-          | inr last ↦
-              let same : i ≡ n = omega (arith, below, last) in
-              subst (λ (k : ℕ). IsSettled order inside new (get_or that (2 * k) d) (get_or that (2 * k + 1) d)) same (now d)
-        ]
-      where
-        by_step : ((new ≡ cur) × (noted ≡ was)) ⊎ (((d : K) → IsPutBetween order inside cur (get_or that (2 * i) d) (get_or that (2 * i + 1) d) new) × (noted ≡ was ++ (2 * i) ∷ [])) → AreSettled order inside new that i
-        by_step (inl (same, none)) = subst (λ (l : List K). AreSettled order inside l that i) (sym same) so_far
-        by_step (inr (it, one)) = AreSettled-set inside that that_up cur new i within (set_by_put it) i (omega (arith, within)) so_far
-
-  -- ---- a step of the loop that takes out what was put
-  module _ (that : List K) (at : ℕ) (indices rest : List ℕ) (cur new : List K) (popped : indices ≡ rest ++ at ∷ []) (taken : (items : List K) → IsPutAt order that at items cur → new ≡ items) where
-    at_last : (before : List K) → ArePutIn order that before (reverse indices) cur → ArePutIn order that before (at ∷ reverse rest) cur
-    at_last before h = subst (λ (l : List ℕ). ArePutIn order that before l cur) (ap reverse popped ∙ reverse-append rest (at ∷ [])) h
-
-    pub put_still : (before : List K) → ArePutIn order that before (reverse indices) cur → ArePutIn order that before (reverse rest) new
-    put_still before h =
-        let last = at_last before h in
-        subst (λ (l : List K). ArePutIn order that before (reverse rest) l) (sym (taken last.0 last.1)) last.2
-
-    pub sorted_still : (before : List K) → ArePutIn order that before (reverse indices) cur → IsAscending order new
-    sorted_still before h =
-        let last = at_last before h in
-        subst (λ (l : List K). IsAscending order l) (sym (taken last.0 last.1)) last.1.sorted
 
 -- nothing is undone where a call is done
 pub nothing_undone : {E : Type 0} (r : Result (Unit {0}) E) (P : Type 0) → IsOk r → OnErr r P

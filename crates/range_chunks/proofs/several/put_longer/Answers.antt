@@ -1,6 +1,6 @@
 use Rattle.std.proofs.Common.{◌≡◌, ◌+◌, ◌*◌, ◌<◌, length, arith}
 use Rattle.range_list.specs.Lists.{joined}
-use Rattle.range_chunks.proofs.InTurn.{sorted_after, put_after, outside_after, kept_after, settled_more}
+use Rattle.range_chunks.proofs.PutInTurn.{sorted_after, put_after, outside_after, kept_after, settled_more}
 use Rattle.range_chunks.proofs.several.put_longer.Goals as goal
 
 pub returns-in_err-put_if_longer-clause-sorted : goal.returns-in_err-put_if_longer-clause-sorted

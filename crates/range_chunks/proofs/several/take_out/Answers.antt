@@ -1,5 +1,5 @@
 use Rattle.range_list.specs.Lists.{joined}
-use Rattle.range_chunks.proofs.InTurn.{put_still, sorted_still}
+use Rattle.range_chunks.proofs.PutInTurn.{put_still, sorted_still}
 use Rattle.range_chunks.proofs.several.take_out.Goals as goal
 
 pub loop-at-preserved : goal.loop-at-preserved

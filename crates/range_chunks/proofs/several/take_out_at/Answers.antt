@@ -2,7 +2,8 @@ use Rattle.std.proofs.Common.{◌≡◌, ◌+◌, ◌≤◌, ◌∙◌, ap, None
 use Rattle.std.proofs.lemmas.List.{map-id}
 use Rattle.range_collections.specs.Splicing.{spliced}
 use Rattle.range_list.specs.Lists.{joined, place_at}
-use Rattle.range_chunks.proofs.InTurn.{place_is, taken_out, two_longer, what_is_done}
+use Rattle.range_chunks.proofs.InTurn.{what_is_done}
+use Rattle.range_chunks.proofs.PutInTurn.{place_is, taken_out, two_longer}
 use Rattle.range_chunks.proofs.several.take_out_at.Goals as goal
 
 pub place_after-requires-clause-item : goal.place_after-requires-clause-item

@@ -1,6 +1,6 @@
 use Rattle.range_list.specs.Lists.{joined}
 use Rattle.range_chunks.proofs.ToTheEnd.{changed-from, ascending-changed_from}
-use Rattle.range_chunks.proofs.InTurn.{no_longer_from}
+use Rattle.range_chunks.proofs.OpenEnded.{no_longer_from}
 use Rattle.range_chunks.proofs.to_the_end.set_from.Goals as goal
 
 pub returns-clause-sorted : goal.returns-clause-sorted
