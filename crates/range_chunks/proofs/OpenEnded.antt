@@ -33,7 +33,7 @@ module _ {K : Type 0} {order : K → K → Ordering} (o : IsTotalOrder order) wh
       not_at_end : n ≡ length a → (x : K) → ps ≡ Some x → IsSettledFrom order inside a start → ⊥
       not_at_end end x ps_is (inl (y, (k, within, is), high)) =
           let low : is_le (order y start) ≡ true = subst (λ v. is_le (order v start) ≡ true) is (p.before k y (omega arith) (omega (arith, within, end))) in
-          All-contains (λ y. order y start ≢ Equal) a y (put_is_new x ps_is) (k, within, is) (Equal-both y start low high)
+          All-contains (λ y. order y start ≢ Equal) a y (put_is_new x ps_is) (k, within, is) (Equal-both o y start low high)
       not_at_end end x ps_is (inr is_member) =
           let counted : count_up_to order a start ≡ n = count_up_to-split order start a n p.within p.before (λ k d low high. absurd (omega (arith, low, high, end))) in
           let one : n + length (option_to_list ps) ≡ suc n = omega (arith, ap (λ (z : Option K). length (option_to_list z)) ps_is) in

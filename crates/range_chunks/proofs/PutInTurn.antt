@@ -49,12 +49,12 @@ module _ {K : Type 0} {order : K → K → Ordering} (o : IsTotalOrder order) wh
         elim (cases_lt m it.place) as (λ _. m ≡ it.place) [
           | inl low ↦
               let below : order (get_or cur m start) start ≡ Less = subst (λ z. order (get_or cur m start) z ≡ Less) here (up m it.place start low more) in
-              absurd (not_both (get_or cur m start) start below (from m start (omega arith) (omega (arith, low, more))))
+              absurd (not_both o (get_or cur m start) start below (from m start (omega arith) (omega (arith, low, more))))
           | inr not_low ↦
               elim (cases_lt it.place m) as (λ _. m ≡ it.place) [
                 | inl high ↦
                     let below : order start start ≡ Less = subst (λ z. order z start ≡ Less) here (before it.place start (omega arith) high) in
-                    absurd (not_both start start below (ap is_le (Equal-self o start)))
+                    absurd (not_both o start start below (ap is_le (Equal-self o start)))
                 | inr not_high ↦ omega (arith, not_low, not_high)
               ]
         ]
@@ -98,9 +98,9 @@ module _ {K : Type 0} {order : K → K → Ordering} (o : IsTotalOrder order) wh
     set_by_put it d =
         let s : K = get_or that (2 * i) d in
         let e : K = get_or that (2 * i + 1) d in
-        let less : order s e ≡ Less = less_at inside that that_up i d within in
+        let less : order s e ≡ Less = less_at o inside that that_up i d within in
         let n : ℕ = (it d).place in
-        IsSet-spliced inside cur s e n n (Some s) (Some e) up less (cut_by_start inside cur s e n up less (it d).gap) (cut_by_end inside cur s e n up less (it d).gap) new (it d).put
+        IsSet-spliced o inside cur s e n n (Some s) (Some e) up less (cut_by_start o inside cur s e n up less (it d).gap) (cut_by_end o inside cur s e n up less (it d).gap) new (it d).put
 
     pub sorted_after : IsAscending order new
     sorted_after = by_step step
@@ -129,14 +129,14 @@ module _ {K : Type 0} {order : K → K → Ordering} (o : IsTotalOrder order) wh
       where
         by_step : ((new ≡ cur) × (noted ≡ was)) ⊎ (((d : K) → IsPutBetween order inside cur (get_or that (2 * i) d) (get_or that (2 * i + 1) d) new) × (noted ≡ was ++ (2 * i) ∷ [])) → member order new x ≡ member order old x
         by_step (inl (same, _)) = ap (λ l. member order l x) same ∙ so_far x none
-        by_step (inr (it, one)) = outside_still inside that that_up cur new i within (set_by_put it) x none ∙ so_far x none
+        by_step (inr (it, one)) = outside_still o inside that that_up cur new i within (set_by_put it) x none ∙ so_far x none
 
     pub kept_after : (old : List K) → AreKeptAbove order that old cur → AreKeptAbove order that old new
     kept_after old so_far = by_step step
       where
         by_step : ((new ≡ cur) × (noted ≡ was)) ⊎ (((d : K) → IsPutBetween order inside cur (get_or that (2 * i) d) (get_or that (2 * i + 1) d) new) × (noted ≡ was ++ (2 * i) ∷ [])) → AreKeptAbove order that old new
         by_step (inl (same, none)) = subst (λ (l : List K). AreKeptAbove order that old l) (sym same) so_far
-        by_step (inr (it, one)) = kept_more inside that that_up cur new i within (set_by_put it) old so_far
+        by_step (inr (it, one)) = kept_more o inside that that_up cur new i within (set_by_put it) old so_far
 
     pub settled_more : AreSettled order inside cur that i → ((d : K) → IsSettled order inside new (get_or that (2 * i) d) (get_or that (2 * i + 1) d)) → AreSettled order inside new that (i + 1)
     settled_more so_far now n d below =
@@ -149,7 +149,7 @@ module _ {K : Type 0} {order : K → K → Ordering} (o : IsTotalOrder order) wh
       where
         by_step : ((new ≡ cur) × (noted ≡ was)) ⊎ (((d : K) → IsPutBetween order inside cur (get_or that (2 * i) d) (get_or that (2 * i + 1) d) new) × (noted ≡ was ++ (2 * i) ∷ [])) → AreSettled order inside new that i
         by_step (inl (same, none)) = subst (λ (l : List K). AreSettled order inside l that i) (sym same) so_far
-        by_step (inr (it, one)) = AreSettled-set inside that that_up cur new i within (set_by_put it) i (omega (arith, within)) so_far
+        by_step (inr (it, one)) = AreSettled-set o inside that that_up cur new i within (set_by_put it) i (omega (arith, within)) so_far
 
   -- ---- a step of the loop that takes out what was put
   module _ (that : List K) (at : ℕ) (indices rest : List ℕ) (cur new : List K) (popped : indices ≡ rest ++ at ∷ []) (taken : (items : List K) → IsPutAt order that at items cur → new ≡ items) where
