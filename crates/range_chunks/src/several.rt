@@ -1,12 +1,12 @@
 //! Several ranges set in a list of boundaries: all of them, or none if memory runs out.
 //!
-//! Only a range that makes the list longer takes memory. Such ranges are put first. If memory runs out
-//! they are taken out again, which takes none, and neither do the other ranges.
-ghost use Rattle.std.specs.Prelude.{◌≡◌, ◌≤◌, ◌+◌, ◌*◌, ◌<◌, ◌∷◌, ◌++◌, ◌/◌, ◌⊎◌, [], true, false, not, All, List, get_or, length, reverse, OnOk, OnErr, IfSome, IfNone, HoldsAt};
+//! Only a range that makes the list longer takes memory. Such ranges are put first. If memory runs out,
+//! they are taken out again, which takes none. The others come last, and take none either.
+ghost use Rattle.std.specs.Prelude.{◌≡◌, ◌+◌, ◌<◌, ◌∷◌, ◌++◌, ◌/◌, ◌⊎◌, [], true, false, not, All, List, get_or, length, reverse, OnOk, OnErr, IfSome, IfNone};
 ghost use Rattle.std.specs.declared.cmp.Ordering.TheVariants.{Less};
 ghost use Rattle.range_merge.specs.Boundaries.{IsAscending, is_odd as odd, member};
 ghost use Rattle.range_merge.specs.Connective.{Means};
-ghost use Rattle.range_collections.specs.Splicing.{range_table, spliced};
+ghost use Rattle.range_collections.specs.Splicing.{range_table};
 ghost use Rattle.range_list.specs.Lists.{joined, place_at, IsPlaceAt};
 ghost use Rattle.range_chunks.specs.Several.{IsGap, IsSettled, IsSettledFrom, AreKeptAbove, AreSettled, IsPutBetween, IsPutAt, ArePutIn};
 
@@ -162,7 +162,7 @@ fn put_if_longer<T: Ord + Copy>(
     requires within { at + 1 < length that.now }
     ensures put { ((joined list.new ≡ joined list.old) × (put.new.items ≡ put.old.items))
         ⊎ (((d : T) → IsPutBetween T.cmp inside (joined list.old) (get_or that.now at d)
-            (get_or that.now (at + 1) d) (joined list.new))
+        (get_or that.now (at + 1) d) (joined list.new))
         × (put.new.items ≡ put.old.items ++ at ∷ [])) }
     ensures settled { OnOk result ((d : T) → IsSettled T.cmp inside (joined list.new)
         (get_or that.now at d) (get_or that.now (at + 1) d)) }
