@@ -120,29 +120,24 @@ range_set_status NAME(chunked_gaps)(CHUNKED set, NUMBER start, NUMBER end, NUMBE
     return NAME(write_result)(len, out, room, result);
 }
 
-/* A union with one range at most, or the difference from it. */
-static range_set_status NAME(combine_one)(CHUNKED *set, SET range, bool inserts)
-{
-    const NUMBER *ends = range.boundaries;
-    if (ends == NULL || range.len == 0) return RANGE_SET_DONE;
-    if (range.len == 1) return inserts ? NAME(chunked_insert_from)(set, *ends) : NAME(chunked_remove_from)(set, *ends);
-    return inserts ? NAME(chunked_insert)(set, ends[0], ends[1]) : NAME(chunked_remove)(set, ends[0], ends[1]);
-}
-
-/* By a list of both, beside one of the set, unless a change of the set is enough. */
+/* A union with few ranges, or the difference from them, changes the set where these lie. Else it is by a list of both, beside one of the
+ * set. */
 range_set_status NAME(chunked_combine)(CHUNKED *set, SET other, unsigned keep)
 {
     size_t other_len = other.boundaries ? other.len : 0, len, room;
     NUMBER *items;
     SET list;
     CHUNKED made = {NULL};
+    bool done;
     range_set_status status = RANGE_SET_NO_MEMORY;
     if (set == NULL || set->at == NULL || overlap(set, sizeof *set, other.boundaries, other_len * sizeof *items))
         return RANGE_SET_BAD_ARGUMENT;
     keep &= RANGE_SET_UNION | RANGE_SET_NEITHER;
-    if (other_len <= 2 && (keep == RANGE_SET_UNION || keep == RANGE_SET_DIFFERENCE))
-        return NAME(combine_one)(set, other, keep == RANGE_SET_UNION);
     len = NAME(chunked_boundaries_len)(*set), room = len + other_len + 1;
+    if (other_len <= len / 64 + 2 && (keep == RANGE_SET_UNION || keep == RANGE_SET_DIFFERENCE)) {
+        done = keep == RANGE_SET_UNION ? EXPORT(chunked_insert_all)(set, LIST(other)) : EXPORT(chunked_remove_all)(set, LIST(other));
+        return done ? RANGE_SET_DONE : RANGE_SET_NO_MEMORY;
+    }
     items = len + room <= PTRDIFF_MAX / sizeof *items ? range_heap_malloc((len + room) * sizeof *items) : NULL;
     if (items == NULL) return RANGE_SET_NO_MEMORY;
     if (NAME(chunked_copy)(*set, items, len, &list) == RANGE_SET_DONE

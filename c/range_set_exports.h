@@ -49,6 +49,8 @@ bool EXPORT(chunked_insert)(CHUNKED *set, NUMBER start, NUMBER end);
 bool EXPORT(chunked_insert_from)(CHUNKED *set, NUMBER start);
 bool EXPORT(chunked_remove)(CHUNKED *set, NUMBER start, NUMBER end);
 bool EXPORT(chunked_remove_from)(CHUNKED *set, NUMBER start);
+bool EXPORT(chunked_insert_all)(CHUNKED *set, const NUMBER *b, size_t b_len);
+bool EXPORT(chunked_remove_all)(CHUNKED *set, const NUMBER *b, size_t b_len);
 void EXPORT(chunked_clear)(CHUNKED *set);
 bool EXPORT(chunked_contains)(CHUNKED *set, NUMBER value);
 bool EXPORT(chunked_contains_range)(CHUNKED *set, NUMBER start, NUMBER end);

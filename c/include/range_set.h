@@ -636,9 +636,9 @@ RANGE_SET_STATUS range_set_i32_chunked_copy(range_set_i32_chunked set, int32_t *
 RANGE_SET_STATUS range_set_i32_chunked_gaps(range_set_i32_chunked set, int32_t start, int32_t end, int32_t *out,
                                             size_t room, range_set_i32 *result);
 
-/* Leaves in the set the numbers that `keep` names, as `combine`. A union with one range, or the difference from it, is
- * `chunked_insert` or `chunked_remove`. Else it makes a list and new chunks of both sets. Where an allocation fails the
- * set is as it was. */
+/* Leaves in the set the numbers that `keep` names, as `combine`. A union with a set of few boundaries, two more than a
+ * 64th of this one's at most, or the difference from it, changes the chunks where its ranges lie. Else it makes a list
+ * and new chunks of both sets. Where an allocation fails the set is as it was. */
 RANGE_SET_STATUS range_set_i32_chunked_combine(range_set_i32_chunked *set, range_set_i32 other, unsigned keep);
 
 /* As `insert`, `remove`, `chunked_insert` and `chunked_remove`, and where that was done `changed` is whether the set
@@ -1222,9 +1222,9 @@ RANGE_SET_STATUS range_set_u32_chunked_copy(range_set_u32_chunked set, uint32_t 
 RANGE_SET_STATUS range_set_u32_chunked_gaps(range_set_u32_chunked set, uint32_t start, uint32_t end, uint32_t *out,
                                             size_t room, range_set_u32 *result);
 
-/* Leaves in the set the numbers that `keep` names, as `combine`. A union with one range, or the difference from it, is
- * `chunked_insert` or `chunked_remove`. Else it makes a list and new chunks of both sets. Where an allocation fails the
- * set is as it was. */
+/* Leaves in the set the numbers that `keep` names, as `combine`. A union with a set of few boundaries, two more than a
+ * 64th of this one's at most, or the difference from it, changes the chunks where its ranges lie. Else it makes a list
+ * and new chunks of both sets. Where an allocation fails the set is as it was. */
 RANGE_SET_STATUS range_set_u32_chunked_combine(range_set_u32_chunked *set, range_set_u32 other, unsigned keep);
 
 /* As `insert`, `remove`, `chunked_insert` and `chunked_remove`, and where that was done `changed` is whether the set
@@ -1808,9 +1808,9 @@ RANGE_SET_STATUS range_set_i64_chunked_copy(range_set_i64_chunked set, int64_t *
 RANGE_SET_STATUS range_set_i64_chunked_gaps(range_set_i64_chunked set, int64_t start, int64_t end, int64_t *out,
                                             size_t room, range_set_i64 *result);
 
-/* Leaves in the set the numbers that `keep` names, as `combine`. A union with one range, or the difference from it, is
- * `chunked_insert` or `chunked_remove`. Else it makes a list and new chunks of both sets. Where an allocation fails the
- * set is as it was. */
+/* Leaves in the set the numbers that `keep` names, as `combine`. A union with a set of few boundaries, two more than a
+ * 64th of this one's at most, or the difference from it, changes the chunks where its ranges lie. Else it makes a list
+ * and new chunks of both sets. Where an allocation fails the set is as it was. */
 RANGE_SET_STATUS range_set_i64_chunked_combine(range_set_i64_chunked *set, range_set_i64 other, unsigned keep);
 
 /* As `insert`, `remove`, `chunked_insert` and `chunked_remove`, and where that was done `changed` is whether the set
@@ -2394,9 +2394,9 @@ RANGE_SET_STATUS range_set_u64_chunked_copy(range_set_u64_chunked set, uint64_t 
 RANGE_SET_STATUS range_set_u64_chunked_gaps(range_set_u64_chunked set, uint64_t start, uint64_t end, uint64_t *out,
                                             size_t room, range_set_u64 *result);
 
-/* Leaves in the set the numbers that `keep` names, as `combine`. A union with one range, or the difference from it, is
- * `chunked_insert` or `chunked_remove`. Else it makes a list and new chunks of both sets. Where an allocation fails the
- * set is as it was. */
+/* Leaves in the set the numbers that `keep` names, as `combine`. A union with a set of few boundaries, two more than a
+ * 64th of this one's at most, or the difference from it, changes the chunks where its ranges lie. Else it makes a list
+ * and new chunks of both sets. Where an allocation fails the set is as it was. */
 RANGE_SET_STATUS range_set_u64_chunked_combine(range_set_u64_chunked *set, range_set_u64 other, unsigned keep);
 
 /* As `insert`, `remove`, `chunked_insert` and `chunked_remove`, and where that was done `changed` is whether the set

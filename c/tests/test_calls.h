@@ -4,6 +4,7 @@
 #include "test_questions.h"
 #include "test_texts.h"
 #include "test_chunked.h"
+#include "test_combined.h"
 #include "test_owned.h"
 #include "test_arguments.h"
 
@@ -91,6 +92,7 @@ static void TEST(of_others)(void)
     TEST(chunked_gaps)(set, a, MOST - 1, MOST);
     TEST(chunked_gaps)(none, TEST(set)(NULL, 0), LEAST, MOST);
     TEST(chunked_combined)(a, b);
+    for (p = 0; p < 4; p++) TEST(chunked_combined_few)();
     /* No range, one without an end, and one, which the set may have. */
     for (p = 0; p <= 2; p++) TEST(chunked_combined)(a, TEST(set)(one, p));
     /* Its complement has one boundary more. */

@@ -471,22 +471,3 @@ static void TEST(change_is_told)(SET list, bool inserts, NUMBER start, NUMBER en
     check(CALL(insert_changed)(&full, 3, 5, &changed) == RANGE_SET_NO_ROOM && changed == of_chunks, "a change without room writes nothing");
     CALL(chunked_free)(&set);
 }
-
-/* What each connective keeps of a set in chunks and a list. */
-static void TEST(chunked_combined)(SET a, SET b)
-{
-    NUMBER wanted[2 * POINTS + 2];
-    CHUNKED set, none = {NULL};
-    SET result, overlapping = {(const NUMBER *)(const void *)&set, 1};
-    unsigned keep;
-    for (keep = 0; keep < CONNECTIVES; keep++) {
-        check(CALL(chunked_of)(a, &set) == RANGE_SET_DONE, "chunked_combine: of a list");
-        check(CALL(combine)(a, b, keep, wanted, 2 * POINTS + 2, &result) == RANGE_SET_DONE, "chunked_combine: of lists");
-        check(CALL(chunked_combine)(&set, b, keep) == RANGE_SET_DONE, "chunked_combine: status");
-        TEST(has_boundaries)(set, wanted, result.len);
-        check(CALL(chunked_combine)(&set, overlapping, keep) == RANGE_SET_BAD_ARGUMENT, "chunked_combine: a list in the struct");
-        CALL(chunked_free)(&set);
-    }
-    check(CALL(chunked_combine)(NULL, b, 7) == RANGE_SET_BAD_ARGUMENT && CALL(chunked_combine)(&none, b, 7) == RANGE_SET_BAD_ARGUMENT,
-        "chunked_combine: no set");
-}

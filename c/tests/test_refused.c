@@ -179,6 +179,44 @@ enum { MANY = 1500 };
         range_set_##number##_chunked_free(&set); \
     }
 
+/* Few ranges, some of which make a set longer, and one of these without an end. What is refused leaves each boundary. */
+#define REFUSED_FEW(number, NUMBER) \
+    static void refused_few_##number(unsigned keep) \
+    { \
+        enum { RANGES = 20, FEW = 2 * RANGES + 1, ROOM = 2 * MANY + FEW }; \
+        static NUMBER list[2 * MANY], few[FEW], wanted[ROOM], copy[ROOM]; \
+        range_set_##number##_chunked set; \
+        range_set_##number view, other, made, result; \
+        range_set_status status; \
+        size_t p; \
+        long k; \
+        for (p = 0; p < 2 * MANY; p++) list[p] = (NUMBER)(10 * p); \
+        for (p = 0; p < RANGES; p++) { \
+            few[2 * p] = (NUMBER)(1400 * p + (p % 4 == 0 ? 13 : p % 4 == 2 ? 3 : 5)); \
+            few[2 * p + 1] = (NUMBER)(few[2 * p] + (p % 2 == 0 ? 3 : 40)); \
+        } \
+        few[2 * RANGES] = (NUMBER)(20 * MANY + 1); \
+        check(range_set_##number##_view(list, 2 * MANY, &view) == RANGE_SET_DONE, "few ranges: view"); \
+        check(range_set_##number##_view(few, FEW, &other) == RANGE_SET_DONE, "few ranges: view of them"); \
+        check(range_set_##number##_combine(view, other, keep, wanted, ROOM, &made) == RANGE_SET_DONE, "few ranges: of lists"); \
+        check(range_set_##number##_chunked_of(view, &set) == RANGE_SET_DONE, "few ranges: of a list"); \
+        for (k = 0;; k++) { \
+            left = k; \
+            status = range_set_##number##_chunked_combine(&set, other, keep); \
+            left = -1; \
+            check(range_set_##number##_chunked_copy(set, copy, ROOM, &result) == RANGE_SET_DONE, "few ranges: copy"); \
+            if (status == RANGE_SET_DONE) break; \
+            check(status == RANGE_SET_NO_MEMORY && range_set_##number##_equal(result, view), "few ranges: what is refused"); \
+        } \
+        check(k > 3, "few ranges take some requests"); \
+        check(range_set_##number##_equal(result, made), "few ranges: the set"); \
+        range_set_##number##_chunked_free(&set); \
+    }
+
+REFUSED_FEW(i32, int32_t)
+REFUSED_FEW(u32, uint32_t)
+REFUSED_FEW(i64, int64_t)
+REFUSED_FEW(u64, uint64_t)
 REFUSED_END(i32, int32_t)
 REFUSED_END(u32, uint32_t)
 REFUSED_END(i64, int64_t)
@@ -272,6 +310,14 @@ static void refused_ends_of_maps(int64_t touching)
 
 static void refused_all(void)
 {
+    refused_few_i32(RANGE_SET_UNION);
+    refused_few_i32(RANGE_SET_DIFFERENCE);
+    refused_few_u32(RANGE_SET_UNION);
+    refused_few_u32(RANGE_SET_DIFFERENCE);
+    refused_few_i64(RANGE_SET_UNION);
+    refused_few_i64(RANGE_SET_DIFFERENCE);
+    refused_few_u64(RANGE_SET_UNION);
+    refused_few_u64(RANGE_SET_DIFFERENCE);
     refused_end_i32();
     refused_end_u32();
     refused_end_i64();

@@ -213,6 +213,9 @@ static void TEST(in_chunks)(struct log *log, SET a, struct input *input, size_t 
             note(log, EXPORT(chunked_insert_from)(&set, start));
         } else if (call % 16 == 1) {
             note(log, EXPORT(chunked_remove_from)(&set, start));
+        } else if (call % 16 == 4 || call % 16 == 5) {
+            note(log, call % 2 == 0 ? EXPORT(chunked_insert_all)(&set, a.boundaries, a.len)
+                                    : EXPORT(chunked_remove_all)(&set, a.boundaries, a.len));
         } else if (call % 16 < 4 && many++ < 3) {
             for (size_t i = 0; i < 4u * (call | 64); i++) {
                 const NUMBER from = (NUMBER)(start + (NUMBER)(i * 5 % 1024 * 4));

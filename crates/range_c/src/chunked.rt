@@ -1,8 +1,8 @@
 //! What the exports do with a set in chunks, for numbers of any type.
-ghost use Rattle.std.specs.Prelude.{◌≡◌, ◌+◌, ◌<◌, ◌≤◌, ◌^◌, ◌∷◌, [], ℕ, true, false, length, IfSome, IsTrue};
+ghost use Rattle.std.specs.Prelude.{◌≡◌, ◌+◌, ◌<◌, ◌≤◌, ◌^◌, ◌∷◌, [], ℕ, true, false, length, IfSome, IsTrue, OnErr, OnOk};
 ghost use Rattle.std.specs.List.{flat_map};
 ghost use Rattle.range_collections.specs.Boundaries.{IsAscending};
-ghost use Rattle.range_collections.specs.Connective.{union_table, difference_table};
+ghost use Rattle.range_collections.specs.Connective.{Means, union_table, difference_table};
 ghost use Rattle.range_collections.specs.Fits.{IsRow};
 ghost use Rattle.range_collections.specs.Insertion.{IsChangedByRange};
 ghost use Rattle.range_collections.specs.Ranges.{range_ends, range_items, range_now, ranges_of};
@@ -59,6 +59,24 @@ pub(crate) fn remove_from<T: Countable + Copy>(set: &mut ChunkedSpace<T>, start:
         set.old (start ∷ []) set.new (outcome result) }
 {
     is_done(set.remove_from(start..))
+}
+
+// Puts the members of a list in, and answers whether there was memory for it.
+pub(crate) fn insert_all<T: Countable + Copy>(set: &mut ChunkedSpace<T>, b: &[T]) -> bool
+    requires { IsAscending T.cmp b.now }
+    ensures means { OnOk (outcome result) (Means T.cmp union_table set.new set.old b.now) }
+    ensures unchanged { OnErr (outcome result) (set.new ≡ set.old) }
+{
+    is_done(set.insert_all(RangeSetRef::new_unchecked(b)))
+}
+
+// Takes the members of a list out, and answers whether there was memory for it.
+pub(crate) fn remove_all<T: Countable + Copy>(set: &mut ChunkedSpace<T>, b: &[T]) -> bool
+    requires { IsAscending T.cmp b.now }
+    ensures means { OnOk (outcome result) (Means T.cmp difference_table set.new set.old b.now) }
+    ensures unchanged { OnErr (outcome result) (set.new ≡ set.old) }
+{
+    is_done(set.remove_all(RangeSetRef::new_unchecked(b)))
 }
 
 // Whether there was memory.

@@ -1,4 +1,7 @@
 pub mod Searched
+pub mod InTurn
+pub mod PutInTurn
+pub mod OpenEnded
 pub mod Changed
 pub mod ToTheEnd
 pub mod Around

@@ -1,3 +1,4 @@
 pub mod Bounds
 pub mod Ended
+pub mod Several
 pub mod Window

@@ -11,6 +11,7 @@ ghost use Rattle.range_collections.specs.Insertion.{IsChangedByRange};
 ghost use Rattle.range_collections.specs.Ranges.{range_items};
 ghost use Rattle.range_collections.specs.Splicing.{IsCut, range_table, spliced};
 ghost use Rattle.range_list.specs.Lists.{joined, place_at, IsPlaceAt};
+ghost use Rattle.range_chunks.specs.Several.{IsSet, IsSettled};
 
 use range_collections::{Comparisons, has_elements};
 use range_list::{Chunks, Itself, Place};
@@ -41,8 +42,8 @@ pub fn set_range<T: Ord + Drop>(
     set_between(list, start, end, inside, count)
 }
 
-// The same as `set_range`, for a start that is below the end.
-fn set_between<T: Ord + Drop>(
+/// The same as `set_range`, for a start that is below the end.
+pub fn set_between<T: Ord + Drop>(
     list: &mut Chunks<T, bool>,
     start: T,
     end: T,
@@ -55,6 +56,8 @@ fn set_between<T: Ord + Drop>(
     ensures sorted { IsAscending T.cmp (joined list.new) }
     ensures changed { IsChangedByRange T.cmp (range_table inside) 0 (joined list.old)
         (range_items T.cmp start end) (joined list.new) result }
+    ensures set { OnOk result (IsSet T.cmp inside (joined list.old) start end (joined list.new)) }
+    ensures settled { IsSettled T.cmp inside (joined list.old) start end → IsOk result }
     ensures comparisons { AddsAtMost count.old count.new
         (2 * (digits (length (joined list.old)) + digits 512)) }
 {

@@ -12,6 +12,7 @@ mod overlapping;
 mod questions;
 mod ranges;
 mod set;
+mod several;
 mod space;
 mod taking;
 mod text;

@@ -1,8 +1,8 @@
 //! A set whose gaps are searched again and again: it remembers how long they are at most.
-ghost use Rattle.std.specs.Prelude.{◌≡◌, ◌&&◌, ◌||◌, ◌∷◌, [], not, false, OnOk};
+ghost use Rattle.std.specs.Prelude.{◌≡◌, ◌&&◌, ◌||◌, ◌∷◌, [], not, false, OnOk, OnErr};
 ghost use Rattle.std.specs.Ordering.{is_le, is_lt};
 ghost use Rattle.range_merge.specs.Boundaries.{member};
-ghost use Rattle.range_merge.specs.Connective.{union_table, difference_table};
+ghost use Rattle.range_merge.specs.Connective.{Means, union_table, difference_table};
 ghost use Rattle.range_collections.specs.Insertion.{IsChangedByRange};
 ghost use Rattle.range_collections.specs.Ranges.{range_items};
 
@@ -10,7 +10,7 @@ mod fitting;
 
 use crate::gap_bound::{GapBound, forget};
 use crate::set::ChunkedRangeSet;
-use range_collections::Countable;
+use range_collections::{Countable, RangeSetRef};
 use std::alloc::{AllocError, Global};
 use std::marker::Model;
 use std::ops::{Range, RangeFrom};
@@ -144,6 +144,34 @@ impl<T: Countable + Copy> ChunkedSpace<T> {
     {
         self.bounds.clear();
         self.taken.remove_from(range)
+    }
+
+    /// Takes the members of `that`, as `ChunkedRangeSet::insert_all`.
+    pub fn insert_all(&mut self, that: RangeSetRef<T>) -> Result<(), AllocError>
+        ensures means { OnOk result (Means T.cmp union_table
+            self.new self.old that.entry.boundaries.now) }
+        ensures members { OnOk result ((x : T) → member T.cmp self.new x ≡
+            (member T.cmp self.old x || member T.cmp that.entry.boundaries.now x)) }
+        ensures unchanged { OnErr result (self.new ≡ self.old) }
+    {
+        self.taken.insert_all(that)
+    }
+
+    /// Frees the members of `that`, as `ChunkedRangeSet::remove_all`. It forgets all that is remembered
+    /// of gaps, unless `that` is one range with an end.
+    pub fn remove_all(&mut self, that: RangeSetRef<T>) -> Result<(), AllocError>
+        ensures means { OnOk result (Means T.cmp difference_table
+            self.new self.old that.entry.boundaries.now) }
+        ensures members { OnOk result ((x : T) → member T.cmp self.new x ≡
+            (member T.cmp self.old x && not (member T.cmp that.entry.boundaries.now x))) }
+        ensures unchanged { OnErr result (self.new ≡ self.old) }
+    {
+        let boundaries = that.boundaries();
+        if boundaries.len() == 2 {
+            return self.remove(boundaries[0]..boundaries[1]);
+        }
+        self.bounds.clear();
+        self.taken.remove_all(that)
     }
 
     /// Frees all values. It keeps the room for the list of chunks.

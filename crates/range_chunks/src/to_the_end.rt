@@ -1,12 +1,13 @@
 //! A range without an end set in a list of boundaries in chunks: the list is cut around the start,
 //! and what lies behind the cut gives way to the start, if that is put.
-ghost use Rattle.std.specs.Prelude.{◌≡◌, ◌<◌, ◌+◌, ◌^◌, ◌∷◌, [], length};
+ghost use Rattle.std.specs.Prelude.{◌≡◌, ◌<◌, ◌+◌, ◌^◌, ◌∷◌, [], length, IsOk};
 ghost use Rattle.range_merge.specs.Boundaries.{IsAscending};
 ghost use Rattle.range_merge.specs.Counting.{AddsAtMost};
 ghost use Rattle.range_merge.specs.Runs.{digits};
 ghost use Rattle.range_collections.specs.Insertion.{IsChangedByRange};
 ghost use Rattle.range_collections.specs.Splicing.{range_table};
 ghost use Rattle.range_list.specs.Lists.{joined};
+ghost use Rattle.range_chunks.specs.Several.{IsSettledFrom};
 
 use crate::cutting::cut_at;
 use range_collections::Comparisons;
@@ -27,6 +28,7 @@ pub fn set_from<T: Ord + Drop>(
     ensures sorted { IsAscending T.cmp (joined list.new) }
     ensures changed { IsChangedByRange T.cmp (range_table inside) 0 (joined list.old)
         (start ∷ []) (joined list.new) result }
+    ensures settled { IsSettledFrom T.cmp inside (joined list.old) start → IsOk result }
     ensures comparisons { AddsAtMost count.old count.new
         (digits (length (joined list.old)) + digits 512) }
 {

@@ -59,6 +59,22 @@ fn next_within(generator: &mut Generator, shape: Shape) -> Range<u64> {
     }
 }
 
+// Frees the members of another set or takes them, in the space and in the set alike.
+fn change_by_all(
+    space: &mut ChunkedSpace<u64>,
+    flat: &mut RangeSet2<u64>,
+    those: &RangeSet2<u64>,
+    frees: bool,
+) -> Result<(), AllocError> {
+    if frees {
+        space.remove_all(those.as_ref())?;
+        flat.difference_with(those.as_ref())
+    } else {
+        space.insert_all(those.as_ref())?;
+        flat.union_with(those.as_ref())
+    }
+}
+
 // Changes the space and the set alike.
 fn change(
     alloc: Global,
@@ -77,6 +93,11 @@ fn change(
         let taken = RangeSet2::from_range_from(alloc, range.start..)?;
         space.insert_from(range.start..)?;
         return flat.union_with(taken.as_ref());
+    }
+    if generator.below(200) == 0 {
+        let mut both = RangeSet2::from_range(alloc, range)?;
+        both.insert(next_range(generator, shape))?;
+        return change_by_all(space, flat, &both, generator.below(2) == 0);
     }
     if generator.below(shape.one_frees_of.max(1)) == 0 {
         space.remove(range.start..range.end)?;

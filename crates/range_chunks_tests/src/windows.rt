@@ -13,13 +13,17 @@ enum Change {
     Intersection,
     Difference,
     SymmetricDifference,
+    InsertAll,
+    RemoveAll,
 }
 
-const CHANGES: [Change; 4] = [
+const CHANGES: [Change; 6] = [
     Change::Union,
     Change::Intersection,
     Change::Difference,
     Change::SymmetricDifference,
+    Change::InsertAll,
+    Change::RemoveAll,
 ];
 
 // The boundaries of the other side, beside 600 ranges of 10, one in each 20, of which 256 fill a
@@ -72,6 +76,14 @@ fn make(
             set.symmetric_difference_with(that)?;
             flat.symmetric_difference_with(that)
         }
+        Change::InsertAll => {
+            set.insert_all(that)?;
+            flat.union_with(that)
+        }
+        Change::RemoveAll => {
+            set.remove_all(that)?;
+            flat.difference_with(that)
+        }
     }
 }
 
@@ -122,8 +134,10 @@ fn stay_alike(alloc: Global, generator: &mut Generator) -> Result<bool, AllocErr
         let that = few(alloc, generator)?;
         let how = match generator.below(300) {
             0 => Change::Intersection,
-            n if n % 3 == 0 => Change::Union,
-            n if n % 3 == 1 => Change::Difference,
+            n if n % 5 == 0 => Change::Union,
+            n if n % 5 == 1 => Change::Difference,
+            n if n % 5 == 2 => Change::InsertAll,
+            n if n % 5 == 3 => Change::RemoveAll,
             _ => Change::SymmetricDifference,
         };
         make(&mut set, &mut flat, that.as_ref(), how)?;

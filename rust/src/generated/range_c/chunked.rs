@@ -37,6 +37,16 @@ pub(crate) fn remove_from<T: Countable + Copy>(set: &mut ChunkedSpace<T>, start:
     is_done(set.remove_from(start..))
 }
 
+// Puts the members of a list in, and answers whether there was memory for it.
+pub(crate) fn insert_all<T: Countable + Copy>(set: &mut ChunkedSpace<T>, b: &[T]) -> bool {
+    is_done(set.insert_all(RangeSetRef::new_unchecked(b)))
+}
+
+// Takes the members of a list out, and answers whether there was memory for it.
+pub(crate) fn remove_all<T: Countable + Copy>(set: &mut ChunkedSpace<T>, b: &[T]) -> bool {
+    is_done(set.remove_all(RangeSetRef::new_unchecked(b)))
+}
+
 // Whether there was memory.
 #[inline(always)]
 pub(crate) fn is_done(changed: Result<(), AllocError>) -> bool {

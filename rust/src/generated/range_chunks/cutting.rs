@@ -35,8 +35,23 @@ pub(crate) fn set_range<T: Ord>(
     set_between(list, start, end, inside, count)
 }
 
-// The same as `set_range`, for a start that is below the end.
-fn set_between<T: Ord>(
+/// The same as `set_range`, for a start that is below the end.
+///
+/// # Contract
+///
+/// ```text
+/// requires less: T.cmp start end ≡ Less
+/// requires sorted: IsAscending T.cmp (joined list.old)
+/// requires made: count.old < 2 ^ 65
+/// ensures sorted: IsAscending T.cmp (joined list.new)
+/// ensures changed: IsChangedByRange T.cmp (range_table inside) 0 (joined list.old)
+///     (range_items T.cmp start end) (joined list.new) result
+/// ensures set: OnOk result (IsSet T.cmp inside (joined list.old) start end (joined list.new))
+/// ensures settled: IsSettled T.cmp inside (joined list.old) start end → IsOk result
+/// ensures comparisons: AddsAtMost count.old count.new (2 * (digits (length (joined list.old))
+///     + digits 512))
+/// ```
+pub(crate) fn set_between<T: Ord>(
     list: &mut Chunks<T, bool>,
     start: T,
     end: T,

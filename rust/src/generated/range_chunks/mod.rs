@@ -12,6 +12,7 @@ pub(crate) mod overlapping;
 pub(crate) mod questions;
 pub(crate) mod ranges;
 pub(crate) mod set;
+pub(crate) mod several;
 pub(crate) mod space;
 pub(crate) mod taking;
 pub(crate) mod to_the_end;

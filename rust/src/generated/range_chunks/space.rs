@@ -5,7 +5,7 @@ pub(crate) mod fitting;
 
 use crate::generated::range_chunks::gap_bound::{forget, GapBound};
 use crate::generated::range_chunks::set::ChunkedRangeSet;
-use crate::generated::range_collections::Countable;
+use crate::generated::range_collections::{Countable, RangeSetRef};
 use crate::support::{AllocError, Global, Vec};
 use core::ops::{Range, RangeFrom};
 
@@ -142,6 +142,42 @@ impl<T: Countable + Copy> ChunkedSpace<T> {
     pub fn remove_from(&mut self, range: RangeFrom<T>) -> Result<(), AllocError> {
         self.bounds.clear();
         self.taken.remove_from(range)
+    }
+
+    /// Takes the members of `that`, as `ChunkedRangeSet::insert_all`.
+    ///
+    /// # Contract
+    ///
+    /// ```text
+    /// ensures means: OnOk result (Means T.cmp union_table self.new self.old
+    ///     that.entry.boundaries.now)
+    /// ensures members: OnOk result ((x : T) → member T.cmp self.new x ≡ (member T.cmp self.old x
+    ///     || member T.cmp that.entry.boundaries.now x))
+    /// ensures unchanged: OnErr result (self.new ≡ self.old)
+    /// ```
+    pub fn insert_all(&mut self, that: RangeSetRef<T>) -> Result<(), AllocError> {
+        self.taken.insert_all(that)
+    }
+
+    /// Frees the members of `that`, as `ChunkedRangeSet::remove_all`. It forgets all that is remembered
+    /// of gaps, unless `that` is one range with an end.
+    ///
+    /// # Contract
+    ///
+    /// ```text
+    /// ensures means: OnOk result (Means T.cmp difference_table self.new self.old
+    ///     that.entry.boundaries.now)
+    /// ensures members: OnOk result ((x : T) → member T.cmp self.new x ≡ (member T.cmp self.old x
+    ///     && not (member T.cmp that.entry.boundaries.now x)))
+    /// ensures unchanged: OnErr result (self.new ≡ self.old)
+    /// ```
+    pub fn remove_all(&mut self, that: RangeSetRef<T>) -> Result<(), AllocError> {
+        let boundaries = that.boundaries();
+        if boundaries.len() == 2 {
+            return self.remove(boundaries[0]..boundaries[1]);
+        }
+        self.bounds.clear();
+        self.taken.remove_all(that)
     }
 
     /// Frees all values. It keeps the room for the list of chunks.

@@ -19,6 +19,7 @@ use crate::support::AllocError;
 /// ensures sorted: IsAscending T.cmp (joined list.new)
 /// ensures changed: IsChangedByRange T.cmp (range_table inside) 0 (joined list.old) (start ∷
 ///     []) (joined list.new) result
+/// ensures settled: IsSettledFrom T.cmp inside (joined list.old) start → IsOk result
 /// ensures comparisons: AddsAtMost count.old count.new (digits (length (joined list.old)) +
 ///     digits 512)
 /// ```

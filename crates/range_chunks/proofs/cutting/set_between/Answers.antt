@@ -5,6 +5,8 @@ use Rattle.range_collections.proofs.Insertion.{cuts_ordered, same_parity}
 use Rattle.range_list.specs.Lists.{joined}
 use Rattle.range_chunks.proofs.Changed.{ascending-spliced, changed-spliced, below-above}
 use Rattle.range_chunks.proofs.Searched.{digits-rest}
+use Rattle.std.proofs.lemmas.Result.{on_ok_weaker}
+use Rattle.range_chunks.proofs.InTurn.{IsSet-spliced, no_longer}
 use Rattle.range_chunks.proofs.cutting.set_between.Goals as goal
 
 pub find-found-requires-clause-ascending : goal.find-found-requires-clause-ascending
@@ -72,3 +74,14 @@ returns-clause-comparisons g c = record {
         digits-mono (length c.args.list.now) (length (joined c.args.list.now)) c.find-found.ensures.fewer,
       );
 }
+
+pub returns-clause-set : goal.returns-clause-set
+returns-clause-set g c =
+    on_ok_weaker c.splice.result
+    (IsSet-spliced g.met.T.Ord.total c.args.inside (joined c.args.list.now) c.args.start c.args.end _ _ _ _ c.requires.sorted c.requires.less c.cut-start.ensures.cut c.cut-end.ensures.cut (joined c.splice.new.list))
+    c.splice.ensures.items
+
+pub returns-clause-settled : goal.returns-clause-settled
+returns-clause-settled g c = λ settled.
+    c.splice.ensures.succeeds
+    (no_longer g.met.T.Ord.total c.args.inside (joined c.args.list.now) c.args.start c.args.end _ _ _ _ c.requires.sorted c.requires.less c.cut-start.ensures.cut c.cut-end.ensures.cut settled)

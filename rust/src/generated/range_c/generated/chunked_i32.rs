@@ -5,7 +5,8 @@ use crate::generated::range_c::chunked::fitting::{first_fit_aligned, first_run};
 use crate::generated::range_c::chunked::members::{covered, prev_gap, prev_member, rank, select};
 use crate::generated::range_c::chunked::ranges::{first, last, overlapping, range_at, range_from};
 use crate::generated::range_c::chunked::{
-    copied, copy, first_fit, insert, insert_from, next_gap, next_member, remove, remove_from,
+    copied, copy, first_fit, insert, insert_all, insert_from, next_gap, next_member, remove,
+    remove_all, remove_from,
 };
 use crate::generated::range_chunks::ChunkedSpace;
 use crate::support::{items_at, room_at, Box, Global, Parts};
@@ -156,6 +157,36 @@ pub unsafe extern "C" fn plain_range_set_i32_chunked_remove_from(
     let alloc = Global;
     let mut taken = set.take(alloc);
     let done = remove_from(&mut taken.set, start);
+    set.put(taken);
+    done
+}
+
+/// Puts the members of a list in, and answers whether there was memory for it. If there was none, the set is as it was.
+#[no_mangle]
+pub unsafe extern "C" fn plain_range_set_i32_chunked_insert_all(
+    set: &mut ChunkedI32,
+    b: *const i32,
+    b_len: usize,
+) -> bool {
+    let alloc = Global;
+    let b = unsafe { items_at(b, b_len) };
+    let mut taken = set.take(alloc);
+    let done = insert_all(&mut taken.set, b);
+    set.put(taken);
+    done
+}
+
+/// Takes the members of a list out, and answers whether there was memory for it. If there was none, the set is as it was.
+#[no_mangle]
+pub unsafe extern "C" fn plain_range_set_i32_chunked_remove_all(
+    set: &mut ChunkedI32,
+    b: *const i32,
+    b_len: usize,
+) -> bool {
+    let alloc = Global;
+    let b = unsafe { items_at(b, b_len) };
+    let mut taken = set.take(alloc);
+    let done = remove_all(&mut taken.set, b);
     set.put(taken);
     done
 }
