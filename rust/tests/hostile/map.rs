@@ -5,7 +5,7 @@
 use crate::common::one_in;
 use crate::element::{Hostile, Plan, LIVE, PLAN};
 use crate::without_messages;
-use range_sets::{fallible, RangeMap, RangeSetRange};
+use range_sets::{fallible, RangeMap, RangeSet2, RangeSetRange};
 use std::cell::Cell;
 use std::ops::Range;
 use std::panic::{catch_unwind, resume_unwind, AssertUnwindSafe};
@@ -175,7 +175,7 @@ const CHANGES: [Change; 18] = [
 ];
 
 /// What only compares, clones or reads.
-const QUESTIONS: [(&str, Call); 4] = [
+const QUESTIONS: [(&str, Call); 6] = [
     ("operations with a copy", |map, range, value| {
         let that = map.clone();
         drop((map.union_with_left(&that), map.union_with_right(&that)));
@@ -183,12 +183,21 @@ const QUESTIONS: [(&str, Call); 4] = [
         let (domain, ones) = (map.domain::<[_; 2]>(), map.where_equal::<[_; 2]>(&value));
         drop((map.restrict(&domain), map.without(&ones), range));
     }),
+    ("the values in few ranges", |map, range, _| {
+        let few = RangeSet2::from(range);
+        drop((map.restrict(&few), map.without(&few)));
+    }),
+    ("gaps between values", |map, range, _| {
+        let _ = map.gaps(range.clone()).take(9).count();
+        let _ = map.gaps(range.start..).take(9).count();
+    }),
     ("questions of a key", |map, range, _| {
         let _ = (map.get(&range.start), map.contains_key(&range.end));
         let ends = &range.start..&range.end;
         let _ = (
             map.overlapping(ends.clone()).count(),
             map.gaps(ends).count(),
+            map.overlapping(&range.start..).rev().count(),
         );
         let _ = (map.get_key_value(&range.start), map.is_free(range));
     }),
