@@ -270,6 +270,7 @@ fn changes_panic_in_turn(plan: fn(usize) -> Plan, at_least: usize) {
                 assert!(is_one_of_three, "{what}: {} boundaries", found.len());
                 panicked += 1;
                 turn += step(*ranges);
+                assert!(turn < 10_000, "{name} never returns");
             }
         }
     }
@@ -307,6 +308,7 @@ fn clones_that_panic_change_nothing() {
                     }
                     panicked += 1;
                     turn += step(*ranges);
+                    assert!(turn < 10_000, "{name} never returns");
                 }
             }
         }
@@ -332,6 +334,7 @@ fn a_comparison_that_panics_changes_nothing() {
                     }
                     assert_eq!(found, before, "{name} of {ranges} ranges and {range:?}");
                     turn += step(*ranges);
+                    assert!(turn < 10_000, "{name} never returns");
                 }
             }
         }

@@ -325,6 +325,7 @@ fn changes_panic_in_turn(plan: fn(usize) -> Plan, at_least: usize) {
                 assert!(is_one_of_three, "{what}: {found:?}");
                 panicked += 1;
                 turn += one_in();
+                assert!(turn < 10_000, "{what}: it never returns");
             }
         }
     }
@@ -360,6 +361,7 @@ fn questions_that_panic_change_nothing() {
                             break;
                         }
                         turn += one_in();
+                        assert!(turn < 10_000, "{name} never returns");
                     }
                 }
             }
