@@ -300,7 +300,7 @@ END
 }
 
 # A program in C++ against the headers that were installed, all of them.
-is_found_in_cpp() {
+takes_the_installed_headers() {
     g++ -std=c++17 -I"$prefix/include" -include range_map.hpp c/examples/calendar.cpp "$prefix/lib/librange_set.a" -o "$work/found" &&
         "$work/found" | grep -qx 'Ada is busy'
 }
@@ -479,7 +479,7 @@ over_install pkg-config pkg-config "a program by pkg-config" is_found_by_pkg_con
 over_install pkg-config pkg-config "a program in C++ by pkg-config" is_found_in_cpp
 over_install cmake cmake "a program by CMake" is_found_by_cmake
 over_install readelf binutils "the shared library" is_shared
-over_install g++ g++ "the installed headers in C++" is_found_in_cpp
+over_install g++ g++ "the installed headers in C++" takes_the_installed_headers
 step "what isn't called is dropped" drops_what_is_not_called
 step_by make make "make uninstall" uninstalls
 step_by valgrind valgrind "the tests under valgrind" valgrind -q --error-exitcode=9 --leak-check=full "$work/test" 1000

@@ -37,7 +37,9 @@ static void TEST(places_of_answers)(void)
 static void TEST(bad_lists)(void)
 {
     static const NUMBER good[] = {1, 2}, turned[] = {3, 2}, repeated[] = {3, 3};
+    static const NUMBER as_before[8] = {1, 2, 3, 4};
     NUMBER list[8] = {1, 2, 3, 4};
+    bool *const bytes = (bool *)(void *)list;
     SET set = {good, 77}, *in_list = (SET *)(void *)list, *in_last = (SET *)(void *)(list + 2);
     const SET asked = {list + 2, 2};
     bool found = false;
@@ -55,9 +57,17 @@ static void TEST(bad_lists)(void)
     check(CALL(contains_each)(asked, NULL, 1, &found) == RANGE_SET_BAD_ARGUMENT, "contains_each of null");
     check(CALL(contains_each)(asked, good, 1, NULL) == RANGE_SET_BAD_ARGUMENT, "contains_each into null");
     check(CALL(contains_each)(asked, good, SIZE_MAX, &found) == RANGE_SET_BAD_ARGUMENT, "contains_each of too many");
-    check(CALL(contains_each)(asked, list, 1, (bool *)(void *)list) == RANGE_SET_BAD_ARGUMENT, "contains_each into the values");
-    check(CALL(contains_each)(asked, good, 1, (bool *)(void *)(list + 2)) == RANGE_SET_BAD_ARGUMENT, "contains_each into the set");
-    check(!found && list[0] == 1 && list[2] == 3, "contains_each: nothing is written");
+    check(CALL(contains_each)(asked, list, 1, bytes) == RANGE_SET_BAD_ARGUMENT, "contains_each into the values");
+    check(CALL(contains_each)(asked, good, 1, bytes + 2 * sizeof *list) == RANGE_SET_BAD_ARGUMENT, "contains_each into the set");
+    /* The last byte of what is read is written, or what is written ends in the first. */
+    check(CALL(contains_each)(asked, list + 4, 2, bytes + 6 * sizeof *list - 1) == RANGE_SET_BAD_ARGUMENT,
+        "contains_each into the last value");
+    check(CALL(contains_each)(asked, list + 1, 1, bytes + 4 * sizeof *list - 1) == RANGE_SET_BAD_ARGUMENT,
+        "contains_each into the set's end");
+    check(CALL(contains_each)(asked, list + 4, 2, bytes + 2 * sizeof *list - 1) == RANGE_SET_BAD_ARGUMENT, "contains_each up to the set");
+    check(
+        CALL(contains_each)(asked, list + 5, 2, bytes + 5 * sizeof *list - 1) == RANGE_SET_BAD_ARGUMENT, "contains_each up to the values");
+    check(!found && memcmp(list, as_before, sizeof list) == 0, "contains_each: nothing is written");
     check(CALL(from_unsorted)(NULL, 1, &set) == RANGE_SET_BAD_ARGUMENT, "from_unsorted of null");
     check(CALL(from_unsorted)(list, 4, NULL) == RANGE_SET_BAD_ARGUMENT, "from_unsorted into null");
     check(CALL(from_unsorted)(list, SIZE_MAX, &set) == RANGE_SET_BAD_ARGUMENT, "from_unsorted of too many");

@@ -74,12 +74,12 @@ static void TEST(made_up)(void)
 /* The calls that are made of others, on two sets that are made up. */
 static void TEST(of_others)(void)
 {
-    static const NUMBER one[] = {LEAST + 2, LEAST + 4};
+    static const NUMBER few[] = {LEAST + 2, LEAST + 4, LEAST + 8};
     NUMBER points[POINTS], first[POINTS], second[POINTS];
     bool on[POINTS], too[POINTS];
     size_t p, many;
     CHUNKED set, none = {NULL};
-    SET a, b;
+    SET a, b, nothing = {NULL, 2};
     for (p = 0; p < POINTS; p++) points[p] = LEAST + (NUMBER)(2 * p), on[p] = random_below(2) == 0, too[p] = random_below(2) == 0;
     a = TEST(set)(first, TEST(boundaries)(points, on, POINTS, first));
     b = TEST(set)(second, TEST(boundaries)(points, too, POINTS, second));
@@ -93,10 +93,12 @@ static void TEST(of_others)(void)
     TEST(chunked_gaps)(none, TEST(set)(NULL, 0), LEAST, MOST);
     TEST(chunked_combined)(a, b);
     for (p = 0; p < 4; p++) TEST(chunked_combined_few)();
-    /* No range, one without an end, and one, which the set may have. */
-    for (p = 0; p <= 2; p++) TEST(chunked_combined)(a, TEST(set)(one, p));
+    /* No range, one without an end, one, and two, which the set may have. */
+    for (p = 0; p <= 3; p++) TEST(chunked_combined)(a, TEST(set)(few, p));
     /* Its complement has one boundary more. */
-    TEST(chunked_combined)(TEST(set)(one, 2), TEST(set)(NULL, 0));
+    TEST(chunked_combined)(TEST(set)(few, 2), TEST(set)(NULL, 0));
+    /* A set without a list is empty, whatever its length is. */
+    TEST(chunked_combined)(a, nothing);
     CALL(chunked_free)(&set);
 }
 

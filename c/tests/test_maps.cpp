@@ -32,6 +32,26 @@ template <class V> static unsigned which_of(const V *it)
     return which;
 }
 
+// An iteration reads some ranges at a time. The last of these may be the last of all, and may have no end.
+template <class T, class V> static void iterations()
+{
+    range_map<T, V> some;
+    for (T len = 0; len < 50; len++) {
+        const T start = static_cast<T>(3 * len), end = static_cast<T>(start + 2);
+        T at = 0;
+        for (const auto &[keys, found] : some) {
+            check(keys == range<T>{at, static_cast<T>(at + 2), true} && found == value<V>(unsigned(at) % 2), "an iteration");
+            at = static_cast<T>(at + 3);
+        }
+        check(at == start, "an iteration over all ranges");
+        some.insert_from(start, value<V>(unsigned(start) % 2));
+        auto it = some.begin();
+        for (T before = 0; before < len; before++) check(it != some.end() && it++->first.has_end, "an iteration up to the last range");
+        check(it->first == range<T>{start, 0, false} && ++it == some.end(), "an iteration over a range without an end");
+        some.remove_from(end);
+    }
+}
+
 template <class T, class V> static void rows()
 {
     using map = range_map<T, V>;
@@ -306,6 +326,8 @@ int main()
     both<long long, const int *>();
     both<unsigned long, double>();
     rows<char32_t, char>();
+    iterations<int, std::string>();
+    iterations<std::uint64_t, int>();
     combined<char32_t, char>();
     many_values();
     its_own_values();

@@ -323,6 +323,17 @@ class ManyRanges(unittest.TestCase):
             found = [call(made) for call in calls]
         self.assertEqual(found, wanted)
 
+    def test_one_element_outside_of_a_short_set(self):
+        made, few = MutableRangeSet.from_values(range(0, 8000, 4)), RangeSet([(0, 4001), (4003, 8000)])
+        made.discard(4000)
+        self.assertTrue(made <= few and made < few and few >= made and made.issubset(few) and few.issuperset(made))
+        # Below all ranges of the short set, between two of them, just above, and far above.
+        for outside in (-(2**63), -1, 4002, 8000, 2**63 - 1):
+            made.add(outside)
+            self.assertFalse(made <= few or made < few or few >= made or made.issubset(few) or few.issuperset(made), outside)
+            made.discard(outside)
+        self.assertTrue(made <= few)
+
     def test_questions_between_changes(self):
         made, few = MutableRangeSet.from_values(range(0, 800_000, 4)), RangeSet([(2, 3), (400_002, 400_003)])
         began = time.process_time()

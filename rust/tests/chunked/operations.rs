@@ -153,6 +153,11 @@ impl Clone for Cloned {
     }
 }
 
+/// Merges may clone an element without a drop more than once.
+impl Drop for Cloned {
+    fn drop(&mut self) {}
+}
+
 impl fallible::EntryClone for Cloned {
     fn entry_clone(&self) -> Result<Self, fallible::AllocError> {
         Ok(self.clone())
@@ -189,5 +194,24 @@ fn a_set_in_two_copies_the_upper_one_alone() {
         assert_eq!(set.split_off(&Cloned(at)).ranges_len(), above);
         let clones = CLONES.with(Cell::get) - before;
         assert!(clones <= 4 * above + 4, "{clones} clones at {at}");
+    }
+}
+
+/// Also if the view has ranges all over the set: these lie in one list first.
+#[test]
+fn a_new_set_of_both_copies_each_boundary_once() {
+    let range = |i: u32| Cloned(10 * i)..Cloned(10 * i + 4);
+    let set = ChunkedRangeSet::from_ranges((0..10_000).map(range));
+    for few in [1, 2, 3, 40, 1_000, 5_000] {
+        let that = (0..few).map(|i| 10_000 / few * i);
+        let that = RangeSet2::from_ranges(that.map(|i| Cloned(10 * i + 2)..Cloned(10 * i + 7)));
+        let before = CLONES.with(Cell::get);
+        let made = [&set | &that, &set - &that, &set ^ &that];
+        let clones = CLONES.with(Cell::get) - before;
+        // A change in chunks copies what it changes once more.
+        let at_most = 3 * (20_000 + 7 * few as usize);
+        assert!(clones <= at_most, "{clones} clones for {few} ranges");
+        let lens = made.map(|it| it.boundaries_len());
+        assert_eq!(lens, [20_000, 20_000, 20_000 + 2 * few as usize]);
     }
 }

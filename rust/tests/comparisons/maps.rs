@@ -134,6 +134,22 @@ fn operations_with_one_range() {
     }
 }
 
+/// Two searches for each range of a short set, or a walk over the map and the set.
+#[test]
+fn the_keys_of_many_ranges() {
+    let (map, search) = many();
+    for (n, at_most) in [
+        (1, 2 * search),
+        (10, 20 * search),
+        (1000, 2 * (KEYS + 2000)),
+        (RANGES, 2 * (KEYS + KEYS)),
+    ] {
+        let part = RangeSet2::from_ranges(ranges(n));
+        let made = count(|| map.restrict(&part));
+        assert!(made <= at_most, "{made} comparisons for {n} ranges");
+    }
+}
+
 /// Starts and ends are sorted, each with few comparisons more than their digits, and read once.
 #[test]
 fn depths() {

@@ -101,8 +101,17 @@ pub fn calls<A: Array<Item = Hostile>>() -> Vec<(&'static str, Call<A>)> {
                 a.merge_len(&b, Connective::UNION),
                 a.merge_len(&b, Connective::DIFFERENCE),
             );
-            let (left, right) = a.split(x);
+            let (left, right) = a.split(x.clone());
             let _ = (read(left), read(right));
+            let mut cursor = a.cursor();
+            let _ = [&x, &y, &x].map(|value| cursor.contains(value));
+        }),
+        ("parts between values", |a, _, x, y| {
+            let _ = (
+                a.gaps(x.clone()..y.clone()).count(),
+                a.ranges_within(x.clone()..y).count(),
+                a.gaps(x..).count(),
+            );
         }),
         ("fallible in place", |a, b, x, y| {
             fallibly(a, |a| {

@@ -1,9 +1,12 @@
 //! Sets in chunks whose elements' orders lie, and whose comparisons and drops panic: each element
 //! is dropped once, and a change that panics leaves the set as it was, changed as asked, or empty.
 
+mod questions;
+
 use crate::common::one_in;
 use crate::element::{Hostile, Plan, LIVE, PLAN};
 use crate::without_messages;
+use questions::QUESTIONS;
 use range_sets::{fallible, ChunkedRangeSet, RangeSet2, RangeSetRange, RangeSetRef};
 use std::cell::Cell;
 use std::ops::Range;
@@ -14,12 +17,6 @@ type Change = (
     &'static str,
     fn(&mut ChunkedRangeSet<Hostile>, Range<Hostile>),
     fn(&[u16], Range<u16>) -> Vec<u16>,
-);
-
-/// A call on a set, with its name.
-type Call = (
-    &'static str,
-    fn(&mut ChunkedRangeSet<Hostile>, Range<Hostile>),
 );
 
 const CHANGES: [Change; 20] = [
@@ -127,33 +124,6 @@ fn with_view(range: Range<Hostile>, call: impl FnOnce(&RangeSetRef<Hostile>)) {
         call(view);
     }
 }
-
-/// What only compares or reads.
-const QUESTIONS: [Call; 6] = [
-    ("questions of a value", |set, range| {
-        let _ = (set.contains(&range.start), set.is_empty());
-        let _ = (set.next_member(&range.start), set.next_gap(&range.end));
-    }),
-    ("contains_range", |set, range| {
-        let _ = set.contains_range(range);
-    }),
-    ("overlapping", |set, range| {
-        let _ = set.overlapping(&range.start..&range.end).count();
-    }),
-    ("intersects_range", |set, range| {
-        let _ = set.intersects_range(range);
-    }),
-    ("copies", |set, _| {
-        let _ = (
-            set.clone(),
-            fallible::ChunkedRangeSet::from(set.clone()).try_clone(),
-        );
-    }),
-    ("a comparison of sets", |set, _| {
-        let same = &*set;
-        let _ = (same == &*set, same.cmp(set));
-    }),
-];
 
 /// Changes the set by a call of `fallible`, and gives it back also if that panics.
 fn fallibly(
@@ -300,6 +270,7 @@ fn changes_panic_in_turn(plan: fn(usize) -> Plan, at_least: usize) {
                 assert!(is_one_of_three, "{what}: {} boundaries", found.len());
                 panicked += 1;
                 turn += step(*ranges);
+                assert!(turn < 10_000, "{name} never returns");
             }
         }
     }
@@ -317,20 +288,31 @@ fn changes_in_which_a_drop_panics() {
 }
 
 #[test]
+fn changes_in_which_a_clone_panics() {
+    without_messages(|| changes_panic_in_turn(Plan::PanicAtClone, 100));
+}
+
+#[test]
 fn clones_that_panic_change_nothing() {
     without_messages(|| {
-        for (ranges, range) in &CASES {
-            let (before, mut turn) = (read(&set(*ranges)), 0);
-            loop {
-                let plan = Plan::PanicAtClone(turn);
-                let (returned, found) = call_by(plan, QUESTIONS[3].1, *ranges, range);
-                assert_eq!(found, before, "of {ranges} ranges, panic {turn}");
-                if returned {
-                    break;
+        let mut panicked = 0;
+        for (name, call) in QUESTIONS {
+            for (ranges, range) in &CASES {
+                let (before, mut turn) = (read(&set(*ranges)), 0);
+                loop {
+                    let plan = Plan::PanicAtClone(turn);
+                    let (returned, found) = call_by(plan, call, *ranges, range);
+                    assert_eq!(found, before, "{name} of {ranges} ranges, panic {turn}");
+                    if returned {
+                        break;
+                    }
+                    panicked += 1;
+                    turn += step(*ranges);
+                    assert!(turn < 10_000, "{name} never returns");
                 }
-                turn += step(*ranges);
             }
         }
+        assert!(panicked * one_in() >= 500, "{panicked} panicked");
     });
 }
 
@@ -352,6 +334,7 @@ fn a_comparison_that_panics_changes_nothing() {
                     }
                     assert_eq!(found, before, "{name} of {ranges} ranges and {range:?}");
                     turn += step(*ranges);
+                    assert!(turn < 10_000, "{name} never returns");
                 }
             }
         }

@@ -5,7 +5,7 @@
 use crate::common::one_in;
 use crate::element::{Hostile, Plan, LIVE, PLAN};
 use crate::without_messages;
-use range_sets::{fallible, RangeMap, RangeSetRange};
+use range_sets::{fallible, RangeMap, RangeSet2, RangeSetRange};
 use std::cell::Cell;
 use std::ops::Range;
 use std::panic::{catch_unwind, resume_unwind, AssertUnwindSafe};
@@ -175,7 +175,7 @@ const CHANGES: [Change; 18] = [
 ];
 
 /// What only compares, clones or reads.
-const QUESTIONS: [(&str, Call); 4] = [
+const QUESTIONS: [(&str, Call); 6] = [
     ("operations with a copy", |map, range, value| {
         let that = map.clone();
         drop((map.union_with_left(&that), map.union_with_right(&that)));
@@ -183,12 +183,21 @@ const QUESTIONS: [(&str, Call); 4] = [
         let (domain, ones) = (map.domain::<[_; 2]>(), map.where_equal::<[_; 2]>(&value));
         drop((map.restrict(&domain), map.without(&ones), range));
     }),
+    ("the values in few ranges", |map, range, _| {
+        let few = RangeSet2::from(range);
+        drop((map.restrict(&few), map.without(&few)));
+    }),
+    ("gaps between values", |map, range, _| {
+        let _ = map.gaps(range.clone()).take(9).count();
+        let _ = map.gaps(range.start..).take(9).count();
+    }),
     ("questions of a key", |map, range, _| {
         let _ = (map.get(&range.start), map.contains_key(&range.end));
         let ends = &range.start..&range.end;
         let _ = (
             map.overlapping(ends.clone()).count(),
             map.gaps(ends).count(),
+            map.overlapping(&range.start..).rev().count(),
         );
         let _ = (map.get_key_value(&range.start), map.is_free(range));
     }),
@@ -316,6 +325,7 @@ fn changes_panic_in_turn(plan: fn(usize) -> Plan, at_least: usize) {
                 assert!(is_one_of_three, "{what}: {found:?}");
                 panicked += 1;
                 turn += one_in();
+                assert!(turn < 10_000, "{what}: it never returns");
             }
         }
     }
@@ -351,6 +361,7 @@ fn questions_that_panic_change_nothing() {
                             break;
                         }
                         turn += one_in();
+                        assert!(turn < 10_000, "{name} never returns");
                     }
                 }
             }
