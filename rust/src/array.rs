@@ -18,7 +18,7 @@ use crate::range::RangeSetRange;
 use crate::support::{self, Global};
 use core::mem;
 use core::ops::RangeTo;
-use proved::{EntryClone, ParseError};
+use proved::{EntryClone, ParseError, RangeSetRef};
 use smallvec::SmallVec;
 
 /// An array type: its length is the number of boundaries that a set keeps in itself.
@@ -123,10 +123,7 @@ pub trait List: Sized {
         Self::Item: Ord;
 
     /// The boundaries of the union of sets, with copies of theirs.
-    fn union_of<P>(
-        sets: &[proved::RangeSetRef<'_, Self::Item>],
-        copier: &P,
-    ) -> Result<Self, AllocError>
+    fn union_of<P>(sets: &[RangeSetRef<'_, Self::Item>], copier: &P) -> Result<Self, AllocError>
     where
         Self::Item: Ord,
         P: Copier<Self::Item>;
@@ -281,7 +278,7 @@ impl<T, const N: usize> List for support::SmallVec<T, N> {
         copies(Global, items, copier)
     }
 
-    fn union_of<P>(sets: &[proved::RangeSetRef<'_, T>], copier: &P) -> Result<Self, AllocError>
+    fn union_of<P>(sets: &[RangeSetRef<'_, T>], copier: &P) -> Result<Self, AllocError>
     where
         T: Ord,
         P: Copier<T>,
