@@ -1,5 +1,5 @@
 -- A range without an end, set in a list of boundaries before or behind others.
-use Rattle.std.proofs.Common.{suc, ◌≡◌, ◌≢◌, refl, sym, ap, ◌∙◌, subst, ℕ, inl, inr, ◌<◌, ◌≤◌, ◌+◌, Option, Some, None, Bool, true, false, not, List, [], ◌∷◌, ◌++◌, length, get_or, arith, All, true≢false, length-append}
+use Rattle.std.proofs.Common.{suc, ◌≡◌, ◌≢◌, refl, sym, ap, ◌∙◌, subst, ℕ, inl, inr, ◌<◌, ◌≤◌, ◌+◌, ◌-◌, Option, Some, None, Bool, true, false, not, List, [], ◌∷◌, ◌++◌, length, get_or, arith, All, true≢false, length-append}
 use Rattle.std.specs.List.{AllWithin, slice_get}
 use Rattle.std.specs.Option.{option_to_list}
 use Rattle.std.specs.Cmp.{IsTotalOrder}

@@ -1,5 +1,5 @@
 -- Ranges put one by one where they make a list of boundaries longer, and taken out again.
-use Rattle.std.proofs.Common.{◌*◌, ◌≡◌, sym, ap, ap₂, ◌∙◌, subst, ℕ, inl, inr, ◌⊎◌, ◌<◌, ◌≤◌, ◌+◌, Some, None, Bool, true, false, List, [], ◌∷◌, ◌++◌, length, take, drop, get_or, arith, length-append, reverse}
+use Rattle.std.proofs.Common.{◌*◌, ◌≡◌, sym, ap, ap₂, ◌∙◌, subst, ℕ, inl, inr, ◌⊎◌, ◌<◌, ◌≤◌, ◌+◌, ◌-◌, Some, None, Bool, true, false, List, [], ◌∷◌, ◌++◌, length, take, drop, get_or, arith, length-append, reverse}
 use Rattle.std.specs.List.{AllWithin}
 use Rattle.std.specs.Cmp.{IsTotalOrder}
 use Rattle.std.specs.Ordering.{is_le}

@@ -2,11 +2,11 @@
 //!
 //! Only a range that makes the list longer takes memory. Such ranges are put first. If memory runs out,
 //! they are taken out again, which takes none. The others come last, and take none either.
-ghost use Rattle.std.specs.Prelude.{◌≡◌, ◌+◌, ◌<◌, ◌∷◌, ◌++◌, ◌/◌, ◌⊎◌, [], true, false, not, All, List, get_or, length, reverse, OnOk, OnErr, IfSome, IfNone};
+ghost use Rattle.std.specs.Prelude.{◌≡◌, ◌≤◌, ◌+◌, ◌*◌, ◌<◌, ◌∷◌, ◌++◌, ◌/◌, ◌⊎◌, [], true, false, not, All, List, get_or, length, reverse, OnOk, OnErr, IfSome, IfNone, HoldsAt};
 ghost use Rattle.std.specs.declared.cmp.Ordering.TheVariants.{Less};
 ghost use Rattle.range_merge.specs.Boundaries.{IsAscending, is_odd as odd, member};
 ghost use Rattle.range_merge.specs.Connective.{Means};
-ghost use Rattle.range_collections.specs.Splicing.{range_table};
+ghost use Rattle.range_collections.specs.Splicing.{range_table, spliced};
 ghost use Rattle.range_list.specs.Lists.{joined, place_at, IsPlaceAt};
 ghost use Rattle.range_chunks.specs.Several.{IsGap, IsSettled, IsSettledFrom, AreKeptAbove, AreSettled, IsPutBetween, IsPutAt, ArePutIn};
 

@@ -1,4 +1,4 @@
-use Rattle.std.proofs.Common.{◌+◌, ◌*◌, ◌<◌, length, arith}
+use Rattle.std.proofs.Common.{◌≡◌, ◌+◌, ◌*◌, ◌<◌, length, arith}
 use Rattle.range_list.specs.Lists.{joined}
 use Rattle.range_chunks.proofs.PutInTurn.{sorted_after, put_after, outside_after, kept_after, settled_more}
 use Rattle.range_chunks.proofs.several.put_longer.Goals as goal

@@ -1,4 +1,4 @@
-use Rattle.std.proofs.Common.{◌+◌, ◌*◌, ◌/◌, ◌<◌, ◌≤◌, ap, sym, length, arith}
+use Rattle.std.proofs.Common.{◌≡◌, ◌+◌, ◌*◌, ◌/◌, ◌<◌, ◌≤◌, ap, sym, length, arith}
 use Rattle.range_merge.specs.Boundaries.{member}
 use Rattle.range_merge.proofs.Members.{member-nil}
 use Rattle.range_collections.specs.Splicing.{range_table}

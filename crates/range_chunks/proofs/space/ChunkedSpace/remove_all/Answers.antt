@@ -1,5 +1,6 @@
-use Rattle.std.proofs.Common.{◌≡◌, List, ◌∙◌, sym, subst, length, false, arith}
+use Rattle.std.proofs.Common.{◌≡◌, ◌&&◌, not, List, [], ◌∷◌, ◌∙◌, sym, ap, subst, length, false, arith}
 use Rattle.std.proofs.lemmas.Result.{on_ok_weaker}
+use Rattle.range_merge.specs.Boundaries.{member}
 use Rattle.range_merge.specs.Connective.{Means, difference_table}
 use Rattle.range_collections.specs.Ranges.{range_items}
 use Rattle.range_collections.proofs.ManyRanges.{range_is}
