@@ -134,7 +134,7 @@ range_set_status NAME(chunked_combine)(CHUNKED *set, SET other, unsigned keep)
         return RANGE_SET_BAD_ARGUMENT;
     keep &= RANGE_SET_UNION | RANGE_SET_NEITHER;
     len = NAME(chunked_boundaries_len)(*set), room = len + other_len + 1;
-    if (other_len <= len / 64 + 2 && (keep == RANGE_SET_UNION || keep == RANGE_SET_DIFFERENCE)) {
+    if (other_len <= len / 256 + 2 && (keep == RANGE_SET_UNION || keep == RANGE_SET_DIFFERENCE)) {
         done = keep == RANGE_SET_UNION ? EXPORT(chunked_insert_all)(set, LIST(other)) : EXPORT(chunked_remove_all)(set, LIST(other));
         return done ? RANGE_SET_DONE : RANGE_SET_NO_MEMORY;
     }

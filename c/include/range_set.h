@@ -637,7 +637,7 @@ RANGE_SET_STATUS range_set_i32_chunked_gaps(range_set_i32_chunked set, int32_t s
                                             size_t room, range_set_i32 *result);
 
 /* Leaves in the set the numbers that `keep` names, as `combine`. A union with a set of few boundaries, two more than a
- * 64th of this one's at most, or the difference from it, changes the chunks where its ranges lie. Else it makes a list
+ * 256th of this one's at most, or the difference from it, changes the chunks where its ranges lie. Else it makes a list
  * and new chunks of both sets. Where an allocation fails the set is as it was. */
 RANGE_SET_STATUS range_set_i32_chunked_combine(range_set_i32_chunked *set, range_set_i32 other, unsigned keep);
 
@@ -1223,7 +1223,7 @@ RANGE_SET_STATUS range_set_u32_chunked_gaps(range_set_u32_chunked set, uint32_t 
                                             size_t room, range_set_u32 *result);
 
 /* Leaves in the set the numbers that `keep` names, as `combine`. A union with a set of few boundaries, two more than a
- * 64th of this one's at most, or the difference from it, changes the chunks where its ranges lie. Else it makes a list
+ * 256th of this one's at most, or the difference from it, changes the chunks where its ranges lie. Else it makes a list
  * and new chunks of both sets. Where an allocation fails the set is as it was. */
 RANGE_SET_STATUS range_set_u32_chunked_combine(range_set_u32_chunked *set, range_set_u32 other, unsigned keep);
 
@@ -1809,7 +1809,7 @@ RANGE_SET_STATUS range_set_i64_chunked_gaps(range_set_i64_chunked set, int64_t s
                                             size_t room, range_set_i64 *result);
 
 /* Leaves in the set the numbers that `keep` names, as `combine`. A union with a set of few boundaries, two more than a
- * 64th of this one's at most, or the difference from it, changes the chunks where its ranges lie. Else it makes a list
+ * 256th of this one's at most, or the difference from it, changes the chunks where its ranges lie. Else it makes a list
  * and new chunks of both sets. Where an allocation fails the set is as it was. */
 RANGE_SET_STATUS range_set_i64_chunked_combine(range_set_i64_chunked *set, range_set_i64 other, unsigned keep);
 
@@ -2395,7 +2395,7 @@ RANGE_SET_STATUS range_set_u64_chunked_gaps(range_set_u64_chunked set, uint64_t 
                                             size_t room, range_set_u64 *result);
 
 /* Leaves in the set the numbers that `keep` names, as `combine`. A union with a set of few boundaries, two more than a
- * 64th of this one's at most, or the difference from it, changes the chunks where its ranges lie. Else it makes a list
+ * 256th of this one's at most, or the difference from it, changes the chunks where its ranges lie. Else it makes a list
  * and new chunks of both sets. Where an allocation fails the set is as it was. */
 RANGE_SET_STATUS range_set_u64_chunked_combine(range_set_u64_chunked *set, range_set_u64 other, unsigned keep);
 

@@ -23,7 +23,7 @@ static void TEST(chunked_combined)(SET a, SET b)
  * together, and some far apart. */
 static void TEST(chunked_combined_few)(void)
 {
-    enum { MANY = 2000, FEW = 24 };
+    enum { MANY = 6000, FEW = 24 };
     static NUMBER list[MANY], wanted[MANY + FEW];
     NUMBER few[FEW];
     const unsigned keep = random_below(2) == 0 ? RANGE_SET_UNION : RANGE_SET_DIFFERENCE;

@@ -183,20 +183,20 @@ enum { MANY = 1500 };
 #define REFUSED_FEW(number, NUMBER) \
     static void refused_few_##number(unsigned keep) \
     { \
-        enum { RANGES = 20, FEW = 2 * RANGES + 1, ROOM = 2 * MANY + FEW }; \
-        static NUMBER list[2 * MANY], few[FEW], wanted[ROOM], copy[ROOM]; \
+        enum { LEN = 10000, RANGES = 20, FEW = 2 * RANGES + 1, ROOM = LEN + FEW }; \
+        static NUMBER list[LEN], few[FEW], wanted[ROOM], copy[ROOM]; \
         range_set_##number##_chunked set; \
         range_set_##number view, other, made, result; \
         range_set_status status; \
         size_t p; \
         long k; \
-        for (p = 0; p < 2 * MANY; p++) list[p] = (NUMBER)(10 * p); \
+        for (p = 0; p < LEN; p++) list[p] = (NUMBER)(10 * p); \
         for (p = 0; p < RANGES; p++) { \
             few[2 * p] = (NUMBER)(1400 * p + (p % 4 == 0 ? 13 : p % 4 == 2 ? 3 : 5)); \
             few[2 * p + 1] = (NUMBER)(few[2 * p] + (p % 2 == 0 ? 3 : 40)); \
         } \
-        few[2 * RANGES] = (NUMBER)(20 * MANY + 1); \
-        check(range_set_##number##_view(list, 2 * MANY, &view) == RANGE_SET_DONE, "few ranges: view"); \
+        few[2 * RANGES] = (NUMBER)(10 * LEN + 1); \
+        check(range_set_##number##_view(list, LEN, &view) == RANGE_SET_DONE, "few ranges: view"); \
         check(range_set_##number##_view(few, FEW, &other) == RANGE_SET_DONE, "few ranges: view of them"); \
         check(range_set_##number##_combine(view, other, keep, wanted, ROOM, &made) == RANGE_SET_DONE, "few ranges: of lists"); \
         check(range_set_##number##_chunked_of(view, &set) == RANGE_SET_DONE, "few ranges: of a list"); \
