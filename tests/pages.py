@@ -3,8 +3,7 @@
 model is defined, what CALLING and PROMISES quote of a source stands there, what there is to read for the headline has as
 many lines as PROMISES says, each folder has the lines that ARCHITECTURE gives, and each rule there one file, each public call
 stands in CALLING, in PROMISES or on the page of its language, the table of calls is what tools/calls.py writes, each package
-has the version of CHANGELOG, and all pages together have no more words than they may. Each check of a page's text has to find
-a fault on a made-up page. And which mutants a change has tried again, by the rows of record_rows.py, and whether the text of
+has the version of CHANGELOG. Each check of a page's text has to find a fault on a made-up page. And which mutants a change has tried again, by the rows of record_rows.py, and whether the text of
 each mutant of Rust and C by hand stands once.
 
     tests/pages.py
@@ -48,8 +47,6 @@ READ = re.compile(r"(\d+) lines with their comments")
 STOOD_ON = re.compile(r"^They use (\d+) words of std: (.*)\.$", re.M)
 STD = re.compile(r"\buse Rattle\.std[\w.]*\.\{([^}]*)\}")
 MOST_TO_READ = 250
-# How many words all pages may have together.
-MOST_WORDS = 18_000
 # A table of rules, with the folder of their files, and one of its rows.
 RULES = re.compile(r"^Rule\|In ([\w./-]+)\n-+\|-+\n((?:[^\n]+\n)+)", re.M)
 # A folder and its lines, where ARCHITECTURE draws the tree, and by how much they may differ.
@@ -134,13 +131,6 @@ def wrong_rules(page, root):
                 yield f"the rule '{rule}' has no file in {folder}: {file}"
     if len(RULES.findall(text)) != text.count("\nRule|"):
         yield "a table of rules doesn't say in which folder their files are"
-
-
-def too_many_words(pages, most=MOST_WORDS):
-    """How many words all pages have, if they are too many. A word stands between blanks, as `wc -w` counts."""
-    words = sum(len(it.read_text(encoding="utf-8").split()) for it in pages)
-    if words > most:
-        yield f"all pages have {words} words, of {most} that they may have"
 
 
 def wrong_names(page, words):
@@ -339,7 +329,6 @@ def faults_found():
         (root / "src").mkdir()
         (root / "src/a.rt").write_text("", encoding="utf-8")
         for name, check, good, bad in (
-            ("a word more than the limit", lambda: too_many_words([page, other], 4), "one two\n", "one\ntwo and\n"),
             ("a link to no file", lambda: wrong_links(page), "[a](page.md)\n", "[a](pages.md)\n"),
             ("a link to no heading", lambda: wrong_links(page), "# A\n[a](#a)\n", "# A\n[a](#b)\n"),
             ("a file that isn't there", lambda: wrong_files(page, ["src/a.rt"]), "a.rt\n", "a.rt, b.rt\n"),
@@ -383,7 +372,6 @@ def main():
     checks += [(docs / "PROMISES.md", "words of std", list(wrong_words_of_std(docs / "PROMISES.md")))]
     checks += [(docs / "ARCHITECTURE.md", "rules", list(wrong_rules(docs / "ARCHITECTURE.md", ROOT)))]
     checks += [(ROOT / "CHANGELOG.md", "versions", list(wrong_versions(ROOT / "CHANGELOG.md")))]
-    checks += [(ROOT / "README.md", "words of all pages", list(too_many_words(pages)))]
     checks += [(ROOT / "tests/pages.py", name, [] if found else ["its check doesn't find it"]) for name, found in faults_found()]
     shared = [ROOT / it for it in paths if it.endswith("CALLING.md")] + [docs / "PROMISES.md"]
     for crate in PROVED:
