@@ -11,6 +11,7 @@ range_set_status NAME(chunked_of)(SET list, CHUNKED *set)
 {
     if (set == NULL || (list.boundaries != NULL && overlap(set, sizeof *set, list.boundaries, list.len * sizeof *list.boundaries)))
         return RANGE_SET_BAD_ARGUMENT;
+    if (!EXPORT(is_sorted)(LIST(list))) return RANGE_SET_NOT_SORTED;
     set->at = NULL;
     return EXPORT(chunked_of)(set, LIST(list)) ? RANGE_SET_DONE : RANGE_SET_NO_MEMORY;
 }
@@ -132,6 +133,7 @@ range_set_status NAME(chunked_combine)(CHUNKED *set, SET other, unsigned keep)
     range_set_status status = RANGE_SET_NO_MEMORY;
     if (set == NULL || set->at == NULL || overlap(set, sizeof *set, other.boundaries, other_len * sizeof *items))
         return RANGE_SET_BAD_ARGUMENT;
+    if (!EXPORT(is_sorted)(LIST(other))) return RANGE_SET_NOT_SORTED;
     keep &= RANGE_SET_UNION | RANGE_SET_NEITHER;
     len = NAME(chunked_boundaries_len)(*set), room = len + other_len + 1;
     if (other_len <= len / 256 + 2 && (keep == RANGE_SET_UNION || keep == RANGE_SET_DIFFERENCE)) {
@@ -141,8 +143,8 @@ range_set_status NAME(chunked_combine)(CHUNKED *set, SET other, unsigned keep)
     items = len + room <= PTRDIFF_MAX / sizeof *items ? range_heap_malloc((len + room) * sizeof *items) : NULL;
     if (items == NULL) return RANGE_SET_NO_MEMORY;
     if (NAME(chunked_copy)(*set, items, len, &list) == RANGE_SET_DONE
-        && NAME(combine)(list, other, keep, items + len, room, &list) == RANGE_SET_DONE)
-        status = NAME(chunked_of)(list, &made);
+        && NAME(combine)(list, other, keep, items + len, room, &list) == RANGE_SET_DONE && EXPORT(chunked_of)(&made, LIST(list)))
+        status = RANGE_SET_DONE;
     range_heap_free(items);
     if (status != RANGE_SET_DONE) return status;
     NAME(chunked_free)(set);

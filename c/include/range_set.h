@@ -11,8 +11,9 @@
  *     if (range_set_i64_contains(free, 16)) puts("free at four");
  *
  * A set is a pointer and a length: `view` makes one of an array, which it checks once, and every call that writes a set
- * makes one. Calls take sets by value and don't check them again, so only such sets may be given to a call. {NULL, 0}
- * is the empty set. An array that a set stands for has to stay as it is while the set is used.
+ * makes one. Calls take sets by value, and only `chunked_of` and `chunked_combine` check them again, so only such sets
+ * may be given to a call. {NULL, 0} is the empty set. An array that a set stands for has to stay as it is while the set
+ * is used.
  *
  * What can't fail answers its value. What can fail answers a status, which is 0 where the call was done:
  *
@@ -548,7 +549,7 @@ typedef struct range_set_i32_chunked {
 } range_set_i32_chunked;
 
 /* Makes a set without a member, or one with the members of a list. It has to be freed. Where an allocation fails there
- * is none. */
+ * is none. A list that isn't strictly sorted is RANGE_SET_NOT_SORTED. */
 RANGE_SET_STATUS range_set_i32_chunked_new(range_set_i32_chunked *set);
 RANGE_SET_STATUS range_set_i32_chunked_of(range_set_i32 list, range_set_i32_chunked *set);
 
@@ -638,7 +639,8 @@ RANGE_SET_STATUS range_set_i32_chunked_gaps(range_set_i32_chunked set, int32_t s
 
 /* Leaves in the set the numbers that `keep` names, as `combine`. A union with a set of few boundaries, two more than a
  * 256th of this one's at most, or the difference from it, changes the chunks where its ranges lie. Else it makes a list
- * and new chunks of both sets. Where an allocation fails the set is as it was. */
+ * and new chunks of both sets. Where an allocation fails, or `other` isn't strictly sorted (RANGE_SET_NOT_SORTED), the
+ * set is as it was. */
 RANGE_SET_STATUS range_set_i32_chunked_combine(range_set_i32_chunked *set, range_set_i32 other, unsigned keep);
 
 /* As `insert`, `remove`, `chunked_insert` and `chunked_remove`, and where that was done `changed` is whether the set
@@ -1134,7 +1136,7 @@ typedef struct range_set_u32_chunked {
 } range_set_u32_chunked;
 
 /* Makes a set without a member, or one with the members of a list. It has to be freed. Where an allocation fails there
- * is none. */
+ * is none. A list that isn't strictly sorted is RANGE_SET_NOT_SORTED. */
 RANGE_SET_STATUS range_set_u32_chunked_new(range_set_u32_chunked *set);
 RANGE_SET_STATUS range_set_u32_chunked_of(range_set_u32 list, range_set_u32_chunked *set);
 
@@ -1224,7 +1226,8 @@ RANGE_SET_STATUS range_set_u32_chunked_gaps(range_set_u32_chunked set, uint32_t 
 
 /* Leaves in the set the numbers that `keep` names, as `combine`. A union with a set of few boundaries, two more than a
  * 256th of this one's at most, or the difference from it, changes the chunks where its ranges lie. Else it makes a list
- * and new chunks of both sets. Where an allocation fails the set is as it was. */
+ * and new chunks of both sets. Where an allocation fails, or `other` isn't strictly sorted (RANGE_SET_NOT_SORTED), the
+ * set is as it was. */
 RANGE_SET_STATUS range_set_u32_chunked_combine(range_set_u32_chunked *set, range_set_u32 other, unsigned keep);
 
 /* As `insert`, `remove`, `chunked_insert` and `chunked_remove`, and where that was done `changed` is whether the set
@@ -1720,7 +1723,7 @@ typedef struct range_set_i64_chunked {
 } range_set_i64_chunked;
 
 /* Makes a set without a member, or one with the members of a list. It has to be freed. Where an allocation fails there
- * is none. */
+ * is none. A list that isn't strictly sorted is RANGE_SET_NOT_SORTED. */
 RANGE_SET_STATUS range_set_i64_chunked_new(range_set_i64_chunked *set);
 RANGE_SET_STATUS range_set_i64_chunked_of(range_set_i64 list, range_set_i64_chunked *set);
 
@@ -1810,7 +1813,8 @@ RANGE_SET_STATUS range_set_i64_chunked_gaps(range_set_i64_chunked set, int64_t s
 
 /* Leaves in the set the numbers that `keep` names, as `combine`. A union with a set of few boundaries, two more than a
  * 256th of this one's at most, or the difference from it, changes the chunks where its ranges lie. Else it makes a list
- * and new chunks of both sets. Where an allocation fails the set is as it was. */
+ * and new chunks of both sets. Where an allocation fails, or `other` isn't strictly sorted (RANGE_SET_NOT_SORTED), the
+ * set is as it was. */
 RANGE_SET_STATUS range_set_i64_chunked_combine(range_set_i64_chunked *set, range_set_i64 other, unsigned keep);
 
 /* As `insert`, `remove`, `chunked_insert` and `chunked_remove`, and where that was done `changed` is whether the set
@@ -2306,7 +2310,7 @@ typedef struct range_set_u64_chunked {
 } range_set_u64_chunked;
 
 /* Makes a set without a member, or one with the members of a list. It has to be freed. Where an allocation fails there
- * is none. */
+ * is none. A list that isn't strictly sorted is RANGE_SET_NOT_SORTED. */
 RANGE_SET_STATUS range_set_u64_chunked_new(range_set_u64_chunked *set);
 RANGE_SET_STATUS range_set_u64_chunked_of(range_set_u64 list, range_set_u64_chunked *set);
 
@@ -2396,7 +2400,8 @@ RANGE_SET_STATUS range_set_u64_chunked_gaps(range_set_u64_chunked set, uint64_t 
 
 /* Leaves in the set the numbers that `keep` names, as `combine`. A union with a set of few boundaries, two more than a
  * 256th of this one's at most, or the difference from it, changes the chunks where its ranges lie. Else it makes a list
- * and new chunks of both sets. Where an allocation fails the set is as it was. */
+ * and new chunks of both sets. Where an allocation fails, or `other` isn't strictly sorted (RANGE_SET_NOT_SORTED), the
+ * set is as it was. */
 RANGE_SET_STATUS range_set_u64_chunked_combine(range_set_u64_chunked *set, range_set_u64 other, unsigned keep);
 
 /* As `insert`, `remove`, `chunked_insert` and `chunked_remove`, and where that was done `changed` is whether the set

@@ -194,6 +194,7 @@ static void TEST(all)(long cases)
     TEST(beyond_a_chunk)();
     TEST(chunked_fits_far)();
     TEST(chunked_none)();
+    TEST(chunked_unsorted)();
     TEST(parsed_in_any_order)();
     TEST(places_of_answers)();
     TEST(bad_lists)();

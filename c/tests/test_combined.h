@@ -40,3 +40,33 @@ static void TEST(chunked_combined_few)(void)
     TEST(has_boundaries)(set, result.boundaries, result.len);
     CALL(chunked_free)(&set);
 }
+
+/* A list that isn't strictly sorted makes no set in chunks, and changes none, whether it is short beside the set or long. */
+static void TEST(chunked_unsorted)(void)
+{
+    enum { MANY = 200, LONG = 52000 };
+    static const NUMBER turned[] = {2, 1}, repeated[] = {1, 1}, turned_last[] = {1, 2, 4, 3};
+    static NUMBER many[MANY], list[LONG];
+    const struct {
+        const char *name;
+        const NUMBER *items;
+        size_t len;
+    } rows[] = {{"unsorted: two numbers", turned, 2}, {"unsorted: a repeated number", repeated, 2},
+        {"unsorted: the last two", turned_last, 4}, {"unsorted: two hundred", many, MANY}};
+    size_t row, len, p;
+    unsigned keep;
+    for (p = 0; p < MANY; p++) many[p] = (NUMBER)(p * 77 % MANY);
+    for (p = 0; p < LONG; p++) list[p] = (NUMBER)p;
+    for (len = 2; len <= LONG; len += LONG - 2) {
+        CHUNKED set, unmade = {list};
+        check(CALL(chunked_of)(TEST(set)(list, len), &set) == RANGE_SET_DONE, "unsorted: a set beside");
+        for (row = 0; row < sizeof rows / sizeof *rows; row++) {
+            const SET unsorted = {rows[row].items, rows[row].len};
+            check(CALL(chunked_of)(unsorted, &unmade) == RANGE_SET_NOT_SORTED && unmade.at == list, rows[row].name);
+            for (keep = 0; keep < CONNECTIVES; keep++)
+                check(CALL(chunked_combine)(&set, unsorted, keep) == RANGE_SET_NOT_SORTED, rows[row].name);
+        }
+        TEST(has_boundaries)(set, list, len);
+        CALL(chunked_free)(&set);
+    }
+}
