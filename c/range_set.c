@@ -134,8 +134,8 @@ void range_heap_free(void *memory)
     heap.release(heap.context, memory, size);
 }
 
-/* What check_text returns. For bytes that aren't UTF-8 it returns 3, and they are refused as a malformed text. */
-enum { TEXT_OF_RANGES = 0, TEXT_MALFORMED = 1, TEXT_OUT_OF_RANGE = 2 };
+/* What check_text returns. Bytes that aren't UTF-8, of which it tells the first wherever it lies, are refused as a malformed text. */
+enum { TEXT_OF_RANGES = 0, TEXT_MALFORMED = 1, TEXT_OUT_OF_RANGE = 2, TEXT_NOT_UTF8 = 3 };
 
 /* The boundaries of a range with an end. */
 enum { PER_RANGE = 2 };

@@ -29,18 +29,24 @@ static inline bool NAME(are_apart)(
            && !overlap(fault, fault_size, result, sizeof *result);
 }
 
-/* Reads the part that begins at it->from and ends before the separator or a comma. It is a number alone if it stops being a text of ranges
- * after a digit, with nothing but blanks behind. A part that was checked before and has a dot is a range. */
+/* Reads the part that begins at it->from and ends before the separator or a comma. If it stops being a text of ranges after a digit it is a
+ * number alone where nothing but blanks follows, or else stops after those. A part that was checked before and has a dot is a range. */
 static void NAME(take_part)(const char *text, size_t text_len, char separator, bool is_checked, part *it)
 {
-    size_t more = 0;
+    size_t rest, more = 0;
+    uint32_t behind;
     for (it->to = it->from; it->to < text_len && text[it->to] != separator && text[it->to] != ',';) it->to++;
     it->text = text + it->from, it->len = it->to - it->from, it->is_alone = false;
     if (is_checked && memchr(it->text, '.', it->len) != NULL) return;
     it->status = EXPORT(check_text)(it->text, it->len, &it->told);
-    it->is_alone = it->status == TEXT_MALFORMED && EXPORT(check_text)(it->text + it->told, it->len - it->told, &more) == TEXT_OF_RANGES
-                   && more == 0 && is_digit(it->text[it->told - 1]);
-    if (!it->is_alone) return;
+    if (it->status != TEXT_MALFORMED || it->told == 0 || !is_digit(it->text[it->told - 1])) return;
+    rest = it->len - it->told;
+    behind = EXPORT(check_text)(it->text + it->told, rest, &more);
+    it->is_alone = behind == TEXT_OF_RANGES && more == 0;
+    if (!it->is_alone) {
+        it->told += blanks_before(it->text + it->told, behind == TEXT_MALFORMED ? more : rest);
+        return;
+    }
     take_alone(it);
     it->status = EXPORT(check_text)(it->text, it->len, &it->told);
     it->told = PER_RANGE;
@@ -98,6 +104,8 @@ range_set_status NAME(parse_by)(const char *text, size_t text_len, char separato
         return RANGE_SET_BAD_ARGUMENT;
     if (text == NULL) text = &no_text;
     status = NAME(check_parts)(text, text_len, separator, &needed, fault);
+    if (status == RANGE_SET_MALFORMED && EXPORT(check_text)(text, text_len, &needed) == TEXT_NOT_UTF8)
+        return refused_at(status, needed, fault);
     if (status != RANGE_SET_DONE) return status;
     if (needed > room) return NAME(write_result)(needed, out, room, result);
     for (; it.from <= text_len; it.from = it.to + 1) {

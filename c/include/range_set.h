@@ -411,8 +411,8 @@ RANGE_SET_STATUS range_set_i32_parse(const char *text, size_t text_len, int32_t 
 
 /* As `parse`, with another byte in place of the comma, as '\n' for one range on each line. Between two of them may also
  * stand a lone number, which is the range of that number and needs room for two, or blanks alone, which are no range. A
- * separator that isn't ASCII, or is a digit, '+', '-' or '.', is RANGE_SET_BAD_ARGUMENT. `fault` is in the first part
- * between two that is malformed, or else in the first with a number that doesn't fit. Goes over the text some times. */
+ * separator that isn't ASCII, or is a digit, '+', '-' or '.', is RANGE_SET_BAD_ARGUMENT. `fault` is as of `parse`. Goes
+ * over the text some times. */
 RANGE_SET_STATUS range_set_i32_parse_by(const char *text, size_t text_len, char separator, int32_t *out, size_t room,
                                         range_set_i32 *result, size_t *fault);
 
@@ -998,8 +998,8 @@ RANGE_SET_STATUS range_set_u32_parse(const char *text, size_t text_len, uint32_t
 
 /* As `parse`, with another byte in place of the comma, as '\n' for one range on each line. Between two of them may also
  * stand a lone number, which is the range of that number and needs room for two, or blanks alone, which are no range. A
- * separator that isn't ASCII, or is a digit, '+', '-' or '.', is RANGE_SET_BAD_ARGUMENT. `fault` is in the first part
- * between two that is malformed, or else in the first with a number that doesn't fit. Goes over the text some times. */
+ * separator that isn't ASCII, or is a digit, '+', '-' or '.', is RANGE_SET_BAD_ARGUMENT. `fault` is as of `parse`. Goes
+ * over the text some times. */
 RANGE_SET_STATUS range_set_u32_parse_by(const char *text, size_t text_len, char separator, uint32_t *out, size_t room,
                                         range_set_u32 *result, size_t *fault);
 
@@ -1585,8 +1585,8 @@ RANGE_SET_STATUS range_set_i64_parse(const char *text, size_t text_len, int64_t 
 
 /* As `parse`, with another byte in place of the comma, as '\n' for one range on each line. Between two of them may also
  * stand a lone number, which is the range of that number and needs room for two, or blanks alone, which are no range. A
- * separator that isn't ASCII, or is a digit, '+', '-' or '.', is RANGE_SET_BAD_ARGUMENT. `fault` is in the first part
- * between two that is malformed, or else in the first with a number that doesn't fit. Goes over the text some times. */
+ * separator that isn't ASCII, or is a digit, '+', '-' or '.', is RANGE_SET_BAD_ARGUMENT. `fault` is as of `parse`. Goes
+ * over the text some times. */
 RANGE_SET_STATUS range_set_i64_parse_by(const char *text, size_t text_len, char separator, int64_t *out, size_t room,
                                         range_set_i64 *result, size_t *fault);
 
@@ -2172,8 +2172,8 @@ RANGE_SET_STATUS range_set_u64_parse(const char *text, size_t text_len, uint64_t
 
 /* As `parse`, with another byte in place of the comma, as '\n' for one range on each line. Between two of them may also
  * stand a lone number, which is the range of that number and needs room for two, or blanks alone, which are no range. A
- * separator that isn't ASCII, or is a digit, '+', '-' or '.', is RANGE_SET_BAD_ARGUMENT. `fault` is in the first part
- * between two that is malformed, or else in the first with a number that doesn't fit. Goes over the text some times. */
+ * separator that isn't ASCII, or is a digit, '+', '-' or '.', is RANGE_SET_BAD_ARGUMENT. `fault` is as of `parse`. Goes
+ * over the text some times. */
 RANGE_SET_STATUS range_set_u64_parse_by(const char *text, size_t text_len, char separator, uint64_t *out, size_t room,
                                         range_set_u64 *result, size_t *fault);
 

@@ -184,6 +184,10 @@ static void TEST(all)(long cases)
     TEST(rows)();
     TEST(texts)();
     TEST(texts_by)();
+    TEST(texts_not_parsed)();
+    TEST(stops_where_it_says)(NO_SEPARATOR);
+    TEST(stops_where_it_says)('\n');
+    TEST(stops_where_it_says)(',');
     TEST(fits_far)();
     TEST(many)();
     TEST(owned_many)();

@@ -85,21 +85,113 @@ static void TEST(parsed)(const char *text, size_t numbers, const NUMBER *wanted,
 }
 
 /* A text that isn't read, and the byte at which it stops being one of ranges, or at which a range begins that doesn't fit. */
-static void TEST(not_parsed_by)(int separator, const char *text, range_set_status wanted, size_t at)
+static void TEST(not_parsed)(int separator, const char *text, range_set_status wanted, size_t at, const char *name)
 {
     NUMBER out[8] = {1, 2, 3, 4, 5, 6, 7, 8};
     static const NUMBER as_was[8] = {1, 2, 3, 4, 5, 6, 7, 8};
     SET set = {out, 77};
     size_t fault = 99;
-    check(TEST(read)(separator, text, out, 8, &set, &fault) == wanted, "parse: a status");
-    check(fault == at, "parse: where the text stops being one of ranges, or a number doesn't fit");
-    check(TEST(read)(separator, text, out, 8, &set, NULL) == wanted, "parse with null for the fault");
-    check(set.boundaries == out && set.len == 77 && memcmp(out, as_was, sizeof out) == 0, "parse: what is refused writes");
+    check(TEST(read)(separator, text, out, 8, &set, &fault) == wanted, name);
+    check(fault == at, name);
+    check(TEST(read)(separator, text, out, 8, &set, NULL) == wanted, name);
+    check(set.boundaries == out && set.len == 77 && memcmp(out, as_was, sizeof out) == 0, name);
 }
 
-static void TEST(not_parsed)(const char *text, range_set_status wanted, size_t at)
+/* Texts that aren't read, by parse and between lines and blanks. */
+static void TEST(texts_not_parsed)(void)
 {
-    TEST(not_parsed_by)(NO_SEPARATOR, text, wanted, at);
+    static const struct {
+        int separator;
+        const char *text;
+        range_set_status wanted;
+        size_t at;
+    } rows[] = {
+        {NO_SEPARATOR, "x", RANGE_SET_MALFORMED, 0},
+        {NO_SEPARATOR, "..5", RANGE_SET_MALFORMED, 0},
+        {NO_SEPARATOR, "5", RANGE_SET_MALFORMED, 1},
+        {NO_SEPARATOR, "0.5", RANGE_SET_MALFORMED, 2},
+        {NO_SEPARATOR, "1..-", RANGE_SET_MALFORMED, 4},
+        {NO_SEPARATOR, "0..5 6", RANGE_SET_MALFORMED, 5},
+        {NO_SEPARATOR, "1..2,", RANGE_SET_MALFORMED, 5},
+        {NO_SEPARATOR, "1..2,,3..4", RANGE_SET_MALFORMED, 5},
+        {NO_SEPARATOR, "1 ..2", RANGE_SET_MALFORMED, 1},
+        {NO_SEPARATOR, "1..\xff", RANGE_SET_MALFORMED, 3},
+        {NO_SEPARATOR, "x\xff", RANGE_SET_MALFORMED, 1},
+        {NO_SEPARATOR, "1..2\xe2\x80", RANGE_SET_MALFORMED, 4},
+        {NO_SEPARATOR, "1..2,\xff", RANGE_SET_MALFORMED, 5},
+        {NO_SEPARATOR, "1..99999999999999999999", RANGE_SET_OUT_OF_RANGE, 0},
+        {NO_SEPARATOR, "99999999999999999999..1,x", RANGE_SET_MALFORMED, 24},
+        {NO_SEPARATOR, "99999999999999999999..1,2..3", RANGE_SET_OUT_OF_RANGE, 0},
+        {NO_SEPARATOR, "0..1, +5..99999999999999999999", RANGE_SET_OUT_OF_RANGE, 6},
+        {NO_SEPARATOR, "0..1,\xc2\xa0 99999999999999999999..7 ,99999999999999999999..", RANGE_SET_OUT_OF_RANGE, 8},
+        {NO_SEPARATOR, "0..1,\xe3\x80\x80\n-99999999999999999999..", RANGE_SET_OUT_OF_RANGE, 9},
+#if IS_UNSIGNED
+        {NO_SEPARATOR, "-1..5", RANGE_SET_OUT_OF_RANGE, 0},
+        {NO_SEPARATOR, "0..1,-1..5", RANGE_SET_OUT_OF_RANGE, 5},
+        {'\n', "1\n-1", RANGE_SET_OUT_OF_RANGE, 2},
+#endif
+        {'\n', "1\n 99999999999999999999\n", RANGE_SET_OUT_OF_RANGE, 3},
+        {'\n', "99999999999999999999999999999999999999999999999999", RANGE_SET_OUT_OF_RANGE, 0},
+        {'\n', "1..2\n-99999999999999999999\n99999999999999999999..", RANGE_SET_OUT_OF_RANGE, 5},
+        {'\n', "1\n99999999999999999999..\n5..x", RANGE_SET_MALFORMED, 28},
+        {'\n', "1\n2\nx", RANGE_SET_MALFORMED, 4},
+        {'\n', "1;2", RANGE_SET_MALFORMED, 1},
+        {'\n', "12 x", RANGE_SET_MALFORMED, 3},
+        {'\n', "5 6", RANGE_SET_MALFORMED, 2},
+        {'\n', "5 6..7", RANGE_SET_MALFORMED, 2},
+        {'\n', "5 \xc3\xa9", RANGE_SET_MALFORMED, 2},
+        {'\n', "5\xe3\x80\x80 \x01", RANGE_SET_MALFORMED, 5},
+        {'\n', "99999999999999999999 99999999999999999999..", RANGE_SET_MALFORMED, 21},
+        {'\n', "1..2\n3..4,5..6", RANGE_SET_MALFORMED, 9},
+        {'\n', "1..2\n5, 7", RANGE_SET_MALFORMED, 6},
+        {'\n', "1\n+", RANGE_SET_MALFORMED, 3},
+        {'\n', "1\n1..-\n", RANGE_SET_MALFORMED, 6},
+        {'\n', "1\n11111111111111111111111111111111..-", RANGE_SET_MALFORMED, 37},
+        {'\n', "1\n..2", RANGE_SET_MALFORMED, 2},
+        {'\n', "1\n2\xff\n3", RANGE_SET_MALFORMED, 3},
+        {'\n', "1..2,\xff", RANGE_SET_MALFORMED, 5},
+        {'\n', "x\n\xff", RANGE_SET_MALFORMED, 2},
+        {'\n', "99999999999999999999\n5 6\n\xff", RANGE_SET_MALFORMED, 25},
+        {' ', "1 .. 2", RANGE_SET_MALFORMED, 2},
+    };
+    char name[32];
+    size_t i;
+    for (i = 0; i < sizeof rows / sizeof *rows; i++) {
+        sprintf(name, "texts_not_parsed, row %zu", i);
+        TEST(not_parsed)(rows[i].separator, rows[i].text, rows[i].wanted, rows[i].at, name);
+    }
+}
+
+/* Whether a text can begin so: whether one of these ends makes it whole. */
+static bool TEST(can_begin)(int separator, const char *text, size_t len)
+{
+    static const char *const ends[] = {"", ".", "..", "0", "0.."};
+    char whole[32];
+    SET set;
+    size_t i;
+    for (i = 0; i < sizeof ends / sizeof *ends; i++) {
+        sprintf(whole, "%.*s%s", (int)len, text, ends[i]);
+        if (TEST(read)(separator, whole, NULL, 0, &set, NULL) != RANGE_SET_MALFORMED) return true;
+    }
+    return false;
+}
+
+/* Each text of four pieces stops being one where it says: it can begin with what stands before that, and not with one piece more. */
+static void TEST(stops_where_it_says)(int separator)
+{
+    enum { PIECES = 9, TEXTS = PIECES * PIECES * PIECES * PIECES };
+    static const char *const pieces[PIECES] = {"1", " ", ".", "-", ",", "\n", "x", "\xc2\xa0", "\xc3\xa9"};
+    unsigned n, k;
+    SET set;
+    for (n = 0; n < TEXTS; n++) {
+        char text[16] = "";
+        size_t at = 99, past;
+        for (k = 1; k < TEXTS; k *= PIECES) strcat(text, pieces[n / k % PIECES]);
+        if (TEST(read)(separator, text, NULL, 0, &set, &at) != RANGE_SET_MALFORMED) continue;
+        check(at <= strlen(text) && TEST(can_begin)(separator, text, at), text);
+        past = at + ((unsigned char)text[at] < 128 ? 1 : 2);
+        check(text[at] == 0 || !TEST(can_begin)(separator, text, past), text);
+    }
 }
 
 /* The text of a set, against what C prints of its boundaries, and read back. */
@@ -186,26 +278,6 @@ static void TEST(texts)(void)
     TEST(parsed)("20.. ,\n+4..10,0..5", 5, items, 3);
     TEST(parsed)("0..2,3..10,1..9,20..,30..", 8, items, 3);
     TEST(parsed)("0..010, 7..7, 9..3,20..", 7, items, 3);
-    TEST(not_parsed)("x", RANGE_SET_MALFORMED, 0);
-    TEST(not_parsed)("..5", RANGE_SET_MALFORMED, 0);
-    TEST(not_parsed)("5", RANGE_SET_MALFORMED, 1);
-    TEST(not_parsed)("0.5", RANGE_SET_MALFORMED, 2);
-    TEST(not_parsed)("1..-", RANGE_SET_MALFORMED, 4);
-    TEST(not_parsed)("0..5 6", RANGE_SET_MALFORMED, 5);
-    TEST(not_parsed)("1..2,", RANGE_SET_MALFORMED, 5);
-    TEST(not_parsed)("1..2,,3..4", RANGE_SET_MALFORMED, 5);
-    TEST(not_parsed)("1 ..2", RANGE_SET_MALFORMED, 1);
-    TEST(not_parsed)("1..\xff", RANGE_SET_MALFORMED, 3);
-    TEST(not_parsed)("x\xff", RANGE_SET_MALFORMED, 1);
-    TEST(not_parsed)("1..2\xe2\x80", RANGE_SET_MALFORMED, 4);
-    TEST(not_parsed)("1..99999999999999999999", RANGE_SET_OUT_OF_RANGE, 0);
-    TEST(not_parsed)("99999999999999999999..1,x", RANGE_SET_MALFORMED, 24);
-    TEST(not_parsed)("99999999999999999999..1,2..3", RANGE_SET_OUT_OF_RANGE, 0);
-    TEST(not_parsed)("0..1, +5..99999999999999999999", RANGE_SET_OUT_OF_RANGE, 6);
-    TEST(not_parsed)("0..1,\xc2\xa0 99999999999999999999..7 ,99999999999999999999..", RANGE_SET_OUT_OF_RANGE, 8);
-    TEST(not_parsed)("0..1,\xe3\x80\x80\n-99999999999999999999..", RANGE_SET_OUT_OF_RANGE, 9);
-    if (LEAST == 0) TEST(not_parsed)("-1..5", RANGE_SET_OUT_OF_RANGE, 0);
-    if (LEAST == 0) TEST(not_parsed)("0..1,-1..5", RANGE_SET_OUT_OF_RANGE, 5);
     check(CALL(parse)(NULL, 1, list, 8, &none, &len) == RANGE_SET_BAD_ARGUMENT, "parse of null");
     check(CALL(parse)(text, SIZE_MAX, list, 8, &none, &len) == RANGE_SET_BAD_ARGUMENT, "parse of too much text");
     check(CALL(parse)(text, 9, NULL, 1, &none, &len) == RANGE_SET_BAD_ARGUMENT, "parse into null with room");
@@ -253,25 +325,7 @@ static void TEST(texts_by)(void)
     *text = 0;
     TEST(put_number)(text, MOST);
     text[strlen(text) - 1]++;
-    TEST(not_parsed_by)('\n', text, RANGE_SET_OUT_OF_RANGE, 0);
-    TEST(not_parsed_by)('\n', "1\n 99999999999999999999\n", RANGE_SET_OUT_OF_RANGE, 3);
-    TEST(not_parsed_by)('\n', "99999999999999999999999999999999999999999999999999", RANGE_SET_OUT_OF_RANGE, 0);
-    TEST(not_parsed_by)('\n', "1..2\n-99999999999999999999\n99999999999999999999..", RANGE_SET_OUT_OF_RANGE, 5);
-    TEST(not_parsed_by)('\n', "1\n99999999999999999999..\n5..x", RANGE_SET_MALFORMED, 28);
-    if (LEAST == 0) TEST(not_parsed_by)('\n', "1\n-1", RANGE_SET_OUT_OF_RANGE, 2);
-    TEST(not_parsed_by)('\n', "1\n2\nx", RANGE_SET_MALFORMED, 4);
-    TEST(not_parsed_by)('\n', "1;2", RANGE_SET_MALFORMED, 1);
-    TEST(not_parsed_by)('\n', "5 6", RANGE_SET_MALFORMED, 1);
-    TEST(not_parsed_by)('\n', "5 6..7", RANGE_SET_MALFORMED, 1);
-    TEST(not_parsed_by)('\n', "1..2\n3..4,5..6", RANGE_SET_MALFORMED, 9);
-    TEST(not_parsed_by)('\n', "1..2\n5, 7", RANGE_SET_MALFORMED, 6);
-    TEST(not_parsed_by)('\n', "1\n+", RANGE_SET_MALFORMED, 3);
-    TEST(not_parsed_by)('\n', "1\n1..-\n", RANGE_SET_MALFORMED, 6);
-    TEST(not_parsed_by)('\n', "1\n11111111111111111111111111111111..-", RANGE_SET_MALFORMED, 37);
-    TEST(not_parsed_by)('\n', "1\n..2", RANGE_SET_MALFORMED, 2);
-    TEST(not_parsed_by)('\n', "1\n2\xff\n3", RANGE_SET_MALFORMED, 3);
-    TEST(not_parsed_by)('\n', "x\n\xff", RANGE_SET_MALFORMED, 0);
-    TEST(not_parsed_by)(' ', "1 .. 2", RANGE_SET_MALFORMED, 2);
+    TEST(not_parsed)('\n', text, RANGE_SET_OUT_OF_RANGE, 0, "one more than the greatest number");
     for (c = 0; c < 256; c++) {
         const bool is_bad = c > 127 || (c != 0 && strchr("0123456789+-.", c) != NULL);
         none.len = 77, fault = 77;
