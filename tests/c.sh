@@ -441,6 +441,7 @@ step_by python3 python3 "an edit of it is named" names_an_edit
 step_by python3 python3 "the layer calls what the Rust crate exports" python3 tests/c_heads.py
 step "the twins ask each export" asks_each_export
 step "the manual page has its description" has_a_description
+step_by groff groff-base "the manual page has all that the header declares" python3 tests/c_names.py man
 step "the lines of the header" is_narrow
 if ! command -v clang-format >/dev/null || clang-format --version | grep -q 'version 14\.'; then
     step_by clang-format clang-format "the looks" looks_right

@@ -64,6 +64,7 @@
 extern "C" {
 #endif
 
+/* The version of the header. */
 #define RANGE_SET_VERSION_MAJOR 0
 #define RANGE_SET_VERSION_MINOR 4
 #define RANGE_SET_VERSION_PATCH 0
@@ -79,6 +80,7 @@ const char *range_set_version(void);
 #define RANGE_SET_STATUS range_set_status
 #endif
 
+/* What a call that can fail answers, as said above. */
 typedef enum range_set_status {
     RANGE_SET_DONE = 0,
     RANGE_SET_NOT_SORTED = 1,
