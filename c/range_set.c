@@ -5,6 +5,9 @@
  *
  * The exports are those of the proved object; or, where RANGE_SET_PLAIN is defined, those of the Rust crate, which
  * tools/plain-rust writes from the same source. */
+
+/* What is inline for other files is a symbol here. */
+#define RANGE_SET_INLINE extern inline
 #include "range_set.h"
 
 #include <stdlib.h>

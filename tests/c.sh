@@ -305,9 +305,9 @@ takes_the_installed_headers() {
         "$work/found" | grep -qx 'Ada is busy'
 }
 
-# The names of the shared library, which is found by its soname.
+# The names of the shared library, each call of the header and no others, which is found by its soname.
 is_shared() {
-    nm -D --defined-only "$prefix/lib/librange_set.so" | awk '{ print $3 }' | grep -q '^range_set_i64_union\|^range_set_i64_combine$' &&
+    python3 tests/c_names.py "$prefix/lib/librange_set.so" &&
         ! nm -D --defined-only "$prefix/lib/librange_set.so" | awk '{ print $3 }' | grep -v '^range_\(set\|map\)_' &&
         readelf -d "$prefix/lib/librange_set.so" | grep -q "soname: \[librange_set.so.${version%.*}\]"
 }

@@ -95,6 +95,12 @@ typedef enum range_set_status {
 /* A sentence on a status, without a full stop, as "the buffer is too short". */
 const char *range_set_status_text(range_set_status status);
 
+/* Calls whose body is in this header are compiled where they are made. The library defines the word otherwise, so that
+ * it has them as symbols too, for other languages. */
+#ifndef RANGE_SET_INLINE
+#define RANGE_SET_INLINE static inline
+#endif
+
 /* What `combine` keeps of two sets, as a sum of these. */
 #define RANGE_SET_LEFT 1u    /* the numbers in the left set alone */
 #define RANGE_SET_RIGHT 2u   /* the numbers in the right set alone */
@@ -238,7 +244,7 @@ typedef struct range_set_i32_members {
 } range_set_i32_members;
 
 /* The greatest number of a range. */
-static inline int32_t range_set_i32_range_last(range_set_i32_range range)
+RANGE_SET_INLINE int32_t range_set_i32_range_last(range_set_i32_range range)
 {
     return range.has_end ? range.end - 1 : INT32_MAX;
 }
@@ -249,7 +255,7 @@ static inline int32_t range_set_i32_range_last(range_set_i32_range range)
  *     range_set_i32_members it = range_set_i32_members_first(set);
  *     for (; it.has_value; range_set_i32_members_next(&it)) .. it.value ..
  */
-static inline range_set_i32_members range_set_i32_members_first(range_set_i32 set)
+RANGE_SET_INLINE range_set_i32_members range_set_i32_members_first(range_set_i32 set)
 {
     range_set_i32_members members = {0, false, {0, 0, false}, 0, {NULL, 0}};
     members.set = set;
@@ -258,7 +264,7 @@ static inline range_set_i32_members range_set_i32_members_first(range_set_i32 se
     return members;
 }
 
-static inline range_set_i32_members range_set_i32_members_last(range_set_i32 set)
+RANGE_SET_INLINE range_set_i32_members range_set_i32_members_last(range_set_i32 set)
 {
     range_set_i32_members members = {0, false, {0, 0, false}, 0, {NULL, 0}};
     members.set = set;
@@ -270,7 +276,7 @@ static inline range_set_i32_members range_set_i32_members_last(range_set_i32 set
 
 /* Goes to the next member above, below. Where there is none it is at no member from then on. It has to be at one
  * before. */
-static inline void range_set_i32_members_next(range_set_i32_members *members)
+RANGE_SET_INLINE void range_set_i32_members_next(range_set_i32_members *members)
 {
     if (members->value != range_set_i32_range_last(members->range)) {
         members->value++;
@@ -280,7 +286,7 @@ static inline void range_set_i32_members_next(range_set_i32_members *members)
     }
 }
 
-static inline void range_set_i32_members_prev(range_set_i32_members *members)
+RANGE_SET_INLINE void range_set_i32_members_prev(range_set_i32_members *members)
 {
     if (members->value != members->range.start) {
         members->value--;
@@ -305,7 +311,7 @@ bool range_set_i32_intersects(range_set_i32 a, range_set_i32 b);
 bool range_set_i32_is_subset(range_set_i32 a, range_set_i32 b);
 
 /* Whether every member of the right set is one of the left. */
-static inline bool range_set_i32_is_superset(range_set_i32 a, range_set_i32 b)
+RANGE_SET_INLINE bool range_set_i32_is_superset(range_set_i32 a, range_set_i32 b)
 {
     return range_set_i32_is_subset(b, a);
 }
@@ -328,50 +334,50 @@ RANGE_SET_STATUS range_set_i32_combine(range_set_i32 a, range_set_i32 b, unsigne
 size_t range_set_i32_combine_len(range_set_i32 a, range_set_i32 b, unsigned keep);
 
 /* Writes the set of the numbers in either set. */
-static inline RANGE_SET_STATUS range_set_i32_union(range_set_i32 a, range_set_i32 b, int32_t *out, size_t room,
-                                                   range_set_i32 *result)
+RANGE_SET_INLINE RANGE_SET_STATUS range_set_i32_union(range_set_i32 a, range_set_i32 b, int32_t *out, size_t room,
+                                                      range_set_i32 *result)
 {
     return range_set_i32_combine(a, b, RANGE_SET_UNION, out, room, result);
 }
 
 /* Writes the set of the numbers in both sets. */
-static inline RANGE_SET_STATUS range_set_i32_intersection(range_set_i32 a, range_set_i32 b, int32_t *out, size_t room,
-                                                          range_set_i32 *result)
+RANGE_SET_INLINE RANGE_SET_STATUS range_set_i32_intersection(range_set_i32 a, range_set_i32 b, int32_t *out,
+                                                             size_t room, range_set_i32 *result)
 {
     return range_set_i32_combine(a, b, RANGE_SET_INTERSECTION, out, room, result);
 }
 
 /* Writes the set of the numbers in the left set and not in the right. */
-static inline RANGE_SET_STATUS range_set_i32_difference(range_set_i32 a, range_set_i32 b, int32_t *out, size_t room,
-                                                        range_set_i32 *result)
+RANGE_SET_INLINE RANGE_SET_STATUS range_set_i32_difference(range_set_i32 a, range_set_i32 b, int32_t *out, size_t room,
+                                                           range_set_i32 *result)
 {
     return range_set_i32_combine(a, b, RANGE_SET_DIFFERENCE, out, room, result);
 }
 
 /* Writes the set of the numbers in one of the two sets and not in the other. */
-static inline RANGE_SET_STATUS range_set_i32_symmetric_difference(range_set_i32 a, range_set_i32 b, int32_t *out,
-                                                                  size_t room, range_set_i32 *result)
+RANGE_SET_INLINE RANGE_SET_STATUS range_set_i32_symmetric_difference(range_set_i32 a, range_set_i32 b, int32_t *out,
+                                                                     size_t room, range_set_i32 *result)
 {
     return range_set_i32_combine(a, b, RANGE_SET_SYMMETRIC_DIFFERENCE, out, room, result);
 }
 
 /* How many boundaries these sets have. */
-static inline size_t range_set_i32_union_len(range_set_i32 a, range_set_i32 b)
+RANGE_SET_INLINE size_t range_set_i32_union_len(range_set_i32 a, range_set_i32 b)
 {
     return range_set_i32_combine_len(a, b, RANGE_SET_UNION);
 }
 
-static inline size_t range_set_i32_intersection_len(range_set_i32 a, range_set_i32 b)
+RANGE_SET_INLINE size_t range_set_i32_intersection_len(range_set_i32 a, range_set_i32 b)
 {
     return range_set_i32_combine_len(a, b, RANGE_SET_INTERSECTION);
 }
 
-static inline size_t range_set_i32_difference_len(range_set_i32 a, range_set_i32 b)
+RANGE_SET_INLINE size_t range_set_i32_difference_len(range_set_i32 a, range_set_i32 b)
 {
     return range_set_i32_combine_len(a, b, RANGE_SET_DIFFERENCE);
 }
 
-static inline size_t range_set_i32_symmetric_difference_len(range_set_i32 a, range_set_i32 b)
+RANGE_SET_INLINE size_t range_set_i32_symmetric_difference_len(range_set_i32 a, range_set_i32 b)
 {
     return range_set_i32_combine_len(a, b, RANGE_SET_SYMMETRIC_DIFFERENCE);
 }
@@ -434,7 +440,7 @@ bool range_set_i32_first_run(range_set_i32 set, int32_t start, int32_t end, uint
 /* ---- Sets of int32_t that change in their buffer ---- */
 
 /* The empty set in a buffer of `room` numbers. */
-static inline range_set_i32_buffer range_set_i32_buffer_of(int32_t *items, size_t room)
+RANGE_SET_INLINE range_set_i32_buffer range_set_i32_buffer_of(int32_t *items, size_t room)
 {
     range_set_i32_buffer buffer;
     buffer.items = items;
@@ -462,23 +468,23 @@ RANGE_SET_STATUS range_set_i32_remove(range_set_i32_buffer *buffer, int32_t star
 RANGE_SET_STATUS range_set_i32_combine_with(range_set_i32_buffer *buffer, range_set_i32 other, unsigned keep);
 
 /* The four operations in the buffer. */
-static inline RANGE_SET_STATUS range_set_i32_union_with(range_set_i32_buffer *buffer, range_set_i32 other)
+RANGE_SET_INLINE RANGE_SET_STATUS range_set_i32_union_with(range_set_i32_buffer *buffer, range_set_i32 other)
 {
     return range_set_i32_combine_with(buffer, other, RANGE_SET_UNION);
 }
 
-static inline RANGE_SET_STATUS range_set_i32_intersection_with(range_set_i32_buffer *buffer, range_set_i32 other)
+RANGE_SET_INLINE RANGE_SET_STATUS range_set_i32_intersection_with(range_set_i32_buffer *buffer, range_set_i32 other)
 {
     return range_set_i32_combine_with(buffer, other, RANGE_SET_INTERSECTION);
 }
 
-static inline RANGE_SET_STATUS range_set_i32_difference_with(range_set_i32_buffer *buffer, range_set_i32 other)
+RANGE_SET_INLINE RANGE_SET_STATUS range_set_i32_difference_with(range_set_i32_buffer *buffer, range_set_i32 other)
 {
     return range_set_i32_combine_with(buffer, other, RANGE_SET_DIFFERENCE);
 }
 
-static inline RANGE_SET_STATUS range_set_i32_symmetric_difference_with(range_set_i32_buffer *buffer,
-                                                                       range_set_i32 other)
+RANGE_SET_INLINE RANGE_SET_STATUS range_set_i32_symmetric_difference_with(range_set_i32_buffer *buffer,
+                                                                          range_set_i32 other)
 {
     return range_set_i32_combine_with(buffer, other, RANGE_SET_SYMMETRIC_DIFFERENCE);
 }
@@ -520,20 +526,20 @@ RANGE_SET_STATUS range_set_i32_owned_remove(range_set_i32_owned *owned, int32_t 
 RANGE_SET_STATUS range_set_i32_owned_combine(range_set_i32_owned *owned, range_set_i32 other, unsigned keep);
 
 /* Puts all numbers from `start` on in, takes them out: the union with their set, the difference from it. */
-static inline RANGE_SET_STATUS range_set_i32_owned_insert_from(range_set_i32_owned *owned, int32_t start)
+RANGE_SET_INLINE RANGE_SET_STATUS range_set_i32_owned_insert_from(range_set_i32_owned *owned, int32_t start)
 {
     range_set_i32 rest = {&start, 1};
     return range_set_i32_owned_combine(owned, rest, RANGE_SET_UNION);
 }
 
-static inline RANGE_SET_STATUS range_set_i32_owned_remove_from(range_set_i32_owned *owned, int32_t start)
+RANGE_SET_INLINE RANGE_SET_STATUS range_set_i32_owned_remove_from(range_set_i32_owned *owned, int32_t start)
 {
     range_set_i32 rest = {&start, 1};
     return range_set_i32_owned_combine(owned, rest, RANGE_SET_DIFFERENCE);
 }
 
 /* Takes all numbers out, and keeps the buffer. Does nothing where `owned` is null. */
-static inline void range_set_i32_owned_clear(range_set_i32_owned *owned)
+RANGE_SET_INLINE void range_set_i32_owned_clear(range_set_i32_owned *owned)
 {
     if (owned) owned->in.set.len = 0;
 }
@@ -825,7 +831,7 @@ typedef struct range_set_u32_members {
 } range_set_u32_members;
 
 /* The greatest number of a range. */
-static inline uint32_t range_set_u32_range_last(range_set_u32_range range)
+RANGE_SET_INLINE uint32_t range_set_u32_range_last(range_set_u32_range range)
 {
     return range.has_end ? range.end - 1 : UINT32_MAX;
 }
@@ -836,7 +842,7 @@ static inline uint32_t range_set_u32_range_last(range_set_u32_range range)
  *     range_set_u32_members it = range_set_u32_members_first(set);
  *     for (; it.has_value; range_set_u32_members_next(&it)) .. it.value ..
  */
-static inline range_set_u32_members range_set_u32_members_first(range_set_u32 set)
+RANGE_SET_INLINE range_set_u32_members range_set_u32_members_first(range_set_u32 set)
 {
     range_set_u32_members members = {0, false, {0, 0, false}, 0, {NULL, 0}};
     members.set = set;
@@ -845,7 +851,7 @@ static inline range_set_u32_members range_set_u32_members_first(range_set_u32 se
     return members;
 }
 
-static inline range_set_u32_members range_set_u32_members_last(range_set_u32 set)
+RANGE_SET_INLINE range_set_u32_members range_set_u32_members_last(range_set_u32 set)
 {
     range_set_u32_members members = {0, false, {0, 0, false}, 0, {NULL, 0}};
     members.set = set;
@@ -857,7 +863,7 @@ static inline range_set_u32_members range_set_u32_members_last(range_set_u32 set
 
 /* Goes to the next member above, below. Where there is none it is at no member from then on. It has to be at one
  * before. */
-static inline void range_set_u32_members_next(range_set_u32_members *members)
+RANGE_SET_INLINE void range_set_u32_members_next(range_set_u32_members *members)
 {
     if (members->value != range_set_u32_range_last(members->range)) {
         members->value++;
@@ -867,7 +873,7 @@ static inline void range_set_u32_members_next(range_set_u32_members *members)
     }
 }
 
-static inline void range_set_u32_members_prev(range_set_u32_members *members)
+RANGE_SET_INLINE void range_set_u32_members_prev(range_set_u32_members *members)
 {
     if (members->value != members->range.start) {
         members->value--;
@@ -892,7 +898,7 @@ bool range_set_u32_intersects(range_set_u32 a, range_set_u32 b);
 bool range_set_u32_is_subset(range_set_u32 a, range_set_u32 b);
 
 /* Whether every member of the right set is one of the left. */
-static inline bool range_set_u32_is_superset(range_set_u32 a, range_set_u32 b)
+RANGE_SET_INLINE bool range_set_u32_is_superset(range_set_u32 a, range_set_u32 b)
 {
     return range_set_u32_is_subset(b, a);
 }
@@ -915,50 +921,50 @@ RANGE_SET_STATUS range_set_u32_combine(range_set_u32 a, range_set_u32 b, unsigne
 size_t range_set_u32_combine_len(range_set_u32 a, range_set_u32 b, unsigned keep);
 
 /* Writes the set of the numbers in either set. */
-static inline RANGE_SET_STATUS range_set_u32_union(range_set_u32 a, range_set_u32 b, uint32_t *out, size_t room,
-                                                   range_set_u32 *result)
+RANGE_SET_INLINE RANGE_SET_STATUS range_set_u32_union(range_set_u32 a, range_set_u32 b, uint32_t *out, size_t room,
+                                                      range_set_u32 *result)
 {
     return range_set_u32_combine(a, b, RANGE_SET_UNION, out, room, result);
 }
 
 /* Writes the set of the numbers in both sets. */
-static inline RANGE_SET_STATUS range_set_u32_intersection(range_set_u32 a, range_set_u32 b, uint32_t *out, size_t room,
-                                                          range_set_u32 *result)
+RANGE_SET_INLINE RANGE_SET_STATUS range_set_u32_intersection(range_set_u32 a, range_set_u32 b, uint32_t *out,
+                                                             size_t room, range_set_u32 *result)
 {
     return range_set_u32_combine(a, b, RANGE_SET_INTERSECTION, out, room, result);
 }
 
 /* Writes the set of the numbers in the left set and not in the right. */
-static inline RANGE_SET_STATUS range_set_u32_difference(range_set_u32 a, range_set_u32 b, uint32_t *out, size_t room,
-                                                        range_set_u32 *result)
+RANGE_SET_INLINE RANGE_SET_STATUS range_set_u32_difference(range_set_u32 a, range_set_u32 b, uint32_t *out, size_t room,
+                                                           range_set_u32 *result)
 {
     return range_set_u32_combine(a, b, RANGE_SET_DIFFERENCE, out, room, result);
 }
 
 /* Writes the set of the numbers in one of the two sets and not in the other. */
-static inline RANGE_SET_STATUS range_set_u32_symmetric_difference(range_set_u32 a, range_set_u32 b, uint32_t *out,
-                                                                  size_t room, range_set_u32 *result)
+RANGE_SET_INLINE RANGE_SET_STATUS range_set_u32_symmetric_difference(range_set_u32 a, range_set_u32 b, uint32_t *out,
+                                                                     size_t room, range_set_u32 *result)
 {
     return range_set_u32_combine(a, b, RANGE_SET_SYMMETRIC_DIFFERENCE, out, room, result);
 }
 
 /* How many boundaries these sets have. */
-static inline size_t range_set_u32_union_len(range_set_u32 a, range_set_u32 b)
+RANGE_SET_INLINE size_t range_set_u32_union_len(range_set_u32 a, range_set_u32 b)
 {
     return range_set_u32_combine_len(a, b, RANGE_SET_UNION);
 }
 
-static inline size_t range_set_u32_intersection_len(range_set_u32 a, range_set_u32 b)
+RANGE_SET_INLINE size_t range_set_u32_intersection_len(range_set_u32 a, range_set_u32 b)
 {
     return range_set_u32_combine_len(a, b, RANGE_SET_INTERSECTION);
 }
 
-static inline size_t range_set_u32_difference_len(range_set_u32 a, range_set_u32 b)
+RANGE_SET_INLINE size_t range_set_u32_difference_len(range_set_u32 a, range_set_u32 b)
 {
     return range_set_u32_combine_len(a, b, RANGE_SET_DIFFERENCE);
 }
 
-static inline size_t range_set_u32_symmetric_difference_len(range_set_u32 a, range_set_u32 b)
+RANGE_SET_INLINE size_t range_set_u32_symmetric_difference_len(range_set_u32 a, range_set_u32 b)
 {
     return range_set_u32_combine_len(a, b, RANGE_SET_SYMMETRIC_DIFFERENCE);
 }
@@ -1021,7 +1027,7 @@ bool range_set_u32_first_run(range_set_u32 set, uint32_t start, uint32_t end, ui
 /* ---- Sets of uint32_t that change in their buffer ---- */
 
 /* The empty set in a buffer of `room` numbers. */
-static inline range_set_u32_buffer range_set_u32_buffer_of(uint32_t *items, size_t room)
+RANGE_SET_INLINE range_set_u32_buffer range_set_u32_buffer_of(uint32_t *items, size_t room)
 {
     range_set_u32_buffer buffer;
     buffer.items = items;
@@ -1049,23 +1055,23 @@ RANGE_SET_STATUS range_set_u32_remove(range_set_u32_buffer *buffer, uint32_t sta
 RANGE_SET_STATUS range_set_u32_combine_with(range_set_u32_buffer *buffer, range_set_u32 other, unsigned keep);
 
 /* The four operations in the buffer. */
-static inline RANGE_SET_STATUS range_set_u32_union_with(range_set_u32_buffer *buffer, range_set_u32 other)
+RANGE_SET_INLINE RANGE_SET_STATUS range_set_u32_union_with(range_set_u32_buffer *buffer, range_set_u32 other)
 {
     return range_set_u32_combine_with(buffer, other, RANGE_SET_UNION);
 }
 
-static inline RANGE_SET_STATUS range_set_u32_intersection_with(range_set_u32_buffer *buffer, range_set_u32 other)
+RANGE_SET_INLINE RANGE_SET_STATUS range_set_u32_intersection_with(range_set_u32_buffer *buffer, range_set_u32 other)
 {
     return range_set_u32_combine_with(buffer, other, RANGE_SET_INTERSECTION);
 }
 
-static inline RANGE_SET_STATUS range_set_u32_difference_with(range_set_u32_buffer *buffer, range_set_u32 other)
+RANGE_SET_INLINE RANGE_SET_STATUS range_set_u32_difference_with(range_set_u32_buffer *buffer, range_set_u32 other)
 {
     return range_set_u32_combine_with(buffer, other, RANGE_SET_DIFFERENCE);
 }
 
-static inline RANGE_SET_STATUS range_set_u32_symmetric_difference_with(range_set_u32_buffer *buffer,
-                                                                       range_set_u32 other)
+RANGE_SET_INLINE RANGE_SET_STATUS range_set_u32_symmetric_difference_with(range_set_u32_buffer *buffer,
+                                                                          range_set_u32 other)
 {
     return range_set_u32_combine_with(buffer, other, RANGE_SET_SYMMETRIC_DIFFERENCE);
 }
@@ -1107,20 +1113,20 @@ RANGE_SET_STATUS range_set_u32_owned_remove(range_set_u32_owned *owned, uint32_t
 RANGE_SET_STATUS range_set_u32_owned_combine(range_set_u32_owned *owned, range_set_u32 other, unsigned keep);
 
 /* Puts all numbers from `start` on in, takes them out: the union with their set, the difference from it. */
-static inline RANGE_SET_STATUS range_set_u32_owned_insert_from(range_set_u32_owned *owned, uint32_t start)
+RANGE_SET_INLINE RANGE_SET_STATUS range_set_u32_owned_insert_from(range_set_u32_owned *owned, uint32_t start)
 {
     range_set_u32 rest = {&start, 1};
     return range_set_u32_owned_combine(owned, rest, RANGE_SET_UNION);
 }
 
-static inline RANGE_SET_STATUS range_set_u32_owned_remove_from(range_set_u32_owned *owned, uint32_t start)
+RANGE_SET_INLINE RANGE_SET_STATUS range_set_u32_owned_remove_from(range_set_u32_owned *owned, uint32_t start)
 {
     range_set_u32 rest = {&start, 1};
     return range_set_u32_owned_combine(owned, rest, RANGE_SET_DIFFERENCE);
 }
 
 /* Takes all numbers out, and keeps the buffer. Does nothing where `owned` is null. */
-static inline void range_set_u32_owned_clear(range_set_u32_owned *owned)
+RANGE_SET_INLINE void range_set_u32_owned_clear(range_set_u32_owned *owned)
 {
     if (owned) owned->in.set.len = 0;
 }
@@ -1412,7 +1418,7 @@ typedef struct range_set_i64_members {
 } range_set_i64_members;
 
 /* The greatest number of a range. */
-static inline int64_t range_set_i64_range_last(range_set_i64_range range)
+RANGE_SET_INLINE int64_t range_set_i64_range_last(range_set_i64_range range)
 {
     return range.has_end ? range.end - 1 : INT64_MAX;
 }
@@ -1423,7 +1429,7 @@ static inline int64_t range_set_i64_range_last(range_set_i64_range range)
  *     range_set_i64_members it = range_set_i64_members_first(set);
  *     for (; it.has_value; range_set_i64_members_next(&it)) .. it.value ..
  */
-static inline range_set_i64_members range_set_i64_members_first(range_set_i64 set)
+RANGE_SET_INLINE range_set_i64_members range_set_i64_members_first(range_set_i64 set)
 {
     range_set_i64_members members = {0, false, {0, 0, false}, 0, {NULL, 0}};
     members.set = set;
@@ -1432,7 +1438,7 @@ static inline range_set_i64_members range_set_i64_members_first(range_set_i64 se
     return members;
 }
 
-static inline range_set_i64_members range_set_i64_members_last(range_set_i64 set)
+RANGE_SET_INLINE range_set_i64_members range_set_i64_members_last(range_set_i64 set)
 {
     range_set_i64_members members = {0, false, {0, 0, false}, 0, {NULL, 0}};
     members.set = set;
@@ -1444,7 +1450,7 @@ static inline range_set_i64_members range_set_i64_members_last(range_set_i64 set
 
 /* Goes to the next member above, below. Where there is none it is at no member from then on. It has to be at one
  * before. */
-static inline void range_set_i64_members_next(range_set_i64_members *members)
+RANGE_SET_INLINE void range_set_i64_members_next(range_set_i64_members *members)
 {
     if (members->value != range_set_i64_range_last(members->range)) {
         members->value++;
@@ -1454,7 +1460,7 @@ static inline void range_set_i64_members_next(range_set_i64_members *members)
     }
 }
 
-static inline void range_set_i64_members_prev(range_set_i64_members *members)
+RANGE_SET_INLINE void range_set_i64_members_prev(range_set_i64_members *members)
 {
     if (members->value != members->range.start) {
         members->value--;
@@ -1479,7 +1485,7 @@ bool range_set_i64_intersects(range_set_i64 a, range_set_i64 b);
 bool range_set_i64_is_subset(range_set_i64 a, range_set_i64 b);
 
 /* Whether every member of the right set is one of the left. */
-static inline bool range_set_i64_is_superset(range_set_i64 a, range_set_i64 b)
+RANGE_SET_INLINE bool range_set_i64_is_superset(range_set_i64 a, range_set_i64 b)
 {
     return range_set_i64_is_subset(b, a);
 }
@@ -1502,50 +1508,50 @@ RANGE_SET_STATUS range_set_i64_combine(range_set_i64 a, range_set_i64 b, unsigne
 size_t range_set_i64_combine_len(range_set_i64 a, range_set_i64 b, unsigned keep);
 
 /* Writes the set of the numbers in either set. */
-static inline RANGE_SET_STATUS range_set_i64_union(range_set_i64 a, range_set_i64 b, int64_t *out, size_t room,
-                                                   range_set_i64 *result)
+RANGE_SET_INLINE RANGE_SET_STATUS range_set_i64_union(range_set_i64 a, range_set_i64 b, int64_t *out, size_t room,
+                                                      range_set_i64 *result)
 {
     return range_set_i64_combine(a, b, RANGE_SET_UNION, out, room, result);
 }
 
 /* Writes the set of the numbers in both sets. */
-static inline RANGE_SET_STATUS range_set_i64_intersection(range_set_i64 a, range_set_i64 b, int64_t *out, size_t room,
-                                                          range_set_i64 *result)
+RANGE_SET_INLINE RANGE_SET_STATUS range_set_i64_intersection(range_set_i64 a, range_set_i64 b, int64_t *out,
+                                                             size_t room, range_set_i64 *result)
 {
     return range_set_i64_combine(a, b, RANGE_SET_INTERSECTION, out, room, result);
 }
 
 /* Writes the set of the numbers in the left set and not in the right. */
-static inline RANGE_SET_STATUS range_set_i64_difference(range_set_i64 a, range_set_i64 b, int64_t *out, size_t room,
-                                                        range_set_i64 *result)
+RANGE_SET_INLINE RANGE_SET_STATUS range_set_i64_difference(range_set_i64 a, range_set_i64 b, int64_t *out, size_t room,
+                                                           range_set_i64 *result)
 {
     return range_set_i64_combine(a, b, RANGE_SET_DIFFERENCE, out, room, result);
 }
 
 /* Writes the set of the numbers in one of the two sets and not in the other. */
-static inline RANGE_SET_STATUS range_set_i64_symmetric_difference(range_set_i64 a, range_set_i64 b, int64_t *out,
-                                                                  size_t room, range_set_i64 *result)
+RANGE_SET_INLINE RANGE_SET_STATUS range_set_i64_symmetric_difference(range_set_i64 a, range_set_i64 b, int64_t *out,
+                                                                     size_t room, range_set_i64 *result)
 {
     return range_set_i64_combine(a, b, RANGE_SET_SYMMETRIC_DIFFERENCE, out, room, result);
 }
 
 /* How many boundaries these sets have. */
-static inline size_t range_set_i64_union_len(range_set_i64 a, range_set_i64 b)
+RANGE_SET_INLINE size_t range_set_i64_union_len(range_set_i64 a, range_set_i64 b)
 {
     return range_set_i64_combine_len(a, b, RANGE_SET_UNION);
 }
 
-static inline size_t range_set_i64_intersection_len(range_set_i64 a, range_set_i64 b)
+RANGE_SET_INLINE size_t range_set_i64_intersection_len(range_set_i64 a, range_set_i64 b)
 {
     return range_set_i64_combine_len(a, b, RANGE_SET_INTERSECTION);
 }
 
-static inline size_t range_set_i64_difference_len(range_set_i64 a, range_set_i64 b)
+RANGE_SET_INLINE size_t range_set_i64_difference_len(range_set_i64 a, range_set_i64 b)
 {
     return range_set_i64_combine_len(a, b, RANGE_SET_DIFFERENCE);
 }
 
-static inline size_t range_set_i64_symmetric_difference_len(range_set_i64 a, range_set_i64 b)
+RANGE_SET_INLINE size_t range_set_i64_symmetric_difference_len(range_set_i64 a, range_set_i64 b)
 {
     return range_set_i64_combine_len(a, b, RANGE_SET_SYMMETRIC_DIFFERENCE);
 }
@@ -1608,7 +1614,7 @@ bool range_set_i64_first_run(range_set_i64 set, int64_t start, int64_t end, uint
 /* ---- Sets of int64_t that change in their buffer ---- */
 
 /* The empty set in a buffer of `room` numbers. */
-static inline range_set_i64_buffer range_set_i64_buffer_of(int64_t *items, size_t room)
+RANGE_SET_INLINE range_set_i64_buffer range_set_i64_buffer_of(int64_t *items, size_t room)
 {
     range_set_i64_buffer buffer;
     buffer.items = items;
@@ -1636,23 +1642,23 @@ RANGE_SET_STATUS range_set_i64_remove(range_set_i64_buffer *buffer, int64_t star
 RANGE_SET_STATUS range_set_i64_combine_with(range_set_i64_buffer *buffer, range_set_i64 other, unsigned keep);
 
 /* The four operations in the buffer. */
-static inline RANGE_SET_STATUS range_set_i64_union_with(range_set_i64_buffer *buffer, range_set_i64 other)
+RANGE_SET_INLINE RANGE_SET_STATUS range_set_i64_union_with(range_set_i64_buffer *buffer, range_set_i64 other)
 {
     return range_set_i64_combine_with(buffer, other, RANGE_SET_UNION);
 }
 
-static inline RANGE_SET_STATUS range_set_i64_intersection_with(range_set_i64_buffer *buffer, range_set_i64 other)
+RANGE_SET_INLINE RANGE_SET_STATUS range_set_i64_intersection_with(range_set_i64_buffer *buffer, range_set_i64 other)
 {
     return range_set_i64_combine_with(buffer, other, RANGE_SET_INTERSECTION);
 }
 
-static inline RANGE_SET_STATUS range_set_i64_difference_with(range_set_i64_buffer *buffer, range_set_i64 other)
+RANGE_SET_INLINE RANGE_SET_STATUS range_set_i64_difference_with(range_set_i64_buffer *buffer, range_set_i64 other)
 {
     return range_set_i64_combine_with(buffer, other, RANGE_SET_DIFFERENCE);
 }
 
-static inline RANGE_SET_STATUS range_set_i64_symmetric_difference_with(range_set_i64_buffer *buffer,
-                                                                       range_set_i64 other)
+RANGE_SET_INLINE RANGE_SET_STATUS range_set_i64_symmetric_difference_with(range_set_i64_buffer *buffer,
+                                                                          range_set_i64 other)
 {
     return range_set_i64_combine_with(buffer, other, RANGE_SET_SYMMETRIC_DIFFERENCE);
 }
@@ -1694,20 +1700,20 @@ RANGE_SET_STATUS range_set_i64_owned_remove(range_set_i64_owned *owned, int64_t 
 RANGE_SET_STATUS range_set_i64_owned_combine(range_set_i64_owned *owned, range_set_i64 other, unsigned keep);
 
 /* Puts all numbers from `start` on in, takes them out: the union with their set, the difference from it. */
-static inline RANGE_SET_STATUS range_set_i64_owned_insert_from(range_set_i64_owned *owned, int64_t start)
+RANGE_SET_INLINE RANGE_SET_STATUS range_set_i64_owned_insert_from(range_set_i64_owned *owned, int64_t start)
 {
     range_set_i64 rest = {&start, 1};
     return range_set_i64_owned_combine(owned, rest, RANGE_SET_UNION);
 }
 
-static inline RANGE_SET_STATUS range_set_i64_owned_remove_from(range_set_i64_owned *owned, int64_t start)
+RANGE_SET_INLINE RANGE_SET_STATUS range_set_i64_owned_remove_from(range_set_i64_owned *owned, int64_t start)
 {
     range_set_i64 rest = {&start, 1};
     return range_set_i64_owned_combine(owned, rest, RANGE_SET_DIFFERENCE);
 }
 
 /* Takes all numbers out, and keeps the buffer. Does nothing where `owned` is null. */
-static inline void range_set_i64_owned_clear(range_set_i64_owned *owned)
+RANGE_SET_INLINE void range_set_i64_owned_clear(range_set_i64_owned *owned)
 {
     if (owned) owned->in.set.len = 0;
 }
@@ -1999,7 +2005,7 @@ typedef struct range_set_u64_members {
 } range_set_u64_members;
 
 /* The greatest number of a range. */
-static inline uint64_t range_set_u64_range_last(range_set_u64_range range)
+RANGE_SET_INLINE uint64_t range_set_u64_range_last(range_set_u64_range range)
 {
     return range.has_end ? range.end - 1 : UINT64_MAX;
 }
@@ -2010,7 +2016,7 @@ static inline uint64_t range_set_u64_range_last(range_set_u64_range range)
  *     range_set_u64_members it = range_set_u64_members_first(set);
  *     for (; it.has_value; range_set_u64_members_next(&it)) .. it.value ..
  */
-static inline range_set_u64_members range_set_u64_members_first(range_set_u64 set)
+RANGE_SET_INLINE range_set_u64_members range_set_u64_members_first(range_set_u64 set)
 {
     range_set_u64_members members = {0, false, {0, 0, false}, 0, {NULL, 0}};
     members.set = set;
@@ -2019,7 +2025,7 @@ static inline range_set_u64_members range_set_u64_members_first(range_set_u64 se
     return members;
 }
 
-static inline range_set_u64_members range_set_u64_members_last(range_set_u64 set)
+RANGE_SET_INLINE range_set_u64_members range_set_u64_members_last(range_set_u64 set)
 {
     range_set_u64_members members = {0, false, {0, 0, false}, 0, {NULL, 0}};
     members.set = set;
@@ -2031,7 +2037,7 @@ static inline range_set_u64_members range_set_u64_members_last(range_set_u64 set
 
 /* Goes to the next member above, below. Where there is none it is at no member from then on. It has to be at one
  * before. */
-static inline void range_set_u64_members_next(range_set_u64_members *members)
+RANGE_SET_INLINE void range_set_u64_members_next(range_set_u64_members *members)
 {
     if (members->value != range_set_u64_range_last(members->range)) {
         members->value++;
@@ -2041,7 +2047,7 @@ static inline void range_set_u64_members_next(range_set_u64_members *members)
     }
 }
 
-static inline void range_set_u64_members_prev(range_set_u64_members *members)
+RANGE_SET_INLINE void range_set_u64_members_prev(range_set_u64_members *members)
 {
     if (members->value != members->range.start) {
         members->value--;
@@ -2066,7 +2072,7 @@ bool range_set_u64_intersects(range_set_u64 a, range_set_u64 b);
 bool range_set_u64_is_subset(range_set_u64 a, range_set_u64 b);
 
 /* Whether every member of the right set is one of the left. */
-static inline bool range_set_u64_is_superset(range_set_u64 a, range_set_u64 b)
+RANGE_SET_INLINE bool range_set_u64_is_superset(range_set_u64 a, range_set_u64 b)
 {
     return range_set_u64_is_subset(b, a);
 }
@@ -2089,50 +2095,50 @@ RANGE_SET_STATUS range_set_u64_combine(range_set_u64 a, range_set_u64 b, unsigne
 size_t range_set_u64_combine_len(range_set_u64 a, range_set_u64 b, unsigned keep);
 
 /* Writes the set of the numbers in either set. */
-static inline RANGE_SET_STATUS range_set_u64_union(range_set_u64 a, range_set_u64 b, uint64_t *out, size_t room,
-                                                   range_set_u64 *result)
+RANGE_SET_INLINE RANGE_SET_STATUS range_set_u64_union(range_set_u64 a, range_set_u64 b, uint64_t *out, size_t room,
+                                                      range_set_u64 *result)
 {
     return range_set_u64_combine(a, b, RANGE_SET_UNION, out, room, result);
 }
 
 /* Writes the set of the numbers in both sets. */
-static inline RANGE_SET_STATUS range_set_u64_intersection(range_set_u64 a, range_set_u64 b, uint64_t *out, size_t room,
-                                                          range_set_u64 *result)
+RANGE_SET_INLINE RANGE_SET_STATUS range_set_u64_intersection(range_set_u64 a, range_set_u64 b, uint64_t *out,
+                                                             size_t room, range_set_u64 *result)
 {
     return range_set_u64_combine(a, b, RANGE_SET_INTERSECTION, out, room, result);
 }
 
 /* Writes the set of the numbers in the left set and not in the right. */
-static inline RANGE_SET_STATUS range_set_u64_difference(range_set_u64 a, range_set_u64 b, uint64_t *out, size_t room,
-                                                        range_set_u64 *result)
+RANGE_SET_INLINE RANGE_SET_STATUS range_set_u64_difference(range_set_u64 a, range_set_u64 b, uint64_t *out, size_t room,
+                                                           range_set_u64 *result)
 {
     return range_set_u64_combine(a, b, RANGE_SET_DIFFERENCE, out, room, result);
 }
 
 /* Writes the set of the numbers in one of the two sets and not in the other. */
-static inline RANGE_SET_STATUS range_set_u64_symmetric_difference(range_set_u64 a, range_set_u64 b, uint64_t *out,
-                                                                  size_t room, range_set_u64 *result)
+RANGE_SET_INLINE RANGE_SET_STATUS range_set_u64_symmetric_difference(range_set_u64 a, range_set_u64 b, uint64_t *out,
+                                                                     size_t room, range_set_u64 *result)
 {
     return range_set_u64_combine(a, b, RANGE_SET_SYMMETRIC_DIFFERENCE, out, room, result);
 }
 
 /* How many boundaries these sets have. */
-static inline size_t range_set_u64_union_len(range_set_u64 a, range_set_u64 b)
+RANGE_SET_INLINE size_t range_set_u64_union_len(range_set_u64 a, range_set_u64 b)
 {
     return range_set_u64_combine_len(a, b, RANGE_SET_UNION);
 }
 
-static inline size_t range_set_u64_intersection_len(range_set_u64 a, range_set_u64 b)
+RANGE_SET_INLINE size_t range_set_u64_intersection_len(range_set_u64 a, range_set_u64 b)
 {
     return range_set_u64_combine_len(a, b, RANGE_SET_INTERSECTION);
 }
 
-static inline size_t range_set_u64_difference_len(range_set_u64 a, range_set_u64 b)
+RANGE_SET_INLINE size_t range_set_u64_difference_len(range_set_u64 a, range_set_u64 b)
 {
     return range_set_u64_combine_len(a, b, RANGE_SET_DIFFERENCE);
 }
 
-static inline size_t range_set_u64_symmetric_difference_len(range_set_u64 a, range_set_u64 b)
+RANGE_SET_INLINE size_t range_set_u64_symmetric_difference_len(range_set_u64 a, range_set_u64 b)
 {
     return range_set_u64_combine_len(a, b, RANGE_SET_SYMMETRIC_DIFFERENCE);
 }
@@ -2195,7 +2201,7 @@ bool range_set_u64_first_run(range_set_u64 set, uint64_t start, uint64_t end, ui
 /* ---- Sets of uint64_t that change in their buffer ---- */
 
 /* The empty set in a buffer of `room` numbers. */
-static inline range_set_u64_buffer range_set_u64_buffer_of(uint64_t *items, size_t room)
+RANGE_SET_INLINE range_set_u64_buffer range_set_u64_buffer_of(uint64_t *items, size_t room)
 {
     range_set_u64_buffer buffer;
     buffer.items = items;
@@ -2223,23 +2229,23 @@ RANGE_SET_STATUS range_set_u64_remove(range_set_u64_buffer *buffer, uint64_t sta
 RANGE_SET_STATUS range_set_u64_combine_with(range_set_u64_buffer *buffer, range_set_u64 other, unsigned keep);
 
 /* The four operations in the buffer. */
-static inline RANGE_SET_STATUS range_set_u64_union_with(range_set_u64_buffer *buffer, range_set_u64 other)
+RANGE_SET_INLINE RANGE_SET_STATUS range_set_u64_union_with(range_set_u64_buffer *buffer, range_set_u64 other)
 {
     return range_set_u64_combine_with(buffer, other, RANGE_SET_UNION);
 }
 
-static inline RANGE_SET_STATUS range_set_u64_intersection_with(range_set_u64_buffer *buffer, range_set_u64 other)
+RANGE_SET_INLINE RANGE_SET_STATUS range_set_u64_intersection_with(range_set_u64_buffer *buffer, range_set_u64 other)
 {
     return range_set_u64_combine_with(buffer, other, RANGE_SET_INTERSECTION);
 }
 
-static inline RANGE_SET_STATUS range_set_u64_difference_with(range_set_u64_buffer *buffer, range_set_u64 other)
+RANGE_SET_INLINE RANGE_SET_STATUS range_set_u64_difference_with(range_set_u64_buffer *buffer, range_set_u64 other)
 {
     return range_set_u64_combine_with(buffer, other, RANGE_SET_DIFFERENCE);
 }
 
-static inline RANGE_SET_STATUS range_set_u64_symmetric_difference_with(range_set_u64_buffer *buffer,
-                                                                       range_set_u64 other)
+RANGE_SET_INLINE RANGE_SET_STATUS range_set_u64_symmetric_difference_with(range_set_u64_buffer *buffer,
+                                                                          range_set_u64 other)
 {
     return range_set_u64_combine_with(buffer, other, RANGE_SET_SYMMETRIC_DIFFERENCE);
 }
@@ -2281,20 +2287,20 @@ RANGE_SET_STATUS range_set_u64_owned_remove(range_set_u64_owned *owned, uint64_t
 RANGE_SET_STATUS range_set_u64_owned_combine(range_set_u64_owned *owned, range_set_u64 other, unsigned keep);
 
 /* Puts all numbers from `start` on in, takes them out: the union with their set, the difference from it. */
-static inline RANGE_SET_STATUS range_set_u64_owned_insert_from(range_set_u64_owned *owned, uint64_t start)
+RANGE_SET_INLINE RANGE_SET_STATUS range_set_u64_owned_insert_from(range_set_u64_owned *owned, uint64_t start)
 {
     range_set_u64 rest = {&start, 1};
     return range_set_u64_owned_combine(owned, rest, RANGE_SET_UNION);
 }
 
-static inline RANGE_SET_STATUS range_set_u64_owned_remove_from(range_set_u64_owned *owned, uint64_t start)
+RANGE_SET_INLINE RANGE_SET_STATUS range_set_u64_owned_remove_from(range_set_u64_owned *owned, uint64_t start)
 {
     range_set_u64 rest = {&start, 1};
     return range_set_u64_owned_combine(owned, rest, RANGE_SET_DIFFERENCE);
 }
 
 /* Takes all numbers out, and keeps the buffer. Does nothing where `owned` is null. */
-static inline void range_set_u64_owned_clear(range_set_u64_owned *owned)
+RANGE_SET_INLINE void range_set_u64_owned_clear(range_set_u64_owned *owned)
 {
     if (owned) owned->in.set.len = 0;
 }
