@@ -80,7 +80,7 @@ const char *range_set_version(void);
 #define RANGE_SET_STATUS range_set_status
 #endif
 
-/* What a call that can fail answers, as said above. */
+/* What a call that can fail returns, as said above. */
 typedef enum range_set_status {
     RANGE_SET_DONE = 0,
     RANGE_SET_NOT_SORTED = 1,
