@@ -181,7 +181,7 @@ says_that_values_need_an_order() {
 # Installs the library, and moves it into a folder with a blank in its name.
 prefix="$work/a place" makes=(BACKEND=proved LIBRARY="$PWD/$archive")
 installs() {
-    rm -rf "$work/c" "$prefix" && cp -r c LICENSE-* "$work" && make -s -C "$work/c" install "${makes[@]}" PREFIX="$work/its place" &&
+    rm -rf "$work/c" "$prefix" && cp -r c LICENSE-* "$work" && rm -rf "$work/c/build" && make -s -C "$work/c" install "${makes[@]}" PREFIX="$work/its place" &&
         mv "$work/its place" "$prefix" &&
         cmp LICENSE-MIT "$prefix/share/doc/range_set/LICENSE-MIT" &&
         cmp LICENSE-APACHE "$prefix/share/doc/range_set/LICENSE-APACHE"
@@ -199,7 +199,7 @@ installs_below() {
 packages=/usr/share/cargo/registry
 offline="--offline --config 'source.crates-io.replace-with=\"debian\"' --config 'source.debian.directory=\"$packages\"'"
 builds_by_cargo() {
-    rm -rf "$work/by_cargo" && cp -r c "$work/by_cargo" &&
+    rm -rf "$work/by_cargo" && cp -r c "$work/by_cargo" && rm -rf "$work/by_cargo/build" &&
         make -s -C "$work/by_cargo" build/librange_set.a BACKEND=rust RUST="$PWD/rust" CARGO="cargo $offline"
 }
 
