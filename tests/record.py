@@ -5,8 +5,9 @@ A function is proved against the contracts of those that it calls, and never aga
 
 - the mutant itself, the files that it changes, whole, and the proofs of its functions;
 - of the rest of the crate the specs, the lemmas, and the sources without the bodies of functions;
-- of each crate below what others can name: its specs, and its sources without bodies and without what is private, but for
-  types and constants that the rest names; and of the lemmas that a proof above cites what they state;
+- of each crate below what is seen of it: of its sources, without bodies, the public items that the crate or anything seen names,
+  and the private ones that these name; and the specs and lemmas that the crate or anything seen cites, of a lemma what it states;
+- the paths of all these files, since each is a module and a name begins with its path;
 - what crates.txt says of these crates.
 
 Its first digits are of the mutant itself, with its files and proofs.
@@ -25,7 +26,7 @@ from built import ROOT, below, listed
 from edits import RECORD
 
 # To be raised where what a sum has changes, or what counts as refused.
-RULE = 2
+RULE = 3
 FIRST = re.compile(r"Mutants that a clause refused, each with the sum of what that rests on, by (?:\S+ )?(logic \w+)\.")
 LINE = re.compile(r"([^\W\d]\w*) ([0-9a-f]{24})")
 # How many digits of a sum are of what is the mutant's own.
@@ -41,13 +42,21 @@ SILENT = re.compile(r" *(//|#\[(inline|tactic|rattlefmt|doc|must_use|cold)\b)")
 ITEM = re.compile(r' *(pub(\(\w+\))? )?(unsafe )?(extern "\w+" )?((const )?fn|impl|trait|struct|enum|static|mod)\b')
 OPEN = re.compile(r"(pub(\(\w+\))? )?(unsafe )?(trait |impl\b.* for )")
 IMPORT, RENAMED = re.compile(r" *(ghost )?use "), re.compile(r"\S+ as \S+")
-# The line on which an item of a file begins, and one that declares something for the crate alone.
-BEGINS = re.compile(r"#|pub\b|unsafe |extern |const |static |struct |enum |type |trait |impl\b|mod |fn |use |ghost |macro_rules!")
-PRIVATE = re.compile(r"^(?:pub\(\w+\) )?(?:unsafe )?(?:const fn|const|static|struct|enum|type|trait|mod) (\w+)")
+# An import that passes names on, what opens a module, and the names in it.
+PASSING, OPENING, PASSED = re.compile(r"pub(\(\w+\))? use "), re.compile(r"^pub (mod|use) ", re.M), re.compile(r"\b\w+\b(?!::)")
+# The line on which an item of a file begins, and one that declares something; a line of comment.
+BEGINS = re.compile(r"#|pub\b|unsafe |extern |const |static |struct |enum |type |trait |impl\b|mod |fn |use |ghost |\w+!")
+DECLARES = re.compile(r'(?:(pub )|pub\(\w+\) )?(?:unsafe )?(?:extern "\w+" )?(?:(?:const )?fn|const|static|struct|enum|type|trait|mod) (\w+)')
+COMMENT = re.compile(r"^ *(?://|--).*\n?", re.M)
 WORD, NAME = re.compile(r"[^\s(){}\[\],;.:]+"), re.compile(r"[^\W\d]\w*")
-# Files of proofs that are one function's own; a file of proofs that another cites.
+# Files of proofs that are one function's own.
 OWN = ("Answers.antt", "Invariants.antt", "Proof.antt")
-CITED = re.compile(r"\bRattle\.(\w+)\.proofs\.([A-Z]\w*)")
+# What cites a module of specs or proofs, or what stands for sources there; what gives all of a crate another name; the path of a
+# module, which names no item of a source; and the line that makes a file a module, which cites nothing.
+CITED = re.compile(r"\b(\w+)(?:\.|::)(specs|proofs)\b((?:(?:\.|::)\w+)*)")
+WHOLE = re.compile(r"\buse (?:package\.)?Rattle(?:\.(\w+))?(?!\w|\.\w)")
+MODULE = re.compile(r"\bRattle\.\w+\.(?:specs|proofs)(?:\.[A-Z]\w*)+")
+CHILD = re.compile(r"^(?:pub )?mod \w+\n?", re.M)
 
 
 def sum_of(*parts):
@@ -90,32 +99,58 @@ def stated(source, public=False):
     return kept
 
 
-def named(sources, beside):
-    """Of the lines of the sources of a crate those that another crate can see. An item that is private, and a block of functions
-    of one, is seen only if something is that names it, or the text beside them does. An import alone doesn't, unless it is public
-    or gives another name: what it brings is named again where it is used."""
-    items = [(path, item) for path, lines in sources for item in items_of(lines)]
-    private = {name for _, item in items if (name := private_name(item))}
-    needed = [{private_name(item)} - {None} or words_of(whose(item)) & private for _, item in items]
-    texts = ["\n".join(item) for _, item in items]
-    texts = [" ".join(RENAMED.findall(it)) if IMPORT.match(it) else it for it in texts]
-    words, left, seen = words_of(beside), set(range(len(items))), set()
-    while found := {at for at in left if needed[at] <= words}:
+def named(sources, beside, outside):
+    """Of the sources of a crate what another crate can see, by files. A public item is seen if something that is seen, or a word
+    outside, names it; a private one, or one of a private module that isn't passed on, only if what is seen does, or the text
+    beside it; a block of functions with its trait and type. An import alone names nothing but what it gives another name, since
+    what it brings is named again where it is used."""
+    is_open = opened(sources)
+    items = [(path in is_open, path, item) for path, lines in sources for item in items_of(lines)]
+    names = [declared(item) for _, _, item in items]
+    all_names = {name for name, _ in names}
+    blocks = [words_of(whose(item)) & all_names for _, _, item in items]
+    words, left, seen = words_of(MODULE.sub("", beside)), set(range(len(items))), {}
+    is_named = lambda name, is_public: name in words or is_public and name in outside
+    is_seen = lambda at: is_named(names[at][0], names[at][1] and items[at][0]) if names[at][0] else blocks[at] <= words
+    while found := {at for at in left if is_seen(at)}:
         left -= found
-        seen |= found
-        words |= {word for at in found for word in words_of(texts[at])}
-    return [(path, [line for at in sorted(seen) if items[at][0] == path for line in items[at][1]]) for path, _ in sources]
+        words |= {word for at in found for word in given(items[at][2], outside if items[at][0] else set())}
+    words |= outside
+    for at in sorted({*range(len(items))} - left):
+        seen.setdefault(items[at][1], []).extend(items[at][2])
+    return {path: text for path, lines in seen.items() if (text := with_its_names(lines, words))}
 
 
+def given(item, outside):
+    """The words by which an item names others. What it passes on is named by words outside."""
+    text = "\n".join(item)
+    if IMPORT.match(text) or PASSING.match(text):
+        return words_of(" ".join(RENAMED.findall(text))) | (words_of(text) & outside if text.startswith("pub use ") else set())
+    return words_of(MODULE.sub("", text))
+
+
+def opened(sources):
+    """The source files of a crate whose modules others can name, and maybe a few more."""
+    lines, found = dict(sources), set()
+    left = {path for path in lines if path.stem in ("lib", "main")}
+    while left:
+        found |= left
+        items = ["\n".join(item) for path in left for item in items_of(lines[path])]
+        names = {it for item in items if OPENING.search(item) for it in PASSED.findall(item)}
+        left = {path for path in lines if (path.parent if path.stem == "mod" else path).stem in names} - found
+    return found
+
+
+@cache
 def words_of(text):
     """The words of a text, as the logic has them, and the names in them: `Held` is named in `&Held<T>`."""
-    return set(WORD.findall(text)) | set(NAME.findall(text))
+    return frozenset((*WORD.findall(text), *NAME.findall(text)))
 
 
-def private_name(item):
-    """The name that an item declares for its crate alone, if it does."""
+def declared(item):
+    """The name that an item declares, if it does, and whether it is public."""
     first = next((line for line in item if not line.startswith("#")), "")
-    return at[1] if (at := PRIVATE.match(first)) else None
+    return (at[2], bool(at[1])) if (at := DECLARES.match(first)) else (None, False)
 
 
 def whose(item):
@@ -158,22 +193,25 @@ def lemmas(proofs):
     return with_its_names(kept)
 
 
-def with_its_names(lines):
-    """The lines, and of each import among them only the names that stand in the others."""
+def with_its_names(lines, outside=None):
+    """The lines, and of each import among them only the names that stand in the others; and where the words outside are known, of
+    one that passes names on those that stand there."""
     imports, rest, is_open = [], [], False
+    passes = lambda line: outside is not None and bool(PASSING.match(line))
     for line in lines:
+        begins = bool(IMPORT.match(line)) or passes(line)
         if is_open:
             imports[-1] += line
-        elif IMPORT.match(line):
+        elif begins:
             imports.append(line)
         else:
             rest.append(line)
-        is_open = (is_open or bool(IMPORT.match(line))) and "{" in imports[-1] and "}" not in line
+        is_open = (is_open or begins) and "{" in imports[-1] and "}" not in line
     words = words_of("\n".join(rest))
     for line in imports:
         path, _, given = line.strip().partition("{")
-        names = WORD.findall(given) or WORD.findall(path)[-1:]
-        if used := [it for it in names if it in words or it.strip("◌") in words]:
+        names, those = WORD.findall(given) or WORD.findall(path)[-1:], outside if passes(line) else words
+        if used := [it for it in names if it in those or it.strip("◌") in those]:
             rest.append(f"{path} {' '.join(used)}")
     return "\n".join(rest)
 
@@ -182,12 +220,19 @@ def files_of(crate, *parts):
     return sorted(file for part in parts for file in (crate / part).rglob("*") if file.suffix in (".rt", ".antt"))
 
 
+@cache
+def citations(text):
+    """What a text cites: the name of a crate, or none for all; specs or proofs; and the names on the path, or none for all."""
+    found = [(crate, kind, NAME.findall(path)) for crate, kind, path in CITED.findall(text)]
+    return found + [(crate, kind, []) for crate in WHOLE.findall(text) for kind in ("specs", "proofs")]
+
+
 class Repository:
     """What the sums of mutants have of the crates of a repository."""
 
     def __init__(self, root=ROOT):
         self.root = root
-        self.own, self.others = cache(self.own), cache(self.others)
+        self.own, self.cited = cache(self.own), cache(self.cited)
 
     def crate(self, name):
         return self.root / "crates" / name
@@ -198,32 +243,44 @@ class Repository:
 
     def own(self, name):
         """What the proofs of a crate's functions see of it, and of the crates below."""
-        crate, low = self.crate(name), below(name, self.root)
+        crate, low = self.crate(name), tuple(below(name, self.root))
         proofs = [it for it in files_of(crate, "proofs") if it.name not in OWN]
-        cited = self.cited(files_of(crate, "src", "specs", "proofs"), name)
         uses = [" ".join((it, *listed(self.root)[it])) for it in (name, *low)]
         seen = self.within(files_of(crate, "src"), lambda it: with_its_names(stated(text_of(it))))
         seen += self.within(files_of(crate, "specs"))
-        return sum_of(*uses, *seen, *self.within(proofs), *self.within(cited, lambda it: lemmas(text_of(it))), *map(self.others, low))
+        lower = self.seen(low, [text_of(it) for it in files_of(crate, "src", "specs", "proofs")])
+        return sum_of(*uses, *seen, *self.within(proofs), *self.within(sorted(lower), lower.get))
 
-    def others(self, name):
-        """What another crate's proofs see of a crate without citing it."""
-        specs = self.within(files_of(self.crate(name), "specs"))
-        beside = [*specs, *(lemmas(text_of(it)) for it in files_of(self.crate(name), "proofs") if it.name not in OWN)]
-        sources = [(path, stated(text_of(path), public=True)) for path in files_of(self.crate(name), "src")]
-        seen = {path: with_its_names(lines) for path, lines in named(sources, "\n".join(beside))}
-        return sum_of(*(text for _, text in sorted(seen.items()) if text), *specs)
+    def seen(self, crates, above):
+        """What the texts above see of these crates, by files: of sources what they or this name, and the specs and lemmas that are
+        cited so. A crate's Lib.antt passes on what it uses."""
+        sources = {it: [(path, stated(text_of(path), public=True)) for path in files_of(self.crate(it), "src")] for it in crates}
+        cited = {it: CHILD.sub("", text_of(it)) for crate in crates for it in self.crate(crate).glob("*/Lib.antt")}
+        visible = lambda file: text_of(file) if "specs" in file.relative_to(self.root).parts else lemmas(text_of(file))
+        last, seen = None, {}
+        while seen != last:
+            texts = [*above, *cited.values(), *seen.values()]
+            while new := {file for text in texts for file in self.cited(text, crates)[0]} - {*cited}:
+                cited |= {file: visible(file) for file in new}
+                texts += [cited[file] for file in new]
+            words = words_of(COMMENT.sub("", "\n".join(texts)))
+            beside = lambda crate: COMMENT.sub("", "\n".join(it for it in texts if crate in self.cited(it, crates)[1]))
+            last, seen = seen, {}
+            for crate in crates:
+                seen |= named(sources[crate], beside(crate), words)
+        return cited | seen
 
-    def cited(self, files, name):
-        """The files of proofs of the crates below that these cite, directly or not."""
-        found, left = set(), [text_of(it) for it in files]
-        while left:
-            for crate, path in CITED.findall(left.pop()):
-                file = self.crate(crate) / "proofs" / f"{path}.antt"
-                if crate in below(name, self.root) and file not in found and file.is_file():
-                    found.add(file)
-                    left.append(lemmas(text_of(file)))
-        return sorted(found)
+    def cited(self, text, crates):
+        """The files of specs and lemmas of these crates that a text cites, each with those below it; and the crates of whose sources
+        it may name something, since it cites what is no such file."""
+        files, of = set(), set()
+        for name, kind, names in ((it, *at[1:]) for it in crates for at in citations(text) if at[0] in (it, "")):
+            folder = self.crate(name) / kind
+            for module in [folder.joinpath(*names[:at]) for at in range(1, len(names) + 1)] or [folder]:
+                is_file = (file := module.with_suffix(".antt")).is_file()
+                files |= {it for it in (file, *files_of(module, "")) if it.name not in OWN and it.is_file() and (is_file or not names)}
+            of |= set() if is_file else {name}
+        return files, of
 
     def sum(self, name, edit):
         """The sum of a mutant of a crate."""

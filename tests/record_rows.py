@@ -1,5 +1,5 @@
 #!/usr/bin/env python3
-"""Which mutants a change has tried again, as rows over a repository of two crates; what is read of a record, and of what a check
+"""Which mutants a change has tried again, as rows over a repository of three crates; what is read of a record, and of what a check
 says; which edits are refused; and whether the mutants of each crate can be read, and those on record are there. It needs no toolchain.
 
     tests/record_rows.py
@@ -15,173 +15,8 @@ from unittest import mock
 import mutants
 import record
 from edits import BadEdit, edits_of
+from record_files import FILES
 
-FILES = {
-    "crates.txt": "low: smallvec\napp: low\nbeside: low\n",
-    "crates/low/src/lib.rt": """//! Below.
-use crate::helper::help;
-pub use crate::helper::Helper;
-use crate::limits::{BROUGHT, RENAMED as OTHER};
-pub use crate::limits::SHARED;
-
-pub const MOST: usize = 8;
-
-const INNER: usize = 4;
-
-pub struct Seen<'a> {
-    within: Within,
-    boxed: &'a Boxed<u8>,
-}
-
-struct Boxed<T> {
-    boxed: T,
-}
-
-pub(crate) struct Within {
-    size: usize,
-}
-
-#[derive(Clone)]
-struct Unseen {
-    unseen: usize,
-}
-
-impl<T: Kind> Ord for Unseen {
-    fn cmp(&self, other: &Unseen) -> Ordering
-        ensures unseen { result ≡ Less }
-    {
-        Less
-    }
-}
-
-impl<T: Kind> PartialOrd for Aside<T> {
-    fn partial_cmp(&self, other: &Aside<T>) -> Ordering
-        ensures aside { result ≡ Less }
-    {
-        Less
-    }
-}
-
-struct Aside<T> {
-    aside: T,
-}
-
-struct Told {
-    told: usize,
-}
-
-pub trait Kind {
-    fn kind(&self) -> usize
-        requires few { 4 < 5 }
-        ensures some { result < 9 };
-
-    fn twice(&self) -> usize
-        ensures even { result ≡ 2 }
-    {
-        self.kind() + self.kind()
-    }
-}
-
-impl Kind for u8 {
-    fn kind(&self) -> usize {
-        1
-    }
-}
-
-/// Shared.
-#[inline]
-pub fn common(n: usize) -> usize
-    requires small { n < 8 }
-
-    // As its name says.
-    ensures same { result ≡ n }
-{
-    help(n)
-}
-
-pub(crate) fn hidden(n: usize) -> usize
-    ensures hides { result ≡ n }
-{
-    n
-}
-""",
-    "crates/low/src/limits.rt": """pub(crate) const BROUGHT: usize = 5;
-
-pub(crate) const RENAMED: usize = 6;
-
-pub(crate) const SHARED: usize = 7;
-""",
-    "crates/low/specs/Low.antt": "use Rattle.low.specs.declared.Told.{Told}\n\npub low : ℕ → ℕ\nlow n = n\n",
-    "crates/low/proofs/Cited.antt": """use Rattle.low.proofs.Deeper.{deeper, deepest}
-
-pub cited : deeper 1 ≡ 1
-cited = deepest
-""",
-    "crates/low/proofs/Deeper.antt": """pub abbrev deeper : ℕ → ℕ
-deeper n = n
-
-pub deepest : 1 ≡ 1
-deepest = refl
-""",
-    "crates/low/proofs/Uncited.antt": "pub uncited : 2 ≡ 2\nuncited = refl\n",
-    "crates/low/proofs/common/Answers.antt": "use Rattle.low.proofs.common.Goals as goal\n",
-    "crates/app/src/lib.rt": """mod one;
-mod two;
-
-pub struct Held {
-    held: usize,
-}
-
-const LEAST: usize = least(1);
-
-const fn least(n: usize) -> usize {
-    n + 0
-}
-""",
-    "crates/app/src/one.rt": """//! One.
-ghost use Rattle.low.specs.Low.{low, high};
-use crate::two::second;
-
-pub fn first(n: usize) -> usize
-    ensures is_first { result ≡ low n }
-{
-    second(n)
-}
-""",
-    "crates/app/src/two.rt": """//! Two.
-use low::common;
-use low::Kind;
-
-#[tactic(auto)]
-pub fn second(n: usize) -> usize
-    ensures is_second { result ≡ n }
-{
-    common(n)
-}
-
-fn third<K: Kind>(n: K) -> usize {
-    4
-}
-""",
-    "crates/app/specs/App.antt": "pub app : ℕ\napp = 1\n",
-    "crates/app/proofs/Own.antt": "use Rattle.low.proofs.Cited.{cited}\n\npub own : 1 ≡ 1\nown = cited\n",
-    "crates/app/proofs/one/first/Answers.antt": "returns : 1\n",
-    "crates/app/proofs/two/+second/Invariants.antt": "loop : 2\n",
-    "crates/app/mutants/one.edits": """mutant: first_is_wrong
-It adds one.
-function: app::one::first
-old: second(n)
-new: second(n) + 1
-""",
-    "crates/app/mutants/two.edits": """mutant: second_is_wrong
-It is none.
-function: app::two::second
-old: common(n)
-new: common(0)
-add: src/three.rt
-line: //! Three.
-""",
-}
 FIRST, SECOND = {"first_is_wrong"}, {"second_is_wrong"}
 BOTH = FIRST | SECOND
 # What changes: the file, an old text and a new one; and the mutants that are tried again.
@@ -218,11 +53,23 @@ CHANGES = [
     ("what a contract below requires", "low/src/lib.rt", "n < 8", "n < 9", BOTH),
     ("the contract of a trait's method below", "low/src/lib.rt", "result ≡ 2", "result ≡ 1 + 1", BOTH),
     ("what a trait's method below requires", "low/src/lib.rt", "4 < 5", "4 < 6", BOTH),
-    ("what is called by another name below", "low/src/lib.rt", "helper::Helper;", "helping::Helper;", BOTH),
+    ("what is called by another name below", "low/src/lib.rt", "helper::{Helped", "helping::{Helped", BOTH),
+    ("what is passed on and none names", "low/src/lib.rt", "Helped, Helper", "Helper", set()),
+    ("what is passed on below and none there names", "low/src/lib.rt", "use inner::Inner", "use innermost::Inner", set()),
+    ("the contract of a public function below that none names", "low/src/lib.rt", "uncalled { result", "uncalled { n", set()),
+    ("a public type of a private module below", "low/src/inner.rt", "inner: usize", "inner: u64", set()),
+    ("one with the name of one of the crate's own", "low/src/inner.rt", "low: usize", "low: u64", set()),
+    ("the contract of a function of a type that is seen", "low/src/lib.rt", "len { result ≡ 3 }", "len { 3 ≡ result }", BOTH),
+    ("one that is passed on", "low/src/inner.rt", "outer: usize", "outer: u64", BOTH),
+    ("one of a public module", "low/src/shown.rt", "open: usize", "open: u64", BOTH),
+    ("one of a module that is passed on", "low/src/given.rt", "given: usize", "given: u64", BOTH),
+    ("a module below that none names", "low/src/lib.rt", "mod inner;", "mod inner;\nmod alone;", set()),
+    ("a type of a crate below that, which a type that is seen names", "base/src/lib.rt", "origin: usize", "origin: u64", BOTH),
     ("a constant below", "low/src/lib.rt", "= 8", "= 9", BOTH),
     ("a constant below that none sees", "low/src/lib.rt", "= 4", "= 5", set()),
     ("a field below that none sees", "low/src/lib.rt", "unseen: usize", "unseen: u64", set()),
     ("a trait's method below of a type that none sees", "low/src/lib.rt", "unseen { result ≡ Less }", "unseen { Less ≡ result }", set()),
+    ("what a macro makes below, after such a type", "low/src/lib.rt", "made!(u8", "made!(u32", BOTH),
     ("a trait's method below of such a type of others", "low/src/lib.rt", "aside { result ≡ Less }", "aside { Less ≡ result }", set()),
     ("a field below of a type of others that none sees", "low/src/lib.rt", "aside: T", "aside: Vec<T>", set()),
     ("a constant below that an import alone names", "low/src/limits.rt", "= 5", "= 8", set()),
@@ -232,16 +79,58 @@ CHANGES = [
     ("a private type below that is in a public one", "low/src/lib.rt", "size: usize", "size: u64", BOTH),
     ("a private type below that a public one refers to", "low/src/lib.rt", "boxed: T", "boxed: Vec<T>", BOTH),
     ("a private type below that a spec names", "low/src/lib.rt", "told: usize", "told: u64", BOTH),
+    ("one with the name of a spec's file", "low/src/lib.rt", "far: usize", "far: u64", set()),
+    ("one with the name of a file that a block cites", "low/src/lib.rt", "shows: usize", "shows: u64", set()),
     ("a public type below", "low/src/lib.rt", "within: Within", "within: Unseen", BOTH),
     ("a spec below", "low/specs/Low.antt", "low n = n", "low n = n + 0", BOTH),
-    ("what a cited lemma below states", "low/proofs/Cited.antt", "deeper 1 ≡ 1", "1 ≡ deeper 1", BOTH),
-    ("the proof of a cited lemma below", "low/proofs/Cited.antt", "= deepest", "= refl", set()),
+    ("a spec below it, which it can name by itself", "low/specs/Low/Part.antt", "= 1", "= 2", BOTH),
+    ("a spec that it cites", "low/specs/Far.antt", "far = deep", "far = 1", BOTH),
+    ("a spec that this one cites, of another crate", "base/specs/Deep.antt", "= 1", "= 2", BOTH),
+    ("a spec at the end of a long way", "base/specs/Bottom.antt", "= 1", "= 2", BOTH),
+    ("a spec that is passed on", "base/specs/Passed.antt", "= 1", "= 2", BOTH),
+    ("a spec of that crate that isn't", "base/specs/Other.antt", "= 1", "= 2", set()),
+    ("a spec below that a contract cites", "low/specs/Shows.antt", "⊤", "⊥", BOTH),
+    ("a spec below that a hidden function's contract cites", "low/specs/Hides.antt", "⊤", "⊥", set()),
+    ("a spec below that none cites", "low/specs/Aside.antt", "= 1", "= 2", set()),
+    ("a spec below that a cited lemma's statement cites", "low/specs/Stated.antt", "= 1", "= 2", BOTH),
+    ("a spec below that its proof cites", "low/specs/Proved.antt", "= 2", "= 3", set()),
+    ("a spec more below", "low/specs/Lib.antt", "pub mod Far", "pub mod Far\npub mod Aside", set()),
+    ("what a crate below passes on", "low/specs/Lib.antt", "Passed", "Other", BOTH),
+    ("what a cited lemma below states", "low/proofs/Cited.antt", "deeper one ≡ 1", "1 ≡ deeper one", BOTH),
+    ("the proof of a cited lemma below", "low/proofs/Cited.antt", "= deepest two", "= refl", set()),
     ("what a cited lemma's statement means", "low/proofs/Deeper.antt", "deeper n = n", "deeper n = n + 0", BOTH),
     ("the proof of a lemma below that", "low/proofs/Deeper.antt", "deepest = refl", "deepest = refl-1", set()),
     ("a lemma below that none cites", "low/proofs/Uncited.antt", "2 ≡ 2", "3 ≡ 3", set()),
     ("a function's proof below", "low/proofs/common/Answers.antt", "as goal", "as its", set()),
-    ("the libraries of a crate below", "../crates.txt", "low: smallvec", "low: smallvec itoa", BOTH),
+    ("the libraries of a crate below", "../crates.txt", "low: base", "low: itoa base", BOTH),
     ("the libraries of another crate", "../crates.txt", "beside: low", "beside: low app", set()),
+]
+# Which files move, and the mutants that are tried again.
+MOVES = [
+    ("a source below of which nothing is seen", "low/src/alone.rt", "low/src/left.rt", set()),
+    ("a source below of which something is seen", "low/src/limits.rt", "low/src/limited.rt", BOTH),
+    ("a spec below that none cites", "low/specs/Aside.antt", "low/specs/Beside.antt", set()),
+    ("a spec below that is cited", "low/specs/Far.antt", "low/specs/Further.antt", BOTH),
+    ("a cited lemma's file", "low/proofs/Deeper.antt", "low/proofs/Deep.antt", BOTH),
+    ("a spec of its crate", "app/specs/App.antt", "app/specs/Apps.antt", BOTH),
+]
+# How else the crate may cite a spec below, and whether a change of that spec then has its mutants tried; and how a private type.
+ASIDE = ("low/specs/Aside.antt", "= 1", "= 2")
+UNSEEN = ("low/src/lib.rt", "unseen: usize", "unseen: u64")
+CITED = [
+    ("a spec by a module with a list", "ghost use Rattle.low.specs.{Aside};", ASIDE, True),
+    ("a spec by another name for all specs", "ghost use Rattle.low.specs as s;", ASIDE, True),
+    ("a spec by another name for the crate", "ghost use Rattle.low as l;", ASIDE, True),
+    ("a spec by a list of what a crate has", "ghost use Rattle.low.{specs};", ASIDE, True),
+    ("a spec by another name for all crates", "ghost use Rattle as r;", ASIDE, True),
+    ("a spec by its whole path", "const ONE: usize = Rattle.low.specs.Aside.aside;", ASIDE, True),
+    ("a spec by the path of its crate", "const ONE: usize = low.specs.Aside.aside;", ASIDE, True),
+    ("a spec by an attribute", "#![tactic(auto, unfolding(low::specs::Aside::aside))]", ASIDE, True),
+    ("all of another crate's", "ghost use Rattle.base.specs as s;", ASIDE, False),
+    ("only the toolchain", "// As Rattle has it.", ASIDE, False),
+    ("a private type", "ghost use Rattle.low.specs.declared.Unseen.{Unseen};", UNSEEN, True),
+    ("a private type through a spec", "ghost use Rattle.low.specs.Low.Unseen.{Unseen};", UNSEEN, True),
+    ("a type of that name", "ghost use Rattle.base.specs.declared.Unseen.{Unseen};", UNSEEN, False),
 ]
 # Of these changes, the mutants that are tried first, since it is their own edit, file or proof that changed.
 FIRST_TRIED = {
@@ -302,29 +191,41 @@ BAD = [
 ]
 
 
-def laid(root, path="", old="", new=""):
-    """The crate app of the repository, with this change."""
+def laid(root, *changes):
+    """The crate app of the repository, with these changes: each a path, an old text and a new one."""
     for name, text in FILES.items():
         file = root / name
         file.parent.mkdir(parents=True, exist_ok=True)
-        if path and file.resolve() == (root / "crates" / path).resolve():
-            assert text.count(old) == 1, f"{old!r} stands in {path} {text.count(old)} times"
-            text = text.replace(old, new)
+        for path, old, new in changes:
+            if file.resolve() == (root / "crates" / path).resolve():
+                assert text.count(old) == 1, f"{old!r} stands in {path} {text.count(old)} times"
+                text = text.replace(old, new)
         file.write_text(text, encoding="utf-8")
     record.listed.cache_clear()
     return root / "crates/app"
 
 
-def again(root, before, *change):
+def sums_of(root, *changes):
+    return record.Repository(root).sums("app", edits_of(laid(root, *changes)))
+
+
+def again(root, before, *changes):
     """The mutants whose sums aren't those of before."""
-    sums = record.Repository(root).sums("app", edits_of(laid(root, *change)))
-    return {name for name, it in sums.items() if before.get(name) != it}
+    return {name for name, it in sums_of(root, *changes).items() if before.get(name) != it}
 
 
-def its_own(root, before, *change):
+def its_own(root, before, *changes):
     """The mutants of which something of their own changed since then."""
-    sums = record.Repository(root).sums("app", edits_of(laid(root, *change)))
-    return {*record.stages(sums, before, 0)[0]}
+    return {*record.stages(sums_of(root, *changes), before, 0)[0]}
+
+
+def moved(root, before, path, to):
+    """The mutants whose sums aren't those of before, where a file has moved."""
+    crate = laid(root)
+    file = (root / "crates" / path).rename(root / "crates" / to)
+    sums = record.Repository(root).sums("app", edits_of(crate))
+    file.unlink()
+    return {name for name, it in sums.items() if before.get(name) != it}
 
 
 def amiss(crate):
@@ -356,22 +257,29 @@ def rows():
     """Each row by its name, and whether it holds."""
     with tempfile.TemporaryDirectory(prefix="record-") as folder:
         root = Path(folder)
-        before = record.Repository(root).sums("app", edits_of(laid(root)))
+        before = sums_of(root)
         yield "the same: none is tried", again(root, before) == set() and {*before} == BOTH
         with mock.patch.object(record, "RULE", record.RULE + 1):
             yield "another rule: all are tried", again(root, before) == BOTH
         for name, path, old, new, wanted in CHANGES:
-            found = again(root, before, path, old, new)
+            found = again(root, before, (path, old, new))
             yield f"{name}: {', '.join(sorted(wanted)) or 'none'} is tried", found == wanted
             if name in FIRST_TRIED:
-                yield f"{name}: what is tried first", its_own(root, before, path, old, new) == FIRST_TRIED[name]
-        crate = laid(root, "app/mutants/one.edits", "function: app::one::first", "function: app::two::third")
+                yield f"{name}: what is tried first", its_own(root, before, (path, old, new)) == FIRST_TRIED[name]
+        for name, path, to, wanted in MOVES:
+            found = moved(root, before, path, to)
+            yield f"moved, {name}: {', '.join(sorted(wanted)) or 'none'} is tried", found == wanted
+        for name, line, change, is_tried in CITED:
+            cites = ("app/specs/App.antt", "pub app", f"{line}\n\npub app")
+            found = again(root, sums_of(root, cites), cites, change)
+            yield f"cited, {name}: {'all are' if is_tried else 'none is'} tried", found == (BOTH if is_tried else set())
+        crate = laid(root, ("app/mutants/one.edits", "function: app::one::first", "function: app::two::third"))
         elsewhere, file = record.Repository(root).sums("app", edits_of(crate)), crate / "src/two.rt"
         file.write_text(file.read_text(encoding="utf-8").replace("    4\n", "    5\n"), encoding="utf-8")
         found = record.Repository(root).sums("app", edits_of(crate))
         yield "the body of a function in a file that its mutant leaves", found["first_is_wrong"] != elsewhere["first_is_wrong"]
         for name, old, new in BAD:
-            yield f"an edit with {name} is refused", amiss(laid(root, "app/mutants/one.edits", old, new)) != ""
+            yield f"an edit with {name} is refused", amiss(laid(root, ("app/mutants/one.edits", old, new))) != ""
         crate = laid(root)
         for name, text, wanted in RECORDS:
             (crate / "mutants/record").write_text(text, encoding="utf-8")
