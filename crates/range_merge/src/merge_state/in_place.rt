@@ -58,9 +58,9 @@ impl<K: MadeWith<Global> + Drop, const N: usize> InPlaceMergeState<K, N> {
     /// Leaves in `a` the items at which the connective of `op` changes between two strictly sorted
     /// lists. Of two equal items it is the one of `a` that stays.
     ///
-    /// It asks for room in `a` for the items of `b`, which stays, before it changes anything, and
-    /// succeeds if both lengths together are at most `N`. If it fails, the items of `a` are as they
-    /// were, and `b` comes back. It makes at most twice the weight of the two lists in comparisons.
+    /// It asks for room in `a` for the items of `b` before it changes anything, and succeeds if
+    /// both lengths together are at most `N`. If it fails, the items of `a` are as they were, and
+    /// `b` comes back. It makes at most twice the weight of the two lists in comparisons.
     pub fn merge<O: MergeOperation, C: Compare<K>>(
         a: &mut SmallVec<K, N>,
         mut b: SmallVec<K, N>,

@@ -69,12 +69,11 @@ impl<'a, K: MadeWith<Global> + Drop, P: Copier<K>, const N: usize> InPlaceMergeS
     /// lists: its own, and copies of those of `b`. Of two equal items it is the one of `a` that
     /// stays.
     ///
-    /// It asks for room in `a` for the items of `b`, which stays, and, unless copies never fail,
-    /// for a copy of each item of `b`, before it changes anything. Of plain data it asks first for
-    /// copies of the items of `a`, or for a new list if `a` has no room for both, but it can do
-    /// without. It succeeds if both lengths together are at most `N` and no copy fails. If it
-    /// fails, the items of `a` are as they were. It makes at most twice the weight of the two lists
-    /// in comparisons.
+    /// It asks for room in `a` for the items of `b`, and, unless copies never fail, for a copy of
+    /// each item of `b`, before it changes anything. Of plain data it asks first for copies of the
+    /// items of `a`, or for a new list if `a` has no room for both, but it can do without. It
+    /// succeeds if both lengths together are at most `N` and no copy fails. If it fails, the items
+    /// of `a` are as they were. It makes at most twice the weight of the two lists in comparisons.
     pub fn merge<O: MergeOperation, C: Compare<K>>(
         a: &mut SmallVec<K, N>,
         b: &'a [K],
