@@ -3,8 +3,9 @@
 model is defined, what CALLING and PROMISES quote of a source stands there, what there is to read for the headline has as
 many lines as PROMISES says, each folder has the lines that ARCHITECTURE gives, and each rule there one file, each public call
 stands in CALLING, in PROMISES or on the page of its language, the table of calls is what tools/calls.py writes, each package
-has the version of CHANGELOG. Each check of a page's text has to find a fault on a made-up page. And which mutants a change has tried again, by the rows of record_rows.py, and whether the text of
-each mutant of Rust and C by hand stands once.
+has the version of CHANGELOG, and no commit names a path of a machine in its message. Each check of a text has to find a fault
+on a made-up page. And which mutants a change has tried again, by the rows of record_rows.py, and whether the text of each mutant
+of Rust and C by hand stands once.
 
     tests/pages.py
 
@@ -13,6 +14,7 @@ Its last line is 'N passed, M failed'. What fails is named with its page.
 
 import os
 import re
+import subprocess
 import sys
 import tempfile
 from fnmatch import fnmatch
@@ -31,6 +33,9 @@ MUTANTS = {
     "c_mutants.py": (c_mutants, c_mutants.SOURCES, ""),
     "rust_mutants.py": (rust_mutants, [*(ROOT / "rust/src").rglob("*.rs")], "src/"),
 }
+# The last commit after which messages are looked at, since older ones can't change; and a path from the top of a machine.
+LOOKED_AT_AFTER = "e2d4ae28812c838a05c2da4608fb5749741a8887"
+OF_MACHINE = re.compile(r"(?<![\w./:*)\]}])(?:~|/[\w.-]+|[A-Z]:\\[\w.-]+)[/\\][\w.-]+")
 # Folders that hold what was built.
 BUILT = {"out", "target", "build", "__pycache__", ".git"}
 FENCED = re.compile(r"^```.*?^```", re.M | re.S)
@@ -312,6 +317,16 @@ def wrong_versions(page):
             yield f"{path} has the version {', '.join(found)}"
 
 
+def messages():
+    """The messages of the commits that are looked at, by their short names; none without a history that has the last before them."""
+    words = ["git", "log", "-z", "--format=%h %B", f"{LOOKED_AT_AFTER}.."]
+    try:
+        said = subprocess.run(words, cwd=ROOT, capture_output=True, text=True, check=True).stdout
+    except (OSError, subprocess.CalledProcessError):
+        return []
+    return [it.partition(" ")[::2] for it in said.split("\0") if it]
+
+
 def missing_calls(calls, words):
     """The calls that no page has. A form with a counter goes with the call that it is of."""
     for call in sorted(calls):
@@ -338,6 +353,8 @@ def faults_found():
             ("a rule with two cells", lambda: wrong_rules(page, root), f"{rules}x|a.rt\n", f"{rules}x|a.rt|a.rt\n"),
             ("rules without a folder", lambda: wrong_rules(page, root), f"{rules}x|a.rt\n", "\nRule|File\n---|---\nx|a.rt\n"),
             ("a name that no source has", lambda: wrong_names(page, {"known"}), "`known`\n", "`unknown`\n"),
+            ("a message with a path", lambda: OF_MACHINE.findall(prose(page)), "Merge branch 'a/b': 1/2 of ./c, https://d.e/f\n", "Merge branch 'a' of /home/b\n"),
+            ("a message with a home", lambda: OF_MACHINE.findall(prose(page)), "~ is not, /\n", "in ~/b\n"),
             ("a word without a definition", lambda: undefined_words(page, {"member"}), "`member`|says\n", "`members`|says\n"),
         ):
             found = []
@@ -372,6 +389,7 @@ def main():
     checks += [(docs / "PROMISES.md", "words of std", list(wrong_words_of_std(docs / "PROMISES.md")))]
     checks += [(docs / "ARCHITECTURE.md", "rules", list(wrong_rules(docs / "ARCHITECTURE.md", ROOT)))]
     checks += [(ROOT / "CHANGELOG.md", "versions", list(wrong_versions(ROOT / "CHANGELOG.md")))]
+    checks += [(ROOT, f"message of {name}", OF_MACHINE.findall(text)) for name, text in messages()]
     checks += [(ROOT / "tests/pages.py", name, [] if found else ["its check doesn't find it"]) for name, found in faults_found()]
     shared = [ROOT / it for it in paths if it.endswith("CALLING.md")] + [docs / "PROMISES.md"]
     for crate in PROVED:
