@@ -468,7 +468,9 @@ step_by g++ g++ "a calendar without exceptions" runs_the_calendar -fno-exception
 step_by g++ g++ "the header for C++17: memory refused" refuses_memory_in_cpp
 step_by g++ g++ "C++14" says_that_cpp_is_too_old
 step_by g++ g++ "a map of values without an order" says_that_values_need_an_order
-step_by g++ g++ "the lines in C++ of c/README.md" runs_cpp_page c/README.md
+for page in README.md c/README.md; do
+    step_by g++ g++ "the lines in C++ of $page" runs_cpp_page "$page"
+done
 archive=dist/librange_set.a
 step_by make make "make install" installs
 step_by make make "make install below a DESTDIR" installs_below

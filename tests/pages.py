@@ -1,11 +1,11 @@
 #!/usr/bin/env python3
 """Whether the pages are true of the tree: links lead somewhere, files and names that a page gives are there, a word of the
-model is defined, what CALLING and PROMISES quote of a source stands there, what there is to read for the headline has as
-many lines as PROMISES says, each folder has the lines that ARCHITECTURE gives, and each rule there one file, each public call
-stands in CALLING, in PROMISES or on the page of its language, the table of calls is what tools/calls.py writes, each package
-has the version of CHANGELOG, and no commit names a path of a machine in its message. Each check of a text has to find a fault
-on a made-up page. And which mutants a change has tried again, by the rows of record_rows.py, and whether the text of each mutant
-of Rust and C by hand stands once.
+model is defined, what CALLING and PROVED quote of a source stands there, what there is to read for the claim has as many
+lines as PROVED says, each folder has the lines that ARCHITECTURE gives, and each rule there one file, each public call stands
+in CALLING, in PROMISES or on the page of its language, the table of calls is what tools/calls.py writes, each package has the
+version of CHANGELOG, and no commit names a path of a machine in its message. Each check of a text has to find a fault on a
+made-up page. And which mutants a change has tried again, by the rows of record_rows.py, and whether the text of each mutant of
+Rust and C by hand stands once.
 
     tests/pages.py
 
@@ -45,7 +45,7 @@ NAME = re.compile(r"[A-Za-z]\w*")
 # A table with its head, and a prefix of names in code.
 TABLE = re.compile(r"^[^\n]*\|[^\n]*\n[-:| ]+\n(?:[^\n]*\|[^\n]*\n)+", re.M)
 PREFIX = re.compile(r"`(\w+_)`")
-# What PROMISES has one read for its headline: words, the file that defines them, how many lines that is; and all together.
+# What PROVED has one read for its claim: words, the file that defines them, how many lines that is; and all together.
 READING = re.compile(r"^(`.*`)\|([^\s|]+)\|(\d+)$", re.M)
 READ = re.compile(r"(\d+) lines with their comments")
 # The words of std on which those lines stand, and what brings such words into a file.
@@ -210,7 +210,7 @@ def wrong_lines(page, paths):
 
 
 def words_of_std(page):
-    """The words of std in the lines that PROMISES has one read."""
+    """The words of std in the lines that PROVED has one read."""
     found = set()
     for words, file, _ in READING.findall(page.read_text(encoding="utf-8")):
         text = (ROOT / "crates" / file).read_text(encoding="utf-8")
@@ -374,24 +374,24 @@ def main():
     beyond = words | names_beyond_the_crates(paths)
     docs = ROOT / "docs"
     checks = [(it, "links", list(wrong_links(it))) for it in pages]
-    checks += [(docs / it, "files", list(wrong_files(docs / it, paths))) for it in ("PROMISES.md", "ARCHITECTURE.md", "SECURITY.md")]
+    checks += [(docs / it, "files", list(wrong_files(docs / it, paths))) for it in ("PROVED.md", "PROMISES.md", "ARCHITECTURE.md", "SECURITY.md")]
     checks += [(ROOT / "CONTRIBUTING.md", "files", list(wrong_files(ROOT / "CONTRIBUTING.md", paths)))]
     checks += [(docs / "PROMISES.md", "names", list(wrong_names(docs / "PROMISES.md", words)))]
-    checks += [(docs / "SECURITY.md", "names", list(wrong_names(docs / "SECURITY.md", beyond)))]
+    checks += [(docs / it, "names", list(wrong_names(docs / it, beyond))) for it in ("PROVED.md", "SECURITY.md")]
     checks += [(docs / "MODEL.md", "words", list(undefined_words(docs / "MODEL.md", defined)))]
     calling = ROOT / "crates/range_collections/CALLING.md"
     checks += [(calling, "quotes", list(wrong_quotes(calling, "rust", sources)))]
     merging = ROOT / "crates/range_merge/CALLING.md"
     checks += [(merging, "quotes", list(wrong_quotes(merging, "rust", sources, quoted="")))]
-    checks += [(docs / "PROMISES.md", "quotes", list(wrong_quotes(docs / "PROMISES.md", "antt", specs)))]
-    checks += [(docs / "PROMISES.md", "lines to read", list(wrong_readings(docs / "PROMISES.md")))]
+    checks += [(docs / "PROVED.md", "quotes", list(wrong_quotes(docs / "PROVED.md", "antt", specs)))]
+    checks += [(docs / "PROVED.md", "lines to read", list(wrong_readings(docs / "PROVED.md")))]
     checks += [(docs / "ARCHITECTURE.md", "lines of folders", list(wrong_lines(docs / "ARCHITECTURE.md", paths)))]
-    checks += [(docs / "PROMISES.md", "words of std", list(wrong_words_of_std(docs / "PROMISES.md")))]
+    checks += [(docs / "PROVED.md", "words of std", list(wrong_words_of_std(docs / "PROVED.md")))]
     checks += [(docs / "ARCHITECTURE.md", "rules", list(wrong_rules(docs / "ARCHITECTURE.md", ROOT)))]
     checks += [(ROOT / "CHANGELOG.md", "versions", list(wrong_versions(ROOT / "CHANGELOG.md")))]
     checks += [(ROOT, f"message of {name}", OF_MACHINE.findall(text)) for name, text in messages()]
     checks += [(ROOT / "tests/pages.py", name, [] if found else ["its check doesn't find it"]) for name, found in faults_found()]
-    shared = [ROOT / it for it in paths if it.endswith("CALLING.md")] + [docs / "PROMISES.md"]
+    shared = [ROOT / it for it in paths if it.endswith("CALLING.md")] + [docs / "PROMISES.md", docs / "PROVED.md"]
     for crate in PROVED:
         own = [it for it in pages if it.parent == ROOT / "crates" / crate]
         found = missing_calls(calls_of_crate(crate, paths), words_in_code(shared + own))
