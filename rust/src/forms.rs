@@ -112,6 +112,11 @@ pub(crate) mod ends {
         }
     }
 
+    /// The result of a caller's function, which answers no error.
+    pub(crate) fn tried<R>(result: R) -> Result<R, AllocError> {
+        Ok(result)
+    }
+
     /// The result of a call whose own errors are of another type.
     pub(crate) fn or_error<T, R, E>(
         result: Result<R, AllocError>,
@@ -143,6 +148,10 @@ pub(crate) mod fails {
     }
 
     pub(crate) fn parsed<T, R>(result: Result<R, ParseError>) -> Result<R, ParseError> {
+        result
+    }
+
+    pub(crate) fn tried<R>(result: Returned<R>) -> Returned<R> {
         result
     }
 

@@ -8,13 +8,13 @@ use crate::array::{Array, List, Sorting};
 use crate::chunked::ChunkedRangeSet;
 use crate::entry::RangeSetEntry;
 use crate::forms::{ends, fails};
-use crate::generated::range_collections::{FromPlace, WholeNumber};
+use crate::generated::range_collections::{Countable, FromPlace, WholeNumber};
 use crate::memory::AllocError;
 use crate::range::RangeSetRange;
-use crate::range_set::{union_of_read, RangeSet2};
+use crate::range_set::union_of_read;
 use crate::view::RangeSetRef;
 use alloc::string::{String, ToString};
-use core::fmt;
+use core::fmt::{self, Write};
 use core::mem;
 
 /// A text is no multirange of a type's numbers, or memory ran out.
@@ -89,7 +89,6 @@ macro_rules! multiranges {
             ///
             /// let hours = RangeSet2::<i32>::from_multirange("{[9,12),(12,17]}")?;
             /// assert_eq!(hours.to_string(), "9..12, 13..18");
-            /// assert_eq!(hours.to_multirange(), "{[9,12),[13,18)}");
             /// # Ok::<(), range_sets::MultirangeError>(())
             /// ```
             pub fn from_multirange(text: &str) -> Result<Self, MultirangeError> {
@@ -97,10 +96,80 @@ macro_rules! multiranges {
                 $form::or_error::<T, _, _>(list, Into::into).map(Self::of_list)
             }
         }
+
+        impl<T: WholeNumber + RangeSetEntry + NextValue> $form::ChunkedRangeSet<T> {
+            /// Reads a multirange of PostgreSQL, or one range, as a `RangeSet` does.
+            ///
+            /// # Errors
+            ///
+            /// Those of a `RangeSet`.
+            ///
+            /// # Examples
+            ///
+            /// ```
+            #[doc = concat!("use ", $at, "::ChunkedRangeSet;")]
+            ///
+            /// let hours = ChunkedRangeSet::<i32>::from_multirange("{[9,12),(12,17]}")?;
+            /// assert_eq!(hours.to_string(), "9..12, 13..18");
+            /// # Ok::<(), range_sets::MultirangeError>(())
+            /// ```
+            pub fn from_multirange(text: &str) -> Result<Self, MultirangeError> {
+                let list = $form::RangeSet::<[T; 2]>::from_multirange(text)?.list;
+                $form::or_error::<T, _, _>(list.into_chunks(), Into::into).map(Self::of_proved)
+            }
+        }
     };
 }
 
 both_forms!(multiranges);
+
+macro_rules! written {
+    ($([$($generics:tt)*] $Set:literal $set:ty;)*) => {$(
+        impl<$($generics)*> $set
+        where
+            T: WholeNumber + FromPlace,
+        {
+            /// Returns the set as a multirange of PostgreSQL, as [`RangeSetRef::to_multirange`]
+            /// does.
+            ///
+            /// # Errors
+            ///
+            /// If memory runs out.
+            ///
+            /// # Examples
+            ///
+            /// ```
+            #[doc = concat!("use range_sets::fallible::{AllocError, ", $Set, "};")]
+            ///
+            #[doc = concat!("let set = ", $Set, "::from_ranges([7u8..10])?;")]
+            /// assert_eq!(set.to_multirange()?, "{[7,10)}");
+            /// # Ok::<(), AllocError>(())
+            /// ```
+            pub fn to_multirange(&self) -> Result<String, AllocError> {
+                let mut text = Text(String::new());
+                write!(text, "{}", Multirange(self.iter())).map_err(|fmt::Error| AllocError)?;
+                Ok(text.0)
+            }
+        }
+    )*};
+}
+
+written! {
+    [T, A: Array<Item = T>] "RangeSet2" fails::RangeSet<A>;
+    [T: Ord] "ChunkedRangeSet" fails::ChunkedRangeSet<T>;
+    [T: Countable + Copy] "ChunkedSpace" fails::ChunkedSpace<T>;
+}
+
+/// A text that grows as far as there is memory.
+struct Text(String);
+
+impl fmt::Write for Text {
+    fn write_str(&mut self, text: &str) -> fmt::Result {
+        self.0.try_reserve(text.len()).map_err(|_| fmt::Error)?;
+        self.0.push_str(text);
+        Ok(())
+    }
+}
 
 impl<T: WholeNumber + FromPlace> RangeSetRef<T> {
     /// Returns the set as a multirange of PostgreSQL, which the server reads. A start at the least
@@ -116,29 +185,7 @@ impl<T: WholeNumber + FromPlace> RangeSetRef<T> {
     /// assert_eq!(RangeSet2::<u8>::from(7..).to_multirange(), "{[7,)}");
     /// ```
     pub fn to_multirange(&self) -> String {
-        Multirange(self).to_string()
-    }
-}
-
-impl<T: WholeNumber + RangeSetEntry + NextValue> ChunkedRangeSet<T> {
-    /// Reads a multirange of PostgreSQL, or one range, as
-    /// [`RangeSet::from_multirange`](crate::RangeSet::from_multirange) does.
-    ///
-    /// # Errors
-    ///
-    /// Those of a `RangeSet`.
-    ///
-    /// # Examples
-    ///
-    /// ```
-    /// use range_sets::ChunkedRangeSet;
-    ///
-    /// let hours = ChunkedRangeSet::<i32>::from_multirange("{[9,12),(12,17]}")?;
-    /// assert_eq!(hours.to_multirange(), "{[9,12),[13,18)}");
-    /// # Ok::<(), range_sets::MultirangeError>(())
-    /// ```
-    pub fn from_multirange(text: &str) -> Result<Self, MultirangeError> {
-        RangeSet2::from_multirange(text).map(Self::from)
+        Multirange(self.iter()).to_string()
     }
 }
 
@@ -154,7 +201,7 @@ impl<T: WholeNumber + FromPlace> ChunkedRangeSet<T> {
     /// ```
     #[must_use]
     pub fn to_multirange(&self) -> String {
-        Multirange(self).to_string()
+        Multirange(self.iter()).to_string()
     }
 }
 
@@ -163,11 +210,11 @@ struct Multirange<S>(S);
 
 impl<'a, T: WholeNumber + FromPlace + 'a, S> fmt::Display for Multirange<S>
 where
-    S: IntoIterator<Item = RangeSetRange<&'a T>> + Copy,
+    S: Iterator<Item = RangeSetRange<&'a T>> + Clone,
 {
     fn fmt(&self, f: &mut fmt::Formatter<'_>) -> fmt::Result {
         f.write_str("{")?;
-        for (i, range) in self.0.into_iter().enumerate() {
+        for (i, range) in self.0.clone().enumerate() {
             let (start, end) = range.into_ends();
             let comma = if i > 0 { "," } else { "" };
             if T::zero() > 0 && start.place() == 0 {

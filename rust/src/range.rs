@@ -4,6 +4,8 @@ use crate::any_range::NextValue;
 use crate::entry::RangeSetEntry;
 use crate::generated::range_collections::range_set::values::range_of;
 use crate::generated::range_collections::{self as proved, Countable, FromPlace};
+use crate::generated::range_merge::Copier;
+use crate::memory::AllocError;
 use crate::text::padded;
 use core::cmp::Ordering;
 use core::fmt;
@@ -75,6 +77,18 @@ impl<T: Clone> RangeSetRange<&T> {
         T: Copy,
     {
         self.cloned()
+    }
+}
+
+impl<T> RangeSetRange<&T> {
+    /// The range of copies of both ends.
+    pub(crate) fn copied_by<P: Copier<T>>(
+        &self,
+        copier: &P,
+    ) -> Result<RangeSetRange<T>, AllocError> {
+        let start = copier.copy(self.start())?;
+        let end = self.end().map(|end| copier.copy(end)).transpose()?;
+        Ok(RangeSetRange::of_ends(start, end))
     }
 }
 

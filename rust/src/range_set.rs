@@ -17,8 +17,6 @@ pub use crate::view::RangeSetRef;
 pub(crate) use joining::{intersection_of_sets, union_of_read, union_of_sets};
 
 use crate::array::List;
-#[cfg(feature = "new_unchecked")]
-use smallvec::SmallVec;
 
 /// A set of values of an ordered type, as the ranges that they make up.
 ///
@@ -70,26 +68,6 @@ pub struct RangeSet<A: Array> {
 pub type RangeSet2<T> = RangeSet<[T; 2]>;
 
 impl<T, A: Array<Item = T>> RangeSet<A> {
-    /// Returns the set with these boundaries, and doesn't look whether they are strictly sorted.
-    ///
-    /// If they aren't, calls give wrong answers or panic. Nothing is undefined.
-    ///
-    /// # Examples
-    ///
-    /// ```
-    /// use range_sets::RangeSet2;
-    /// use smallvec::smallvec;
-    ///
-    /// let set: RangeSet2<u8> = RangeSet2::new_unchecked(smallvec![9, 17]);
-    /// assert!(set.contains(&12));
-    /// ```
-    #[cfg(feature = "new_unchecked")]
-    #[cfg_attr(docsrs, doc(cfg(feature = "new_unchecked")))]
-    #[must_use]
-    pub fn new_unchecked(boundaries: SmallVec<A>) -> Self {
-        Self::of_list(A::list(boundaries))
-    }
-
     /// Returns an iterator over the ranges, from the lowest on.
     ///
     /// # Examples

@@ -43,7 +43,7 @@ fn texts_are_read_and_written() {
             "{text}"
         );
         let fallible = fallible::RangeSet2::<i8>::from_multirange(text).unwrap();
-        assert_eq!(fallible.to_multirange(), written, "{text}");
+        assert_eq!(fallible.to_multirange(), Ok(written.into()), "{text}");
     }
 }
 

@@ -3,33 +3,67 @@
 use super::{ChunkedRangeSet, Iter};
 use crate::any_range::Overlaps;
 use crate::chunks;
+use crate::forms::{ends, fails};
 use crate::generated::range_chunks as proved;
 use crate::generated::range_chunks::questions::place_up_to;
 use crate::generated::range_collections::Comparisons;
+use crate::generated::range_list::FRONT;
 use crate::range::RangeSetRange;
 use crate::range_set::RangeSetRef;
 use core::mem;
 
-impl<T: Ord> ChunkedRangeSet<T> {
-    /// Keeps the ranges that `keep` returns `true` for, and removes the others. It is called once
-    /// for each range, from the lowest on.
-    ///
-    /// It makes the set anew by `collect`. If `keep` panics, the set is empty.
-    ///
-    /// # Examples
-    ///
-    /// ```
-    /// use range_sets::ChunkedRangeSet;
-    ///
-    /// let mut free = ChunkedRangeSet::from_iter([9..11, 12..15, 20..30]);
-    /// free.retain(|range| range.len() != Some(3));
-    /// assert_eq!(free.to_string(), "9..11, 20..30");
-    /// ```
-    pub fn retain(&mut self, mut keep: impl FnMut(RangeSetRange<&T>) -> bool) {
-        let kept = mem::take(self).into_iter();
-        *self = kept.filter(|range| keep(range.as_ref())).collect();
-    }
+macro_rules! taking {
+    (
+        $form:ident, $Clone:ident, $must_use:meta, $errors:ident,
+        $at:literal, $from:literal, $ok:literal, $end:literal
+    ) => {
+        impl<T: Ord> $form::ChunkedRangeSet<T> {
+            /// Keeps the ranges that `keep` returns `true` for, and removes the others. It is
+            /// called once for each range, from the lowest on. It takes no memory.
+            ///
+            /// If it panics, the set is empty.
+            ///
+            /// # Examples
+            ///
+            /// ```
+            #[doc = concat!("use ", $at, "::ChunkedRangeSet;")]
+            ///
+            #[doc = concat!(
+                        "let mut free = ChunkedRangeSet::from_ranges([9..11, 12..15, 20..30])", $ok
+                    )]
+            /// free.retain(|range| range.len() != Some(3));
+            /// assert_eq!(free.to_string(), "9..11, 20..30");
+            #[doc = $end]
+            /// ```
+            pub fn retain(&mut self, mut keep: impl FnMut(RangeSetRange<&T>) -> bool) {
+                let mut set = mem::take(self);
+                set.changed(|set| {
+                    let list = &mut set.list;
+                    let (mut end, mut at) = (FRONT, FRONT);
+                    while let Some(start) = list.item_at(at) {
+                        let after = list.place_after(at);
+                        let range = RangeSetRange::of_ends(start, list.item_at(after));
+                        let has_end = range.end().is_some();
+                        let is_kept = keep(range);
+                        for from in [Some(at), has_end.then_some(after)].into_iter().flatten() {
+                            if is_kept {
+                                list.swap(end, from);
+                                end = list.place_after(end);
+                            }
+                            at = list.place_after(from);
+                        }
+                    }
+                    list.truncate(end);
+                });
+                *self = set;
+            }
+        }
+    };
+}
 
+both_forms!(taking);
+
+impl<T: Ord> ChunkedRangeSet<T> {
     /// Adds the members of `that`, which is empty then. It inserts range after range. If something
     /// panics meanwhile, the set is empty.
     ///

@@ -99,7 +99,7 @@ impl<T: Ord, A: Array<Item = T>> RangeSet<A> {
 }
 
 macro_rules! with_owned {
-    ($($(#[$doc:meta])* $call:ident = $op:ident, $boundaries:literal;)*) => {
+    ($($(#[$doc:meta])* pub fn $call:ident by $op:ident, $boundaries:literal;)*) => {
         /// These move the boundaries of an owned set, and copy none.
         impl<T: Ord, A: Array<Item = T>> RangeSet<A> {$(
             $(#[$doc])*
@@ -130,13 +130,13 @@ macro_rules! with_owned {
 
 with_owned! {
     /// Adds the members of an owned set, as `|=` does.
-    bitor_assign = UnionOp, "[0]";
+    pub fn bitor_assign by UnionOp, "[0]";
     /// Keeps the members that are members of an owned set too, as `&=` does.
-    bitand_assign = IntersectionOp, "[5, 10]";
+    pub fn bitand_assign by IntersectionOp, "[5, 10]";
     /// Takes the members of an owned set out and adds those that weren't in, as `^=` does.
-    bitxor_assign = XorOp, "[0, 5, 10]";
+    pub fn bitxor_assign by XorOp, "[0, 5, 10]";
     /// Takes the members of an owned set out, as `-=` does.
-    sub_assign = DiffOp, "[0, 5]";
+    pub fn sub_assign by DiffOp, "[0, 5]";
 }
 
 impl<T: EntryClone> RangeSetRange<&T> {
@@ -157,8 +157,6 @@ impl<T: EntryClone> RangeSetRange<&T> {
     /// # Ok::<(), AllocError>(())
     /// ```
     pub fn try_cloned(&self) -> Result<RangeSetRange<T>, AllocError> {
-        let start = self.start().entry_clone()?;
-        let end = self.end().map(|end| end.entry_clone()).transpose()?;
-        Ok(RangeSetRange::of_ends(start, end))
+        self.copied_by(&EntryCopier)
     }
 }

@@ -90,6 +90,65 @@ impl<T: Ord> ChunkedRangeSet<T> {
         }
     }
 
+    /// Adds copies of the members of `that`, and leaves it empty.
+    ///
+    /// # Errors
+    ///
+    /// If memory runs out or a copy of a boundary fails. Both sets are then as they were.
+    ///
+    /// # Examples
+    ///
+    /// ```
+    /// use range_sets::fallible::{AllocError, ChunkedRangeSet};
+    ///
+    /// let mut busy = ChunkedRangeSet::from_ranges([9..11])?;
+    /// let mut more = ChunkedRangeSet::from_ranges([10..12, 15..18])?;
+    /// busy.append(&mut more)?;
+    /// assert_eq!(busy.to_string(), "9..12, 15..18");
+    /// assert!(more.is_empty());
+    /// # Ok::<(), AllocError>(())
+    /// ```
+    pub fn append(&mut self, that: &mut Self) -> Result<(), AllocError>
+    where
+        T: EntryClone,
+    {
+        let copy = that.try_clone()?.into_set::<[T; 2]>();
+        self.union_with(&copy.map_err(|(refused, _)| refused)?)?;
+        that.clear();
+        Ok(())
+    }
+
+    /// Removes the members at and above `at`, and returns the set of copies of them.
+    ///
+    /// # Errors
+    ///
+    /// If memory runs out or a copy of a boundary fails. The set is then as it was.
+    ///
+    /// # Examples
+    ///
+    /// ```
+    /// use range_sets::fallible::{AllocError, ChunkedRangeSet};
+    ///
+    /// let mut busy = ChunkedRangeSet::from_ranges([9..11, 15..18])?;
+    /// let late = busy.split_off(&16)?;
+    /// assert_eq!((busy.to_string(), late.to_string()), ("9..11, 15..16".into(), "16..18".into()));
+    /// # Ok::<(), AllocError>(())
+    /// ```
+    #[must_use = "`remove` takes the values out and returns none"]
+    pub fn split_off(&mut self, at: &T) -> Result<Self, AllocError>
+    where
+        T: EntryClone,
+    {
+        let from = RangeSetRef::single(at);
+        let mut above = Self::new();
+        for range in self.overlapping(at..) {
+            above.insert(range.try_cloned()?)?;
+        }
+        above.intersection_with(from)?;
+        self.difference_with(from)?;
+        Ok(above)
+    }
+
     #[inline(always)]
     pub(crate) fn changed<R>(
         &mut self,

@@ -172,6 +172,34 @@ impl<K: Ord, V: MapValue> RangeMap<K, V> {
             .into_iter()
             .try_for_each(|(range, value)| self.insert(range, value))
     }
+
+    /// Puts in copies of the ranges of `that` with their values, in place of those that were there,
+    /// and leaves `that` empty. It makes the map anew.
+    ///
+    /// # Errors
+    ///
+    /// If memory, or a copy of a key or of a value, is refused. Both maps are then as they were.
+    ///
+    /// # Examples
+    ///
+    /// ```
+    /// use range_sets::fallible::{AllocError, RangeMap};
+    ///
+    /// let mut bookings = RangeMap::from_ranges([(9..14, "Ada")])?;
+    /// let mut more = RangeMap::from_ranges([(12..17, "Bob")])?;
+    /// bookings.append(&mut more)?;
+    /// assert_eq!(format!("{bookings:?}"), r#"{9..12: "Ada", 12..17: "Bob"}"#);
+    /// assert!(more.is_empty());
+    /// # Ok::<(), AllocError>(())
+    /// ```
+    pub fn append(&mut self, that: &mut Self) -> Result<(), AllocError>
+    where
+        K: EntryClone,
+    {
+        *self = self.union_with_right(that)?;
+        that.clear();
+        Ok(())
+    }
 }
 
 /// The same map: its calls end the process where memory is refused. Each value is moved, and none

@@ -10,7 +10,7 @@ use crate::memory::out_of_memory;
 
 macro_rules! changes {
     (
-        $form:ident, $Clone:ident, $Value:ident, $Fn:ident, $must_use:meta, $errors:ident,
+        $form:ident, $Clone:ident, $Value:ident, $must_use:meta, $errors:ident,
         $at:literal, $from:literal, $of_pairs:literal, $returned:ident, $ok:literal, $end:literal
     ) => {
         impl<K: Ord, V: Eq + $Value> $form::RangeMap<K, V> {

@@ -1,22 +1,30 @@
 //! Two maps, and maps and sets.
 //!
-//! The calls of both forms are declared and documented here. Each calls a function that both forms
-//! have under the same name: [`RangeMap`](super::RangeMap) in `by_clone`, and
+//! The calls of both forms are declared and documented here. Where the forms differ, each calls a
+//! function that both have under the same name: [`RangeMap`](super::RangeMap) in `by_clone`, and
 //! [`fallible::RangeMap`](crate::fallible::RangeMap) in `by_map_value`.
 
 mod by_clone;
 mod by_map_value;
 
 use super::forms::{as_it_is, both_maps, in_ok};
-use super::Kept;
+use super::{steps, Copies, Kept, Map};
 use crate::any_range::AnyRange;
 use crate::array::Array;
 use crate::fallible::{EntryClone, MapValue};
 use crate::forms::{ends, fails};
+use crate::generated::range_collections::Comparisons;
+use crate::generated::range_map as proved;
+use crate::generated::range_map::map::depth::depth_of;
+use crate::generated::range_map::updating::update_range;
 use crate::generated::range_map::{MapOperation, MapUpdate};
+use crate::generated::range_merge::Copier;
 use crate::memory::AllocError;
+use crate::range::RangeSetRange;
 use crate::range_set::RangeSetRef;
-use core::ops::Range;
+use crate::support::Global;
+use core::cell::RefCell;
+use core::ops::{Range, RangeFrom};
 
 /// An operation by a closure, which isn't called if both maps have no value.
 struct ByCall<F>(F);
@@ -54,9 +62,68 @@ where
     }
 }
 
+/// What both forms do, with keys copied by any copier.
+impl<K: Ord, V: Eq, C: Copies<V>> Map<K, V, C> {
+    fn try_combine<W: Eq, U: Eq>(
+        &self,
+        that: &Map<K, W, C>,
+        op: impl FnMut(Option<&V>, Option<&W>) -> Result<Option<U>, AllocError>,
+        copier: &impl Copier<K>,
+    ) -> Result<Map<K, U, C>, AllocError> {
+        let op = RefCell::new(op);
+        let op = ByCall(|a: Option<&V>, b: Option<&W>| (op.borrow_mut())(a, b));
+        let count = &mut Comparisons::new();
+        let made = self.0.combine_by(Global, &that.0, &op, copier, count);
+        made.map(Map)
+    }
+
+    fn try_update(
+        &mut self,
+        range: RangeSetRange<K>,
+        op: impl FnMut(Option<&V>) -> Result<Option<V>, AllocError>,
+        copier: &impl Copier<K>,
+    ) -> Result<(), AllocError> {
+        let op = RefCell::new(op);
+        let op = ByCall(|value: Option<&V>| (op.borrow_mut())(value));
+        match range {
+            RangeSetRange::Range(range) => self.0.update_by(range, &op, copier),
+            RangeSetRange::RangeFrom(RangeFrom { start }) => {
+                update_range(&mut self.0.steps, &start, &None, &op, copier)
+            }
+        }
+    }
+
+    pub(super) fn try_restrict(
+        &self,
+        set: &RangeSetRef<K>,
+        copier: &impl Copier<K>,
+    ) -> Result<Self, AllocError> {
+        if steps::are_searches_faster(set, &self.0.steps) {
+            let steps = steps::within(&self.0.steps, set, copier)?;
+            return Ok(Map(proved::RangeMap { steps }));
+        }
+        self.0.within(Global, set.proved(), true, copier).map(Map)
+    }
+
+    fn try_without(
+        &self,
+        set: &RangeSetRef<K>,
+        copier: &impl Copier<K>,
+    ) -> Result<Self, AllocError> {
+        self.0.within(Global, set.proved(), false, copier).map(Map)
+    }
+}
+
+impl<K: Ord, C> Map<K, usize, C> {
+    fn try_depth(ranges: &[Range<K>], copier: &impl Copier<K>) -> Result<Self, AllocError> {
+        let depth = depth_of(Global, ranges, copier)?;
+        Ok(Map::of_others(depth, Kept::new))
+    }
+}
+
 macro_rules! operations {
     (
-        $form:ident, $Clone:ident, $Value:ident, $Fn:ident, $must_use:meta, $errors:ident,
+        $form:ident, $Clone:ident, $Value:ident, $must_use:meta, $errors:ident,
         $at:literal, $from:literal, $of_pairs:literal, $returned:ident, $ok:literal, $end:literal
     ) => {
         /// These make new maps and sets, and copy the keys.
@@ -85,9 +152,10 @@ macro_rules! operations {
             pub fn combine<W: Eq, U: Eq>(
                 &self,
                 that: &$form::RangeMap<K, W>,
-                op: impl $Fn(Option<&V>, Option<&W>) -> $form::Returned<Option<U>>,
+                mut op: impl FnMut(Option<&V>, Option<&W>) -> $form::Returned<Option<U>>,
             ) -> $form::Returned<$form::RangeMap<K, U>> {
-                $form::returned::<K, _, _>(self.try_combine(that, op))
+                let op = |a: Option<&V>, b: Option<&W>| $form::tried(op(a, b));
+                $form::returned::<K, _, _>(self.try_combine(that, op, &$form::Copier))
             }
 
             /// Gives each key of a range [of any kind](AnyRange) what `op` makes of its value, or
@@ -114,9 +182,10 @@ macro_rules! operations {
             pub fn update(
                 &mut self,
                 range: impl AnyRange<K>,
-                op: impl $Fn(Option<&V>) -> $form::Returned<Option<V>>,
+                mut op: impl FnMut(Option<&V>) -> $form::Returned<Option<V>>,
             ) -> $form::Returned<()> {
-                $form::returned::<K, _, _>(self.try_update(range.into(), op))
+                let op = |value: Option<&V>| $form::tried(op(value));
+                $form::returned::<K, _, _>(self.try_update(range.into(), op, &$form::Copier))
             }
 
             /// Returns the map with the values of both. Where both have one, this map's stays.
@@ -174,7 +243,7 @@ macro_rules! operations {
             /// ```
             #[$must_use]
             pub fn restrict(&self, set: &RangeSetRef<K>) -> $form::Returned<Self> {
-                $form::returned::<K, _, _>(self.try_restrict(set))
+                $form::returned::<K, _, _>(self.try_restrict(set, &$form::Copier))
             }
 
             /// Returns the map with the values of the keys that aren't in a set.
@@ -193,7 +262,7 @@ macro_rules! operations {
             /// ```
             #[$must_use]
             pub fn without(&self, set: &RangeSetRef<K>) -> $form::Returned<Self> {
-                $form::returned::<K, _, _>(self.try_without(set))
+                $form::returned::<K, _, _>(self.try_without(set, &$form::Copier))
             }
 
             /// Returns the set of the keys that have a value.
@@ -260,7 +329,7 @@ macro_rules! operations {
             /// ```
             #[$must_use]
             pub fn depth(ranges: &[Range<K>]) -> $form::Returned<Self> {
-                $form::returned::<K, _, _>(Self::try_depth(ranges))
+                $form::returned::<K, _, _>(Self::try_depth(ranges, &$form::Copier))
             }
         }
     };

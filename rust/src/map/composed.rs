@@ -1,13 +1,18 @@
 //! Calls of a map that are made of others: its first and last range, its keys and values, ranges
 //! taken out, two maps in one.
 
-use super::{steps, Iter, Map, RangeMap};
+use super::forms::{as_it_is, both_maps, in_ok};
+use super::{Copies, Iter, KeptIf, Map, RangeMap};
 use crate::any_range::AnyRange;
 use crate::chunks;
-use crate::generated::range_map as proved;
+use crate::fallible::{EntryClone, MapValue};
+use crate::forms::{ends, fails};
+use crate::generated::range_list::FRONT;
+use crate::generated::range_map::step::{Step, StepOption};
+use crate::generated::range_merge::Copier;
+use crate::memory::AllocError;
 use crate::range::RangeSetRange;
 use crate::range_set::RangeSetRef;
-use alloc::vec::Vec;
 use core::iter;
 
 /// These are made of [`iter`](Map::iter).
@@ -92,7 +97,7 @@ impl<K: Ord, V: Eq, C> Map<K, V, C> {
     }
 
     /// Takes away the value of each range that `keep` returns `false` for, as
-    /// [`retain`](Map::retain) does. It takes memory for the answers.
+    /// [`retain`](Map::retain) does. It takes no memory and copies nothing.
     ///
     /// # Examples
     ///
@@ -104,12 +109,20 @@ impl<K: Ord, V: Eq, C> Map<K, V, C> {
     /// assert_eq!(format!("{bookings:?}"), r#"{9..11: "Ada", 11..14: "Bob"}"#);
     /// ```
     pub fn retain_ranges(&mut self, mut keep: impl FnMut(RangeSetRange<&K>, &V) -> bool) {
-        let answers: Vec<bool> = self
-            .iter()
-            .map(|(range, value)| keep(range, value))
-            .collect();
-        let mut answers = answers.into_iter();
-        self.retain(|_| answers.next() == Some(true));
+        self.changed(|map| {
+            let mut at = FRONT;
+            while let Some(Step { key, option }) = map.steps.item_at(at) {
+                let next = map.steps.place_after(at);
+                let end = map.steps.item_at(next).map(|step| &step.key);
+                let range = RangeSetRange::of_ends(key, end);
+                if !option.as_ref().map_or(true, |it| keep(range, &it.value)) {
+                    map.steps.set_key(at, &StepOption, None);
+                }
+                at = next;
+            }
+            // What stays moves down, and steps without a value become one.
+            map.retain(&KeptIf(|_: &V| true));
+        });
     }
 }
 
@@ -121,69 +134,155 @@ pub type Keys<'a, K, V, C> =
 pub type Values<'a, K, V, C> =
     iter::Map<Iter<'a, K, V, C>, fn((RangeSetRange<&'a K>, &'a V)) -> &'a V>;
 
-/// These are made of [`insert`](RangeMap::insert), [`remove`](RangeMap::remove) and
-/// [`iter`](Map::iter), and clone the keys and values that they take out or change.
-impl<K: Ord + Clone, V: Eq + Clone> RangeMap<K, V> {
-    /// Takes away the value of the first range, and returns both, or `None` if the map is empty.
-    ///
-    /// # Examples
-    ///
-    /// ```
-    /// use range_sets::RangeMap;
-    ///
-    /// let mut bookings = RangeMap::from([(9..11, "Ada"), (11..14, "Bob")]);
-    /// assert_eq!(bookings.pop_first(), Some(((9..11).into(), "Ada")));
-    /// assert_eq!(bookings.len(), 1);
-    /// ```
-    pub fn pop_first(&mut self) -> Option<(RangeSetRange<K>, V)> {
-        let (range, value) = cloned(self.first()?);
-        self.remove(range.clone());
-        Some((range, value))
-    }
+/// A range that was found, with its value.
+type Found<'a, K, V> = Option<(RangeSetRange<&'a K>, &'a V)>;
 
-    /// Takes away the value of the last range, and returns both, or `None` if the map is empty.
-    ///
-    /// # Examples
-    ///
-    /// ```
-    /// use range_sets::RangeMap;
-    ///
-    /// let mut bookings = RangeMap::from([(9..11, "Ada"), (11..14, "Bob")]);
-    /// assert_eq!(bookings.pop_last(), Some(((11..14).into(), "Bob")));
-    /// assert_eq!(bookings.len(), 1);
-    /// ```
-    pub fn pop_last(&mut self) -> Option<(RangeSetRange<K>, V)> {
-        let (range, value) = cloned(self.last()?);
-        self.remove(range.clone());
-        Some((range, value))
-    }
-
-    /// Changes the value of `key`, and with it that of the longest range around it whose keys have
-    /// it. Returns `false` if the key has no value.
-    ///
-    /// There is no `get_mut`: the range becomes one with a neighbour that has the new value.
-    ///
-    /// # Examples
-    ///
-    /// ```
-    /// use range_sets::RangeMap;
-    ///
-    /// let mut nights = RangeMap::from([(1..4, 1), (4..7, 2)]);
-    /// assert!(nights.modify(&2, |count| *count += 1));
-    /// assert_eq!(format!("{nights:?}"), "{1..7: 2}");
-    /// assert!(!nights.modify(&7, |count| *count += 1));
-    /// ```
-    pub fn modify(&mut self, key: &K, change: impl FnOnce(&mut V)) -> bool {
-        match self.get_key_value(key).map(cloned) {
-            Some((range, mut value)) => {
-                change(&mut value);
-                self.insert(range, value);
-                true
+/// What both forms do, with keys copied by any copier.
+impl<K: Ord, V: Eq, C: Copies<V>> Map<K, V, C> {
+    fn try_pop(
+        &mut self,
+        find: impl FnOnce(&Self) -> Found<'_, K, V>,
+        copier: &impl Copier<K>,
+    ) -> Result<Option<(RangeSetRange<K>, V)>, AllocError> {
+        let (taken, value, range) = match find(self) {
+            Some((range, value)) => {
+                let taken = range.copied_by(copier)?;
+                (taken, C::copied(value)?, range.copied_by(copier)?)
             }
-            None => false,
-        }
+            None => return Ok(None),
+        };
+        self.try_remove(range)?;
+        Ok(Some((taken, value)))
     }
 
+    fn try_modify(
+        &mut self,
+        key: &K,
+        change: impl FnOnce(&mut V) -> Result<(), AllocError>,
+        copier: &impl Copier<K>,
+    ) -> Result<bool, AllocError> {
+        let (range, mut value) = match self.get_key_value(key) {
+            Some((range, value)) => (range.copied_by(copier)?, C::copied(value)?),
+            None => return Ok(false),
+        };
+        change(&mut value)?;
+        self.try_insert(range, value).map(|()| true)
+    }
+
+    fn try_split_off(&mut self, at: &K, copier: &impl Copier<K>) -> Result<Self, AllocError> {
+        let above = self.try_restrict(RangeSetRef::single(at), copier)?;
+        self.try_remove((copier.copy(at)?..).into())?;
+        Ok(above)
+    }
+}
+
+macro_rules! composed {
+    (
+        $form:ident, $Clone:ident, $Value:ident, $must_use:meta, $errors:ident,
+        $at:literal, $from:literal, $of_pairs:literal, $returned:ident, $ok:literal, $end:literal
+    ) => {
+        /// These copy the keys and values that they take out or change.
+        impl<K: Ord + $Clone, V: Eq + $Value> $form::RangeMap<K, V> {
+            /// Takes away the value of the first range, and returns both, or `None` if the map is
+            /// empty.
+            ///
+            #[doc = $errors!("If a copy of a key or of the value is refused. The map is then as it \
+                was.")]
+            /// # Examples
+            ///
+            /// ```
+            #[doc = concat!("use ", $at, "::RangeMap;")]
+            ///
+            #[doc = concat!(
+                "let mut bookings = RangeMap::", $of_pairs, "([(9..11, 'a'), (11..14, 'b')])", $ok
+            )]
+            #[doc = concat!("let first = bookings.pop_first()", $ok)]
+            /// assert_eq!(first, Some(((9..11).into(), 'a')));
+            /// assert_eq!(bookings.len(), 1);
+            #[doc = $end]
+            /// ```
+            pub fn pop_first(&mut self) -> $form::Returned<Option<(RangeSetRange<K>, V)>> {
+                $form::returned::<K, _, _>(self.try_pop(Self::first, &$form::Copier))
+            }
+
+            /// Takes away the value of the last range, and returns both, or `None` if the map is
+            /// empty.
+            ///
+            #[doc = $errors!("If a copy of a key or of the value is refused. The map is then as it \
+                was.")]
+            /// # Examples
+            ///
+            /// ```
+            #[doc = concat!("use ", $at, "::RangeMap;")]
+            ///
+            #[doc = concat!(
+                "let mut bookings = RangeMap::", $of_pairs, "([(9..11, 'a'), (11..14, 'b')])", $ok
+            )]
+            #[doc = concat!("let last = bookings.pop_last()", $ok)]
+            /// assert_eq!(last, Some(((11..14).into(), 'b')));
+            /// assert_eq!(bookings.len(), 1);
+            #[doc = $end]
+            /// ```
+            pub fn pop_last(&mut self) -> $form::Returned<Option<(RangeSetRange<K>, V)>> {
+                $form::returned::<K, _, _>(self.try_pop(Self::last, &$form::Copier))
+            }
+
+            /// Changes the value of `key`, and with it that of the longest range around it whose
+            /// keys have it. Returns `false` if the key has no value.
+            ///
+            /// There is no `get_mut`: the range becomes one with a neighbour that has the new
+            /// value.
+            ///
+            #[doc = $errors!("If memory or a copy is refused, or `change` returns an error. The map is \
+                then as it was.")]
+            /// # Examples
+            ///
+            /// ```
+            #[doc = concat!("use ", $at, "::RangeMap;")]
+            ///
+            #[doc = concat!("let mut nights = RangeMap::", $of_pairs, "([(1..4, 1), (4..7, 2)])", $ok)]
+            #[doc = concat!(
+                "let changed = nights.modify(&2, |count| ", $returned!("*count += 1"), ")", $ok
+            )]
+            /// assert!(changed);
+            /// assert_eq!(format!("{nights:?}"), "{1..7: 2}");
+            #[doc = $end]
+            /// ```
+            pub fn modify(
+                &mut self,
+                key: &K,
+                change: impl FnOnce(&mut V) -> $form::Returned<()>,
+            ) -> $form::Returned<bool> {
+                let change = |value: &mut V| $form::tried(change(value));
+                $form::returned::<K, _, _>(self.try_modify(key, change, &$form::Copier))
+            }
+
+            /// Takes away the values of the keys at and above `at`, and returns the map with copies
+            /// of them.
+            ///
+            #[doc = $errors!("If memory, or a copy of a key or of a value, is refused. The map is then \
+                as it was.")]
+            /// # Examples
+            ///
+            /// ```
+            #[doc = concat!("use ", $at, "::RangeMap;")]
+            ///
+            #[doc = concat!("let mut bookings = RangeMap::", $of_pairs, "([(9..14, 'a')])", $ok)]
+            #[doc = concat!("let late = bookings.split_off(&12)", $ok)]
+            /// assert_eq!(format!("{bookings:?} {late:?}"), "{9..12: 'a'} {12..14: 'a'}");
+            #[doc = $end]
+            /// ```
+            #[must_use = "`remove` takes the values away and returns none"]
+            pub fn split_off(&mut self, at: &K) -> $form::Returned<Self> {
+                $form::returned::<K, _, _>(self.try_split_off(at, &$form::Copier))
+            }
+        }
+    };
+}
+
+both_maps!(composed);
+
+impl<K: Ord + Clone, V: Eq + Clone> RangeMap<K, V> {
     /// Puts in the ranges of `that` with their values, in place of those that were there, and
     /// leaves `that` empty. If something panics meanwhile, the map is empty.
     ///
@@ -201,25 +300,6 @@ impl<K: Ord + Clone, V: Eq + Clone> RangeMap<K, V> {
     pub fn append(&mut self, that: &mut Self) {
         chunks::append(self, that);
     }
-
-    /// Takes away the values of the keys at and above `at`, and returns the map with clones of
-    /// them.
-    ///
-    /// # Examples
-    ///
-    /// ```
-    /// use range_sets::RangeMap;
-    ///
-    /// let mut bookings = RangeMap::from([(9..14, "Ada")]);
-    /// let late = bookings.split_off(&12);
-    /// assert_eq!(format!("{bookings:?} {late:?}"), r#"{9..12: "Ada"} {12..14: "Ada"}"#);
-    /// ```
-    #[must_use = "`remove` takes the values away and returns none"]
-    pub fn split_off(&mut self, at: &K) -> Self {
-        let steps = steps::within(&self.0.steps, RangeSetRef::single(at));
-        self.remove(at.clone()..);
-        Map(proved::RangeMap { steps })
-    }
 }
 
 /// The ranges with their values, in any order: the later one's value holds where they overlap.
@@ -236,9 +316,4 @@ impl<K: Ord, V: Eq + Clone, R: AnyRange<K>, const N: usize> From<[(R, V); N]> fo
     fn from(ranges: [(R, V); N]) -> Self {
         ranges.into_iter().collect()
     }
-}
-
-/// A range with its value, as values.
-fn cloned<K: Clone, V: Clone>((range, value): (RangeSetRange<&K>, &V)) -> (RangeSetRange<K>, V) {
-    (range.cloned(), value.clone())
 }

@@ -11,8 +11,6 @@ macro_rules! both_maps {
             Clone,
             // `$Value`: the trait that copies values.
             Clone,
-            // `$Fn`: the trait of an operation's function.
-            FnMut,
             // `$must_use`: the attribute of a call whose result has to be used.
             must_use,
             // `$errors`: the macro that writes the documentation of errors.
@@ -34,7 +32,6 @@ macro_rules! both_maps {
             fails,
             EntryClone,
             MapValue,
-            Fn,
             // No attribute, as in `both_forms`.
             cfg_attr(any(), must_use),
             errors,

@@ -25,7 +25,7 @@ impl<K: Ord + Serialize, V: Eq + Serialize, C> Serialize for Map<K, V, C> {
 
 macro_rules! triples {
     (
-        $form:ident, $Clone:ident, $Value:ident, $Fn:ident, $must_use:meta, $errors:ident,
+        $form:ident, $Clone:ident, $Value:ident, $must_use:meta, $errors:ident,
         $at:literal, $from:literal, $of_pairs:literal, $returned:ident, $ok:literal, $end:literal
     ) => {
         /// Reads a sequence of triples in any order. Where ranges overlap the later one's value

@@ -46,6 +46,27 @@ macro_rules! constructors {
                 Some(Self::of_list(A::list(boundaries)))
             }
 
+            /// Returns the set with these boundaries, and doesn't look whether they are strictly
+            /// sorted.
+            ///
+            /// If they aren't, calls give wrong answers or panic. Nothing is undefined.
+            ///
+            /// # Examples
+            ///
+            /// ```
+            #[doc = concat!("use ", $at, "::RangeSet2;")]
+            /// use smallvec::smallvec;
+            ///
+            /// let set: RangeSet2<u8> = RangeSet2::new_unchecked(smallvec![9, 17]);
+            /// assert!(set.contains(&12));
+            /// ```
+            #[cfg(feature = "new_unchecked")]
+            #[cfg_attr(docsrs, doc(cfg(feature = "new_unchecked")))]
+            #[must_use]
+            pub fn new_unchecked(boundaries: SmallVec<A>) -> Self {
+                Self::of_list(A::list(boundaries))
+            }
+
             /// Returns the set whose boundaries are the distinct ones of these, in order. Of equal
             /// ones the first stays.
             ///

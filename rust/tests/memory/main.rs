@@ -1,6 +1,7 @@
 //! Memory refused at each request in turn: every fallible call answers an error, and leaves its set
 //! as it was.
 
+mod calls;
 mod chunked;
 #[path = "../common/mod.rs"]
 mod common;
