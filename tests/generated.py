@@ -45,6 +45,10 @@ INSTEAD = rows("""
     range_c/generated/mapped_i64, range_c/generated/mapped_u64: .clone() → .try_clone()
     range_collections/view: fn clone(&self) -> Result<Self, AllocError> { Ok(*self) } → fn clone(&self) -> Self { *self }
     range_collections/view/cursor: fn clone(&self) -> Result<Self, AllocError> { Ok(*self) } → fn clone(&self) -> Self { *self }
+    // An enum that may grow has to say so.
+    range_collections/parse: pub enum ParseError → #[non_exhaustive] pub enum ParseError
+    range_collections/parse: pub enum Expected → #[non_exhaustive] pub enum Expected
+    range_tracker/track_error: pub enum TrackError → #[non_exhaustive] pub enum TrackError
     // A trait of Rust has to say that its types have a size.
     range_entry/entry_clone, range_entry/range_set_entry: : Ord { → : Ord + Sized {
     range_map/value: MapValue: Eq → MapValue: Eq + Sized ; range_merge/compare: trait Compare<K> → trait Compare<K>: Sized

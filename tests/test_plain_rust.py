@@ -273,6 +273,12 @@ pub unsafe extern "C" fn plain_range_set_u32_is_all(a: *const u32, a_len: usize)
         with self.assertRaises(Failed):
             rust("struct A;", MESSAGES={FILE: {"A": ("", "")}})
 
+    def test_an_enum_that_may_grow_says_so(self):
+        found = rust("/// Why.\n#[derive(Debug)]\npub enum A {\n    B,\n}\n", GROWING={FILE: {"A"}})
+        self.assertEqual(found.split("\n")[:4], ["/// Why.", "#[derive(Debug)]", "#[non_exhaustive]", "pub enum A {"])
+        with self.assertRaises(Failed):
+            rust("enum B { C }", GROWING={FILE: {"A"}})
+
     def test_of_some_files_the_tables_name_what_is_written(self):
         text = "use crate::a::B;\ntrait A {\n    fn f(b: B);\n}\nimpl A for u8 {\n    fn f(b: B) { g(b); }\n}\n"
         with mock.patch.dict(tables.ITEMS_KEPT, {FILE: {"trait A"}}):

@@ -32,7 +32,7 @@
 #![cfg_attr(not(feature = "std"), no_std)]
 #![cfg_attr(docsrs, feature(doc_cfg))]
 #![deny(unsafe_code, unsafe_op_in_unsafe_fn)]
-#![warn(missing_docs)]
+#![warn(missing_docs, clippy::undocumented_unsafe_blocks)]
 
 extern crate alloc;
 
@@ -47,7 +47,7 @@ mod chunks;
 mod entry;
 pub mod fallible;
 // The modules beside it re-export its names.
-#[allow(missing_docs)]
+#[allow(missing_docs, clippy::undocumented_unsafe_blocks)]
 mod generated;
 mod iter;
 #[cfg(feature = "serde")]

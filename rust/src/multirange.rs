@@ -29,6 +29,7 @@ use core::mem;
 /// assert_eq!(error.to_string(), "the text is no multirange of numbers from byte 8 on");
 /// ```
 #[derive(Clone, Copy, Debug, PartialEq, Eq)]
+#[non_exhaustive]
 pub enum MultirangeError {
     /// Up to the byte `at` the text is one of ranges.
     Malformed {

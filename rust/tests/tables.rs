@@ -378,6 +378,7 @@ fn read<T: Word>(text: &str) -> String {
         Expected::Number => "number",
         Expected::Dot => "dot",
         Expected::Comma => "comma",
+        _ => panic!("no row has {it:?}"),
     };
     match text.parse::<RangeSet2<T>>() {
         Ok(set) => listed(set.boundaries()),

@@ -18,6 +18,7 @@ class Shaping:
         self.hidden = set(tables.SHOWN.get(file, ()))
         self.cloned = set(tables.CLONED.get(file, ()))
         self.messages = dict(tables.MESSAGES.get(file, {}))
+        self.growing = set(tables.GROWING.get(file, ()))
         self.shown = set()
 
     def file_of(self, module):
@@ -43,6 +44,12 @@ class Shaping:
         if item.kind == "struct" and item.name in self.cloned:
             self.cloned.remove(item.name)
             return with_clone(item)
+        if item.kind == "enum" and item.name in self.growing:
+            self.growing.remove(item.name)
+            head = item.tokens[item.head]
+            attribute = new_tokens("#[non_exhaustive]", head.lead, head.line)
+            head.lead = "\n"
+            return [*item.tokens[item.start : item.head], *attribute, *item.tokens[item.head : item.end]]
         return item.tokens[item.start : item.end]
 
     def with_members(self, item):
@@ -109,7 +116,7 @@ class Shaping:
 
     def refuse_what_is_left(self):
         """Refuses names of the tables that the file hasn't."""
-        left = sorted(self.wanted | self.hidden - self.shown | self.cloned | set(self.messages))
+        left = sorted(self.wanted | self.hidden - self.shown | self.cloned | self.growing | set(self.messages))
         if left:
             raise Refused(1, f"the tables name what isn't there: {', '.join(left)}")
 

@@ -91,6 +91,7 @@ impl<T> Parts<T, Global> {
 /// It is the address of `len` items, or of none, and nothing changes them while the slice is used.
 #[inline(always)]
 pub unsafe fn items_at<'a, T>(items: *const T, len: usize) -> &'a [T] {
+    // SAFETY: by the caller.
     unsafe { slice::from_raw_parts(items, len) }
 }
 
@@ -102,5 +103,6 @@ pub unsafe fn items_at<'a, T>(items: *const T, len: usize) -> &'a [T] {
 /// used.
 #[inline(always)]
 pub unsafe fn room_at<'a, T>(items: *mut T, len: usize) -> &'a mut [T] {
+    // SAFETY: by the caller.
     unsafe { slice::from_raw_parts_mut(items, len) }
 }

@@ -149,12 +149,12 @@ pub fn append_both<T, const N: usize>(
 #[inline(always)]
 unsafe fn write_both<T, const N: usize>(list: &mut smallvec::SmallVec<[T; N]>, start: T, end: T) {
     let len = list.len();
-    // SAFETY: the room is there, and so are both items before anything else looks at the list.
+    // SAFETY: the room is there, and both items are in it before they belong to the list.
     unsafe {
         let after = list.as_mut_ptr().add(len);
-        list.set_len(len + 2);
         after.write(start);
         after.add(1).write(end);
+        list.set_len(len + 2);
     }
 }
 

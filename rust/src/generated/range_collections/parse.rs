@@ -12,6 +12,7 @@ use core::fmt;
 
 /// Why a text isn't read as a set.
 #[derive(Clone, Copy, Debug, PartialEq, Eq)]
+#[non_exhaustive]
 pub enum ParseError {
     /// The text is one of ranges up to the byte `at`, where something else was expected.
     Malformed { at: usize, expected: Expected },
@@ -23,6 +24,7 @@ pub enum ParseError {
 
 /// What was expected in a text.
 #[derive(Clone, Copy, Debug, PartialEq, Eq)]
+#[non_exhaustive]
 pub enum Expected {
     /// A number, or a further digit of one. After the two dots a comma or the end may stand as
     /// well.

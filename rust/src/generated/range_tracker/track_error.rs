@@ -6,6 +6,7 @@ use core::fmt;
 
 /// Why a tracker refused a command. It is then as it was.
 #[derive(Clone, Copy, Debug, PartialEq, Eq)]
+#[non_exhaustive]
 pub enum TrackError {
     /// The command would leave more boundaries than the limit.
     TooMany {
