@@ -12,8 +12,8 @@
 //! ```
 //!
 //! A range without an end is `[20,null]`. What is read may come in any order, overlap, touch or be
-//! empty. As everywhere, a reversed range is empty. [`fallible::pairs`](crate::fallible::pairs)
-//! reads sets of `fallible`.
+//! empty. As everywhere, a reversed range is empty. [`chunked`] is for sets in chunks, and
+//! [`fallible::pairs`](crate::fallible::pairs) for sets of `fallible`.
 //!
 //! # Examples
 //!
@@ -36,14 +36,14 @@ use crate::forms::ends;
 use crate::json::passed_over;
 use crate::memory::AllocError;
 use crate::range::RangeSetRange;
-use crate::range_set::{union_of_read, RangeSet};
+use crate::range_set::union_of_read;
 use crate::view::RangeSetRef;
 use core::fmt;
 use core::marker::PhantomData;
 use serde::de::{Deserialize, Deserializer, Error, SeqAccess, Visitor};
 use serde::ser::{Serialize, Serializer};
 
-/// Writes any set as a sequence of pairs.
+/// Writes a set or a view as a sequence of pairs.
 ///
 /// # Errors
 ///
@@ -69,33 +69,98 @@ where
     serializer.collect_seq(ranges.map(RangeSetRange::into_ends))
 }
 
-/// Reads a sequence of pairs, in any order.
-///
-/// # Errors
-///
-/// Those of the format.
-///
-/// # Examples
-///
-/// ```
-/// use range_sets::{pairs, RangeSet2};
-///
-/// let read = |json| -> Result<RangeSet2<u8>, _> {
-///     pairs::deserialize(&mut serde_json::Deserializer::from_str(json))
-/// };
-/// assert_eq!(read("[[20,null],[0,4],[2,9],[19,10]]")?.to_string(), "0..9, 20..");
-/// assert!(read("[[0,256]]").is_err());
-/// # Ok::<(), serde_json::Error>(())
-/// ```
-pub fn deserialize<'de, T, A, D>(deserializer: D) -> Result<RangeSet<A>, D::Error>
-where
-    T: Deserialize<'de> + Ord,
-    A: Array<Item = T>,
-    D: Deserializer<'de>,
-{
-    let list = read::<A, D>(deserializer, ends::SORTING)?;
-    ends::or_error::<T, _, _>(list, D::Error::custom).map(RangeSet::of_list)
+/// The functions that read sets of a form, and those for sets in chunks.
+macro_rules! reading {
+    ($form:ident, $at:literal) => {
+        /// Reads a sequence of pairs, in any order.
+        ///
+        /// # Errors
+        ///
+        /// Those of the format, and for a set of [`fallible`](crate::fallible) one if memory runs
+        /// out.
+        ///
+        /// # Examples
+        ///
+        /// ```
+        #[doc = concat!("use ", $at, "::{pairs, RangeSet2};")]
+        ///
+        /// let read = |json| -> Result<RangeSet2<u8>, _> {
+        ///     pairs::deserialize(&mut serde_json::Deserializer::from_str(json))
+        /// };
+        /// assert_eq!(read("[[20,null],[0,4],[2,9],[19,10]]")?.to_string(), "0..9, 20..");
+        /// assert!(read("[[0,256]]").is_err());
+        /// # Ok::<(), serde_json::Error>(())
+        /// ```
+        pub fn deserialize<'de, T, A, D>(deserializer: D) -> Result<$form::RangeSet<A>, D::Error>
+        where
+            T: Deserialize<'de> + Ord,
+            A: Array<Item = T>,
+            D: Deserializer<'de>,
+        {
+            let list = read::<A, D>(deserializer, $form::SORTING)?;
+            $form::or_error::<T, _, _>(list, D::Error::custom).map($form::RangeSet::of_list)
+        }
+
+        /// Sets in chunks as sequences of pairs. Name it at a field.
+        ///
+        /// # Examples
+        ///
+        /// ```
+        #[doc = concat!("use ", $at, "::{pairs, ChunkedRangeSet};")]
+        ///
+        /// let json = "[[0,10],[20,null]]";
+        /// let set: ChunkedRangeSet<u8> =
+        ///     pairs::chunked::deserialize(&mut serde_json::Deserializer::from_str(json))?;
+        /// assert_eq!(set.to_string(), "0..10, 20..");
+        /// let written = pairs::chunked::serialize(&set, serde_json::value::Serializer)?;
+        /// assert_eq!(written.to_string(), json);
+        /// # Ok::<(), serde_json::Error>(())
+        /// ```
+        pub mod chunked {
+            use crate::array::List;
+            use crate::chunked::ChunkedRangeSet;
+            use crate::forms::$form;
+            use crate::json::sequence;
+            use crate::pairs::read;
+            use crate::range::RangeSetRange;
+            use serde::de::{Deserialize, Deserializer, Error};
+            use serde::ser::{Serialize, Serializer};
+
+            /// Writes the set as a sequence of pairs.
+            ///
+            /// # Errors
+            ///
+            /// Those of the format.
+            pub fn serialize<T, S>(set: &ChunkedRangeSet<T>, to: S) -> Result<S::Ok, S::Error>
+            where
+                T: Ord + Serialize,
+                S: Serializer,
+            {
+                let ranges = set.iter().map(RangeSetRange::into_ends);
+                sequence(to, set.ranges_len(), ranges)
+            }
+
+            /// Reads a sequence of pairs, in any order.
+            ///
+            /// # Errors
+            ///
+            /// Those of a `RangeSet`.
+            pub fn deserialize<'de, T, D>(from: D) -> Result<$form::ChunkedRangeSet<T>, D::Error>
+            where
+                T: Deserialize<'de> + Ord,
+                D: Deserializer<'de>,
+            {
+                let chunks = read::<[T; 2], D>(from, $form::SORTING)?.and_then(List::into_chunks);
+                $form::or_error::<T, _, _>(chunks, D::Error::custom)
+                    .map($form::ChunkedRangeSet::of_proved)
+            }
+        }
+    };
 }
+
+pub(crate) use reading;
+
+reading!(ends, "range_sets");
 
 /// Reads a sequence of pairs. Running out of memory is apart from the format's errors.
 pub(crate) fn read<'de, A: Array, D: Deserializer<'de>>(

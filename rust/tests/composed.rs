@@ -71,6 +71,17 @@ fn maps_as_of_an_array_of_options() {
             compare(&map, &cells, "popped");
         }
 
+        let (mut own, mut wanted) = (map.clone().into_iter(), map.iter());
+        for _ in 0..=ranges.len() {
+            let (range, expected) = if random.below(2) == 0 {
+                (own.next(), wanted.next())
+            } else {
+                (own.next_back(), wanted.next_back())
+            };
+            let expected = expected.map(|(range, value)| (range.copied(), *value));
+            assert_eq!(range, expected, "by value: {map:?}");
+        }
+
         let at = random.below(16) as u8;
         let (mut low, mut low_cells, mut high_cells) = (map.clone(), cells, [None; 16]);
         let mut high = low.split_off(&at);

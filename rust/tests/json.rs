@@ -92,6 +92,16 @@ fn pairs_of(text: &str) -> serde_json::Result<RangeSet2<u8>> {
     assert_eq!(set, same);
     assert_eq!(as_pairs(&set), as_pairs(&same));
     assert_eq!(as_pairs(&set), as_pairs(&*set));
+    let chunked: ChunkedRangeSet<u8> = range_sets::pairs::chunked::deserialize(&mut json(text))?;
+    let same = fallible::pairs::chunked::deserialize::<u8, _>(&mut json(text))?;
+    assert!(set == chunked && chunked == *same);
+    let to = || serde_json::value::Serializer;
+    let written = fallible::pairs::chunked::serialize(&same, to())?;
+    assert_eq!(
+        range_sets::pairs::chunked::serialize(&chunked, to())?,
+        written
+    );
+    assert_eq!(written.to_string(), as_pairs(&set));
     Ok(set)
 }
 

@@ -14,23 +14,9 @@
 //! ```
 
 use crate::array::Array;
-use crate::fallible::RangeSet;
 use crate::forms::fails;
-use crate::pairs::read;
 pub use crate::pairs::serialize;
+use crate::pairs::{read, reading};
 use serde::de::{Deserialize, Deserializer, Error};
 
-/// Reads a sequence of pairs, in any order.
-///
-/// # Errors
-///
-/// Those of the format, and one if memory runs out.
-pub fn deserialize<'de, T, A, D>(deserializer: D) -> Result<RangeSet<A>, D::Error>
-where
-    T: Deserialize<'de> + Ord,
-    A: Array<Item = T>,
-    D: Deserializer<'de>,
-{
-    let list = read::<A, D>(deserializer, fails::SORTING)?;
-    fails::or_error::<T, _, _>(list, D::Error::custom).map(RangeSet::of_list)
-}
+reading!(fails, "range_sets::fallible");

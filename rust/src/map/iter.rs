@@ -76,8 +76,8 @@ impl<'a, K, V, C> Gaps<'a, K, V, C> {
     }
 }
 
-/// An iterator over the ranges of a map that was taken by value, each with its value. `into_iter`
-/// makes it.
+/// An iterator over the ranges of a map that was taken by value, each with its value, from both
+/// ends. `into_iter` makes it.
 ///
 /// A key at which one range ends and another one starts is cloned.
 ///
@@ -93,12 +93,15 @@ impl<'a, K, V, C> Gaps<'a, K, V, C> {
 #[must_use = "iterators are lazy and do nothing unless consumed"]
 pub struct IntoIter<K, V, C> {
     steps: Peekable<IntoSteps<K, Kept<V, C>>>,
+    /// The key of the lowest step that was taken from the back, at which the one before it ends.
+    end: Option<K>,
 }
 
 impl<K: Ord, V: Eq, C> IntoIter<K, V, C> {
     pub(super) fn new(map: Map<K, V, C>) -> Self {
         IntoIter {
             steps: IntoSteps::new(map.0.steps).peekable(),
+            end: None,
         }
     }
 }
@@ -110,7 +113,20 @@ impl<K: Clone, V, C> Iterator for IntoIter<K, V, C> {
         loop {
             let step = self.steps.next()?;
             if let Some(kept) = step.option {
-                let end = self.steps.peek().map(|next| next.key.clone());
+                let next = self.steps.peek().map(|next| &next.key);
+                let end = next.or(self.end.as_ref()).cloned();
+                return Some((RangeSetRange::of_ends(step.key, end), kept.value));
+            }
+        }
+    }
+}
+
+impl<K: Clone, V, C> DoubleEndedIterator for IntoIter<K, V, C> {
+    fn next_back(&mut self) -> Option<Self::Item> {
+        loop {
+            let step = self.steps.next_back()?;
+            let end = self.end.replace(step.key.clone());
+            if let Some(kept) = step.option {
                 return Some((RangeSetRange::of_ends(step.key, end), kept.value));
             }
         }

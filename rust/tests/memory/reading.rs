@@ -42,12 +42,14 @@ fn what_is_read_is_whole_or_an_error() {
         let pairs: Vec<_> = (0..ranges).map(|i| [10 * i, 10 * i + 5]).collect();
         let text = format!("{pairs:?}");
         let read = || fallible::pairs::deserialize(&mut Deserializer::from_str(&text));
+        let chunked = || fallible::pairs::chunked::deserialize(&mut Deserializer::from_str(&text));
         let triples: Vec<_> = (0..ranges).map(|i| [10 * i, 10 * i + 5, i]).collect();
         let map = format!("{triples:?}");
         let refused = [
             is_refused(|| read().map(|set: RangeSet2<u64>| set)),
+            is_refused(|| chunked().map(|set: ChunkedRangeSet<u64>| set)),
             is_refused(|| from_str::<RangeMap<u64, u64>>(&map)),
         ];
-        assert_eq!(refused, [asks; 2], "{ranges} ranges");
+        assert_eq!(refused, [asks; 3], "{ranges} ranges");
     }
 }
