@@ -289,7 +289,7 @@ MUTANTS = [
     Mutant("what is free is freed", "space/calls.rs", "let changes = self.intersects_range(range.clone());", "let changes = true;", "composed"),
     Mutant("keys without a value are left out of an update", "map/combining.rs",
            "(op.borrow_mut())(value)", "value.map_or(Ok(None), |value| (op.borrow_mut())(Some(value)))", "map"),
-    Mutant("of two maps the other one's value stays", "map/combining/by_clone.rs", "left.union_with_left(", "left.union_with_right(", "composed"),
+    Mutant("of two maps the other one's value stays", "map/combining.rs", "&LeftFirst, ", "&RightFirst, ", "composed"),
     Mutant("a map keeps what lies outside of a set", "map/combining.rs", "set.proved(), true, copier", "set.proved(), false, copier", "map"),
     Mutant("what is found of a map begins behind a set's start", "map/steps.rs", "copied(start, Some(value))", "copied(start, Some(value).filter(|_| false))", "map"),
     Mutant("what is found of a map goes on behind a set's end", "map/steps.rs", "end.filter(|_| goes_on)", "end.filter(|_| false)", "map"),

@@ -105,15 +105,6 @@ pub trait List: Sized {
     /// Appends an item.
     fn push(&mut self, item: Self::Item) -> Result<(), AllocError>;
 
-    /// The items in their order.
-    fn collected(items: impl Iterator<Item = Self::Item>) -> Result<Self, AllocError> {
-        let mut list = Self::EMPTY;
-        for item in items {
-            list.push(item)?;
-        }
-        Ok(list)
-    }
-
     /// The boundaries of the union of ranges. Ranges that don't come in order are sorted first.
     fn of_ranges(
         ranges: impl Iterator<Item = RangeSetRange<Self::Item>>,

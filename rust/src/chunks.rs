@@ -24,22 +24,6 @@ pub(crate) fn of_items<T, U, M: Mark>(items: Chunks<T, M>, item: impl Fn(T) -> U
     }
 }
 
-/// A list with an item made of a reference to each, in chunks of the same lengths.
-pub(crate) fn of_refs<'a, T, U, M: Mark>(
-    items: &'a Chunks<T, M>,
-    item: impl Fn(&'a T) -> U,
-) -> Chunks<U, M> {
-    let chunks = items.chunks.list.iter().map(|chunk| Chunk {
-        first: item(&chunk.first),
-        rest: list(chunk.rest.iter().map(&item)),
-        mark: chunk.mark,
-    });
-    Chunks {
-        chunks: ChunkList { list: list(chunks) },
-        len: items.len,
-    }
-}
-
 /// The items in order.
 pub(crate) fn items<T, M: Mark>(items: &Chunks<T, M>) -> impl Iterator<Item = &T> {
     let chunks = items.chunks.list.iter();

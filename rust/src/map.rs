@@ -3,7 +3,6 @@
 //! [`Map`] is one type with two names: [`RangeMap`], whose calls end the process if memory runs
 //! out, and [`fallible::RangeMap`](crate::fallible::RangeMap), whose calls return an error.
 
-mod by_ref;
 mod changes;
 mod combining;
 mod composed;

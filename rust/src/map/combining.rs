@@ -16,6 +16,7 @@ use crate::forms::{ends, fails};
 use crate::generated::range_collections::Comparisons;
 use crate::generated::range_map as proved;
 use crate::generated::range_map::map::depth::depth_of;
+use crate::generated::range_map::operations::{LeftFirst, RightFirst};
 use crate::generated::range_map::updating::update_range;
 use crate::generated::range_map::{MapOperation, MapUpdate};
 use crate::generated::range_merge::Copier;
@@ -72,8 +73,17 @@ impl<K: Ord, V: Eq, C: Copies<V>> Map<K, V, C> {
     ) -> Result<Map<K, U, C>, AllocError> {
         let op = RefCell::new(op);
         let op = ByCall(|a: Option<&V>, b: Option<&W>| (op.borrow_mut())(a, b));
+        self.try_merge(that, &op, copier)
+    }
+
+    fn try_merge<W: Eq, U: Eq>(
+        &self,
+        that: &Map<K, W, C>,
+        op: &impl MapOperation<Kept<V, C>, Kept<W, C>, Output = Kept<U, C>>,
+        copier: &impl Copier<K>,
+    ) -> Result<Map<K, U, C>, AllocError> {
         let count = &mut Comparisons::new();
-        let made = self.0.combine_by(Global, &that.0, &op, copier, count);
+        let made = self.0.combine_by(Global, &that.0, op, copier, count);
         made.map(Map)
     }
 
@@ -204,7 +214,7 @@ macro_rules! operations {
             /// ```
             #[$must_use]
             pub fn union_with_left(&self, that: &Self) -> $form::Returned<Self> {
-                $form::returned::<K, _, _>(self.try_union_with_left(that))
+                $form::returned::<K, _, _>(self.try_merge(that, &LeftFirst, &$form::Copier))
             }
 
             /// Returns the map with the values of both. Where both have one, that of the other map
@@ -224,7 +234,7 @@ macro_rules! operations {
             /// ```
             #[$must_use]
             pub fn union_with_right(&self, that: &Self) -> $form::Returned<Self> {
-                $form::returned::<K, _, _>(self.try_union_with_right(that))
+                $form::returned::<K, _, _>(self.try_merge(that, &RightFirst, &$form::Copier))
             }
 
             /// Returns the map with the values of the keys in a set alone.

@@ -36,18 +36,6 @@ pub(super) fn of_others<K, V, L, W>(
     })
 }
 
-/// A list with a key and a value made of references to those of each step.
-pub(super) fn of_refs<'a, K, V, L, W>(
-    steps: &'a Chunks<Step<K, V>, ()>,
-    key: impl Fn(&'a K) -> L,
-    value: impl Fn(&'a V) -> W,
-) -> Chunks<Step<L, W>, ()> {
-    chunks::of_refs(steps, |step| Step {
-        key: key(&step.key),
-        option: step.option.as_ref().map(&value),
-    })
-}
-
 /// Whether two searches for each range of a set are faster than a walk over all steps.
 pub(super) fn are_searches_faster<K: Ord, V>(
     set: &RangeSetRef<K>,

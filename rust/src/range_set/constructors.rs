@@ -86,8 +86,9 @@ macro_rules! constructors {
             where
                 T: Ord,
             {
-                let list = A::List::collected(boundaries.into_iter());
-                let sorted = list.and_then(|list| list.sorted($form::SORTING));
+                let mut list = A::List::EMPTY;
+                let pushed = boundaries.into_iter().try_for_each(|it| list.push(it));
+                let sorted = pushed.and_then(|()| list.sorted($form::SORTING));
                 $form::returned::<T, _, _>(sorted.map(Self::of_list))
             }
 
