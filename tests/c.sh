@@ -171,11 +171,10 @@ says_that_cpp_is_too_old() {
         grep -q 'range_set.hpp is for C++17 and later' "$work/said"
 }
 
-# Whether the header says in a sentence which values a map can't have.
-says_that_values_need_an_order() {
-    printf '%s\n' '#include "range_map.hpp"' 'struct owner {};' 'range_sets::range_map<int, owner> map;' >"$work/unordered.cpp"
-    ! g++ -std=c++17 -Ic/include -fsyntax-only "$work/unordered.cpp" 2>"$work/said" &&
-        grep -q 'error: static assertion failed: the values of a range_map are numbers, enums or pointers, or need an operator <' "$work/said"
+# Whether a program of these lines isn't compiled, and the compiler says why in such words.
+isnt_compiled() {
+    printf '%s\n' "${@:2}" >"$work/refused.cpp"
+    ! g++ -std=c++17 -Ic/include -fsyntax-only "$work/refused.cpp" 2>"$work/said" && grep -q "error: $1" "$work/said"
 }
 
 # Installs the library, and moves it into a folder with a blank in its name.
@@ -343,21 +342,26 @@ builds_as() {
     "$compiler" -std="$language" $level $strict "$source" "$archive" -o "$work/built" && "$work/built" 2000
 }
 
+# The tests of the headers for C++ as a compiler builds them with the sanitizers.
+is_sane_in_cpp() {
+    local source
+    for source in test test_ranges test_maps; do
+        "$@" $strict c/tests/$source.cpp "$work/layer.o" "$work/proved.o" -o "$work/sane" && "$work/sane" || return
+    done
+}
+
 # The tests under clang's sanitizers.
 is_sane_by_clang() {
     local flags="-O1 -g -fsanitize=address,undefined -fno-sanitize-recover=all"
     sane_library clang -std=c11 $flags &&
         clang -std=c11 $flags $strict c/tests/test.c "$work/layer.o" "$work/proved.o" -o "$work/sane" && "$work/sane" 1000 &&
-        clang++ -std=c++17 $flags $strict c/tests/test.cpp "$work/layer.o" "$work/proved.o" -o "$work/sane" && "$work/sane" &&
-        clang++ -std=c++17 $flags $strict c/tests/test_maps.cpp "$work/layer.o" "$work/proved.o" -o "$work/sane" && "$work/sane"
+        is_sane_in_cpp clang++ -std=c++17 $flags
 }
 
 # The tests of the header in C++20, which has views of a set, under gcc's sanitizers.
 is_sane_in_cpp20() {
     local flags="-O0 -g -fsanitize=address,undefined -fno-sanitize-recover=all"
-    sane_library gcc -std=c99 $flags &&
-        g++ -std=c++20 $flags $strict c/tests/test.cpp "$work/layer.o" "$work/proved.o" -o "$work/sane" && "$work/sane" &&
-        g++ -std=c++20 $flags $strict c/tests/test_maps.cpp "$work/layer.o" "$work/proved.o" -o "$work/sane" && "$work/sane"
+    sane_library gcc -std=c99 $flags && is_sane_in_cpp g++ -std=c++20 $flags
 }
 
 # The layer and the header for C++ under a fuzzer, which sees what they branch on.
@@ -406,7 +410,7 @@ if [ "${1:-}" = --more ]; then
         step_by clang clang "$language by clang" builds_as clang "$language" c/tests/test.c
     done
     for language in c++17 c++20 c++2b; do
-        for source in test test_maps; do
+        for source in test test_ranges test_maps; do
             step_by g++ g++ "$source in $language by g++" builds_as g++ "$language" c/tests/$source.cpp
             step_by clang++ clang "$source in $language by clang++" builds_as clang++ "$language" c/tests/$source.cpp
         done
@@ -463,11 +467,18 @@ step_by g++ g++ "the statements in c/README.md" compiles_statements c/README.md
 step_by objcopy binutils "the sanitizers" is_sane
 step_by g++ g++ "C++11" compiles_as_cpp
 step_by g++ g++ "the header for C++17" tests_cpp c/tests/test.cpp
+step_by g++ g++ "its ranges" tests_cpp c/tests/test_ranges.cpp
 step_by g++ g++ "its maps, without exceptions" tests_cpp c/tests/test_maps.cpp -fno-exceptions
 step_by g++ g++ "a calendar without exceptions" runs_the_calendar -fno-exceptions
 step_by g++ g++ "the header for C++17: memory refused" refuses_memory_in_cpp
 step_by g++ g++ "C++14" says_that_cpp_is_too_old
-step_by g++ g++ "a map of values without an order" says_that_values_need_an_order
+step_by g++ g++ "a map of values without an order" isnt_compiled \
+    'static assertion failed: the values of a range_map are numbers, enums or pointers, or need an operator <' \
+    '#include "range_map.hpp"' 'struct owner {};' 'range_sets::range_map<int, owner> map;'
+step_by g++ g++ "a set of numbers that would be cut" isnt_compiled 'no matching function for call to .*range_set(' \
+    '#include "range_set.hpp"' '#include <vector>' 'range_sets::range_set<int> set(std::vector<std::pair<double, double>>{{0.5, 2.9}});'
+step_by g++ g++ "a set of values that would be cut" isnt_compiled 'no matching function for call to .*from_values(' \
+    '#include "range_set.hpp"' '#include <vector>' 'auto set = range_sets::range_set<int>::from_values(std::vector<double>{2.9});'
 for page in README.md c/README.md; do
     step_by g++ g++ "the lines in C++ of $page" runs_cpp_page "$page"
 done

@@ -2,12 +2,14 @@
 // Sets of whole numbers for C++17 and later, over the calls of range_set.h: of the integer types with 32 or 64 bits, of char32_t and
 // wchar_t, and of points in time of std::chrono, which such numbers count. range_map.hpp has maps.
 //
-//     using range_sets::range_set;
+//     using range_sets::range_set, range_sets::from;
 //     const range_set<int64_t> day = {{9, 17}}, busy = {{9, 11}, {12, 15}};
 //     auto free = day - busy;                              // 11 to 12, and 15 to 17
 //     for (auto [start, end, has_end] : free) std::cout << start << ".." << end << '\n';
 //     std::cout << free << '\n';                           // 11..12, 15..17
 //     if (free.contains(16)) std::cout << "free at four\n";
+//     free.remove({15, 16}).insert(from(20));              // 11 to 12, 16 to 17, and all from 20 on
+//     free |= {{18, 19}};
 //
 // range_set owns its boundaries. range_set_view borrows them: it is cheap to copy, and takes any range_set of its type that has a
 // name. What it borrows from has to outlive it. A view of a temporary set doesn't compile, nor do its iterators, but each call

@@ -149,25 +149,15 @@ public:
     };
 
     // A set of any kind that an operator takes, as a list.
-    class listed {
-    public:
-        listed(const chunked_range_set &from) : owned_(from.set()), set(owned_.view().set()) {}
-        listed(const range_set<T> &from) noexcept : set(from.view().set()) {}
-        listed(range_set_view<T> from) noexcept : set(from.set()) {}
-        listed(const listed &) = delete;
-        listed &operator=(const listed &) = delete;
-
-    private:
-        range_set<T> owned_;
-
-    public:
-        const list set;
+    struct listed : detail::operand<T> {
+        using detail::operand<T>::operand;
+        listed(const chunked_range_set &from) : detail::operand<T>(std::optional(from.set())) {}
     };
 
     // The set without a member. It takes no memory.
     chunked_range_set() noexcept = default;
     // A copy of a set.
-    explicit chunked_range_set(detail::operand<T> from) { detail::check_memory(calls::of(from.set, &owner_.it)); }
+    explicit chunked_range_set(const detail::operand<T> &from) { detail::check_memory(calls::of(from.set, &owner_.it)); }
     // The numbers in some of these ranges, as a range_set is made of them.
     chunked_range_set(std::initializer_list<detail::ends<T>> ranges) : chunked_range_set(range_set<T>(ranges)) {}
     template <class Ranges, class = std::enable_if_t<!detail::is_set<T, Ranges>>, class Iterator = detail::iterator_over<Ranges>,

@@ -13,6 +13,7 @@
 #include <optional>
 #include <stdexcept>
 #include <type_traits>
+#include <utility>
 
 // What C++20 has is named there.
 #if __has_include(<version>)
@@ -27,11 +28,17 @@ template <class T> class range_set;
 template <class T> class range_set_view;
 template <class T> class chunked_range_set;
 
-// One range of a set: the numbers from `start` on, up to below `end` where it has an end.
+namespace detail {
+template <class T, class = void> struct element;
+template <class T> constexpr T greatest() noexcept;
+} // namespace detail
+
+// One range of a set: the numbers from `start` on, up to below `end` where it has an end. Two numbers in braces are its start and its
+// end, and one alone a start, where the end is the greatest number. A range without an end is `from(start)`, or has a third item, false.
 template <class T> struct range {
-    T start;
-    T end;
-    bool has_end;
+    T start = T();
+    T end = detail::greatest<T>();
+    bool has_end = true;
 
     friend bool operator==(const range &a, const range &b) noexcept
     {
@@ -72,7 +79,7 @@ using number_of = std::conditional_t<sizeof(T) == 4, std::conditional_t<std::is_
 
 // How an element is kept as a number: an integer as it is, and a point in time of std::chrono as its count. `in` makes the
 // number of an element, and `out` the element of a number.
-template <class T, class = void> struct element {
+template <class T, class> struct element {
     static_assert(is_number<T>, "there are sets of integers of 32 and of 64 bits, and of points in time");
     using number = number_of<T>;
     static constexpr number in(T it) noexcept { return static_cast<number>(it); }
@@ -87,14 +94,28 @@ template <class T> struct element<T, std::void_t<typename T::clock, typename T::
     static constexpr T out(number it) noexcept { return T(typename T::duration(static_cast<count>(it))); }
 };
 
+template <class T> constexpr T greatest() noexcept
+{
+    return element<T>::out(std::numeric_limits<typename element<T>::number>::max());
+}
+
 // The calls for a type of elements, and those of sets in chunks.
 template <class T> struct calls : calls_of<typename element<T>::number> {};
 template <class T> using chunked_calls = typename calls<T>::chunked;
 
+// Whether a call takes such a number: an integer, or what becomes an element and doesn't narrow.
+template <class T, class Number, class = void> constexpr bool narrows = true;
+template <class T, class Number> constexpr bool narrows<T, Number, std::void_t<decltype(T{std::declval<const Number &>()})>> = false;
+template <class T, class Number>
+constexpr bool is_taken =
+    std::is_convertible_v<const Number &, T> && (std::is_integral_v<Number> || std::is_enum_v<Number> || !narrows<T, Number>);
+
 // The number as one of the type. An integer of another type is refused where it doesn't fit.
 template <class T, class Number> constexpr T fitting(const Number &number)
 {
-    if constexpr (std::is_integral_v<Number> && !std::is_same_v<Number, T>) {
+    if constexpr (std::is_enum_v<Number>) {
+        return fitting<T>(static_cast<std::underlying_type_t<Number>>(number));
+    } else if constexpr (std::is_integral_v<Number> && !std::is_same_v<Number, T>) {
         const T it = static_cast<T>(number);
         if (static_cast<Number>(it) == number && (it < T()) == (number < Number())) return it;
         refuse(std::out_of_range("range_set: a number doesn't fit the type"));
@@ -110,7 +131,7 @@ constexpr bool always_fits = std::is_integral_v<Number> && std::numeric_limits<N
 
 // An element that a call takes. An integer of another type is refused where it doesn't fit.
 template <class T> struct integer {
-    template <class Number, class = std::enable_if_t<std::is_convertible_v<const Number &, T> && !std::is_floating_point_v<Number>>>
+    template <class Number, class = std::enable_if_t<is_taken<T, Number>>>
     integer(const Number &number) noexcept(always_fits<T, Number>) : value(fitting<T>(number))
     {
     }
@@ -136,6 +157,28 @@ template <class T> struct amount<T, std::void_t<typename T::clock, typename T::d
     }
 };
 
+// All numbers from one on.
+template <class Start> struct open {
+    template <class T, class = std::enable_if_t<is_taken<T, Start>>> operator range<T>() const
+    {
+        return {fitting<T>(start), greatest<T>(), false};
+    }
+
+    Start start;
+};
+
+// A range that a set is made of: a start and an end in braces or in a pair, or one that may have no end.
+template <class T> struct ends : range<T> {
+    ends(integer<T> first, integer<T> after) noexcept : range<T>{first, after} {}
+    ends(const range<T> &it) noexcept : range<T>(it) {}
+    template <class Start, class = std::enable_if_t<is_taken<T, Start>>> ends(const open<Start> &it) : range<T>(it) {}
+    template <class Pair, class = std::enable_if_t<is_taken<T, std::decay_t<decltype(std::declval<const Pair &>().first)>>
+                                                   && is_taken<T, std::decay_t<decltype(std::declval<const Pair &>().second)>>>>
+    ends(const Pair &it) : range<T>{fitting<T>(it.first), fitting<T>(it.second)}
+    {
+    }
+};
+
 // What a call of the header writes of a set, if it finds that: an element or a range.
 template <class T, class Call, class Set, class... Numbers> std::optional<T> found(Call call, Set set, Numbers... numbers) noexcept
 {
@@ -152,6 +195,12 @@ std::optional<range<T>> found_range(Call call, Set set, Numbers... numbers) noex
 }
 
 } // namespace detail
+
+// The range of all numbers from one on, which has no end: `set.insert(from(20))`, or `{{9, 17}, from(20)}`.
+template <class Start> detail::open<Start> from(const Start &start)
+{
+    return {start};
+}
 
 } // namespace range_sets
 

@@ -8,10 +8,12 @@
 #include <algorithm>
 #include <cstddef>
 #include <cstdint>
+#include <initializer_list>
 #include <optional>
 #include <ostream>
 #include <string>
 #include <type_traits>
+#include <utility>
 
 #ifdef __cpp_lib_three_way_comparison
 #include <compare>
@@ -25,39 +27,49 @@ namespace detail {
 template <class T, class Set>
 constexpr bool is_set = std::is_same_v<std::decay_t<Set>, range_set<T>> || std::is_convertible_v<std::decay_t<Set> &, range_set_view<T>>;
 
-// A set of either kind that a call takes. It may be a temporary, which lives until the call has ended.
+// A set that a call takes: one of either kind, or its ranges in braces. It may be a temporary, which lives until the call has ended.
 template <class T> struct operand {
     operand(range_set_view<T> from) noexcept : set(from.set()) {}
     operand(const range_set<T> &from) noexcept : set(from.view().set()) {}
+    operand(std::initializer_list<ends<T>> ranges) : operand(std::optional<range_set<T>>(ranges)) {}
+    operand(const operand &) = delete;
+    operand &operator=(const operand &) = delete;
 
-    typename calls<T>::set set;
+protected:
+    explicit operand(std::optional<range_set<T>> from) : owned_(std::move(from)), set(owned_->view().set()) {}
+
+private:
+    std::optional<range_set<T>> owned_;
+
+public:
+    const typename calls<T>::set set;
 };
 
 // The operators, which both kinds of sets have: two of them may be of either kind.
 template <class T> struct operators {
-    friend range_set<T> operator|(operand<T> a, operand<T> b) { return combined(a, b, RANGE_SET_UNION); }
-    friend range_set<T> operator&(operand<T> a, operand<T> b) { return combined(a, b, RANGE_SET_INTERSECTION); }
-    friend range_set<T> operator-(operand<T> a, operand<T> b) { return combined(a, b, RANGE_SET_DIFFERENCE); }
-    friend range_set<T> operator^(operand<T> a, operand<T> b) { return combined(a, b, RANGE_SET_SYMMETRIC_DIFFERENCE); }
-    friend range_set<T> operator~(operand<T> a) { return viewed(a).negation(); }
-    friend bool operator==(operand<T> a, operand<T> b) noexcept { return calls<T>::equal(a.set, b.set); }
-    friend bool operator!=(operand<T> a, operand<T> b) noexcept { return !calls<T>::equal(a.set, b.set); }
+    friend range_set<T> operator|(const operand<T> &a, const operand<T> &b) { return combined(a, b, RANGE_SET_UNION); }
+    friend range_set<T> operator&(const operand<T> &a, const operand<T> &b) { return combined(a, b, RANGE_SET_INTERSECTION); }
+    friend range_set<T> operator-(const operand<T> &a, const operand<T> &b) { return combined(a, b, RANGE_SET_DIFFERENCE); }
+    friend range_set<T> operator^(const operand<T> &a, const operand<T> &b) { return combined(a, b, RANGE_SET_SYMMETRIC_DIFFERENCE); }
+    friend range_set<T> operator~(const operand<T> &a) { return viewed(a).negation(); }
+    friend bool operator==(const operand<T> &a, const operand<T> &b) noexcept { return calls<T>::equal(a.set, b.set); }
+    friend bool operator!=(const operand<T> &a, const operand<T> &b) noexcept { return !calls<T>::equal(a.set, b.set); }
 
     // The order of `compare`, which is that of sets in Rust. No order says which set lies in another: `is_subset` does.
-    friend bool operator<(operand<T> a, operand<T> b) noexcept { return viewed(a).compare(b) < 0; }
-    friend bool operator>(operand<T> a, operand<T> b) noexcept { return viewed(a).compare(b) > 0; }
-    friend bool operator<=(operand<T> a, operand<T> b) noexcept { return viewed(a).compare(b) <= 0; }
-    friend bool operator>=(operand<T> a, operand<T> b) noexcept { return viewed(a).compare(b) >= 0; }
+    friend bool operator<(const operand<T> &a, const operand<T> &b) noexcept { return viewed(a).compare(b) < 0; }
+    friend bool operator>(const operand<T> &a, const operand<T> &b) noexcept { return viewed(a).compare(b) > 0; }
+    friend bool operator<=(const operand<T> &a, const operand<T> &b) noexcept { return viewed(a).compare(b) <= 0; }
+    friend bool operator>=(const operand<T> &a, const operand<T> &b) noexcept { return viewed(a).compare(b) >= 0; }
 #ifdef __cpp_lib_three_way_comparison
-    friend std::strong_ordering operator<=>(operand<T> a, operand<T> b) noexcept { return viewed(a).compare(b) <=> 0; }
+    friend std::strong_ordering operator<=>(const operand<T> &a, const operand<T> &b) noexcept { return viewed(a).compare(b) <=> 0; }
 #endif
 
     // Writes what `text` returns, as one text for a width. Where memory for it is refused nothing is written.
-    friend std::ostream &operator<<(std::ostream &out, operand<T> a) { return out << viewed(a).text(); }
+    friend std::ostream &operator<<(std::ostream &out, const operand<T> &a) { return out << viewed(a).text(); }
 
 private:
-    static range_set_view<T> viewed(operand<T> a) noexcept { return range_set_view<T>(a.set); }
-    static range_set<T> combined(operand<T> a, operand<T> b, unsigned keep) { return range_set<T>::combine(a, b, keep); }
+    static range_set_view<T> viewed(const operand<T> &a) noexcept { return range_set_view<T>(a.set); }
+    static range_set<T> combined(const operand<T> &a, const operand<T> &b, unsigned keep) { return range_set<T>::combine(a, b, keep); }
 };
 
 // What sets of all kinds answer, by the calls of their kind. An answer takes two searches at most, but `rank`, `select` and `covered`
@@ -121,14 +133,14 @@ public:
         return calls::contains_each(this->asked(), reinterpret_cast<const number *>(values), count, found) == RANGE_SET_DONE;
     }
 
-    bool is_disjoint(operand<T> other) const noexcept { return calls::is_disjoint(this->asked(), other.set); }
-    bool intersects(operand<T> other) const noexcept { return !is_disjoint(other); }
-    bool is_subset(operand<T> other) const noexcept { return calls::is_subset(this->asked(), other.set); }
-    bool is_superset(operand<T> other) const noexcept { return calls::is_subset(other.set, this->asked()); }
+    bool is_disjoint(const operand<T> &other) const noexcept { return calls::is_disjoint(this->asked(), other.set); }
+    bool intersects(const operand<T> &other) const noexcept { return !is_disjoint(other); }
+    bool is_subset(const operand<T> &other) const noexcept { return calls::is_subset(this->asked(), other.set); }
+    bool is_superset(const operand<T> &other) const noexcept { return calls::is_subset(other.set, this->asked()); }
 
     // Below 0 where this set comes first, above 0 where the other does, and 0 where they are equal. The first boundaries
     // that differ decide, and where there are none, the fewer boundaries. Compares at most the boundaries of the shorter set.
-    int compare(operand<T> other) const noexcept
+    int compare(const operand<T> &other) const noexcept
     {
         const auto set = this->asked(), with = other.set;
         const number *const end = set.boundaries + set.len, *const other_end = with.boundaries + with.len;

@@ -22,27 +22,9 @@ namespace range_sets {
 
 namespace detail {
 
-// A start and an end in braces, or in a pair.
-template <class T> struct ends {
-    ends(integer<T> start, integer<T> end) noexcept : first(start), second(end) {}
-    template <class Start, class End>
-    ends(const std::pair<Start, End> &it) : first(fitting<T>(it.first)), second(fitting<T>(it.second))
-    {
-    }
-
-    T first;
-    T second;
-};
-
 // What an iterator leads to, and the iterator that a range begins with.
 template <class Iterator> using item_of = std::decay_t<decltype(*std::declval<Iterator &>())>;
 template <class Items> using iterator_over = decltype(std::begin(std::declval<Items &>()));
-
-// Whether a set is made of such items: of ranges, or of pairs.
-template <class T, class Item, class = void> constexpr bool is_range = std::is_same_v<Item, range<T>>;
-template <class T, class Item>
-constexpr bool
-    is_range<T, Item, std::void_t<decltype(std::declval<const Item &>().first), decltype(std::declval<const Item &>().second)>> = true;
 
 // Whether one can go twice over what an iterator goes over. Those that make what they lead to say so by C++20's concept alone.
 template <class Iterator, class = void> constexpr bool has_concept = false;
@@ -55,7 +37,8 @@ constexpr bool is_multipass<Iterator, std::void_t<typename std::iterator_traits<
     has_concept<Iterator> || std::is_base_of_v<std::forward_iterator_tag, typename std::iterator_traits<Iterator>::iterator_category>;
 
 // For an iterator over what a set is made of.
-template <class T, class Iterator> using if_ranges = std::enable_if_t<is_range<T, item_of<Iterator>> && is_multipass<Iterator>>;
+template <class T, class Iterator>
+using if_ranges = std::enable_if_t<std::is_convertible_v<const item_of<Iterator> &, ends<T>> && is_multipass<Iterator>>;
 
 } // namespace detail
 
@@ -73,8 +56,8 @@ public:
 
     // The set without a member. It takes no memory.
     range_set() noexcept = default;
-    // The numbers in some of these ranges, each a start and an end, which is out. They may come in any order and overlap; one whose
-    // end isn't above its start holds no number.
+    // The numbers in some of these ranges, each a start and an end, which is out, or `from` a start. They may come in any order and
+    // overlap; one whose end isn't above its start holds no number.
     range_set(std::initializer_list<detail::ends<T>> ranges) : range_set(ranges.begin(), ranges.end()) {}
     // The same of any range of pairs or of ranges: an array, a std::vector, a std::map, a view of C++20.
     template <class Ranges, class = std::enable_if_t<!detail::is_set<T, Ranges>>, class Iterator = detail::iterator_over<Ranges>,
@@ -94,15 +77,10 @@ public:
         number *next = items.get(), *const after = next + 2 * count;
         std::optional<T> open;
         for (; next != after && first != last; ++first) {
-            const auto &it = *first;
-            if constexpr (std::is_same_v<detail::item_of<Iterator>, range<T>>) {
-                if (!it.has_end) open = open ? std::min(*open, it.start) : it.start;
-                *next++ = element::in(it.start);
-                *next++ = element::in(it.has_end ? it.end : it.start);
-            } else {
-                *next++ = element::in(detail::fitting<T>(it.first));
-                *next++ = element::in(detail::fitting<T>(it.second));
-            }
+            const detail::ends<T> it = *first;
+            if (!it.has_end) open = open ? std::min(*open, it.start) : it.start;
+            *next++ = element::in(it.start);
+            *next++ = element::in(it.has_end ? it.end : it.start);
         }
         const auto read = static_cast<std::size_t>(next - items.get()) / 2;
         typename calls::set set = {};
@@ -149,7 +127,8 @@ public:
         return all;
     }
     // The set of these numbers, as a std::vector has them, in any order, some of them more than once.
-    template <class Values> static range_set from_values(const Values &values)
+    template <class Values, class = std::enable_if_t<detail::is_taken<T, detail::item_of<detail::iterator_over<const Values>>>>>
+    static range_set from_values(const Values &values)
     {
         const auto count = static_cast<std::size_t>(std::distance(values.begin(), values.end()));
         const auto items = room_for(count);
@@ -177,7 +156,7 @@ public:
         });
     }
     // The numbers that `keep` names of two sets, as RANGE_SET_LEFT | RANGE_SET_BOTH.
-    static range_set combine(detail::operand<T> a, detail::operand<T> b, unsigned keep)
+    static range_set combine(const detail::operand<T> &a, const detail::operand<T> &b, unsigned keep)
     {
         return written(a.set.len + b.set.len + (keep & RANGE_SET_NEITHER ? 1 : 0),
                        [&](number *out, std::size_t room, auto *set) { return calls::combine(a.set, b.set, keep, out, room, set); });
@@ -234,10 +213,10 @@ public:
     }
 
     // They keep the set's room, and work there if it is enough for the set and the longest result. What lies in the set is copied first.
-    range_set &operator|=(detail::operand<T> other) { return combine_with(other, RANGE_SET_UNION); }
-    range_set &operator&=(detail::operand<T> other) { return combine_with(other, RANGE_SET_INTERSECTION); }
-    range_set &operator-=(detail::operand<T> other) { return combine_with(other, RANGE_SET_DIFFERENCE); }
-    range_set &operator^=(detail::operand<T> other) { return combine_with(other, RANGE_SET_SYMMETRIC_DIFFERENCE); }
+    range_set &operator|=(const detail::operand<T> &other) { return combine_with(other, RANGE_SET_UNION); }
+    range_set &operator&=(const detail::operand<T> &other) { return combine_with(other, RANGE_SET_INTERSECTION); }
+    range_set &operator-=(const detail::operand<T> &other) { return combine_with(other, RANGE_SET_DIFFERENCE); }
+    range_set &operator^=(const detail::operand<T> &other) { return combine_with(other, RANGE_SET_SYMMETRIC_DIFFERENCE); }
 
 private:
     template <class, class, class> friend class detail::questions;
@@ -295,7 +274,7 @@ private:
     }
 
     // Where the result stands in a new buffer, its boundaries are taken, or the buffer if there is no room for them.
-    range_set &combine_with(detail::operand<T> other, unsigned keep)
+    range_set &combine_with(const detail::operand<T> &other, unsigned keep)
     {
         const bool fits = 2 * in_.set.len + other.set.len <= in_.room;
         if (fits && calls::combine_with(&in_, other.set, keep) == RANGE_SET_DONE) return *this;

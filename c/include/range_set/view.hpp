@@ -211,7 +211,7 @@ private:
 
 // Equal sets have the same hash, also where one is a view. Goes over the boundaries once, and takes no memory.
 template <class T> struct std::hash<range_sets::range_set_view<T>> {
-    std::size_t operator()(range_sets::detail::operand<T> set) const noexcept
+    std::size_t operator()(const range_sets::detail::operand<T> &set) const noexcept
     {
         const std::string_view bytes(reinterpret_cast<const char *>(set.set.boundaries), set.set.len * sizeof(T));
         return std::hash<std::string_view>()(bytes);
