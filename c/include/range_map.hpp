@@ -8,18 +8,23 @@
 //     if (bookings.get(10) == "Ada") std::cout << "Ada at ten\n";
 //
 // A key has the value of the last range that was put around it, or none; ranges that touch and have one value are one. Keys are the
-// elements of a range_set. Numbers, enums and pointers stand in the map itself. Of other values it has a list, of each once, for which
-// they need `<`: a value that no range has any more leaves it when the list has doubled, or by `clear`.
+// elements of a range_set. Numbers and enums of at most 64 bits, and pointers, stand in the map itself, to the bit. Ranges that touch are
+// one if `==` says that their values are equal: never of NaN, and of 0.0 beside -0.0, where the value stays that the map had.
 //
-// Where memory is refused std::bad_alloc is thrown, and the map is as it was. Threads may share a map that none changes. Among n ranges
-// a search makes about log n comparisons, and a change moves the items of one chunk at most, as in range_set.h.
+// Other values stand beside the map: each once, as long as a range has it. They need a `<` that is a strict weak order, as the keys of a
+// std::map do, by which two are one value if neither is less. A struct with a NaN in it may have none.
+//
+// Where memory is refused std::bad_alloc is thrown, and the map is as it was; so it is if the copy of a value or its `<` throws. Threads
+// may share a map that none changes. Among n ranges a search makes about log n comparisons, and a change moves the items of one chunk at
+// most, as in range_set.h. A change by a value that stands beside the map looks that up among these, and goes over the ranges that it
+// takes away.
 #ifndef RANGE_MAP_HPP
 #define RANGE_MAP_HPP
 
 #include "range_set.hpp"
+#include "range_set/values.hpp" // values by their numbers
 
 #include <array>
-#include <map>
 #include <vector>
 
 namespace range_sets {
@@ -49,57 +54,6 @@ RANGE_MAP_CALLS(i64, std::int64_t)
 RANGE_MAP_CALLS(u64, std::uint64_t)
 #undef RANGE_MAP_CALLS
 
-// Whether a value is kept as a number of 64 bits.
-template <class V> constexpr bool is_plain = (std::is_integral_v<V> || std::is_enum_v<V> || std::is_pointer_v<V>) && sizeof(V) <= 8;
-
-// Whether a type has `<`.
-template <class V, class = void> constexpr bool is_ordered = false;
-template <class V> constexpr bool is_ordered<V, std::void_t<decltype(std::declval<const V &>() < std::declval<const V &>())>> = true;
-
-// Values by their numbers: here a list of them.
-template <class V, bool = is_plain<V>> class values {
-    static_assert(is_ordered<V>, "the values of a range_map are numbers, enums or pointers, or need an operator <");
-
-public:
-    const V &value_of(std::uint64_t number) const noexcept { return *list_[static_cast<std::size_t>(number)]; }
-    std::optional<std::uint64_t> find(const V &value) const
-    {
-        const auto it = numbers_.find(value);
-        if (it == numbers_.end()) return std::nullopt;
-        return it->second;
-    }
-    std::uint64_t number_of(const V &value)
-    {
-        if (const auto number = find(value)) return *number;
-        // What is refused leaves a number without a value.
-        list_.push_back(nullptr);
-        const std::uint64_t number = list_.size() - 1;
-        list_.back() = &numbers_.emplace(value, number).first->first;
-        return number;
-    }
-    std::size_t size() const noexcept { return list_.size(); }
-
-private:
-    std::map<V, std::uint64_t> numbers_;
-    std::vector<const V *> list_;
-};
-
-template <class V> class values<V, true> {
-public:
-    static V value_of(std::uint64_t number) noexcept
-    {
-        if constexpr (std::is_pointer_v<V>) return reinterpret_cast<V>(static_cast<std::uintptr_t>(number));
-        else return static_cast<V>(number);
-    }
-    static std::optional<std::uint64_t> find(V value) noexcept { return number_of(value); }
-    static std::uint64_t number_of(V value) noexcept
-    {
-        if constexpr (std::is_pointer_v<V>) return reinterpret_cast<std::uintptr_t>(value);
-        else return static_cast<std::uint64_t>(value);
-    }
-    static std::size_t size() noexcept { return 0; }
-};
-
 } // namespace detail
 
 template <class T, class V> class range_map {
@@ -120,8 +74,8 @@ public:
         V value;
     };
 
-    // Goes over the ranges that have a value, and reads some of them at a time, until the map changes. A value of the list is a
-    // reference.
+    // Goes over the ranges that have a value, and reads some of them at a time, until the map changes. A value that stands beside the
+    // map is a reference.
     class iterator : detail::stepping<iterator> {
     public:
         using iterator_category = std::input_iterator_tag;
@@ -138,7 +92,7 @@ public:
         {
             const bool has_end = now().has_end;
             const key end = now().end;
-            if (++at_ == room && has_end) read(end);
+            if (++at_ == len_ && has_end) read(end, room);
             return *this;
         }
 
@@ -150,16 +104,17 @@ public:
 
     private:
         friend class range_map;
-        static constexpr std::size_t room = 16;
+        // How many ranges are read at a time; and at first by a change, which seldom looks at more.
+        static constexpr std::size_t room = 16, few = 3;
 
-        iterator(const range_map *map, key from) noexcept : map_(map) { read(from); }
+        iterator(const range_map *map, key from, std::size_t first = room) noexcept : map_(map) { read(from, first); }
 
         const typename calls::stretch &now() const noexcept { return some_[at_]; }
         bool is_there() const noexcept { return at_ < len_; }
-        void read(key from) noexcept
+        void read(key from, std::size_t count) noexcept
         {
             at_ = 0;
-            len_ = calls::next_ranges(map_->map(), from, some_.data(), room);
+            len_ = calls::next_ranges(map_->map(), from, some_.data(), count);
         }
 
         const range_map *map_ = nullptr;
@@ -175,13 +130,15 @@ public:
     {
         for (const entry &it : entries) insert(it.start, it.end, it.value);
     }
-    // A copy has the values in its list that a range has.
     range_map(const range_map &other)
     {
         if constexpr (detail::is_plain<V>) {
             if (other.map().at != nullptr) detail::check_memory(calls::copy(other.map(), &owner_.it));
+            values_ = other.values_;
         } else {
-            for (const auto &[keys, value] : other) insert(keys, value);
+            other.each_over(least, most, [&](const stretch &it) {
+                apply(calls::insert, calls::insert_from, it, values_.hold(other.values_.value_of(it.value)));
+            });
         }
     }
     range_map(range_map &&other) noexcept { swap(other); }
@@ -195,21 +152,17 @@ public:
     {
         std::swap(owner_, other.owner_);
         std::swap(values_, other.values_);
-        std::swap(limit_, other.limit_);
     }
     friend void swap(range_map &a, range_map &b) noexcept { a.swap(b); }
 
     // Gives the keys from `start` to below `end` a value, takes theirs away; or those of all keys from `start` on.
-    range_map &insert(integer start, integer end, const V &value) { return put(calls::insert, value, key_of(start), key_of(end)); }
-    range_map &insert_from(integer start, const V &value) { return put(calls::insert_from, value, key_of(start)); }
-    range_map &remove(integer start, integer end) { return change(calls::remove, key_of(start), key_of(end)); }
-    range_map &remove_from(integer start) { return change(calls::remove_from, key_of(start)); }
+    range_map &insert(integer start, integer end, const V &value) { return insert(range<T>{start, end}, value); }
+    range_map &insert_from(integer start, const V &value) { return insert(range_sets::from(start.value), value); }
+    range_map &remove(integer start, integer end) { return remove(range<T>{start, end}); }
+    range_map &remove_from(integer start) { return remove(range_sets::from(start.value)); }
     // The same of a range, which may have no end.
-    range_map &insert(const range<T> &it, const V &value)
-    {
-        return it.has_end ? insert(it.start, it.end, value) : insert_from(it.start, value);
-    }
-    range_map &remove(const range<T> &it) { return it.has_end ? remove(it.start, it.end) : remove_from(it.start); }
+    range_map &insert(const range<T> &it, const V &value) { return put(keys_of(it), value); }
+    range_map &remove(const range<T> &it) { return change(calls::remove, calls::remove_from, keys_of(it)); }
     void clear() noexcept { range_map().swap(*this); }
 
     bool contains(integer at) const noexcept { return around(at).has_value; }
@@ -236,7 +189,7 @@ public:
     std::vector<value_type> overlapping(integer start, integer end) const
     {
         std::vector<value_type> found;
-        each_within(start, end, [&](const auto &it) { found.emplace_back(it); });
+        each_within(start, end, [&](const stretch &it) { found.emplace_back(shown(it)); });
         return found;
     }
 
@@ -247,13 +200,12 @@ public:
     }
     range_set<T> where_equal(const V &value) const
     {
-        const auto wanted = values_.find(value);
-        return keys_where([&](std::uint64_t it) { return wanted && *wanted == it; });
+        return keys_where(values_.is(value));
     }
     range_set<T> gaps(integer start, integer end) const
     {
         std::vector<range<T>> taken;
-        each_within(start, end, [&](const auto &it) { taken.push_back(it.first); });
+        each_within(start, end, [&](const stretch &it) { taken.push_back(range_of(it, it)); });
         return range_set<T>{{start, end}} - range_set<T>(taken);
     }
 
@@ -270,7 +222,7 @@ public:
     template <class W, class How> auto combine(const range_map<T, W> &other, How how) const
     {
         range_map<T, typename std::invoke_result_t<How &, const V *, const W *>::value_type> made;
-        key at = std::numeric_limits<key>::min();
+        key at = least;
         auto here = calls::range_at(map(), at), there = calls::range_at(other.map(), at);
         for (bool has_end = true; has_end;) {
             has_end = here.has_end || there.has_end;
@@ -278,8 +230,7 @@ public:
             if (here.has_value || there.has_value) {
                 const auto value =
                     with_value(here, [&](const V *a) { return other.with_value(there, [&](const W *b) { return how(a, b); }); });
-                if (value && has_end) made.put(calls::insert, *value, at, end);
-                else if (value) made.put(calls::insert_from, *value, at);
+                if (value) made.put({at, end, has_end}, *value);
             }
             at = end;
             if (here.has_end && here.end == at) here = calls::range_at(map(), at);
@@ -289,7 +240,7 @@ public:
     }
 
     // The ranges with their values, those that have a key at or above another, and how many ranges there are.
-    iterator begin() const & noexcept { return iterator(this, std::numeric_limits<key>::min()); }
+    iterator begin() const & noexcept { return iterator(this, least); }
     iterator begin() const && = delete;
     iterator begin_from(integer at) const & noexcept { return iterator(this, key_of(at)); }
     iterator begin_from(integer at) const && = delete;
@@ -307,10 +258,14 @@ public:
 private:
     template <class, class> friend class range_map;
     using stretch = typename calls::stretch;
+    using keys = range<key>;
+    static constexpr key least = std::numeric_limits<key>::min(), most = std::numeric_limits<key>::max();
 
     typename calls::owned map() const noexcept { return owner_.it; }
 
     static key key_of(integer at) noexcept { return element::in(at.value); }
+    static keys keys_of(const range<T> &it) noexcept { return {element::in(it.start), element::in(it.end), it.has_end}; }
+    static bool is_empty(const keys &at) noexcept { return at.has_end && at.start >= at.end; }
     // The range from the start of one to the end of another.
     static range<T> range_of(const stretch &first, const stretch &last) noexcept
     {
@@ -326,10 +281,10 @@ private:
         static_cast<void>(calls::next(map(), at, &it));
         return it;
     }
-    stretch lowest() const noexcept { return from(std::numeric_limits<key>::min()); }
+    stretch lowest() const noexcept { return from(least); }
     stretch highest() const noexcept
     {
-        const auto it = calls::range_at(map(), std::numeric_limits<key>::max());
+        const auto it = calls::range_at(map(), most);
         return it.has_value || !it.has_start ? it : calls::range_at(map(), it.start - 1);
     }
 
@@ -349,43 +304,87 @@ private:
         return call(&value);
     }
 
-    // Calls for each range that has a key from `start` to below `end`, with its value.
+    // Calls for each range with a value that has a key from `first` to `last`, or from `start` to below `end`.
+    template <class Call> void each_over(key first, key last, Call call) const
+    {
+        for (iterator it(this, first, iterator::few); it.is_there() && it.now().start <= last; ++it) call(it.now());
+    }
     template <class Call> void each_within(integer start, integer end, Call call) const
     {
-        if (!(start.value < end.value)) return;
-        for (iterator it = begin_from(start); it.is_there() && it->first.start < end.value; ++it) call(*it);
+        if (start.value < end.value) each_over(key_of(start), key_of(end) - 1, call);
     }
     template <class Wanted> range_set<T> keys_where(Wanted wanted) const
     {
         std::vector<range<T>> found;
-        for (iterator it = begin(); it.is_there(); ++it)
-            if (wanted(it.now().value)) found.push_back((*it).first);
+        each_over(least, most, [&](const stretch &it) {
+            if (wanted(it.value)) found.push_back(range_of(it, it));
+        });
         return range_set<T>(found);
     }
 
-    template <class Call, class... Keys> range_map &put(Call call, const V &value, Keys... keys)
+    // Gives keys a value. It is held until that is done, since these keys may be the last that had it.
+    range_map &put(keys at, const V &value)
     {
-        // What the map was stays until the change is done, since the value may be one of its list.
-        range_map before;
-        if (values_.size() >= limit_) {
-            before = *this;
-            before.limit_ = 64 + 2 * before.values_.size();
-            swap(before);
+        struct holder {
+            values &all;
+            const std::uint64_t which;
+            ~holder() { all.let_go(which); }
+        } const holder = {values_, values_.hold(value)};
+        std::uint64_t which = holder.which;
+        if constexpr (std::is_floating_point_v<V>) {
+            // Beside 0.0 or -0.0 it is what stands there, so that the two are one range.
+            if (value == 0 && !is_empty(at)) {
+                const auto is_zero = [&](const stretch &it) { return it.has_value && values_.value_of(it.value) == 0; };
+                const stretch after = at.has_end ? calls::range_at(map(), at.end) : stretch();
+                const stretch before = at.start > least ? calls::range_at(map(), at.start - 1) : stretch();
+                if (is_zero(after)) which = after.value, at = {at.start, after.end, after.has_end};
+                if (is_zero(before)) which = before.value;
+            }
         }
-        return change(call, keys..., values_.number_of(value));
+        return change(calls::insert, calls::insert_from, at, which);
     }
-    template <class Call, class... Numbers> range_map &change(Call call, Numbers... numbers)
+    // Changes keys, and counts how many ranges hold each value: the new one, and those there before that have an end cut off, are joined
+    // with it, are gone, or become two.
+    template <class Call, class Open, class... Value> range_map &change(Call call, Open open, const keys &at, Value... value)
     {
-        owner_.change(call, numbers...);
+        if (is_empty(at)) return *this;
+        std::vector<std::uint64_t> fewer;
+        std::optional<std::uint64_t> more;
+        if (values_.has_holders()) {
+            each_over(at.start > least ? at.start - 1 : least, at.has_end ? at.end : most, [&](const stretch &it) {
+                const bool has_below = it.start < at.start, has_above = at.has_end && !(it.has_end && it.end <= at.end);
+                if ((... || (it.value == value)) || !(has_below || has_above)) fewer.push_back(it.value);
+                else if (has_below && has_above) more = it.value;
+            });
+        }
+        apply(call, open, at, value...);
+        (values_.hold_again(value), ...);
+        if (more) values_.hold_again(*more);
+        for (const std::uint64_t it : fewer) values_.let_go(it);
         return *this;
+    }
+    template <class Call, class Open, class Keys, class... Value> void apply(Call call, Open open, const Keys &at, Value... value)
+    {
+        if (at.has_end) owner_.change(call, at.start, at.end, value...);
+        else owner_.change(open, at.start, value...);
     }
 
     detail::owner<calls> owner_;
     values values_;
-    // How long the list of values may grow before it is made anew.
-    std::size_t limit_ = 64;
 };
 
 } // namespace range_sets
+
+#if defined(__cpp_lib_ranges) && !defined(__cpp_lib_ranges_zip)
+// What makes an iterator whose items refer to values one of C++20. C++23 has it of each pair.
+template <class T, class V, template <class> class A, template <class> class B>
+struct std::basic_common_reference<std::pair<range_sets::range<T>, const V &>, std::pair<range_sets::range<T>, V>, A, B> {
+    using type = std::pair<range_sets::range<T>, const V &>;
+};
+template <class T, class V, template <class> class A, template <class> class B>
+struct std::basic_common_reference<std::pair<range_sets::range<T>, V>, std::pair<range_sets::range<T>, const V &>, A, B> {
+    using type = std::pair<range_sets::range<T>, const V &>;
+};
+#endif
 
 #endif

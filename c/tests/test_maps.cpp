@@ -2,9 +2,14 @@
 #include "checking.h"
 #include "range_map.hpp"
 
+#include <algorithm>
 #include <chrono>
+#include <cmath>
 #include <cstdio>
 #include <cstdlib>
+#include <cstring>
+#include <limits>
+#include <set>
 #include <string>
 
 using range_sets::range;
@@ -189,20 +194,111 @@ struct counted {
 };
 long counted::alive = 0;
 
-// Of many values those that a range has stay, and no others for long.
+// Of many values those stay that a range has, once each, and no others.
 static void many_values()
 {
     {
-        range_map<std::int64_t, counted> map;
-        for (int i = 0; i < 5000; i++) {
-            map.insert(i % 7, i % 7 + 1, counted(i)).insert(1000 + i, 1001 + i, counted(-1 - i % 2));
-            check(counted::alive < 100, "values that no range has are let go");
+        range_map<std::int64_t, counted> map, copy;
+        for (int i = 0; i < 3000; i++) {
+            const unsigned start = random_below(60), end = random_below(60), which = random_below(40);
+            switch (random_below(8)) {
+            case 0: map.remove(start, end); break;
+            case 1: map.insert_from(start, counted(static_cast<int>(which))); break;
+            case 2: map.remove_from(start); break;
+            default: map.insert(start, end, counted(static_cast<int>(which)));
+            }
+            if (i % 50 == 0) copy = map;
+            long alive = 0;
+            for (const auto *it : {&map, &copy}) {
+                std::set<int> values;
+                for (const auto &[keys, value] : *it) values.insert(value.which);
+                alive += static_cast<long>(values.size());
+            }
+            check(counted::alive == alive, "values that no range has are gone, and the others stand once");
         }
-        check(map.size() == 5007 && map.get(5) == counted(4996) && map.get(1001) == counted(-2), "many values");
         map.clear();
-        check(counted::alive == 0 && map.empty(), "no values");
+        copy.remove_from(0);
+        check(counted::alive == 0 && map.empty() && copy.empty(), "no values");
     }
     check(counted::alive == 0, "all values are let go");
+}
+
+// Two floating-point numbers with the same bits, and another.
+template <class V> static bool are_same(const std::optional<V> &a, V b)
+{
+    return a && std::memcmp(&*a, &b, sizeof(V)) == 0;
+}
+
+// Floating-point numbers stand in the map to the bit, and ranges are one where `==` says that their values are equal.
+template <class V> static void floating()
+{
+    using limits = std::numeric_limits<V>;
+    const V nan = limits::quiet_NaN();
+    const V values[] = {0, -V(0), V(1.5), -V(1.5), nan, -nan, std::copysign(nan, V(1)), limits::signaling_NaN(), limits::infinity(),
+        -limits::infinity(), limits::denorm_min(), -limits::denorm_min(), limits::min(), limits::max(), limits::lowest(), V(0.1)};
+    int at = 0;
+    range_map<int, V> map;
+    for (const V &it : values) {
+        for (const V &other : values) {
+            map.insert(at, at + 2, it).insert(at + 4, at + 6, other);
+            check(are_same(map.get(at), it) && are_same(map.get(at + 5), other), "a value beside others");
+            map.insert(at, at + 2, other);
+            check(are_same(map.get(at), other) || (it == 0 && other == 0), "a value after another");
+            map.insert_from(at + 2, it);
+            check(map.get(at + 9) == it || (it != it && are_same(map.get(at + 9), it)), "a value up to the last key");
+            check((map.range_at(at + 2)->first.start == at) == (other == it), "a neighbour");
+            map.remove_from(at + 8);
+            at += 10;
+        }
+    }
+    map.clear();
+    map.insert(0, 4, nan).insert(4, 8, nan).insert(2, 3, V(7)).insert(2, 3, nan);
+    check(map.size() == 4 && map != map && map.where_equal(nan).empty() && range_map<int, V>(map).size() == 4, "no NaN joins");
+    map.remove(0, 8).insert(0, 4, 0).insert(6, 8, -V(0)).insert(4, 6, -V(0));
+    check(map.size() == 1 && are_same<V>(map.get(7), 0) && map.where_equal(-V(0)) == range_set<int>{{0, 8}}, "two zeros join");
+    map.insert(2, 3, -V(0)).insert(20, 20, 0).insert(8, 7, -V(0)).insert_from(8, -V(0));
+    check(map.size() == 1 && are_same<V>(map.get(2), 0) && map.last()->first == range<int>{0, 0, false}, "within, and up to the last key");
+    // Each key's value, and for a NaN which change brought it.
+    std::vector<std::pair<V, int>> wanted(30, {5, 0});
+    map = {{0, 30, 5}};
+    for (int step = 1; step < 2000; step++) {
+        const unsigned start = random_below(31), end = random_below(31);
+        const V value = values[random_below(6)];
+        map.insert(start, end, value);
+        for (unsigned key = start; key < end; key++) wanted[key] = {value, step};
+        std::ptrdiff_t ranges = 0;
+        for (unsigned key = 0; key < 30; key++) {
+            const auto &[is, by] = wanted[key];
+            check(is == is ? map.get(key) == is : are_same(map.get(key), is), "made up: a value");
+            ranges += key == 0 || (is == is || by != wanted[key - 1].second ? is != wanted[key - 1].first : false);
+        }
+        check(std::distance(map.begin(), map.end()) == ranges && map.size() == std::size_t(ranges), "made up: how many ranges");
+    }
+    range_sets::detail::values<V> held;
+    for (const V &it : values) held.let_go(held.hold(it));
+    check(!held.has_holders(), "no NaN stays that none holds");
+}
+
+// A `<` that is no strict weak order, as of numbers with a NaN among them: keys may have the values of others, and no memory is lost.
+struct partly : counted {
+    using counted::counted;
+    friend bool operator<(const partly &a, const partly &b) noexcept { return a.which % 3 != 0 && b.which % 3 != 0 && a.which < b.which; }
+};
+
+static void orders_that_lie()
+{
+    {
+        range_map<int, partly> map;
+        for (int i = 0; i < 2000; i++) {
+            const int start = static_cast<int>(random_below(50)), which = static_cast<int>(random_below(20));
+            const bool contained = map.contains(start);
+            map.insert(start, start + which, partly(which)).remove(start + 3, start + 4);
+            check(!map.get(start + 3) && map.contains(start) == (which > 0 || contained), "keys");
+        }
+        const auto copy = map.combine(map, [](const auto *a, const auto *) { return std::optional(*a); });
+        check(copy.domain() == map.domain() && counted::alive > 0, "copied");
+    }
+    check(counted::alive == 0, "values of a lying order are let go");
 }
 
 // A million ranges in scrambled order, asked, saved as a list of entries and read back.
@@ -245,10 +341,13 @@ struct lasting {
     friend bool operator<(const lasting &a, const lasting &b) { return a.number < b.number; }
 };
 
-// A map is given one of its own values, by reference, also when it makes its list of values anew.
+// A map is given one of its own values, by reference, also for all keys that have it.
 static void its_own_values()
 {
     range_map<int, lasting> map;
+    map.insert(0, 5, lasting(7)).insert(0, 5, map.begin()->second).insert(-5, 9, map.begin()->second);
+    check(map.size() == 1 && map.get(8)->number == 7 && map.insert_from(-9, map.begin()->second).get(-9)->number == 7, "its only one");
+    map.clear();
     for (int i = 0; i < 500; i++) {
         map.insert(10 * i, 10 * i + 5, lasting(i));
         map.insert(10 * i + 7, 10 * i + 9, map.begin()->second);
@@ -263,17 +362,40 @@ struct copied {
     explicit copied(int of) : number(of) {}
     copied(const copied &other) : number(other.number) { copies++; }
     copied &operator=(const copied &) = default;
-    friend bool operator<(const copied &a, const copied &b) { return a.number < b.number; }
+    friend bool operator<(const copied &a, const copied &b) { return comparisons++, a.number < b.number; }
+    static long comparisons;
 };
-long copied::copies = 0;
+long copied::copies = 0, copied::comparisons = 0;
 
-// The list of values is made anew when it has doubled, so each value is copied a few times.
+// A value is copied once, and a new one is compared with others alone, however many ranges have these.
 static void few_copies()
 {
     range_map<int, copied> map;
     for (int i = 0; i < 2000; i++) map.insert(10 * i, 10 * i + 5, copied(i));
-    check(map.size() == 2000 && copied::copies < 8 * 2000, "few copies of values");
+    check(map.size() == 2000 && copied::copies == 2000, "few copies of values");
+    for (int i = 0; i < 50000; i++) map.insert(10 * i, 10 * i + 5, copied(i % 2));
+    copied::copies = copied::comparisons = 0;
+    for (int i = 2; i < 1002; i++) map.insert(7, 9, copied(i));
+    check(map.size() == 50001 && copied::copies == 1000 && copied::comparisons < 10 * 1000, "new values in a large map");
 }
+
+#ifdef __cpp_lib_ranges
+// Iterators are C++20's too, also of values that they refer to.
+static_assert(std::input_iterator<range_map<int, std::string>::iterator> && std::input_iterator<range_map<int, double>::iterator>, "");
+static_assert(std::ranges::input_range<const range_map<int, std::string>> && std::ranges::common_range<range_map<char32_t, int>>, "");
+static_assert(!std::input_iterator<int>, "");
+#if !defined(__clang__) || __clang_major__ >= 16
+static void views()
+{
+    const range_map<int, std::string> map = {{9, 12, "Ada"}, {12, 14, "Bob"}, {20, 22, "Ada"}};
+    int hours = 0;
+    for (const auto &[keys, who] : map | std::views::filter([](const auto &it) { return it.second == "Ada"; }))
+        hours += keys.end - keys.start;
+    check(hours == 5 && std::ranges::count(map, "Bob", [](const auto &it) { return it.second; }) == 1, "a view of some ranges");
+    check(std::ranges::find_if(map, [](const auto &it) { return it.first.start > 12; })->first.end == 22, "one by its range");
+}
+#endif
+#endif
 
 // A map of times.
 static void points_in_time()
@@ -330,6 +452,12 @@ int main()
     iterations<std::uint64_t, int>();
     combined<char32_t, char>();
     many_values();
+    floating<double>();
+    floating<float>();
+    orders_that_lie();
+#if defined(__cpp_lib_ranges) && (!defined(__clang__) || __clang_major__ >= 16)
+    views();
+#endif
     its_own_values();
     few_copies();
     points_in_time();

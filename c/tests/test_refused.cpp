@@ -3,6 +3,7 @@
 #include "checking.h"
 #include "range_map.hpp"
 
+#include <cmath>
 #include <cstddef>
 #include <cstdio>
 #include <cstdlib>
@@ -100,6 +101,7 @@ template <class T> static void all()
     full.insert(5, 7, 1);
     until_done(none, "insert into no map", [](map &it) { it.insert(3, 5, 7); });
     until_done(none, "insert_from into no map", [](map &it) { it.insert_from(3, 7); });
+    until_done(range_map<T, double>(), "insert of a NaN", [](range_map<T, double> &it) { it.insert(3, 7, std::nan("")); });
     until_done(none, "a copy of a map", [&](map &it) { it = full; });
     long grown = -refused;
     for (T i = 0; i < 100; i++) {
@@ -117,7 +119,7 @@ template <class T> static void all()
         [&](map &it) { it = it.combine(map(), [](const int *a, const int *) { return std::optional(*a + 1); }); });
 }
 
-// A value whose copies are counted, and throw as if their memory were refused.
+// A value whose copies are counted, and which throws as if memory were refused, when it is copied or compared.
 struct fragile {
     explicit fragile(int of) noexcept : which(of) { alive++; }
     fragile(const fragile &other) : which(other.which)
@@ -132,7 +134,11 @@ struct fragile {
         return *this;
     }
     ~fragile() { alive--; }
-    friend bool operator<(const fragile &a, const fragile &b) noexcept { return a.which < b.which; }
+    friend bool operator<(const fragile &a, const fragile &b)
+    {
+        if (!is_met()) throw std::bad_alloc();
+        return a.which < b.which;
+    }
     friend bool operator==(const fragile &a, const fragile &b) noexcept { return a.which == b.which; }
 
     int which;
@@ -150,6 +156,9 @@ static void copies_that_throw()
         for (int i = 0; i < 90; i++) many.insert(3 * i, 3 * i + 2, fragile(i % 64));
         until_done(none, "insert a value", [](map &it) { it.insert(3, 5, fragile(7)); });
         until_done(many, "insert one into a full list of values", [](map &it) { it.insert(3, 5, fragile(100)); });
+        until_done(few, "one value for others", [](map &it) { it.insert(3, 45, fragile(9)); });
+        until_done(few, "a value that stands there", [](map &it) { it.insert_from(12, fragile(0)); });
+        until_done(many, "values taken away", [](map &it) { it.remove(4, 200); });
         until_done(none, "a copy of values", [&](map &it) { it = many; });
         const auto sum = [](const fragile *a, const fragile *b) {
             return std::optional<fragile>(fragile((a != nullptr ? a->which : 0) + (b != nullptr ? b->which : 0)));
