@@ -90,7 +90,7 @@ def texts(paths, ending):
 
 def names_beyond_the_crates(paths):
     """The names that stand in other languages: in the sources and tests of each package."""
-    endings = (".rs", ".c", ".h", ".hpp", ".py", ".sh")
+    endings = (".rs", ".c", ".h", ".cpp", ".hpp", ".py", ".sh")
     found = (ROOT / it for it in paths if it.startswith(("rust/", "c/", "python/", "tests/")) and it.endswith(endings))
     return set(NAME.findall("\n".join(it.read_text(encoding="utf-8") for it in found)))
 
