@@ -1,5 +1,6 @@
 """RangeMap: rows, made-up changes compared with a dict, and values whose `==`, hash and release are watched."""
 
+import contextlib
 import copy
 import gc
 import pickle
@@ -422,7 +423,7 @@ class BesideCells:
         expected = self.items(0, self.keys)
         equal([*made.items()], expected)
         equal([*map(type, made.values())], [type(value) for _, value in expected])
-        equal((len(made), len(kept(made))), (len(expected), len({*cells} - {None})))
+        equal((len(made), {*map(id, kept(made))}), (len(expected), {*map(id, made.values())}))
         start, end = self.range_of(500)
         equal([*made[start:end].items()], self.items(start, end))
         equal(made.gaps(start, end), RangeSet([(x, x + 1) for x in range(start, end) if cells[x] is None]))
@@ -484,7 +485,7 @@ class MadeUp(unittest.TestCase):
         self.assertEqual([x for x in range(self.KEYS) if x in made.domain()], keys)
         for value in ("a", [1], "none"):
             self.assertEqual([x for x in range(self.KEYS) if x in made.find(value)], [x for x in keys if cells[x] == value])
-        self.assertEqual(len(kept(made)), len({str(value) for value in cells.values()}), "what no range has is released")
+        self.assertEqual({*map(id, kept(made))}, {*map(id, made.values())}, "what no range has is released")
 
     def test_of_many_ranges(self):
         """Maps of some hundred ranges beside a list of each key's value; of many values some are equal and of other types."""
@@ -510,46 +511,42 @@ class MadeUp(unittest.TestCase):
         self.assertEqual((len(read), len(made), read == made), (count - 1, count, False))
 
     def test_iterators_beside_changes(self):
-        """Whatever changes between two steps, an iterator goes on from the end of what it gave, with what the map then has."""
-        some, longest = random.Random(9), 0
-        for case in range(400):
-            made, cells = RangeMap(), {}
+        """Between two steps values may change, and an iterator goes on with what the map then has. After a change of how many ranges there
+        are each step raises an error, until the iterator has ended."""
+        some, longest, raised = random.Random(9), 0, 0
+        for case in range(600):
+            made, cells = RangeMap([((3 * n, 3 * n + 2), str(n)) for n in range(10)]), {}
+            for n in range(10):
+                cells |= {3 * n: str(n), 3 * n + 1: str(n)}
             low, high = some.choice([(None, None), (7, 21), (7, None), (None, 21), (7, 7)])
             ways = {"items": made._steps.items, "keys": made._steps.keys, "values": made._steps.values}
             ways |= {"all": lambda *_: made.items(), "list": lambda *_: iter(made)} if (low, high) == (None, None) else {}
             way = some.choice([*ways])
-            at, is_first, count = low or 0, True, 0
-            left = None
-            while left is None or count < 99:
-                for _ in range(some.choice([0, 0, 1]) if left else 15):
-                    start, end, value = (
-                        some.randrange(self.KEYS),
-                        some.choice([None, *range(self.KEYS)]),
-                        some.choice(["a", "b", [1], None]),
-                    )
-                    for key in range(start, self.KEYS if end is None else end):
-                        cells.pop(key, None)
-                        if value is not None:
-                            cells[key] = value
-                    if value is None:
-                        made.remove(start, end)
-                    else:
-                        made.put(start, end, copy.copy(value))
-                left = left or ways[way](low, high)
-                later = (it for it in self.expected(cells) if at is not None and (it[0][1] is None or it[0][1] > at))
-                found = next((it for it in later if at < (self.KEYS if high is None else high) and (high is None or it[0][0] < high)), None)
-                if found is not None:
-                    (start, end), value = found
-                    found = (start if is_first else max(start, at), end), value
-                    at, is_first, count = end, False, count + 1
-                expected = found if way in ("items", "all") or found is None else found[way == "values"]
-                self.assertEqual(next(left, None), expected, (case, way))
-                if found is None:
+            left, at, count, is_ended = ways[way](low, high), low or 0, 0, False
+            while not is_ended:
+                if some.random() < 0.3:
+                    keys, value = some.choice([*made.keys()]), some.choice(["a", "b", [1]])
+                    made.put(*keys, value)
+                    cells |= {key: value for key in range(*keys)}
+                if some.random() < 0.03:
+                    keys = some.randrange(20), some.randrange(20, 30)
+                    made.put(*keys, "z")
+                    cells |= {key: "z" for key in range(*keys)}
+                later = [it for it in self.expected(cells) if it[0][1] > at and at < (high or 99) and it[0][0] < (high or 99)]
+                if len(made) != 10 and at < (high or 99):
+                    for _ in range(2):
+                        self.assertRaisesRegex(RuntimeError, "more or fewer ranges", next, left)
+                    raised += 1
                     break
-            made.put(0, None, "z")
-            self.assertEqual([*left], [], "it has ended")
+                is_ended = not later
+                expected = later[0] if later else None
+                at, count = (expected[0][1], count + 1) if later else (at, count)
+                self.assertEqual(next(left, None), expected if way in ("items", "all") or is_ended else expected[way == "values"], (case, way))
+            if is_ended:
+                made.put(0, None, "z")
+                self.assertEqual([*left], [], "it has ended")
             longest = max(longest, count)
-        self.assertGreater(longest, 5)
+        self.assertTrue(longest == 10 and raised > 50, (longest, raised))
 
     def test_equal_maps(self):
         """Maps are equal if each key has one value in both, however they were made."""
@@ -605,9 +602,9 @@ class MadeUp(unittest.TestCase):
     def test_a_combination_of_many_values(self):
         """Of values that each have one range, and of some that have more."""
         for values in (3000, 2900, 50, 1):
+            pools = [[sign * (n + 1) for n in range(values)] for sign in (1, -1)]
             a, b = (
-                RangeMap(((10 * n + first, 10 * n + first + 6), sign * (n % values + 1)) for n in range(3000))
-                for first, sign in ((0, 1), (4, -1))
+                RangeMap(((10 * n + first, 10 * n + first + 6), pool[n % values]) for n in range(3000)) for first, pool in zip((0, 4), pools)
             )
             calls = []
 
@@ -659,9 +656,91 @@ class Depths(unittest.TestCase):
             self.assertRaises(TypeError, RangeMap.depth, bad)
 
 
-class Interned(unittest.TestCase):
+class Identity(unittest.TestCase):
     def tearDown(self):
         Watched.raises = None
+
+    def test_each_range_has_the_object_that_was_put_in(self):
+        made = RangeMap([((0, 5), []), ((10, 15), [])])
+        made[0].append(1)
+        self.assertEqual((made[0], made[10], len(kept(made))), ([1], [], 2))
+        first, again = [1], [1]
+        made[20:25] = first
+        made[22:23] = again
+        self.assertEqual((made[22] is first, len(made)), (True, 3), "it lies within an equal one")
+        made[20:25] = again
+        self.assertTrue(made[20] is again, "it stands in place of an equal one")
+        for part in (made.copy(), copy.copy(made), made[:], RangeMap(made), made.combine(RangeMap(), max)):
+            self.assertEqual([*map(id, part.values())], [*map(id, made.values())])
+        for part in (copy.deepcopy(made), pickle.loads(pickle.dumps(made))):
+            part[0].append(2)
+            self.assertEqual([*part.values()], [[1, 2], [], [1]])
+
+    def test_of_two_equal_values_that_meet_the_maps_stays(self):
+        """And of two of the map the lower one's; what a call is given meets in the order of the keys."""
+        a, b, c, d = [1], [1], [1], [1]
+        names = {id(a): "a", id(b): "b", id(c): "c", id(d): "d"}
+        before = [((0, 5), a), ((10, 15), b), ((20, 25), [2])]
+        for changes, after in (
+            ([((5, 7), c)], [((0, 7), "a"), ((10, 15), "b")]),
+            ([((3, 7), c)], [((0, 7), "a"), ((10, 15), "b")]),
+            ([((8, 12), c)], [((0, 5), "a"), ((8, 15), "b")]),
+            ([((5, 10), c)], [((0, 15), "a")]),
+            ([((2, 12), c)], [((0, 15), "a")]),
+            ([((0, 5), c)], [((0, 5), "c"), ((10, 15), "b")]),
+            ([((0, 10), c)], [((0, 15), "b")]),
+            ([((30, 35), c), ((35, 40), d)], [((0, 5), "a"), ((10, 15), "b"), ((30, 40), "c")]),
+            ([((35, 40), d), ((30, 35), c)], [((0, 5), "a"), ((10, 15), "b"), ((30, 40), "c")]),
+            ([((6, 8), c), ((8, 10), d)], [((0, 5), "a"), ((6, 15), "b")]),
+            ([((5, 11), c), ((12, 13), d)], [((0, 15), "a")]),
+            ([((5, 11), c), ((12, 13), "x")], [((0, 12), "a"), ((13, 15), "b")]),
+            ([((5, 9), d), ((5, 10), c)], [((0, 15), "a")]),
+        ):
+            with self.subTest(changes=changes):
+                made = RangeMap(before)
+                made.update(changes)
+                self.assertEqual([(keys, names[id(value)]) for keys, value in made.items() if id(value) in names], after)
+                self.assertEqual((len(made), {*map(id, kept(made))}), (len([*made]), {*map(id, made.values())}))
+
+    def test_only_values_that_meet_are_compared(self):
+        class Counted(Watched):
+            count = 0
+
+            def __eq__(self, other):
+                Counted.count += 1
+                return super().__eq__(other)
+
+        made = RangeMap([((10 * n, 10 * n + 5), Counted(n)) for n in range(1000)])
+        made.put(3, 4, "x")
+        made.update([((10 * n + 6, 10 * n + 8), Counted(-n)) for n in range(500)])
+        self.assertEqual(Counted.count, 0)
+        made[18:20] = Counted(7)
+        self.assertEqual(Counted.count, 2)
+        self.assertEqual((made.find(Counted(999)), Counted.count), (RangeSet([(9990, 9995)]), 2 + len({*map(id, kept(made))}) - 1))
+        # Those that a function makes are asked where they meet.
+        both = made.combine(RangeMap([((0, 10), 1)]), lambda a, b: Counted("same"))
+        self.assertEqual([*both.keys()][:4], [(0, 5), (5, 6), (6, 8), (8, 10)])
+
+    def test_values_whose_equality_is_no_answer(self):
+        """They join by identity alone."""
+
+        class Each:
+            def __init__(self, answer):
+                self.answer = answer
+
+            def __eq__(self, other):
+                if isinstance(self.answer, Exception):
+                    raise self.answer
+                return self.answer
+
+        for answer in ([True, True], [], 1, None, "yes", NotImplemented, ValueError("they don't fit")):
+            first, second = Each(answer), Each(answer)
+            made = RangeMap([((0, 5), first), ((5, 9), first), ((9, 12), second)])
+            made[3:4] = second
+            self.assertEqual([*made.items()], [((0, 3), first), ((3, 4), second), ((4, 9), first), ((9, 12), second)])
+            self.assertEqual((made.find(second), made == made.copy(), len(made)), (RangeSet([(3, 4), (9, 12)]), True, 4))
+        made = RangeMap([((0, 5), Each(True)), ((5, 9), Each(True))])
+        self.assertEqual(len(made), 1)
 
     def test_one_value_if_identical_or_equal_and_of_one_type(self):
         nan = float("nan")
@@ -817,33 +896,6 @@ class Interned(unittest.TestCase):
             gc.collect()
             self.assertEqual([it() for it in followed], [None] * 3)
 
-    def test_values_of_one_hash_and_of_some(self):
-        class Same:
-            def __init__(self, name):
-                self.name = name
-
-            def __eq__(self, other):
-                return self.name == other.name
-
-            def __hash__(self):
-                return hash_of(self.name)
-
-        for hash_of in (lambda name: -3, lambda name: name % 7, lambda name: name << 33, lambda name: name * 0x1234567890ABCDE % 2**60):
-            some, made, names = random.Random(11), RangeMap(), {}
-            for turn in range(2000):
-                key, name = some.randrange(60), some.randrange(90)
-                if some.random() < 0.3:
-                    made.remove(key, key + 1)
-                    names.pop(key, None)
-                else:
-                    made.put(key, key + 1, Same(name))
-                    names[key] = name
-                self.assertEqual(sorted(it.name for it in kept(made)), sorted({*names.values()}))
-            for it in (made, made.copy()):
-                self.assertEqual({key: it[key].name for key in range(60) if key in it}, names)
-                for name in range(90):
-                    self.assertEqual([*it.find(Same(name)).members()], sorted(key for key in names if names[key] == name))
-
     def test_values_that_come_and_go_take_no_more_memory(self):
         made = RangeMap([((0, 5), 0)])
         tracemalloc.start()
@@ -851,27 +903,6 @@ class Interned(unittest.TestCase):
         for number in range(5000):
             made.put(0, 5, -number)
         self.assertLess(tracemalloc.get_traced_memory()[0], 20000)
-
-    def test_a_hash_that_changes(self):
-        """A value may be kept twice then, and each of its ranges has it."""
-
-        class Moody:
-            number = 1
-
-            def __hash__(self):
-                return self.number
-
-        value = Moody()
-        made = RangeMap([((0, 5), value)])
-        value.number = 2
-        made[5:9] = value
-        for it in (made, made.copy(), made[:], made[3:7]):
-            self.assertEqual((len(it), [*it.values()]), (2, [value] * 2))
-            it[6:8] = "a"
-            del it[:6]
-            self.assertEqual(len(it), len([*it]))
-            it.clear()
-            self.assertEqual(kept(it), [])
 
     def test_cycles_are_collected(self):
         for cycle in (lambda made: made, lambda made: [made], lambda made: {"m": made}):
@@ -964,13 +995,13 @@ class Interned(unittest.TestCase):
             __hash__ = Hashed.__hash__
 
         made = RangeMap([((0, 5), Copying("a"))])
-        made.update([((7, 8), Copying("a")), ((9, 10), Copying("b")), ((11, 12), Copying("b"))])
+        made.update([((5, 8), Copying("c")), ((9, 10), Copying("b")), ((10, 11), Copying("a")), ((12, 13), Copying("b"))])
         self.assertEqual([len(it) for it in copies], [1] * len(copies))
         self.assertTrue(copies)
         for it in copies:
             self.assertEqual([*map(id, kept(it))], [id(made[0])])
             it[0:1] = "x"
-        self.assertEqual(len(made), 4)
+        self.assertEqual(len(made), 5)
 
     def test_a_map_isnt_seen_before_it_is_whole(self):
         def how(a, b):
@@ -1033,9 +1064,10 @@ class Changing:
 
 
 class ChangingHash(Changing):
+    """The same with a hash, which no map asks for."""
+
     def __hash__(self):
-        self.run()
-        return 7
+        raise AssertionError("a hash")
 
 
 class Meanwhile(unittest.TestCase):
@@ -1065,7 +1097,7 @@ class Meanwhile(unittest.TestCase):
             keys, first = next(left)
         finally:
             del kind.value
-        self.assertEqual((keys, first.name, [*left]), ((date(2026, 1, 1), date(2026, 1, 2)), "1", []))
+        self.assertEqual((keys, first.name), ((date(2026, 1, 1), date(2026, 1, 2)), "1"))
 
     def test_an_iterator_keeps_its_map(self):
         made = RangeMap([((0, 5), Watched("a")), ((7, 9), "b")])
@@ -1123,7 +1155,7 @@ class Meanwhile(unittest.TestCase):
                     self.assertEqual(made.get(1), "a" if name == "set" else None)
 
     def test_changes_while_a_value_is_sought(self):
-        """Whatever an `==` or a hash does to the table of values, a call ends with what then holds."""
+        """Whatever an `==` does to the table of values, a call ends with what then holds."""
 
         def more():
             made.update([((100 + 2 * n, 101 + 2 * n), [n]) for n in range(50)])
@@ -1145,15 +1177,11 @@ class Meanwhile(unittest.TestCase):
                     self.see_whole(made)
 
     def test_changes_while_maps_are_combined(self):
-        """The function, and a hash or an `==` of what it makes, may change both maps, make more of them, or raise an error."""
+        """The function, and an `==` of what it makes, may change both maps, make more of them, or raise an error."""
 
         class Odd:
             def __init__(self, is_one):
                 self.is_one = is_one
-
-            def __hash__(self):
-                run("hash")
-                return 7
 
             def __eq__(self, other):
                 run("==")
@@ -1172,7 +1200,7 @@ class Meanwhile(unittest.TestCase):
 
         items, others = [((0, 5), [1]), ((5, 9), [2]), ((20, 30), [3])], [((3, 7), [4]), ((25, 40), [5])]
         for where, is_one, change in product(
-            ("how", "hash", "=="),
+            ("how", "=="),
             (False, True),
             (
                 lambda: left.clear(),
@@ -1198,16 +1226,16 @@ class Meanwhile(unittest.TestCase):
                 self.see_whole(right)
 
     def test_changes_while_values_are_dropped(self):
-        """The end of a value puts in again what is about to be dropped too, while a hash has that dropped."""
+        """The end of a value puts in again what is about to be dropped too, while an `==` has that dropped."""
 
         class Ends:
             def __del__(self):
-                made.update([((5, 6), [1]), ((7, 8), ChangingHash(lambda: made.put(20, 21, "z")))])
+                made.update([((5, 6), [1]), ((7, 8), Changing(lambda: made.put(20, 21, "z"))), ((8, 9), Changing(None))])
 
         made = RangeMap([((0, 1), [1]), ((1, 2), Ends()), ((2, 3), [2])])
         del made[:]
         gc.collect()
-        self.assertEqual([*made][:3], [(5, 6), (7, 8), (20, 21)])
+        self.assertEqual([*made][:3], [(5, 6), (7, 9), (20, 21)])
         self.assertEqual((made[5], made[20]), ([1], "z"))
         self.see_whole(made)
 
@@ -1243,51 +1271,56 @@ class Meanwhile(unittest.TestCase):
         self.see_whole(made)
 
     def test_a_kind_that_is_decided_meanwhile(self):
-        for keys, value in ((slice(3, 7), ChangingHash), (slice(Changing, 7), str)):
+        for call in (
+            lambda change: made.put(Changing(change), 7, "b"),
+            lambda change: made.update([((3, 5), Changing(change)), ((5, 7), Changing(None))]),
+        ):
             made = RangeMap()
-
-            def change():
-                made[1.5:2.5] = "a"
-
-            start = keys.start(change) if keys.start is Changing else keys.start
-            made[start : keys.stop] = value(change)
+            call(lambda: made.put(1.5, 2.5, "a"))
             self.assertEqual([keys for keys, _ in made.items()], [(1.5, 2.5), (3.0, 7.0)])
             self.see_whole(made)
 
-    def test_a_hash_that_raises(self):
-        made = RangeMap([((0, 10), "a"), ((20, 30), 7)])
-        for call in (
-            lambda: made.put(5, 25, ChangingHash(lambda: 1 // 0)),
-            lambda: made.update([((5, 25), "b"), ((3, 4), ChangingHash(lambda: 1 // 0))]),
-            lambda: made.find(ChangingHash(lambda: 1 // 0)),
-        ):
-            self.assertRaises(ZeroDivisionError, call)
-            self.assertEqual(list(made.items()), [((0, 10), "a"), ((20, 30), 7)])
+    def test_an_equality_that_changes_the_map_again_and_again(self):
+        """Neighbours are compared anew, until one comparison changes nothing."""
+
+        class Restless(Watched):
+            left = 20
+
+            def __eq__(self, other):
+                if Restless.left > 0:
+                    Restless.left -= 1
+                    made[50:52] = str(Restless.left)
+                return True
+
+        for call in (lambda: made.put(5, 9, Restless("b")), lambda: made.update([((9, 12), 7), ((7, 9), Restless("b")), ((5, 8), Restless("c"))])):
+            made, Restless.left = RangeMap([((0, 5), Restless("a"))]), 20
+            call()
+            self.assertEqual(([*made][0], made[8].name, made[50], Restless.left), ((0, 9), "a", "0", 0))
             self.see_whole(made)
 
-    def test_a_hash_that_raises_afterwards(self):
-        value = ChangingHash(None)
-        made = RangeMap([((0, 10), value), ((20, 30), 7)])
-        value.change = lambda: 1 // 0
-        del made[0:25]
-        self.assertEqual(list(made.items()), [((25, 30), 7)])
-        self.see_whole(made)
-
-    def test_items_of_a_map_that_grows(self):
+    def test_a_loop_that_puts_ranges_in_ends(self):
+        """As over a dict: it may give the ranges that it reads other values, and else raises an error, however the map changes."""
+        for change in (
+            lambda keys: made.put(keys[1] + 1, keys[1] + 3, "c"),
+            lambda keys: made.remove(*keys),
+            lambda keys: made.put(0, 20, "c"),
+            lambda keys: (made.clear(), made.put(7, 9, "d")),
+        ):
+            for loop in (lambda: made.items(), lambda: made.keys(), lambda: made, lambda: ((it, made[it[0]]) for it in made)):
+                made, count = RangeMap([((0, 5), "a"), ((7, 9), "b"), ((11, 13), "c")]), 0
+                with self.assertRaisesRegex(RuntimeError, "more or fewer ranges"):
+                    for it in loop():
+                        change(it if isinstance(it[1], int) else it[0])
+                        count += 1
+                        self.assertLess(count, 9)
+                self.assertEqual(count, 1)
         made = RangeMap([((0, 5), "a"), ((7, 9), "b")])
-        left = made.items()
-        self.assertEqual(next(left), ((0, 5), "a"))
-        made[0:20] = "c"
-        self.assertEqual(list(left), [((5, 20), "c")])
-
-    def test_items_of_a_map_that_is_cleared(self):
-        made = RangeMap([((0, 5), "a"), ((7, 9), "b"), ((11, 13), "c")])
-        left = made.items()
-        next(left)
-        made.clear()
-        made[7:9] = "d"
-        made[11:12] = "e"
-        self.assertEqual((list(left), list(made.items())), ([((7, 9), "d"), ((11, 12), "e")],) * 2)
+        for keys, value in made.items():
+            made.put(*keys, value + "!")
+        self.assertEqual([*made.items()], [((0, 5), "a!"), ((7, 9), "b!")])
+        for keys, value in list(made.items()):
+            del made[keys[0] : keys[1]]
+        self.assertEqual(len(made), 0)
 
     def test_changes_by_the_collector(self):
         """Owners that give their range back when Python's collector ends them, perhaps within a call."""
@@ -1310,7 +1343,9 @@ class Meanwhile(unittest.TestCase):
             start = some.randrange(300)
             Owner(start, start + some.randrange(1, 9))
             for call in (made.items, made.copy, made.domain, lambda: [made.find("a")], lambda: made.combine(made, lambda a, _: a).items()):
-                list(call())
+                # An owner may end within a step.
+                with contextlib.suppress(RuntimeError):
+                    list(call())
             gc.disable()
             self.see_whole(made)
             gc.enable()
@@ -1459,12 +1494,6 @@ class OtherForms(unittest.TestCase):
         for made in (RangeMap([((0, 10), "a"), ((20, None), "b")]), RangeMap(), RangeMap([((0, 1), "a")], unsigned=True)):
             self.assertEqual(eval(repr(made)), made)
         self.assertEqual(repr(RangeMap(kind="date")), "RangeMap(kind='date')")
-
-    def test_items_while_the_map_changes(self):
-        made = RangeMap([((10 * i, 10 * i + 5), i) for i in range(5)])
-        for keys, value in made.items():
-            del made[keys[0] : keys[1]]
-        self.assertEqual(len(made), 0)
 
 
 class Unsigned(unittest.TestCase):

@@ -6,6 +6,7 @@ import random
 import threading
 import time
 import unittest
+import warnings
 from datetime import date, datetime, timedelta, timezone
 from ipaddress import IPv4Address
 
@@ -577,6 +578,19 @@ class ManyAtOnce(unittest.TestCase):
             self.assertTrue(all(a is b for a, b in zip(found.reshape(-1), expected, strict=True)), case)
         gone = RangeMap([((0.0, None), "some")]).get(numpy.array([numpy.nan, 1.0]), [7, 8])
         self.assertEqual(gone.tolist(), [[7, 8], "some"])
+
+    def test_arrays_as_values(self):
+        """They join by identity alone, whatever their shapes; numpy's numbers by `==`."""
+        first, again, longer = numpy.array([1, 2]), numpy.array([1, 2]), numpy.array([1, 2, 3])
+        made = RangeMap([((0, 5), first), ((5, 7), first), ((7, 9), again), ((9, 12), numpy.array([4])), ((12, 15), numpy.array([4]))])
+        with warnings.catch_warnings():
+            # What some versions answer of two shapes.
+            warnings.simplefilter("ignore")
+            made[3:4] = longer
+            self.assertEqual([*made.keys()], [(0, 3), (3, 4), (4, 7), (7, 9), (9, 12), (12, 15)])
+            self.assertEqual((made.find(first), made.find(numpy.array([1, 2])), made == made.copy()), (RangeSet([(0, 3), (4, 7)]), RangeSet(), True))
+        made = RangeMap([((0, 5), numpy.int64(7)), ((5, 9), numpy.int64(7)), ((9, 12), numpy.int32(7))])
+        self.assertEqual((len(made), made.find(numpy.int64(7))), (2, RangeSet([(0, 9)])))
 
     def test_what_the_compiled_module_is_given(self):
         steps, keys = RangeMap([((0, 10), "low")])._steps, i64(5, 15)

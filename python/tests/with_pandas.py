@@ -173,6 +173,14 @@ class Frames(unittest.TestCase):
         naive = RangeMap({pair: "a"})
         self.assertEqual((naive.kind, naive[of_frame], naive.get(frame["start"]).tolist()), ("datetime64[ns]", naive, ["a"]))
 
+    def test_frames_as_values(self):
+        """They join by identity alone."""
+        other = self.frame.drop(columns="name")
+        made = RangeMap([((0, 5), self.frame), ((5, 9), self.frame), ((9, 12), self.frame.copy()), ((12, 15), other), ((15, 20), pandas.NA)])
+        made[3:7] = self.frame["start"]
+        self.assertEqual([*made.keys()], [(0, 3), (3, 7), (7, 9), (9, 12), (12, 15), (15, 20)])
+        self.assertEqual((made.find(self.frame), made.find(pandas.NA)), (RangeSet([(0, 3), (7, 9)]), RangeSet([(15, 20)])))
+
     def test_back_to_a_frame(self):
         day = pandas.Timestamp("2026-05-01")
         for made in (

@@ -1,7 +1,7 @@
 /* Changes of a map, which are all done or none, and what is put into another. It is tested, not proved.
  *
- * Each call is whole by the interpreter's lock: what a call is given is read first, which may run Python's code, and from its look at
- * the map's kind on it runs none until all is done. */
+ * Each call is whole by the interpreter's lock: values whose ranges touch are compared first, which may run Python's code, and from a
+ * look at the map that finds it as it was then, no code runs until all is done. */
 #include "_maps.h"
 
 /* What a stretch has of a range, from a key on. */
@@ -131,21 +131,79 @@ void drop_unused(Steps *self)
     if (self->undo_len == 0) drop_left(&self->values);
 }
 
-/* Does all changes or none. A single one is whole by itself. Out of a map that had nothing all is taken again, and what it has is
- * counted once, if it isn't put in order. */
+/* Does all changes, which are in order, or none. A single one is whole by itself. Out of a map that had nothing all is taken again. */
 static bool change_all(Steps *self, const Change *changes, size_t count)
 {
-    bool had_any = self->len > 0, in_order = !had_any && are_in_order(self, changes, count);
+    bool had_any = self->len > 0;
     range_set_status status = !had_any && count > 1 ? note(self, ALL(self)) : RANGE_SET_DONE;
-    if (in_order && status == RANGE_SET_DONE) status = put_in_order(self, changes, count);
-    for (size_t i = 0; status == RANGE_SET_DONE && !in_order && i < count; i++) {
-        if (had_any && count > 1) status = note(self, changes[i].range);
-        if (status == RANGE_SET_DONE) status = had_any ? change(self, changes[i]) : put(self, changes[i].range, changes[i].number);
+    if (!had_any && status == RANGE_SET_DONE) status = put_in_order(self, changes, count);
+    for (size_t i = 0; status == RANGE_SET_DONE && had_any && i < count; i++) {
+        if (count > 1) status = note(self, changes[i].range);
+        if (status == RANGE_SET_DONE) status = change(self, changes[i]);
     }
-    if (!had_any && !in_order) count_in(self, ALL(self), 1);
     if (status == RANGE_SET_DONE) forget_undo(self);
     else if (settle(self)) raise_status(status, 0);
     return status == RANGE_SET_DONE;
+}
+
+/* ---- Neighbours ---- */
+
+/* Whether two numbers are those of values that are one; -1 where their `==` raises an error. */
+static int are_of_one(const Steps *self, size_t a, size_t b)
+{
+    if (a == NONE || b == NONE) return 0;
+    return a == b ? 1 : are_one(self->values.places[a].value, self->values.places[b].value);
+}
+
+Py_ssize_t join(const Steps *self, const Change *pieces, size_t count, Change *joined)
+{
+    uint64_t seen = self->changes;
+    size_t len = 0;
+    /* Whether the last one's value stood in the map before. */
+    bool is_known = false;
+    for (size_t i = 0; i < count; i++) {
+        const Change *it = &pieces[i];
+        Change *last = len > 0 ? &joined[len - 1] : NULL;
+        bool touches = last != NULL && last->range.has_end && last->range.end == it->range.start;
+        size_t number = touches ? last->number : NONE, above;
+        if (!touches && self->len > 0 && it->range.start != LEAST(self)) number = number_at(self, it->range.start - 1);
+        int is_one = are_of_one(self, number, it->number);
+        if (is_one < 0 || self->changes != seen) return is_one;
+        if (touches && is_one) {
+            last->range = (Range){last->range.start, it->range.end, it->range.has_end};
+        } else {
+            last = &joined[len++];
+            *last = (Change){it->range, is_one ? number : it->number};
+            is_known = is_one;
+        }
+        bool has_next = i + 1 < count;
+        Range up_to = {last->range.end, has_next ? pieces[i + 1].range.start : 0, has_next};
+        if (self->len == 0 || !last->range.has_end || (has_next && up_to.start == up_to.end)) continue;
+        above = number_at(self, up_to.start);
+        is_one = are_of_one(self, last->number, above);
+        if (is_one < 0 || self->changes != seen) return is_one;
+        if (is_one && is_known && last->number != above) {
+            Stretch all = stretch_at(self, up_to.start);
+            last->range = cut(self, &all, up_to, last->range.start);
+        }
+        if (is_one && !is_known) last->number = above;
+        is_known = is_known || is_one;
+    }
+    return len;
+}
+
+/* Lays changes over each other, of which none takes a value away, in a map of their own; and returns what is left of each, in order. */
+static Change *laid_over(Steps *laid, const Change *changes, size_t *count)
+{
+    range_set_status status = make_handle(laid);
+    for (size_t i = 0; status == RANGE_SET_DONE && i < *count; i++) status = put(laid, changes[i].range, changes[i].number);
+    /* Each puts two ends in at most. */
+    Change *pieces = status == RANGE_SET_DONE ? PyMem_Malloc(2 * *count * sizeof *pieces) : NULL;
+    Stretch it;
+    *count = 0;
+    for (Walk walk = {ALL(laid)}; pieces != NULL && step(laid, &walk, &it);)
+        pieces[(*count)++] = (Change){{it.start, it.end, it.has_end}, it.value};
+    return pieces;
 }
 
 /* Reads ranges: a list of the library's own, or their ends in turn as numbers in bytes. */
@@ -173,16 +231,14 @@ static Range range_of(const Steps *self, const List *ranges, size_t place)
     return range;
 }
 
-/* Reads what each range gets, from a tuple of values or None, up to where the code of a value raises an error. */
+/* Reads what each range gets, from a tuple of values or None, and keeps the values, as far as there is memory. */
 static size_t read_changes(Steps *self, const List *ranges, PyObject *values, Change *changes)
 {
     for (size_t i = 0; i < count_of(ranges); i++) {
         changes[i] = (Change){range_of(self, ranges, i), NONE};
-        PyObject *value = values == Py_None ? NULL : PyTuple_GET_ITEM(values, i);
-        /* The ranges of a set have one value. */
-        if (value == NULL) continue;
-        if (i > 0 && value == PyTuple_GET_ITEM(values, i - 1)) changes[i].number = keep_again(&self->values, changes[i - 1].number);
-        else if (!keep_value(&self->values, value, &changes[i].number)) return i;
+        if (values == Py_None) continue;
+        if (!find_or_add(&self->values, PyTuple_GET_ITEM(values, i), &changes[i].number)) return i;
+        self->values.places[changes[i].number].calls++;
     }
     return count_of(ranges);
 }
@@ -195,30 +251,63 @@ PyObject *take_kind(Steps *self, PyObject *kind)
     return before;
 }
 
+/* Takes all that a map has which nothing else reads, and leaves it nothing. */
+static bool take_over(Steps *self, Steps *laid)
+{
+    Handle before = self->handle;
+    self->handle = laid->handle;
+    laid->handle = before;
+    self->changes++;
+    count_in(self, ALL(self), 1);
+    return true;
+}
+
+/* Changes a map of a kind, or returns False if it has another by now. Where an `==` changes the map, neighbours are compared anew. */
+static PyObject *change_joined(Steps *self, const Change *pieces, size_t count, PyObject *kind, Steps *laid)
+{
+    Change *joined = PyMem_Malloc(count * sizeof *joined);
+    uint64_t seen = 0;
+    Py_ssize_t len = -1;
+    if (joined == NULL) return PyErr_NoMemory();
+    do {
+        if (!settle(self)) break;
+        seen = self->changes;
+        len = self->kind == kind ? join(self, pieces, count, joined) : 0;
+    } while (len >= 0 && self->changes != seen);
+    bool is_kind = self->kind == kind, is_alone = laid->handle.u64.at != NULL && self->len == 0 && (size_t)len == count;
+    bool is_done = len >= 0 && is_kind && (is_alone ? take_over(self, laid) : change_all(self, joined, len));
+    PyMem_Free(joined);
+    return is_done ? Py_True : len >= 0 && !is_kind ? Py_False : NULL;
+}
+
 /* Is given ranges, their values in a tuple, or None to take theirs away, the kind that the map was seen to have and the one that it
- * takes. All is done or nothing; False if the map has another kind by now. */
+ * takes. All is done or nothing; False if the map has another kind by now. Without kinds a map that has nothing takes what
+ * `ends_and_values` returned of another, as it is. */
 PyObject *steps_change(Steps *self, PyObject *const *args, Py_ssize_t n)
 {
     List ranges;
     PyObject *answer = NULL, *before = NULL;
-    if (!has_arguments(n, 4) || !read_ranges(self, args[0], &ranges)) return NULL;
-    size_t count = count_of(&ranges);
-    if (args[1] != Py_None && (!PyTuple_CheckExact(args[1]) || (size_t)PyTuple_GET_SIZE(args[1]) != count))
+    bool is_copy = n == 2;
+    if (!(is_copy || has_arguments(n, 4)) || !read_ranges(self, args[0], &ranges)) return NULL;
+    size_t count = count_of(&ranges), len = count;
+    bool has_values = PyTuple_CheckExact(args[1]);
+    if (!(args[1] == Py_None && !is_copy) && !(has_values && (size_t)PyTuple_GET_SIZE(args[1]) == count))
         return PyErr_Format(PyExc_TypeError, "expected a tuple with a value for each range");
-    Change *changes = PyMem_Malloc(count * sizeof *changes);
+    Change *changes = PyMem_Malloc(count * sizeof *changes), *pieces = changes;
+    Steps laid = {.is_signed = self->is_signed};
     if (changes == NULL) return PyErr_NoMemory();
     size_t read = read_changes(self, &ranges, args[1], changes);
-    if (read == count && settle(self)) {
-        if (self->kind != args[2]) {
-            answer = Py_False;
-        } else if (change_all(self, changes, count)) {
-            answer = Py_True;
-            if (count > 0) before = take_kind(self, args[3]);
-        }
-    }
+    bool in_order = read < count || !has_values || are_in_order(self, changes, count);
+    if (!in_order && !is_copy && (pieces = laid_over(&laid, changes, &len)) == NULL) PyErr_NoMemory();
+    else if (is_copy && (!in_order || self->len > 0)) refuse(PyExc_ValueError, "the ranges of a map are in order, each above the one before");
+    else if (read == count && is_copy) answer = settle(self) && change_all(self, pieces, len) ? Py_True : NULL;
+    else if (read == count) answer = change_joined(self, pieces, len, args[2], &laid);
+    if (answer == Py_True && count > 0 && !is_copy) before = take_kind(self, args[3]);
     while (read-- > 0) {
         if (changes[read].number != NONE) let_go(&self->values, changes[read].number);
     }
+    if (pieces != changes) PyMem_Free(pieces);
+    free_handle(&laid);
     PyMem_Free(changes);
     Py_XDECREF(before);
     drop_unused(self);
@@ -227,23 +316,14 @@ PyObject *steps_change(Steps *self, PyObject *const *args, Py_ssize_t n)
 
 /* ---- Parts ---- */
 
-/* The number of a value in another map, which may get it by this. */
-static size_t twin_of(Steps *self, size_t number, Values *values)
-{
-    Value *it = &self->values.places[number];
-    const Value *twin = it->twin < values->room ? &values->places[it->twin] : NULL;
-    if (twin == NULL || twin->value != it->value || twin->hash != it->hash) it->twin = add_value(values, it->value, it->hash);
-    return it->twin;
-}
-
 /* Puts what the keys of a range have into another map, which has nothing from there on. */
 static bool put_part(Steps *self, Range range, Steps *made)
 {
     range_set_status status = RANGE_SET_DONE;
     Stretch it;
     for (Walk walk = {range, true}; status == RANGE_SET_DONE && step(self, &walk, &it);) {
-        size_t number = twin_of(self, it.value, &made->values);
-        if (number == NONE) return false;
+        size_t number;
+        if (!find_or_add(&made->values, value_of(self, &it), &number)) return false;
         status = put(made, cut(self, &it, range, it.start), number);
         count_ranges(&made->values, number, 1);
         made->len++;

@@ -13,8 +13,6 @@ typedef struct {
     size_t len;
     /* The first piece of each pair that more may have. */
     Numbers firsts;
-    /* By the number of a value of a map the one that it has in the map that is made, or NONE if it wasn't asked for. */
-    size_t *own[2];
 } Meeting;
 
 static void forget(Meeting *meeting)
@@ -22,16 +20,6 @@ static void forget(Meeting *meeting)
     PyMem_Free(meeting->pieces);
     PyMem_Free(meeting->pairs);
     PyMem_Free(meeting->firsts.slots);
-    PyMem_Free(meeting->own[0]);
-    PyMem_Free(meeting->own[1]);
-}
-
-/* NONE for each number of a value of a map. */
-static size_t *none_of(const Steps *self)
-{
-    size_t *numbers = PyMem_Malloc(self->values.room * sizeof *numbers);
-    for (size_t i = 0; numbers != NULL && i < self->values.room; i++) numbers[i] = NONE;
-    return numbers;
 }
 
 /* The stretch from a key on, which may have no value: of a walk, and the range that it gave last. */
@@ -57,10 +45,7 @@ static bool meet(Meeting *meeting)
     size_t most = 2 * (self->len + other->len);
     meeting->pieces = PyMem_Malloc(most * sizeof *meeting->pieces);
     meeting->pairs = PyMem_Malloc(most * sizeof *meeting->pairs);
-    meeting->own[0] = none_of(self);
-    meeting->own[1] = none_of(other);
-    if (meeting->pieces == NULL || meeting->pairs == NULL || meeting->own[0] == NULL || meeting->own[1] == NULL)
-        return PyErr_NoMemory() != NULL;
+    if (meeting->pieces == NULL || meeting->pairs == NULL) return PyErr_NoMemory() != NULL;
     while (a.has_end || b.has_end) {
         if (a.has_end && a.end == at) a = stretch_on(self, &of_mine, &next, at);
         if (b.has_end && b.end == at) b = stretch_on(other, &of_theirs, &other_next, at);
@@ -78,16 +63,6 @@ static bool meet(Meeting *meeting)
     return true;
 }
 
-/* Finds the number in the map that is made of the value of a map that stays. */
-static bool keep_own(Meeting *meeting, int side, size_t number, size_t *found)
-{
-    const Value *it = &meeting->maps[side]->values.places[number];
-    size_t *own = &meeting->own[side][number];
-    if (*own == NONE && !find_or_add(&meeting->made->values, it->value, it->hash, own)) return false;
-    *found = *own;
-    return true;
-}
-
 /* Makes a value of a pair. */
 static bool make_value(Meeting *meeting, const size_t *pair, size_t *number)
 {
@@ -95,8 +70,7 @@ static bool make_value(Meeting *meeting, const size_t *pair, size_t *number)
     for (int i = 0; i < 2; i++)
         both[i] = pair[i] == NONE ? meeting->missing : meeting->maps[i]->values.places[pair[i]].value;
     PyObject *value = PyObject_Vectorcall(meeting->how, both, 2, NULL);
-    Py_hash_t hash;
-    bool is_kept = value != NULL && hash_of(value, &hash) && find_or_add(&meeting->made->values, value, hash, number);
+    bool is_kept = value != NULL && find_or_add(&meeting->made->values, value, number);
     Py_XDECREF(value);
     return is_kept;
 }
@@ -116,7 +90,7 @@ static bool make_once(Meeting *meeting, size_t piece)
     return make_value(meeting, pair, number) && add_number(&meeting->firsts, hash, piece);
 }
 
-/* Leaves with each piece the number of what is made of its pair, in order and once for each pair. */
+/* Leaves with each piece the number of what is made of its pair, in order and once for each pair, and joins the pieces. */
 static bool make_values(Meeting *meeting)
 {
     bool fits = true;
@@ -124,10 +98,13 @@ static bool make_values(Meeting *meeting)
         const size_t *pair = meeting->pairs[i];
         size_t *number = &meeting->pieces[i].number;
         int side = pair[0] == NONE;
-        if (meeting->missing == NULL && pair[!side] == NONE) fits = keep_own(meeting, side, pair[side], number);
+        if (meeting->missing == NULL && pair[!side] == NONE)
+            fits = find_or_add(&meeting->made->values, meeting->maps[side]->values.places[pair[side]].value, number);
         else fits = *number == NONE ? make_value(meeting, pair, number) : make_once(meeting, i);
     }
-    return fits;
+    Py_ssize_t len = fits ? join(meeting->made, meeting->pieces, meeting->len, meeting->pieces) : -1;
+    meeting->len = len;
+    return len >= 0;
 }
 
 /* Another map of what a function makes of the values of both, once for each pair that meets. Is given the other map, the function, and
@@ -162,5 +139,6 @@ PyObject *steps_combine(Steps *self, PyObject *const *args, Py_ssize_t n)
     else Py_CLEAR(made);
     drop_unused(self);
     drop_unused(other);
+    if (fits) drop_unused(made);
     return (PyObject *)made;
 }

@@ -262,9 +262,9 @@ class MapQuestions(Attributes, Generic[K, V]):
         return RangeSet._over(self._steps.domain(None, None), self._kind)
 
     def find(self, value: V) -> RangeSet:
-        """The keys that have this value.
+        """The keys that have this value, or an equal one of its type.
 
-        Cost: goes over all ranges.
+        Cost: goes over all ranges, and an `==` for each object.
 
         >>> RangeMap([((0, 10), "low"), ((10, 30), "high"), ((30, 35), "low")]).find("low")
         RangeSet([(0, 10), (30, 35)])

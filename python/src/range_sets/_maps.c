@@ -63,21 +63,25 @@ static bool read_key(Steps *self, PyObject *const *args, Py_ssize_t n, Py_ssize_
     return has_arguments(n, wanted) && read_number(args[0], self->is_signed, key) && settle(self);
 }
 
-/* Finds the value of a key, if it has one. */
-static void get(const Steps *self, uint64_t key, Stretch *it)
+size_t number_at(const Steps *self, uint64_t key)
 {
-    it->has_value = self->is_signed ? range_map_i64_get(self->handle.i64, (int64_t)key, &it->value)
-                                    : range_map_u64_get(self->handle.u64, key, &it->value);
+    uint64_t number = NONE;
+    if (self->is_signed) range_map_i64_get(self->handle.i64, (int64_t)key, &number);
+    else range_map_u64_get(self->handle.u64, key, &number);
+    return number;
+}
+
+/* The value of a number, or what is given for none. */
+static PyObject *value_or(const Steps *self, size_t number, PyObject *nothing)
+{
+    return Py_NewRef(number == NONE ? nothing : self->values.places[number].value);
 }
 
 /* The value of a key, or what is given for none. */
 static PyObject *steps_get(Steps *self, PyObject *const *args, Py_ssize_t n)
 {
     uint64_t key;
-    Stretch it;
-    if (!read_key(self, args, n, 2, &key)) return NULL;
-    get(self, key, &it);
-    return Py_NewRef(it.has_value ? value_of(self, &it) : args[1]);
+    return read_key(self, args, n, 2, &key) ? value_or(self, number_at(self, key), args[1]) : NULL;
 }
 
 /* The longest range around a key whose keys have its value, or none. */
@@ -112,10 +116,8 @@ static PyObject *steps_get_each(Steps *self, PyObject *const *args, Py_ssize_t n
         fits = (size_t)PyBytes_GET_SIZE(args[1]) == keys.len && keys.is_signed == self->is_signed && strcmp(out.format, "O") == 0
                && (size_t)out.len == keys.len * sizeof *found && settle(self);
         for (size_t i = 0; fits && i < keys.len; i++) {
-            Stretch it = {.has_value = false};
-            if (!gone[i]) get(self, ((const uint64_t *)keys.items)[i], &it);
             PyObject *before = found[i];
-            found[i] = Py_NewRef(it.has_value ? value_of(self, &it) : args[2]);
+            found[i] = value_or(self, gone[i] ? NONE : number_at(self, ((const uint64_t *)keys.items)[i]), args[2]);
             Py_XDECREF(before);
         }
         PyBuffer_Release(&out);
@@ -136,6 +138,17 @@ static PyObject *steps_kind(Steps *self, void *unused)
 }
 
 /* ---- New maps ---- */
+
+range_set_status make_handle(Steps *self)
+{
+    return self->is_signed ? range_map_i64_new(&self->handle.i64) : range_map_u64_new(&self->handle.u64);
+}
+
+void free_handle(Steps *self)
+{
+    if (self->is_signed) range_map_i64_free(&self->handle.i64);
+    else range_map_u64_free(&self->handle.u64);
+}
 
 /* A map without a handle yet. */
 static Steps *empty_steps(PyTypeObject *type, bool is_signed)
@@ -159,8 +172,7 @@ static Steps *with_handle(Steps *self, range_set_status status)
 Steps *new_steps(PyTypeObject *type, bool is_signed)
 {
     Steps *self = empty_steps(type, is_signed);
-    if (self == NULL) return NULL;
-    return with_handle(self, is_signed ? range_map_i64_new(&self->handle.i64) : range_map_u64_new(&self->handle.u64));
+    return self == NULL ? NULL : with_handle(self, make_handle(self));
 }
 
 /* Another map with the same values. */
@@ -201,8 +213,7 @@ static int steps_traverse(Steps *self, visitproc visit, void *arg)
 /* Leaves a map that has nothing, and takes nothing more. */
 static int steps_clear(Steps *self)
 {
-    if (self->is_signed) range_map_i64_free(&self->handle.i64);
-    else range_map_u64_free(&self->handle.u64);
+    free_handle(self);
     forget_undo(self);
     self->len = 0;
     self->changes++;

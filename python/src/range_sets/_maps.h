@@ -41,6 +41,9 @@ typedef range_map_u64_stretch Stretch;
 /* The longest range around a key whose keys have one value, or all have none. */
 Stretch stretch_at(const Steps *self, uint64_t key);
 
+/* The number of a key's value, or NONE. */
+size_t number_at(const Steps *self, uint64_t key);
+
 /* Whether a stretch ends below a range's end. */
 bool ends_below(const Steps *self, const Stretch *it, Range range);
 
@@ -61,11 +64,20 @@ typedef struct {
 /* Reads the next range. What was read isn't read again, also if a change came between. */
 bool step(const Steps *self, Walk *walk, Stretch *it);
 
+/* Makes the library's map of one, and frees it. */
+range_set_status make_handle(Steps *self);
+void free_handle(Steps *self);
+
 /* A map without a kind yet. */
 Steps *new_steps(PyTypeObject *type, bool is_signed);
 
 /* Does changes of ranges in order, each of which begins where the one before ends or above, in a map that has nothing there. */
 range_set_status put_in_order(Steps *self, const Change *changes, size_t count);
+
+/* Gives pieces that touch a range with an equal value its number: one of these before, or one of the map. Of two values of the map the lower
+ * one's stays. They are in order, and the last list has room for as many. Returns how many ranges these are, or -1 where an `==` raises an
+ * error; or breaks off where one changes the map. */
+Py_ssize_t join(const Steps *self, const Change *pieces, size_t count, Change *joined);
 
 /* Goes back to what the map was before changes that were refused memory midway; and forgets what it was. */
 bool settle(Steps *self);

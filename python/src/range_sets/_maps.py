@@ -30,8 +30,9 @@ Items = Union["RangeMap[K, V]", Mapping[Any, V], Iterable[tuple[Union[Pair[K], l
 class RangeMap(MapQuestions[K, V]):
     """A map that gives ranges of whole numbers, times or other elements values. It is changed in place, and has no hash.
 
-    A key has the value of the last range that was put around it, or none. Ranges that touch and have one value are one. Two values are
-    one if they are identical, or of one type and equal.
+    A key has the value of the last range that was put around it, as a dict has it, or none. Ranges that touch are one if they have one
+    value. Two values are one if they are identical, or of one type and equal; then the map's own stays. An `==` that answers no bool, as
+    of numpy's arrays, or raises a ValueError, says no.
 
     >>> bookings = RangeMap([((9, 12), "Ada")])
     >>> bookings[11:14] = "Bob"
@@ -50,9 +51,11 @@ class RangeMap(MapQuestions[K, V]):
     value holds. Keys are of one kind, as those of a `RangeSet`, and the length is the number of ranges. In brackets a key has a value,
     and a slice, a `range`, a network or a set is a part: it is changed, or read as another map.
 
-    Calls that touch a few ranges take some microseconds also of a million, and `items`, `domain`, `find` and `==` go over all. A
-    value without a hash is compared with each other one that has none. To checkers of types it is a `RangeMap[K, V]`. They refuse
-    slices of dates: `put` and `remove` do the same.
+    Calls that touch a few ranges take some microseconds also of a million, and `items`, `domain`, `find` and `==` go over all. To
+    checkers of types it is a `RangeMap[K, V]`. They refuse slices of dates: `put` and `remove` do the same.
+
+    A loop over a map may give the ranges that it reads other values. One that leaves it more or fewer ranges raises a RuntimeError, as
+    over a dict: go over `list(m.items())` then.
 
     Where a change raises an error, as an `==` of values may, the map is as it was. Threads that share a map lock for themselves.
     """
@@ -197,14 +200,14 @@ class RangeMap(MapQuestions[K, V]):
                 ends += start, end
                 depths.append(depth)
         made: RangeMap[Any, int] = RangeMap._empty(found)
-        made._steps.change(packed(ends, found.unsigned), tuple(depths), found, found)
+        made._steps.change(packed(ends, found.unsigned), tuple(depths))
         return made
 
     def combine(self, other: RangeMap[K, V], how: Callable[[V, V], V], missing: V = NOTHING) -> RangeMap[K, V]:
         """The map of what `how` makes of the values of both maps. Where one alone has a value, it stays, or with `missing` this stands
         for the other.
 
-        `how` runs once for each pair of values that meet. What it raises is raised, and neither map changes.
+        `how` runs once for each two objects that meet. What it raises is raised, and neither map changes.
 
         Cost: goes over both maps.
 
@@ -247,10 +250,9 @@ class RangeMap(MapQuestions[K, V]):
 
     def __deepcopy__(self, memo: Any) -> Self:
         ends, values = self._steps.ends_and_values()
-        kind = self._kind
         # A value may refer to the map, whose copy is the one that is begun.
-        made = memo[id(self)] = self._empty(kind)
-        made._steps.change(ends, copy.deepcopy(values, memo), kind, kind)
+        made = memo[id(self)] = self._empty(self._kind)
+        made._steps.change(ends, copy.deepcopy(values, memo))
         return made._with(copy.deepcopy(self.__getstate__(), memo))
 
     @reprlib.recursive_repr("RangeMap(...)")
@@ -273,7 +275,7 @@ def _filled(made: M, state: tuple[bytes, tuple[Any, ...], str, Any]) -> M:
     """The same with its values, and what a subclass has beside."""
     ends, values, order, attributes = state
     kind = made._kind
-    made._steps.change(in_this_order(ends, order, kind.unsigned), values, kind, kind)
+    made._steps.change(in_this_order(ends, order, kind.unsigned), values)
     if not all(kind is not NO_KIND and (it is None or kind.least <= it <= kind.most) for it in made._span() or ()):
         raise ValueError(f"the bytes are no map of the kind {kind.name}")
     return made._with(attributes)

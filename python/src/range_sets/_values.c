@@ -5,7 +5,7 @@
 
 size_t first_slot(const Numbers *self, uint64_t hash)
 {
-    /* Hashes of numbers are these, and often differ in a few bits alone. */
+    /* Places of values, and pairs of numbers, often differ in a few bits alone. */
     return (size_t)(hash * 0x9E3779B97F4A7C15u >> 32) & (self->room - 1);
 }
 
@@ -74,72 +74,24 @@ static bool make_room(Values *self)
     return true;
 }
 
-size_t add_value(Values *self, PyObject *value, Py_hash_t hash)
-{
-    if (!make_room(self)) return NONE;
-    size_t number = self->free;
-    if (!add_number(&self->numbers, (uint64_t)hash, number)) return NONE;
-    self->free = self->places[number].next;
-    self->places[number] = (Value){.value = Py_NewRef(value), .hash = hash};
-    self->turns++;
-    return number;
-}
-
+/* Only what has a truth of its own is an answer: an array has one for each element, if the two fit at all. */
 int are_one(PyObject *a, PyObject *b)
 {
     if (a == b || !Py_IS_TYPE(a, Py_TYPE(b))) return a == b;
     Py_INCREF(a);
     Py_INCREF(b);
-    int is_one = PyObject_RichCompareBool(a, b, Py_EQ);
+    PyObject *answer = PyObject_RichCompare(a, b, Py_EQ);
+    int is_one = 0;
+    if (answer == NULL) {
+        if (PyErr_ExceptionMatches(PyExc_ValueError)) PyErr_Clear();
+        else is_one = -1;
+    } else if (PyBool_Check(answer) || strncmp(Py_TYPE(answer)->tp_name, "numpy.bool", 10) == 0) {
+        is_one = PyObject_IsTrue(answer);
+    }
+    Py_XDECREF(answer);
     Py_DECREF(a);
     Py_DECREF(b);
     return is_one;
-}
-
-bool hash_of(PyObject *value, Py_hash_t *hash)
-{
-    *hash = PyObject_Hash(value);
-    if (*hash != -1) return true;
-    if (!PyErr_ExceptionMatches(PyExc_TypeError)) return false;
-    PyErr_Clear();
-    return true;
-}
-
-/* If an `==` puts a value in or takes one out, the search begins anew, as in a dict. */
-bool find_value(Values *self, PyObject *value, Py_hash_t hash, size_t *number)
-{
-    *number = NONE;
-    size_t slot = first_slot(&self->numbers, (uint64_t)hash), found;
-    while (*number == NONE && (found = next_number(&self->numbers, (uint64_t)hash, &slot)) != NONE) {
-        uint64_t seen = self->turns;
-        int is_one = are_one(self->places[found].value, value);
-        if (is_one < 0) return false;
-        if (self->turns != seen) slot = first_slot(&self->numbers, (uint64_t)hash);
-        else if (is_one) *number = found;
-        else slot++;
-    }
-    return true;
-}
-
-bool find_or_add(Values *self, PyObject *value, Py_hash_t hash, size_t *number)
-{
-    if (!find_value(self, value, hash, number)) return false;
-    if (*number == NONE) *number = add_value(self, value, hash);
-    return *number != NONE;
-}
-
-size_t keep_again(Values *self, size_t number)
-{
-    self->places[number].calls++;
-    return number;
-}
-
-bool keep_value(Values *self, PyObject *value, size_t *number)
-{
-    Py_hash_t hash;
-    bool is_there = hash_of(value, &hash) && find_or_add(self, value, hash, number);
-    if (is_there) keep_again(self, *number);
-    return is_there;
 }
 
 static void see_left(Values *self, size_t number)
@@ -149,6 +101,20 @@ static void see_left(Values *self, size_t number)
     it->is_left = true;
     it->next = self->left;
     self->left = number;
+}
+
+bool find_or_add(Values *self, PyObject *value, size_t *number)
+{
+    uint64_t place = (uintptr_t)value;
+    size_t slot = first_slot(&self->numbers, place);
+    *number = next_number(&self->numbers, place, &slot);
+    if (*number != NONE) return true;
+    if (!make_room(self) || !add_number(&self->numbers, place, self->free)) return false;
+    *number = self->free;
+    self->free = self->places[*number].next;
+    self->places[*number] = (Value){.value = Py_NewRef(value)};
+    see_left(self, *number);
+    return true;
 }
 
 void let_go(Values *self, size_t number)
@@ -171,10 +137,9 @@ void drop_left(Values *self)
         self->left = it->next;
         it->is_left = false;
         if (it->ranges > 0 || it->calls > 0) continue;
-        take_number(&self->numbers, (uint64_t)it->hash, number);
+        take_number(&self->numbers, (uintptr_t)it->value, number);
         it->next = self->free;
         self->free = number;
-        self->turns++;
         Py_CLEAR(it->value);
     }
 }

@@ -3,20 +3,56 @@
 
 /* ---- Keys ---- */
 
-/* The boundaries of the keys that have the value of a number, or with NONE any. Beyond the range there may be more or fewer. */
-static PyObject *keys_of(const Steps *self, Range range, size_t number)
+/* Whether the values of a map are one with a value, by their numbers: as far as they were compared, each once. */
+typedef struct {
+    PyObject *value;
+    signed char *answers;
+    size_t room;
+} Sought;
+
+enum { UNKNOWN = 2 };
+
+/* Whether the value of a number is the one; -1 where an `==` raises an error, or there is no memory. */
+static int is_sought(const Steps *self, Sought *sought, size_t number)
+{
+    if (number >= sought->room) {
+        size_t room = self->values.room;
+        signed char *longer = PyMem_Realloc(sought->answers, room);
+        if (longer == NULL) return PyErr_NoMemory() == NULL ? -1 : 0;
+        memset(longer + sought->room, UNKNOWN, room - sought->room);
+        sought->answers = longer;
+        sought->room = room;
+    }
+    int answer = sought->answers[number];
+    if (answer == UNKNOWN) sought->answers[number] = answer = are_one(self->values.places[number].value, sought->value);
+    return answer;
+}
+
+/* The boundaries of the keys that have the value, or with NULL any. Beyond the range there may be more or fewer. */
+static PyObject *keys_of(Steps *self, Range range, PyObject *value)
 {
     size_t len = 0, room = 64;
     uint64_t *items = PyMem_Malloc(8 * room);
+    Sought sought = {value};
     Stretch it;
+    int is_one = 1;
+    /* No value is dropped, so that none gets the number of one that was compared. */
+    self->values.readers++;
     for (Walk walk = {range}; items != NULL && step(self, &walk, &it);) {
-        if (number != NONE && it.value != number) continue;
+        is_one = value == NULL ? 1 : is_sought(self, &sought, it.value);
+        if (is_one < 0 || !settle(self)) break;
+        if (!is_one) continue;
         if (len > 0 && items[len - 1] == it.start) len--;
         else items[len++] = it.start;
         if (it.has_end) items[len++] = it.end;
         if (len + 2 > room) items = with_more_room(items, &room, 2);
     }
-    return list_and_free(items, len, self->is_signed);
+    self->values.readers--;
+    PyMem_Free(sought.answers);
+    drop_unused(self);
+    if (!PyErr_Occurred()) return list_and_free(items, len, self->is_signed);
+    PyMem_Free(items);
+    return NULL;
 }
 
 /* Is given a start and an end. */
@@ -24,15 +60,12 @@ PyObject *steps_domain(Steps *self, PyObject *const *args, Py_ssize_t n)
 {
     Range range;
     bool fits = has_arguments(n, 2) && read_range(args[0], args[1], self->is_signed, &range) && settle(self);
-    return fits ? keys_of(self, range, NONE) : NULL;
+    return fits ? keys_of(self, range, NULL) : NULL;
 }
 
 PyObject *steps_find(Steps *self, PyObject *value)
 {
-    Py_hash_t hash;
-    size_t number;
-    if (!hash_of(value, &hash) || !find_value(&self->values, value, hash, &number) || !settle(self)) return NULL;
-    return number == NONE ? list_of(NULL, 0, self->is_signed) : keys_of(self, ALL(self), number);
+    return settle(self) ? keys_of(self, ALL(self), value) : NULL;
 }
 
 /* ---- Many ranges ---- */
@@ -85,11 +118,12 @@ PyObject *steps_equals(Steps *self, PyObject *object)
 
 /* ---- Ranges in turn ---- */
 
-/* An iterator over ranges, their values, or both. */
+/* An iterator over ranges, their values, or both, of a map that has as many as it had. */
 typedef struct {
     PyObject_HEAD
     Steps *steps;
     Walk walk;
+    size_t len;
     bool has_keys, has_values;
 } Items;
 
@@ -119,7 +153,12 @@ static PyObject *items_next(Items *self)
 {
     Steps *steps = self->steps;
     Stretch it;
-    if (!settle(steps) || !step(steps, &self->walk, &it)) return NULL;
+    if (!settle(steps)) return NULL;
+    if (steps->len != self->len && !self->walk.is_done) {
+        self->len = SIZE_MAX;
+        return PyErr_Format(PyExc_RuntimeError, "the map got more or fewer ranges while it was read: list(m.items()) has them as they are");
+    }
+    if (!step(steps, &self->walk, &it)) return NULL;
     /* All is read before other code runs. */
     PyObject *value = self->has_values ? Py_NewRef(value_of(steps, &it)) : NULL;
     if (!self->has_keys) return value;
@@ -160,11 +199,12 @@ static PyTypeObject items_type = {
 static PyObject *iterated(Steps *self, PyObject *const *args, Py_ssize_t n, bool has_keys, bool has_values)
 {
     Range range;
-    if (!has_arguments(n, 2) || !read_range(args[0], args[1], self->is_signed, &range)) return NULL;
+    if (!has_arguments(n, 2) || !read_range(args[0], args[1], self->is_signed, &range) || !settle(self)) return NULL;
     Items *made = PyObject_GC_New(Items, &items_type);
     if (made == NULL) return NULL;
     made->steps = (Steps *)Py_NewRef(self);
     made->walk = (Walk){.left = range, .is_done = is_reversed(range, self->is_signed)};
+    made->len = self->len;
     made->has_keys = has_keys;
     made->has_values = has_values;
     PyObject_GC_Track(made);
