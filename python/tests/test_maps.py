@@ -222,12 +222,16 @@ class Rows(unittest.TestCase):
             (ends, ("a",), kind),
             (array("q", [3, 5]), ("a",), kind, kind),
             (ends, ["a"], kind, kind),
-            (ends, ("a", "b"), kind, kind),
+            (ends, ["a"]),
+            (ends, None),
             (RangeSet([(3, 5)], unsigned=True)._now[0], ("a",), kind, kind),
         ):
             self.assertRaises(TypeError, steps.change, *given)
         self.assertIs(steps.change(ends, ("a",), object(), kind), False)
-        self.assertRaises(TypeError, steps.change, bytes(24), ("a",), kind, kind)
+        for given in ((bytes(24), ("a",)), (ends, ("a", "b")), (ends, ("a",))):
+            self.assertRaises(ValueError, steps.change, *given)
+            if given[1] != ("a",) or len(given[0]) == 24:
+                self.assertRaises(ValueError, steps.change, *given, kind, kind)
         self.assertRaises(TypeError, steps.part, [3, 5])
         self.assertRaises(TypeError, steps.part, ends)
         self.assertRaises(TypeError, steps.part, RangeSet([(3, 5)], unsigned=True)._now[0])

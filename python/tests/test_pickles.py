@@ -14,6 +14,7 @@ from datetime import datetime, timedelta
 
 from range_sets import MutableRangeSet, NotSorted, RangeMap, RangeSet, _core
 from range_sets._maps import _remade
+from range_sets._maps import _restored as restored_map
 from range_sets._ranges import _restored, _unpacked
 
 DAMAGED = int(os.environ.get("RANGE_SETS_PICKLES", "4000"))
@@ -201,33 +202,71 @@ class Pickles(unittest.TestCase):
         self.assertEqual(_remade(RangeMap, ends.tobytes(), ("a", [1]), "int", order), RangeMap([((-5, 10), "a"), ((20, None), [1])]))
 
     def test_maps_that_are_none(self):
-        """Whatever the numbers are, a map is made that is one, of elements of its kind, or an error is raised."""
-        ends = array("q", [0, 5, 7, 9]).tobytes()
-        for given in (
-            (ends, ("a",), "int"),
-            (ends, ("a", "b", "c"), "int"),
-            (ends, ["a", "b"], "int"),
-            (ends[:-1], ("a", "b"), "int"),
-            (ends[:-8], ("a",), "int"),
-            (ends, ("a", "b"), None),
-            (ends, ("a", "b"), "no kind"),
-            (array("q", [0, 2**40]).tobytes(), ("a",), "date"),
-            (array("q", [-(2**40), 5]).tobytes(), ("a",), "date"),
-            (array("q", [2**62, 2**63 - 1]).tobytes(), ("a",), "float"),
-            (8, (), "int"),
+        """A map is read that is one, of elements of its kind, or an error is raised: one rule with sets."""
+
+        def ends(*numbers):
+            return array("q", numbers).tobytes()
+
+        good = ends(0, 5, 7, 9)
+        for what, given in (
+            ("a value less", (good, ("a",), "int", sys.byteorder)),
+            ("a value more", (good, ("a", "b", "c"), "int", sys.byteorder)),
+            ("half a number", (good[:-1], ("a", "b"), "int", sys.byteorder)),
+            ("half a range", (good[:-8], ("a",), "int", sys.byteorder)),
+            ("no kind", (good, ("a", "b"), None, sys.byteorder)),
+            ("an unknown kind", (good, ("a", "b"), "no kind", sys.byteorder)),
+            ("a kind of datetime64 that is none", (good, ("a", "b"), "datetime64[x, y]", sys.byteorder)),
+            ("an unknown order", (good, ("a", "b"), "int", "middle")),
+            ("no order", (good, ("a", "b"), "int", None)),
+            ("reversed", (ends(5, 0), ("a",), "int", sys.byteorder)),
+            ("empty", (ends(5, 5), ("a",), "int", sys.byteorder)),
+            ("overlapping", (ends(0, 5, 4, 9), ("a", "b"), "int", sys.byteorder)),
+            ("unsorted", (ends(7, 9, 0, 5), ("a", "b"), "int", sys.byteorder)),
+            ("twice", (ends(0, 5, 0, 5), ("a", "b"), "int", sys.byteorder)),
+            ("after one without an end", (ends(0, -(2**63), 7, 9), ("a", "b"), "int", sys.byteorder)),
+            ("dates out of range", (ends(0, 2**40), ("a",), "date", sys.byteorder)),
+            ("dates below", (ends(-(2**40), 5), ("a",), "date", sys.byteorder)),
+            ("floats above infinity", (ends(2**62, 2**63 - 1), ("a",), "float", sys.byteorder)),
         ):
-            with self.subTest(given=given), self.assertRaises((TypeError, ValueError)):
-                _remade(RangeMap, *given, sys.byteorder)
-        some = random.Random(21)
-        for _ in range(300):
-            rows = [(some.randrange(12), some.choice([-(2**63), *range(12)]), some.randrange(3)) for _ in range(some.randrange(8))]
-            again = _remade(
-                RangeMap, array("q", [end for it in rows for end in it[:2]]).tobytes(), tuple(it[2] for it in rows), "int", sys.byteorder
-            )
-            one_by_one = RangeMap(kind="int")
-            for start, end, value in rows:
-                one_by_one.put(start, None if end < 0 else end, value)
-            self.assertEqual((again, len(again), [*again.items()]), (one_by_one, len(one_by_one), [*one_by_one.items()]))
+            with self.subTest(what=what):
+                self.assertRaises(ValueError, _remade, RangeMap, *given)
+        for given in ((good, ["a", "b"], "int"), (8, (), "int")):
+            self.assertRaises(TypeError, _remade, RangeMap, *given, sys.byteorder)
+        some, read = random.Random(21), 0
+        for _ in range(2000):
+            rows = [(some.randrange(12), some.choice([-(2**63), *range(12)]), some.randrange(3)) for _ in range(some.randrange(4))]
+            given = ends(*(end for it in rows for end in it[:2])), tuple(it[2] for it in rows), "int", sys.byteorder
+            flat = [2**63 if end < 0 else end for it in rows for end in it[:2]]
+            if all(a < b for a, b in zip(flat[::2], flat[1::2])) and all(a <= b for a, b in zip(flat[1::2], flat[2::2])):
+                one_by_one = RangeMap([((start, None if end < 0 else end), value) for start, end, value in rows], kind="int")
+                again, read = _remade(RangeMap, *given), read + 1
+                self.assertEqual((again, len(again), [*again.items()]), (one_by_one, len(one_by_one), [*one_by_one.items()]))
+            else:
+                self.assertRaises(ValueError, _remade, RangeMap, *given)
+        self.assertTrue(500 < read < 1900, read)
+
+    def test_maps_of_version_0_3_that_are_none(self):
+        for items, name in (
+            ([((5, 0), "a")], "int"),
+            ([((7, 9), "a"), ((0, 5), "b")], "int"),
+            ([((0, 5), "a"), ((3, 9), "b")], "int"),
+            ([((0, 5), "a")], "no kind"),
+            ([((0, 5), "a")], "date"),
+            ([((0, 2**64), "a")], "int"),
+            ([((0, 5), "a")], None),
+        ):
+            self.assertRaises(ValueError, restored_map, RangeMap, items, name)
+
+    def test_sets_of_an_unknown_order_or_kind(self):
+        numbers = array("q", [0, 10]).tobytes()
+        for call in (
+            lambda: _restored(RangeSet, numbers, False, "middle"),
+            lambda: _restored(RangeSet, numbers, False, sys.byteorder, "no kind"),
+            lambda: _restored(RangeSet, numbers[:-1], False, {"little": "big", "big": "little"}[sys.byteorder]),
+            lambda: _unpacked(RangeSet, b"\1q\0", "no kind"),
+            lambda: _unpacked(RangeSet, b"\1q\0", 7),
+        ):
+            self.assertRaises(ValueError, call)
 
     def test_attributes_of_subclasses(self):
         for kind in (Named, Tagged):

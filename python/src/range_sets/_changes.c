@@ -215,7 +215,7 @@ static bool read_ranges(const Steps *self, PyObject *object, List *list)
     if (!PyBytes_CheckExact(object)) return true;
     list->items = PyBytes_AS_STRING(object);
     list->len = PyBytes_GET_SIZE(object) / 8;
-    return PyBytes_GET_SIZE(object) % 16 == 0 || refuse(PyExc_TypeError, "expected a start and an end each");
+    return PyBytes_GET_SIZE(object) % 16 == 0 || refuse(PyExc_ValueError, "expected a start and an end each");
 }
 
 static size_t count_of(const List *ranges)
@@ -292,14 +292,14 @@ PyObject *steps_change(Steps *self, PyObject *const *args, Py_ssize_t n)
     size_t count = count_of(&ranges), len = count;
     bool has_values = PyTuple_CheckExact(args[1]);
     if (!(args[1] == Py_None && !is_copy) && !(has_values && (size_t)PyTuple_GET_SIZE(args[1]) == count))
-        return PyErr_Format(PyExc_TypeError, "expected a tuple with a value for each range");
+        return PyErr_Format(has_values ? PyExc_ValueError : PyExc_TypeError, "expected a tuple with a value for each range");
     Change *changes = PyMem_Malloc(count * sizeof *changes), *pieces = changes;
     Steps laid = {.is_signed = self->is_signed};
     if (changes == NULL) return PyErr_NoMemory();
     size_t read = read_changes(self, &ranges, args[1], changes);
     bool in_order = read < count || !has_values || are_in_order(self, changes, count);
     if (!in_order && !is_copy && (pieces = laid_over(&laid, changes, &len)) == NULL) PyErr_NoMemory();
-    else if (is_copy && (!in_order || self->len > 0)) refuse(PyExc_ValueError, "the ranges of a map are in order, each above the one before");
+    else if (is_copy && (!in_order || self->len > 0)) refuse(PyExc_ValueError, "expected the ranges of a map in order, each above the one before");
     else if (read == count && is_copy) answer = settle(self) && change_all(self, pieces, len) ? Py_True : NULL;
     else if (read == count) answer = change_joined(self, pieces, len, args[2], &laid);
     if (answer == Py_True && count > 0 && !is_copy) before = take_kind(self, args[3]);

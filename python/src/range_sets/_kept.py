@@ -13,7 +13,7 @@ from ._arrays import array_of
 from ._core import Boundaries
 from ._floats import FLOAT
 from ._kind import NO_KIND, SIGNED, UNSIGNED, Kind, Now
-from ._kinds import agreed, given_kind
+from ._kinds import agreed, kind_of_pickle
 from ._numbers import in_this_order
 
 # `repr` writes a set of more than `_MANY` ranges by `_SHOWN` at either end.
@@ -149,7 +149,7 @@ def _are_far_apart(boundaries: Boundaries) -> bool:
 
 
 def _checked(cls: type[Kept], boundaries: Boundaries, name: str | None) -> Kept:
-    kind = given_kind(name) or _unnamed_kind(boundaries)
+    kind = _unnamed_kind(boundaries) if name is None else kind_of_pickle(name)
     if not kind.has(boundaries):
         raise ValueError(f"the bytes are no set of the kind {kind.name}")
     return cls._over(boundaries, kind)

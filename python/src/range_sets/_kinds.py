@@ -48,6 +48,14 @@ def given_kind(kind: Any, unsigned: bool | None = None) -> Kind | None:
     return found or whole(unsigned)
 
 
+def kind_of_pickle(name: Any) -> Kind:
+    """The kind that a pickle names, or none yet for None."""
+    try:
+        return given_kind(name) or NO_KIND
+    except TypeError as error:
+        raise ValueError(str(error)) from None
+
+
 def _named_kind(kind: Any) -> Kind:
     """The kind of this name or type."""
     if kind is datetime:

@@ -12,7 +12,7 @@ from typing import Any, Callable, Iterable, Mapping, Self, TypeVar, Union
 from . import _core
 from ._core import Steps
 from ._kind import NO_KIND, SIGNED, Kind, KindLike
-from ._kinds import given_kind, mixed
+from ._kinds import given_kind, kind_of_pickle, mixed
 from ._map_questions import NOTHING, Keys, MapQuestions
 from ._numbers import in_this_order, least, packed
 from ._ranges import AnyRangeSet
@@ -268,7 +268,7 @@ class RangeMap(MapQuestions[K, V]):
 
 def _begun(cls: type[M], name: KindLike) -> M:
     """The map of a pickle, before it has its values."""
-    return cls._empty(given_kind(name) or NO_KIND)
+    return cls._empty(kind_of_pickle(name))
 
 
 def _filled(made: M, state: tuple[bytes, tuple[Any, ...], str, Any]) -> M:
@@ -286,8 +286,14 @@ def _remade(cls: type[M], ends: bytes, values: tuple[Any, ...], name: KindLike, 
     return _filled(_begun(cls, name), (ends, values, order, None))
 
 
-def _restored(cls: type[M], items: Any, name: KindLike) -> M:
+def _restored(cls: type[M], items: list[Any], name: KindLike) -> M:
     """The map of a pickle by version 0.3."""
     made = _begun(cls, name)
-    made.update(items)
-    return made
+    try:
+        ends, values, _ = made._read(items, made._kind)
+    except (TypeError, OverflowError) as error:
+        raise ValueError(f"the items are no map of the kind {made._kind.name}: {error}") from None
+    # Without those that are empty or reversed.
+    if len(values) != len(items):
+        raise ValueError("expected ranges, each with its start below its end")
+    return _filled(made, (ends, values, sys.byteorder, None))

@@ -32,6 +32,8 @@ def packed(numbers: Iterable[int], unsigned: bool) -> bytes:
 
 def in_this_order(numbers: bytes, order: str, unsigned: bool) -> bytes:
     """Numbers as they lie in this machine's memory, from those of a machine with an order of bytes."""
+    if order not in ("little", "big"):
+        raise ValueError(f"expected the order of bytes 'little' or 'big', not {order!r}")
     if order == sys.byteorder:
         return numbers
     swapped = array(typecode_of(unsigned), numbers)
