@@ -13,7 +13,7 @@ from datetime import date, timedelta, timezone
 from ipaddress import IPv4Address, IPv6Address
 from math import fsum, inf, nextafter
 
-from range_sets import MutableRangeSet, RangeSet, _core, _kinds
+from range_sets import MutableRangeSet, RangeMap, RangeSet, _core, _kinds
 from range_sets._ranges import _unpacked
 
 UTC, DAY, TINY = timezone.utc, timedelta(days=1), timedelta(microseconds=1)
@@ -232,6 +232,8 @@ class EachKind(unittest.TestCase):
 
     def test_kinds_do_not_mix(self):
         made = {name: RangeSet((elements[1], elements[2]), kind=name) for name, elements in ELEMENTS.items()}
+        # Of these a set of one makes a set of another.
+        times = {"datetime"} | {name for name in ELEMENTS if name.startswith("datetime64[")}
         for (name, a), (other, b) in itertools.permutations(made.items(), 2):
             with self.subTest(kinds=(name, other)):
                 self.assertNotEqual(a, b)
@@ -253,8 +255,7 @@ class EachKind(unittest.TestCase):
                     lambda: a.symmetric_difference(b),
                     lambda: RangeSet.union_all([a, b]),
                     lambda: RangeSet.intersection_all([a, b]),
-                    lambda: RangeSet(a, kind=other),
-                    lambda: RangeSet.union_all([a], kind=other),
+                    *([] if {name, other} <= times else [lambda: RangeSet(a, kind=other), lambda: RangeSet.union_all([a], kind=other)]),
                     lambda: a | RangeSet(kind=other),
                 )
                 changing = MutableRangeSet(a)
@@ -394,7 +395,10 @@ class Untold(unittest.TestCase):
         self.assertEqual((RangeSet(), hash(RangeSet())), (RangeSet(kind="int"), hash(RangeSet(kind="int"))))
         self.assertEqual(RangeSet([(0, 5)]) - RangeSet([(0, 5)]), RangeSet())
         for name in ELEMENTS:
-            self.assertIs(RangeSet(kind=name) == RangeSet(), name == "int")
+            # Nothing of a kind is as nothing of none, in maps too.
+            for call in (RangeSet, MutableRangeSet, RangeMap):
+                self.assertTrue(call(kind=name) == call() == call(kind=name))
+            self.assertEqual((hash(RangeSet(kind=name)), RangeSet() != MutableRangeSet(kind=name)), (hash(RangeSet()), False))
         for everything in (~RangeSet(), RangeSet.intersection_all([])):
             self.assertEqual((everything, everything.kind), (RangeSet([(None, None)]), "int"))
         self.assertEqual((RangeSet([(None, None)]).kind, RangeSet([(5, 5)]).kind, RangeSet.parse("").kind), ("int", "int", "int"))
@@ -402,12 +406,18 @@ class Untold(unittest.TestCase):
 
 class OfKinds(unittest.TestCase):
     def test_what_tells_a_kind(self):
-        for given, name in ((int, "int"), (float, "float"), (date, "date"), (timedelta, "timedelta"), (IPv4Address, "IPv4Address")):
+        for given, name in (
+            (int, "int"),
+            (float, "float"),
+            (date, "date"),
+            (datetime.datetime, "datetime"),
+            (timedelta, "timedelta"),
+            (IPv4Address, "IPv4Address"),
+        ):
             self.assertEqual(RangeSet(kind=given).kind, name)
         self.assertEqual((RangeSet(unsigned=False).kind, RangeSet(unsigned=True).kind), ("int", "unsigned"))
         self.assertTrue(RangeSet(kind="unsigned").unsigned and RangeSet(kind="unsigned", unsigned=True).unsigned)
         for call in (
-            lambda: RangeSet(kind=datetime.datetime),
             lambda: RangeSet(kind="text"),
             lambda: RangeSet(kind=5),
             lambda: RangeSet(kind=[]),
@@ -418,8 +428,6 @@ class OfKinds(unittest.TestCase):
             with self.assertRaisesRegex(TypeError, "kind"):
                 call()
 
-        with self.assertRaisesRegex(TypeError, "kind='datetime' for times without a time zone or"):
-            RangeSet(kind=datetime.datetime)
         for name, elements in ELEMENTS.items():
             self.assertEqual(
                 RangeSet(kind=name) | RangeSet((elements[1], elements[2]), unsigned=True if name == "unsigned" else None),
@@ -470,7 +478,7 @@ class OfKinds(unittest.TestCase):
             with self.assertRaisesRegex(ValueError, "the bytes are no set of the kind"):
                 _unpacked(RangeSet, data, name)
         self.assertEqual(list(_unpacked(RangeSet, small, "IPv4Address")), [(IPv4Address(1), IPv4Address(5))])
-        with self.assertRaisesRegex(TypeError, "a kind is one of"):
+        with self.assertRaisesRegex(ValueError, "a kind is one of"):
             _unpacked(RangeSet, data, "text")
 
 

@@ -545,7 +545,9 @@ class MadeUp(unittest.TestCase):
                 is_ended = not later
                 expected = later[0] if later else None
                 at, count = (expected[0][1], count + 1) if later else (at, count)
-                self.assertEqual(next(left, None), expected if way in ("items", "all") or is_ended else expected[way == "values"], (case, way))
+                self.assertEqual(
+                    next(left, None), expected if way in ("items", "all") or is_ended else expected[way == "values"], (case, way)
+                )
             if is_ended:
                 made.put(0, None, "z")
                 self.assertEqual([*left], [], "it has ended")
@@ -608,7 +610,8 @@ class MadeUp(unittest.TestCase):
         for values in (3000, 2900, 50, 1):
             pools = [[sign * (n + 1) for n in range(values)] for sign in (1, -1)]
             a, b = (
-                RangeMap(((10 * n + first, 10 * n + first + 6), pool[n % values]) for n in range(3000)) for first, pool in zip((0, 4), pools)
+                RangeMap(((10 * n + first, 10 * n + first + 6), pool[n % values]) for n in range(3000))
+                for first, pool in zip((0, 4), pools)
             )
             calls = []
 
@@ -1296,7 +1299,10 @@ class Meanwhile(unittest.TestCase):
                     made[50:52] = str(Restless.left)
                 return True
 
-        for call in (lambda: made.put(5, 9, Restless("b")), lambda: made.update([((9, 12), 7), ((7, 9), Restless("b")), ((5, 8), Restless("c"))])):
+        for call in (
+            lambda: made.put(5, 9, Restless("b")),
+            lambda: made.update([((9, 12), 7), ((7, 9), Restless("b")), ((5, 8), Restless("c"))]),
+        ):
             made, Restless.left = RangeMap([((0, 5), Restless("a"))]), 20
             call()
             self.assertEqual(([*made][0], made[8].name, made[50], Restless.left), ((0, 9), "a", "0", 0))

@@ -212,9 +212,8 @@ class Sets(unittest.TestCase):
         self.assertEqual(of_unsigned.contains(unsigned).tolist(), [True, False, False, False, True, True, True])
         self.assertEqual(of_unsigned.contains(i64(-1, 0, 2, 3, -(2**63))).tolist(), [False, True, True, False, False])
         self.assertEqual(sets.contains(i64(0, 10), i64(9, 10, -1)).tolist(), [True, False, False])
-        for bad in (numpy.array([1.0]), numpy.array([True])):
-            with self.assertRaisesRegex(TypeError, "expected whole numbers"):
-                made.contains(bad)
+        with self.assertRaisesRegex(TypeError, "expected whole numbers"):
+            made.contains(numpy.array([1.0]))
         for bad in (["x"], [5, 1.0], [None]):
             with self.assertRaisesRegex(TypeError, "object cannot be interpreted as an integer"):
                 made.contains(bad)
@@ -579,6 +578,28 @@ class ManyAtOnce(unittest.TestCase):
         gone = RangeMap([((0.0, None), "some")]).get(numpy.array([numpy.nan, 1.0]), [7, 8])
         self.assertEqual(gone.tolist(), [[7, 8], "some"])
 
+    def test_arrays_without_a_dimension(self):
+        """Each answer has the shape of what was asked, for every kind."""
+        for low, mid, high in (
+            (0, 1, 2),
+            (0.0, 1.5, 2.0),
+            (numpy.datetime64(0, "s"), numpy.datetime64(1, "s"), numpy.datetime64(2, "s")),
+            (date(2026, 1, 1), date(2026, 1, 2), date(2026, 1, 3)),
+        ):
+            made = RangeSet([(low, high)])
+            for shape in ((), (1,), (2, 1), (0,)):
+                asked = numpy.full(shape, mid)
+                self.assertEqual((made.contains(asked).shape, made.overlaps(asked, asked).shape), (shape, shape), (mid, shape))
+                self.assertTrue(made.contains(asked).all() and not made.overlaps(asked, asked).any())
+
+    def test_bools_as_numbers(self):
+        for unsigned in (False, True):
+            made = RangeSet([(1, 5)], unsigned=unsigned)
+            asked = numpy.array([True, False])
+            self.assertEqual(made.contains(asked).tolist(), [it in made for it in asked.tolist()])
+            self.assertEqual((made.rank(asked).tolist(), made.contains([False, True]).tolist()), ([0, 0], [False, True]))
+        self.assertEqual(RangeSet([(0.5, 1.5)]).contains(numpy.array([True, False])).tolist(), [True, False])
+
     def test_arrays_as_values(self):
         """They join by identity alone, whatever their shapes; numpy's numbers by `==`."""
         first, again, longer = numpy.array([1, 2]), numpy.array([1, 2]), numpy.array([1, 2, 3])
@@ -588,7 +609,9 @@ class ManyAtOnce(unittest.TestCase):
             warnings.simplefilter("ignore")
             made[3:4] = longer
             self.assertEqual([*made.keys()], [(0, 3), (3, 4), (4, 7), (7, 9), (9, 12), (12, 15)])
-            self.assertEqual((made.find(first), made.find(numpy.array([1, 2])), made == made.copy()), (RangeSet([(0, 3), (4, 7)]), RangeSet(), True))
+            self.assertEqual(
+                (made.find(first), made.find(numpy.array([1, 2])), made == made.copy()), (RangeSet([(0, 3), (4, 7)]), RangeSet(), True)
+            )
         made = RangeMap([((0, 5), numpy.int64(7)), ((5, 9), numpy.int64(7)), ((9, 12), numpy.int32(7))])
         self.assertEqual((len(made), made.find(numpy.int64(7))), (2, RangeSet([(0, 9)])))
 

@@ -6,7 +6,7 @@ import sys
 import tempfile
 import unittest
 from collections import Counter
-from datetime import date, datetime, timedelta
+from datetime import date, datetime, timedelta, timezone
 from pathlib import Path
 from unittest import mock
 from zoneinfo import ZoneInfo
@@ -122,6 +122,13 @@ class Frames(unittest.TestCase):
             self.assertEqual(values, RangeSet.from_values([*zoned["start"]]))
             self.assertEqual(found[0], found[1])
             self.assertEqual(found[1:], [[it in made for it in zoned["start"]], [it in made for it in zoned["end"]]])
+        for asked in (zoned["start"], zoned["start"].array, zoned["end"] + pandas.Timedelta(days=900)):
+            starts, ends = made.range_at(asked)
+            found = [it and (it[0], it[1]) for it in map(made.range_at, asked)]
+            self.assertEqual([None if start is None else (start, end) for start, end in zip(starts.tolist(), ends.tolist())], found)
+            self.assertTrue(all(it is None or it[0].tzinfo is timezone.utc for it in found))
+        first = zoned["start"].min()
+        self.assertEqual([it.tolist() for it in RangeSet([(first, None)]).range_at(zoned["start"][:1])], [[first], [None]])
         other = pandas.arrays.IntervalArray.from_arrays(zoned["start"][:0], zoned["start"][:0], closed="right")
         self.assertEqual(RangeSet(pandas.Series(other)), RangeSet())
         self.assertEqual((RangeSet(zoned[:0]).kind, RangeSet.from_values(zoned["start"][:0]).kind), (None, None))
@@ -156,14 +163,20 @@ class Frames(unittest.TestCase):
         pair = frame["start"][0], frame["end"][0]
         made, of_frame = RangeSet([pair], kind="datetime"), RangeSet(frame)
         self.assertEqual(RangeSet([pair]), of_frame)
-        self.assertRaisesRegex(TypeError, "with kind='datetime64.s.'", lambda: of_frame | RangeSet([pair], kind="datetime64[s]"))
+        self.assertRaisesRegex(TypeError, "kind='datetime64.s.'", lambda: of_frame | RangeSet([pair], kind="datetime64[s]"))
+        for call in (lambda: made | of_frame, lambda: of_frame | made):
+            self.assertRaisesRegex(TypeError, r"; RangeSet\(s, kind='datetime64.ns.'\) makes such a set of the other$", call)
+        seconds = RangeSet(made, kind="datetime64[s]")
+        for other in (made, seconds, of_frame):
+            self.assertEqual(RangeSet(other, kind="datetime64[ns]"), of_frame)
+            self.assertEqual(RangeSet.union_all([other, of_frame], kind="datetime64[ns]"), of_frame)
+        for other in (RangeSet([(datetime(2026, 5, 2, microsecond=1), None)]), RangeSet([(pandas.Timestamp(1), None)])):
+            self.assertRaisesRegex(ValueError, "a time of whole s in 64 bits", RangeSet, other, kind="datetime64[s]")
+        self.assertRaisesRegex(
+            ValueError, "a time of whole ns in 64 bits", RangeSet, RangeSet([(datetime.min, None)]), kind="datetime64[ns]"
+        )
         hint = "; with kind='datetime64.ns.' pandas' Timestamps make such a set$"
-        for call in (
-            lambda: made | of_frame,
-            lambda: of_frame | made,
-            lambda: made.contains(frame["start"]),
-            lambda: RangeSet(frame, kind="datetime"),
-        ):
+        for call in (lambda: made.contains(frame["start"]), lambda: RangeSet(frame, kind="datetime")):
             with self.assertRaisesRegex(TypeError, hint):
                 call()
         self.assertEqual(RangeSet([pair], kind="datetime64[ns]") | of_frame, of_frame)
@@ -176,7 +189,9 @@ class Frames(unittest.TestCase):
     def test_frames_as_values(self):
         """They join by identity alone."""
         other = self.frame.drop(columns="name")
-        made = RangeMap([((0, 5), self.frame), ((5, 9), self.frame), ((9, 12), self.frame.copy()), ((12, 15), other), ((15, 20), pandas.NA)])
+        made = RangeMap(
+            [((0, 5), self.frame), ((5, 9), self.frame), ((9, 12), self.frame.copy()), ((12, 15), other), ((15, 20), pandas.NA)]
+        )
         made[3:7] = self.frame["start"]
         self.assertEqual([*made.keys()], [(0, 3), (3, 7), (7, 9), (9, 12), (12, 15), (15, 20)])
         self.assertEqual((made.find(self.frame), made.find(pandas.NA)), (RangeSet([(0, 3), (7, 9)]), RangeSet([(15, 20)])))

@@ -20,8 +20,8 @@ def codes_of_each(kind: Kind, values: Any) -> tuple[Any, Any]:
     in_utc = times_in_utc(values, kind)
     found = numpy.asarray(values) if in_utc is None else in_utc
     gone = numpy.zeros(found.shape, dtype=bool)
-    if kind.is_whole and found.dtype.kind in "iu":
-        if (found.dtype.kind == "u") != kind.unsigned:
+    if kind.is_whole and found.dtype.kind in "iub":
+        if (found.dtype.kind != "i") != kind.unsigned:
             gone = found < 0 if kind.unsigned else found > kind.most
         return found.astype(typecode_of(kind.unsigned)), gone
     if kind.dtype is not None and found.dtype.newbyteorder("=") == numpy.dtype(kind.dtype):
@@ -46,7 +46,7 @@ def codes_of_floats(floats: Any) -> Any:
     """The numbers of an array of floats, as `FLOAT.code` gives them."""
     import numpy
 
-    bits = numpy.ascontiguousarray(floats, dtype=float).view("i8")
+    bits = numpy.asarray(floats, dtype=float, order="C").view("i8")
     codes = numpy.empty_like(bits)
     _core.mirror(bits.reshape(-1), codes.reshape(-1))
     return codes
@@ -109,16 +109,25 @@ def covered_within_each(now: Now, starts: Any, ends: Any) -> Any:
 
 
 def range_at_each(now: Now, values: Any) -> tuple[Any, Any]:
-    """The start and the end of the range of each element. They are masked where there is none."""
+    """The start and the end of the range of each element, as numpy has them, or Python's own with a time zone. They are masked where there
+    is none."""
     import numpy
 
-    codes, gone = asked_of(now, values)
+    (_, kind), (codes, gone) = now, asked_of(now, values)
     places, ends = _each(_core.places, now, codes, "i8"), array_of(now)
     some = numpy.zeros(len(ends) + 2, dtype=ends.dtype)
     some[: len(ends)] = ends
     none = gone | (places < 0)
     masked: Any = numpy.ma.MaskedArray
-    return masked(some[places], mask=none), masked(some[places + 1], mask=none | (places + 1 >= len(ends)))
+    starts, stops = masked(some[places], mask=none), masked(some[places + 1], mask=none | (places + 1 >= len(ends)))
+    return (_in_python(starts), _in_python(stops)) if kind is AWARE else (starts, stops)
+
+
+def _in_python(times: Any) -> Any:
+    """The datetimes with a time zone of a masked array of times in UTC."""
+    made = times.astype(object)
+    made[~times.mask] = [*map(AWARE.value, times.compressed().view("i8").tolist())]
+    return made
 
 
 def times_in_utc(column: Any, kind: Kind | None) -> Any:

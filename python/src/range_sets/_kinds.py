@@ -11,7 +11,7 @@ from . import _core
 from ._core import Boundaries
 from ._floats import FLOAT, is_numpy_float
 from ._kind import NO_KIND, SIGNED, UNSIGNED, Kind, Now, Whole
-from ._times import AWARE, DATE, DELTA, NAIVE, Numpys, of_dtype, of_timestamps
+from ._times import AWARE, DATE, DELTA, NAIVE, Numpys, of_dtype
 
 
 class Addresses(Kind):
@@ -35,7 +35,7 @@ class Addresses(Kind):
 
 ADDRESS = Addresses()
 _NAMED: dict[str | type, Kind] = {it.name: it for it in (SIGNED, UNSIGNED, FLOAT, DATE, DELTA, ADDRESS, NAIVE, AWARE)}
-_NAMED |= {int: SIGNED, float: FLOAT, date: DATE, timedelta: DELTA, IPv4Address: ADDRESS}
+_NAMED |= {int: SIGNED, float: FLOAT, date: DATE, datetime: NAIVE, timedelta: DELTA, IPv4Address: ADDRESS}
 
 
 def given_kind(kind: Any, unsigned: bool | None = None) -> Kind | None:
@@ -58,8 +58,6 @@ def kind_of_pickle(name: Any) -> Kind:
 
 def _named_kind(kind: Any) -> Kind:
     """The kind of this name or type."""
-    if kind is datetime:
-        raise TypeError("expected kind='datetime' for times without a time zone or kind='datetime[UTC]' for those with one")
     try:
         if kind in _NAMED:
             return _NAMED[kind]
@@ -126,11 +124,17 @@ def agreed(left: Now, right: Now) -> tuple[Boundaries, Boundaries, Kind]:
     raise TypeError(mixed(kind, other))
 
 
+def are_alike(kind: Kind, other: Kind, has_any: bool) -> bool:
+    """Whether what is of two kinds may be equal: what has nothing, and no kind yet, is as nothing of each."""
+    return kind is other or (not has_any and NO_KIND in (kind, other))
+
+
 def mixed(kind: Kind, other: Kind) -> str:
     if isinstance(kind, Whole) and isinstance(other, Whole):
         return "signed and unsigned numbers don't mix: both sets have to be of one kind"
     numpys = [it for it in (kind, other) if isinstance(it, Numpys)]
-    hint = of_timestamps(numpys[-1].name) if len(numpys) + (NAIVE in (kind, other)) == 2 else ""
+    in_unit = f"; RangeSet(s, kind={numpys[-1].name!r}) makes such a set of the other" if numpys else ""
+    hint = in_unit if len(numpys) + (NAIVE in (kind, other)) == 2 else ""
     return f"two kinds of elements don't mix: one set has the kind {kind.name}, and the other {other.name}{hint}"
 
 

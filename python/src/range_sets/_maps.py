@@ -12,7 +12,7 @@ from typing import Any, Callable, Iterable, Mapping, Self, TypeVar, Union
 from . import _core
 from ._core import Steps
 from ._kind import NO_KIND, SIGNED, Kind, KindLike
-from ._kinds import given_kind, kind_of_pickle, mixed
+from ._kinds import are_alike, given_kind, kind_of_pickle, mixed
 from ._map_questions import NOTHING, Keys, MapQuestions
 from ._numbers import in_this_order, least, packed
 from ._ranges import AnyRangeSet
@@ -227,9 +227,9 @@ class RangeMap(MapQuestions[K, V]):
     def __eq__(self, other: object) -> bool:
         if not isinstance(other, RangeMap):
             return NotImplemented
-        if self._kind is not other._kind:
-            return not self and not other and NO_KIND in (self._kind, other._kind)
-        return self._steps.equals(other._steps)
+        if not are_alike(self._kind, other._kind, bool(self) or bool(other)):
+            return False
+        return not (self or other) or self._steps.equals(other._steps)
 
     # ---- Other forms ----
 

@@ -8,7 +8,7 @@ from . import _core
 from ._core import Boundaries
 from ._kept import Kept
 from ._kind import Kind, Now
-from ._kinds import agreed, whole
+from ._kinds import agreed, are_alike, whole
 
 if TYPE_CHECKING:
     from ._ranges import AnyRangeSet
@@ -72,7 +72,7 @@ class Operators(Kept):
         if len(self) != len(other):
             return False
         (left, kind), (right, other_kind) = self._now, other._now
-        return kind.name == other_kind.name and _core.equal(left, right)
+        return are_alike(kind, other_kind, bool(left)) and (not left or _core.equal(left, right))
 
     # For `>=` and `>` Python asks the other set by these.
 

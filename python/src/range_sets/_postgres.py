@@ -16,6 +16,8 @@ from ._times import DATE
 _BOUND = r'("[^"\\]*"|[^"\\,\[\](){}]*)'
 _RANGE = re.compile(rf"\s*(?:empty|([\[(]){_BOUND},{_BOUND}([\])]))\s*", re.IGNORECASE)
 _OPENED, _CLOSED = re.compile(r"\s*\{\s*"), re.compile(r"\}\s*")
+# What the server writes as the end of a range up to the greatest date that Python has.
+_AFTER_ALL = "10000-01-01"
 # What elements of the kinds look like, and how one is read.
 _DAY = r"\d{4}-\d\d-\d\d"
 _TIME = rf"{_DAY}[ T]\d\d:\d\d:\d\d(\.\d{{1,6}})?"
@@ -49,7 +51,9 @@ class Bounds(Protocol):
 
 def half_open(lower: Any, lower_inc: bool, upper: Any, upper_inc: bool) -> tuple[Any, Any]:
     """The start and the end of a range of PostgreSQL's."""
-    return lower if lower is None or lower_inc else _after(lower), upper if upper is None or not upper_inc else _after(upper)
+    start = lower if lower is None or lower_inc else _after(lower)
+    # A range up to the greatest date has no end.
+    return start, None if upper_inc and upper == date.max else upper if upper is None or not upper_inc else _after(upper)
 
 
 def _after(element: Any) -> Any:
@@ -72,7 +76,7 @@ def read(text: str, kind: Kind | None) -> tuple[list[tuple[Any, Any]], Kind | No
             continue
         ends = []
         for group in (2, 3):
-            element, kind = _element(found[group], found.start(group), kind)
+            element, kind = _element(found[group], found.start(group), kind, group == 3 and found[4] == ")")
             ends.append(element)
         pairs.append(half_open(ends[0], found[1] == "[", ends[1], found[4] == "]"))
     return pairs, kind
@@ -96,11 +100,13 @@ def _ranges_in(text: str) -> Iterator[re.Match[str]]:
         at += 1
 
 
-def _element(text: str, position: int, kind: Kind | None) -> tuple[Any, Kind | None]:
+def _element(text: str, position: int, kind: Kind | None, is_end: bool) -> tuple[Any, Kind | None]:
     """An element, or None for no bound, and its kind."""
     if not text:
         return None, kind
     plain = text[1:-1] if text.startswith('"') else text
+    if is_end and kind in (None, DATE) and plain == _AFTER_ALL:
+        return None, DATE
     if kind is None:
         kind = given_kind(next((name for name, (form, _) in _FORMS.items() if form.fullmatch(plain)), None))
     if kind is None:

@@ -108,7 +108,8 @@ class Questions(Operators):
         ...
 
     def range_at(self, value: Any) -> Any:
-        """The range that has the element, or None if it is no member. Of an array it is two of numpy's, masked where there is no end or none.
+        """The range that has the element, or None if it is no member. Of an array it is two of numpy's, masked where there is no end or none;
+        of times with a zone these have Python's.
 
         Cost: a search for each.
 

@@ -32,7 +32,7 @@ class RangeSet(AnyRangeSet):
 
     The numbers are those from -2**63 to 2**63 - 1, or with `unsigned=True` those from 0 to 2**64 - 1. Elements may also be floats,
     times with or without a time zone, dates, `timedelta`, IPv4 addresses, or numpy's datetime64 of one unit. The first element
-    or `kind=` decides the kind of a set. Two kinds don't mix, and are never equal.
+    or `kind=` decides the kind of a set. Two kinds don't mix, and are never equal; `RangeSet()`, of none yet, is as nothing of each.
 
     In the signatures below `Source` is what a set is made of, `Element` an element, `OneRange` a pair, a `range`, a network or one
     element, and `KindLike` what `kind` takes: the name of a kind as the attribute `kind` has it, or a type of Python's.
@@ -50,7 +50,7 @@ class RangeSet(AnyRangeSet):
 
     def __hash__(self) -> int:
         boundaries, kind = self._now
-        return hash((bytes(boundaries), kind.name))
+        return hash((bytes(boundaries), kind.name if boundaries else None))
 
     # What never changes is its own copy, unless a subclass has attributes.
 

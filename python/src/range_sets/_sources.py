@@ -10,7 +10,7 @@ from itertools import chain
 from typing import TYPE_CHECKING, Any, Callable, Iterable, Union
 
 from . import _core
-from ._arrays import codes_of_floats, refuse_nats, times_in_utc
+from ._arrays import array_of, codes_of_floats, refuse_nats, times_in_utc
 from ._core import Boundaries
 from ._floats import FLOAT, mirrored
 from ._kept import Kept
@@ -18,7 +18,7 @@ from ._kind import NAN, NO_KIND, SIGNED, UNSIGNED, Element, Kind, Now
 from ._kinds import kind_of, kind_of_first, mixed, whole
 from ._numbers import typecode_of
 from ._postgres import Bounds, half_open
-from ._times import AWARE, DELTA, of_dtype
+from ._times import AWARE, DELTA, NAIVE, Numpys, of_dtype
 
 if TYPE_CHECKING:
     from ._ranges import AnyRangeSet
@@ -141,7 +141,7 @@ def gather(source: Any, kind: Kind | None) -> Now:
         if plain is not None:
             return plain, kind or (SIGNED if source else NO_KIND)
     if isinstance(source, Kept):
-        return _of_given_kind(source._now, kind)
+        return _of_given_kind(_in_unit(source._now, kind), kind)
     form = _form_of(source)
     match form:
         case Form.RANGE:
@@ -377,6 +377,14 @@ def _array_of(items: list[Any], kind: Kind, is_given: bool = True) -> array[int]
             # One of them isn't a number of the type: it is found, and the error says what is wanted.
             pass
     return array(typecode_of(kind.unsigned), map(kind.checked, _codes_of(items, kind, is_given)))
+
+
+def _in_unit(now: Now, kind: Kind | None) -> Now:
+    """A set of times without a zone in the unit of numpy's that is given, which has to have them; or else the set."""
+    found = now[1]
+    if kind is found or not isinstance(kind, Numpys) or not (found is NAIVE or isinstance(found, Numpys)):
+        return now
+    return _core.from_boundaries(array("q", [kind.number(kind.of_unit(it)) for it in array_of(now)])), kind
 
 
 def _of_given_kind(now: Now, kind: Kind | None) -> Now:

@@ -100,7 +100,7 @@ class Numpys(Kind):
 
     def code(self, value: Any) -> int:
         if hasattr(value, "to_datetime64") and value.tzinfo is None:
-            value = self._of_unit(value.to_datetime64())
+            value = self.of_unit(value.to_datetime64())
         if getattr(value, "dtype", None) != self.dtype or getattr(value, "ndim", 0):
             raise self.type_error(value)
         code = int(value.view("i8"))
@@ -138,7 +138,7 @@ class Numpys(Kind):
         text, unit = str(value), self._unit()
         return f"numpy.datetime64({(text if self.dtype.type(text, unit) == value else self.code(value))!r}, '{unit}')"
 
-    def _of_unit(self, given: Any) -> Any:
+    def of_unit(self, given: Any) -> Any:
         """A time of another unit in this one, which has to have it."""
         found = given.astype(self.dtype)
         # NaT differs from itself.
