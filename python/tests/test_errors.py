@@ -42,6 +42,7 @@ ONE_BY_ONE = f"{UNCOUNTED}: expected a start and an end"
 PAIR = "expected a pair (start, end), a range or a set, not"
 ENDS = "expected a number, a start and an end, a pair or a range, not"
 FLOAT = "'float' object cannot be interpreted as an integer"
+VALUES = "; from_values makes a set of elements"
 OF_FLOATS = f"{FLOAT}: kind='float' makes a set of floats"
 COLUMNS = "a list of starts and one of ends are no ranges: zip(starts, ends) has the pairs"
 TABLE = "expected a table with two columns; RangeSet.from_boundaries reads a list of boundaries"
@@ -73,12 +74,12 @@ class Texts(unittest.TestCase):
     def test_what_a_set_is_made_of(self):
         self.compare(
             (
-                (lambda: RangeSet([1, 2]), TypeError, f"{PAIR} 1"),
+                (lambda: RangeSet([1, 2]), TypeError, f"{PAIR} 1{VALUES}"),
                 (lambda: RangeSet([(1, 2, 3)]), TypeError, f"{PAIR} (1, 2, 3)"),
                 (lambda: RangeSet([(1,), (2, 3, 4)]), TypeError, f"{PAIR} (1,)"),
                 (lambda: RangeSet([{1, 2}]), TypeError, PAIR + " {1, 2}"),
                 (lambda: RangeSet(["ab"]), TypeError, f"{PAIR} 'ab'"),
-                (lambda: RangeSet(5), TypeError, "expected pairs, ranges or sets, not 5"),
+                (lambda: RangeSet(5), TypeError, "expected pairs, ranges or sets, not 5" + VALUES),
                 (lambda: RangeSet(None), TypeError, "expected pairs, ranges or sets, not None"),
                 (lambda: RangeSet("0..3"), TypeError, "expected pairs, ranges or sets, not a text; RangeSet.parse reads one"),
                 (lambda: RangeSet(q(0, 10)), TypeError, TABLE),
@@ -171,9 +172,9 @@ class Texts(unittest.TestCase):
     def test_questions_and_changes(self):
         self.compare(
             (
-                (lambda: 1.5 in A, TypeError, FLOAT),
+                (lambda: 1.5 in A, TypeError, OF_FLOATS),
                 (lambda: "1" in A, TypeError, "'str' object cannot be interpreted as an integer"),
-                (lambda: (0, 1) in A, TypeError, "'tuple' object cannot be interpreted as an integer"),
+                (lambda: (0, 1) in A, TypeError, "expected an element, not (0, 1): s.covers(start, end) asks for all of a range"),
                 (lambda: A.covers("5"), TypeError, f"{ENDS} '5'"),
                 (lambda: A.insert(5.0), TypeError, FLOAT),
                 (lambda: A.insert(2**63), OverflowError, SIGNED),
@@ -192,10 +193,10 @@ class Texts(unittest.TestCase):
                 (lambda: RangeSet((5, None)).bounded(), ValueError, "expected a set with an end, and this has none from 5 on"),
                 (lambda: A[1], IndexError, "there is no such range: the set has 1"),
                 (lambda: A[-(10**5000)], IndexError, "there is no such range: the set has 1"),
-                (lambda: RangeSet.union_all([A, 5]), TypeError, "expected pairs, ranges or sets, not 5"),
+                (lambda: RangeSet.union_all([A, 5]), TypeError, "expected pairs, ranges or sets, not 5" + VALUES),
                 (lambda: A | RangeSet(unsigned=True), TypeError, f"{MIXED}: both sets have to be of one kind"),
                 (lambda: RangeSet.union_all([A], unsigned=True), TypeError, f"{MIXED}: expected a set of unsigned ones"),
-                (lambda: A | [(1, 2)], TypeError, "unsupported operand type(s) for |: 'RangeSet' and 'list'"),
+                (lambda: A | [(1, 2)], TypeError, "operators take sets alone: union, and in place update, takes pairs and ranges too"),
                 (lambda: hash(MutableRangeSet()), TypeError, "unhashable type: 'MutableRangeSet'"),
             )
         )

@@ -186,6 +186,20 @@ class Frames(unittest.TestCase):
         naive = RangeMap({pair: "a"})
         self.assertEqual((naive.kind, naive[of_frame], naive.get(frame["start"]).tolist()), ("datetime64[ns]", naive, ["a"]))
 
+    def test_errors_that_name_the_way_out(self):
+        start, end = self.frame["start"], self.frame["end"]
+        days, times = RangeSet([(date(2026, 5, 1), date(2026, 5, 3))]), pandas.Series(pandas.to_datetime(["2026-05-02", "2026-05-03"]))
+        for call, said in (
+            (lambda: RangeMap(self.frame), r"not a table: zip\(zip\(t\['start'\], t\['end'\]\), t\['value'\]\) has them"),
+            (lambda: RangeMap.depth(self.frame), r"not a table: zip\(t\['start'\], t\['end'\]\) has the range of each row"),
+            (lambda: days.contains(times), r"a column's .dt.date has dates, and so has an array.astype\('M8\[D\]'\)"),
+        ):
+            self.assertRaisesRegex(TypeError, said, call)
+        self.assertEqual(RangeMap(zip(zip(start, end), self.frame["name"])).find("c"), RangeSet([(3, 8)]))
+        self.assertEqual(RangeMap.depth(zip(start, end)).find(2), RangeSet([(3, 5)]))
+        for asked in (times.dt.date, times.to_numpy().astype("M8[D]")):
+            self.assertEqual(days.contains(asked).tolist(), [True, False])
+
     def test_frames_as_values(self):
         """They join by identity alone."""
         other = self.frame.drop(columns="name")

@@ -16,8 +16,8 @@ from ._kind import NO_KIND, SIGNED, UNSIGNED, Kind, Now
 from ._kinds import agreed, kind_of_pickle
 from ._numbers import in_this_order
 
-# `repr` writes a set of more than `_MANY` ranges by `_SHOWN` at either end.
-_MANY, _SHOWN = 1000, 3
+# `repr` writes a set or a map of more than `MANY` ranges by `SHOWN` at either end.
+MANY, SHOWN = 1000, 3
 # This many boundaries of a list show how far apart all are. Distances above _FAR take six bytes or more in a pickle.
 _ASKED, _FAR = 64, 2**35
 
@@ -47,6 +47,9 @@ class Attributes:
         if state is not None:
             self.__setstate__(state)
         return self
+
+    def _refuse(self, name: str, hint: str) -> None:
+        raise AttributeError(f"{type(self).__name__!r} object has no attribute {name!r}{hint}", name=name, obj=self)
 
     def _shown(self, items: str, kind: Kind) -> str:
         """What makes a set or a map anew, from what has its items, or nothing."""
@@ -81,10 +84,10 @@ class Kept(Attributes, _core.Set):
     def __repr__(self) -> str:
         boundaries, kind = self._now
         count = (len(boundaries) + 1) // 2
-        if count <= _MANY:
+        if count <= MANY:
             shown = _pairs(boundaries, kind)
         else:
-            shown = f"{_pairs(boundaries[: 2 * _SHOWN], kind)}, ..., {_pairs(boundaries[2 * (count - _SHOWN) :], kind)}"
+            shown = f"{_pairs(boundaries[: 2 * SHOWN], kind)}, ..., {_pairs(boundaries[2 * (count - SHOWN) :], kind)}"
         return self._shown(f"[{shown}]" if count else "", kind)
 
     def __str__(self) -> str:
@@ -145,7 +148,7 @@ def _unnamed_kind(boundaries: Boundaries) -> Kind:
 def _are_far_apart(boundaries: Boundaries) -> bool:
     """Whether most of many are so far apart that distances take about as many bytes as the boundaries."""
     places = range(1, len(boundaries), len(boundaries) // _ASKED or 1)
-    return len(boundaries) > _MANY and sum(boundaries[it] - boundaries[it - 1] > _FAR for it in places) > _ASKED * 3 // 4
+    return len(boundaries) > MANY and sum(boundaries[it] - boundaries[it - 1] > _FAR for it in places) > _ASKED * 3 // 4
 
 
 def _checked(cls: type[Kept], boundaries: Boundaries, name: str | None) -> Kept:

@@ -2,6 +2,7 @@
 
 from __future__ import annotations
 
+import reprlib
 from datetime import date, datetime, timedelta
 from ipaddress import IPv4Address, IPv6Address
 from operator import index
@@ -34,6 +35,8 @@ class Addresses(Kind):
 
 
 ADDRESS = Addresses()
+# What an error says of a float that is no whole number.
+OF_FLOATS = "kind='float' makes a set of floats"
 _NAMED: dict[str | type, Kind] = {it.name: it for it in (SIGNED, UNSIGNED, FLOAT, DATE, DELTA, ADDRESS, NAIVE, AWARE)}
 _NAMED |= {int: SIGNED, float: FLOAT, date: DATE, datetime: NAIVE, timedelta: DELTA, IPv4Address: ADDRESS}
 
@@ -136,6 +139,13 @@ def mixed(kind: Kind, other: Kind) -> str:
     in_unit = f"; RangeSet(s, kind={numpys[-1].name!r}) makes such a set of the other" if numpys else ""
     hint = in_unit if len(numpys) + (NAIVE in (kind, other)) == 2 else ""
     return f"two kinds of elements don't mix: one set has the kind {kind.name}, and the other {other.name}{hint}"
+
+
+def asked_error(value: Any, kind: Kind, error: TypeError) -> TypeError:
+    """The error of what a set is asked for by `in` and isn't an element, with what asks for it."""
+    if isinstance(value, (tuple, list, range)):
+        return TypeError(f"expected an element, not {reprlib.repr(value)}: s.covers(start, end) asks for all of a range")
+    return TypeError(f"{error}: {OF_FLOATS}") if kind.is_whole and isinstance(value, float) else error
 
 
 def _element_error(value: Any) -> TypeError:

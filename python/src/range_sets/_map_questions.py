@@ -10,7 +10,7 @@ from ._arrays import asked_of
 from ._core import Boundaries, Steps
 from ._kept import Attributes
 from ._kind import NO_KIND, Array, Element, Kind, Now
-from ._kinds import agreed, kind_of_first, mixed
+from ._kinds import agreed, kind_of, kind_of_first, mixed
 from ._numbers import least, most
 from ._ranges import AnyRangeSet
 from ._sets import RangeSet
@@ -23,8 +23,16 @@ D = TypeVar("D")
 Item = tuple[tuple[K, Union[K, None]], V]
 # What stands in the brackets of a change, or of a part.
 Keys = Union[slice, range, IPv4Network, AnyRangeSet]
-# Stands for the value of keys that have none.
-NOTHING: Any = object()
+
+
+class _Nothing:
+    """The value of keys that have none, which help shows."""
+
+    def __repr__(self) -> str:
+        return "nothing"
+
+
+NOTHING: Any = _Nothing()
 
 
 class MapQuestions(Attributes, Generic[K, V]):
@@ -158,6 +166,10 @@ class MapQuestions(Attributes, Generic[K, V]):
             return range_of(keys.start, keys.stop, kind)
         if isinstance(keys, (range, IPv4Network)):
             return range_of(keys, ..., kind)
+        found = kind_of(keys)
+        if found is not None:
+            start, end = map(repr, found.ends(*found.codes_of_one(keys)))
+            raise TypeError(f"expected a range, not the key {keys!r}: m[{start}:{end}] has it alone, as ({start}, {end}) does in pairs")
         wanted = "expected a slice without a step, a range, a network or a set"
         raise TypeError(f"{wanted}, not {keys!r}: m[a:b] has the keys from a to below b")
 
@@ -270,6 +282,16 @@ class MapQuestions(Attributes, Generic[K, V]):
         RangeSet([(0, 10), (30, 35)])
         """
         return RangeSet._over(self._steps.find(value), self._kind)
+
+    def _last(self, count: int) -> list[Item[K, V]]:
+        """The last ranges with their values, of which there are as many."""
+        found: list[Item[K, V]] = []
+        key = most(self._kind.unsigned)
+        while len(found) < count:
+            start, end, value = self._steps.range_at(key, NOTHING)
+            found[:0] = [] if value is NOTHING else [(self._kind.ends(start, end), value)]
+            key = start - 1
+        return found
 
     def _check_kind(self, kind: Kind) -> None:
         if kind is not self._kind and self._kind is not NO_KIND:

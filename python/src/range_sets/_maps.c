@@ -137,6 +137,14 @@ static PyObject *steps_kind(Steps *self, void *unused)
     return Py_NewRef(self->kind);
 }
 
+/* The library keeps a number and a value for each end, and one for both of ranges that touch. */
+static PyObject *steps_sizeof(Steps *self, PyObject *unused)
+{
+    const Values *values = &self->values;
+    return PyLong_FromSize_t(sizeof *self + values->room * sizeof *values->places + values->numbers.room * sizeof *values->numbers.slots
+                             + 2 * self->len * 24);
+}
+
 /* ---- New maps ---- */
 
 range_set_status make_handle(Steps *self)
@@ -244,6 +252,7 @@ static PyMethodDef methods[] = {
     {"equals", (PyCFunction)steps_equals, METH_O, NULL},
     {"find", (PyCFunction)steps_find, METH_O, NULL},
     {"part", (PyCFunction)steps_part, METH_O, NULL},
+    {"__sizeof__", (PyCFunction)steps_sizeof, METH_NOARGS, NULL},
     {NULL, NULL, 0, NULL},
 };
 

@@ -7,16 +7,18 @@ import reprlib
 import sys
 from collections import Counter
 from ipaddress import IPv4Network
+from itertools import islice
 from typing import Any, Callable, Iterable, Mapping, Self, TypeVar, Union
 
 from . import _core
 from ._core import Steps
+from ._kept import MANY, SHOWN
 from ._kind import NO_KIND, SIGNED, Kind, KindLike
 from ._kinds import are_alike, given_kind, kind_of_pickle, mixed
 from ._map_questions import NOTHING, Keys, MapQuestions
 from ._numbers import in_this_order, least, packed
 from ._ranges import AnyRangeSet
-from ._sources import Source, gather, of_one_kind
+from ._sources import Source, items_of, of_one_kind, sets_of
 
 K = TypeVar("K")
 V = TypeVar("V")
@@ -139,7 +141,8 @@ class RangeMap(MapQuestions[K, V]):
         [((0, 5), 'low'), ((5, 7), 'mid'), ((7, 10), 'low'), ((20, 30), 'high')]
         """
         # All are read before the first change.
-        given: list[tuple[Any, V]] = list(items.items() if isinstance(items, (RangeMap, Mapping)) else items)
+        pairs = items.items() if isinstance(items, (RangeMap, Mapping)) else items
+        given = items_of(pairs, "pairs of a range and a value", "zip(zip(t['start'], t['end']), t['value']) has them")
         done = False
         while not done:
             known = self._kind
@@ -154,7 +157,11 @@ class RangeMap(MapQuestions[K, V]):
             return *found, SIGNED if kind is NO_KIND else kind
         ends: list[int] = []
         values: list[V] = []
-        for keys, value in given:
+        for item in given:
+            try:
+                keys, value = item
+            except (TypeError, ValueError) as error:
+                raise type(error)(f"expected a range and its value, as ((0, 5), 'a'), not {reprlib.repr(item)}") from None
             pair = isinstance(keys, (tuple, list)) and len(keys) == 2
             ranges, kind = self._ranges(slice(*keys) if pair else keys, kind)
             ends += [*ranges, *[least(kind.unsigned)] * (len(ranges) % 2)]
@@ -186,7 +193,7 @@ class RangeMap(MapQuestions[K, V]):
         RangeMap([((0, 3), 1), ((3, 4), 2), ((4, 5), 3), ((5, 6), 2), ((6, 9), 1), ((20, None), 1)])
         """
         wanted = given_kind(kind, unsigned)
-        lists, found = of_one_kind([gather(it, wanted) for it in sets], wanted)
+        lists, found = of_one_kind(sets_of(sets, wanted), wanted)
         changes: Counter[int] = Counter()
         for boundaries in lists:
             changes.update(memoryview(boundaries)[::2])  # type: ignore[arg-type]
@@ -257,7 +264,13 @@ class RangeMap(MapQuestions[K, V]):
 
     @reprlib.recursive_repr("RangeMap(...)")
     def __repr__(self) -> str:
-        return self._shown(repr([*self.items()]) if self else "", self._kind)
+        if len(self) <= MANY:
+            return self._shown(repr([*self.items()]) if self else "", self._kind)
+        first, last = (repr([*it])[1:-1] for it in (islice(self.items(), SHOWN), self._last(SHOWN)))
+        return self._shown(f"[{first}, ..., {last}]", self._kind)
+
+    def __sizeof__(self) -> int:
+        return object.__sizeof__(self) + self._steps.__sizeof__()
 
     def __reduce__(self) -> tuple[Any, ...]:
         ends, values = self._steps.ends_and_values()

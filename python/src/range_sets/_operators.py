@@ -2,7 +2,7 @@
 
 from __future__ import annotations
 
-from typing import TYPE_CHECKING, Any, Callable, Never, Self
+from typing import TYPE_CHECKING, Any, Callable, Self
 
 from . import _core
 from ._core import Boundaries
@@ -27,7 +27,7 @@ class Operators(Kept):
     # Else numpy would answer `set | array` by the bits of the boundaries, and `numpy.isin(array, set)` by which elements are boundaries.
     __array_ufunc__ = None
 
-    def __array_function__(self, function: Any, types: Any, args: Any, kwargs: Any) -> Never:
+    def __array_function__(self, function: Any, types: Any, args: Any, kwargs: Any) -> Any:
         hint = "s.contains(array) says which elements are members, and numpy.asarray(s) has the boundaries"
         raise TypeError(f"numpy.{function.__name__} takes no set: {hint}")
 

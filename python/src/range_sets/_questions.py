@@ -12,7 +12,7 @@ from ._core import Boundaries
 from ._floats import FLOAT
 from ._kept import Kept
 from ._kind import NO_KIND, UNCOUNTED, Array, Element, Kind, Now
-from ._kinds import kind_of, kind_of_first
+from ._kinds import asked_error, kind_of, kind_of_first
 from ._operators import Operators
 from ._sources import OneRange, Source, all_from, codes_of_range, gather
 
@@ -28,12 +28,12 @@ class Questions(Operators):
             return _core.contains(asked, value if kind.is_whole else kind.number(value))  # type: ignore[arg-type]
         except OverflowError:
             return False
-        except TypeError:
+        except TypeError as error:
             if kind is NO_KIND and kind_of(value):
                 return False
             if isinstance(value, IPv4Network):
                 return self.covers(value)
-            raise
+            raise asked_error(value, kind, error) from None
 
     def contains(self, values: Any) -> Any:
         """For each element of an array whether it is a member, as a numpy array of bools. NaT and NaN are none.

@@ -5,7 +5,7 @@ from __future__ import annotations
 from array import array
 from ipaddress import IPv4Address, IPv4Network, summarize_address_range
 from itertools import chain, zip_longest
-from typing import Any, Iterable, Iterator, Never, Self, SupportsIndex, overload
+from typing import TYPE_CHECKING, Any, Iterable, Iterator, Never, Self, SupportsIndex, overload
 
 from . import _core, _postgres, _text
 from ._floats import FLOAT
@@ -24,6 +24,7 @@ from ._sources import (
     intersection_of,
     range_of,
     ranges_of,
+    sets_of,
     union_of,
     values_of,
 )
@@ -43,13 +44,20 @@ class AnyRangeSet(Questions):
     __slots__ = ()
     __module__ = "range_sets"
 
-    def __new__(cls, source: Source = (), *more: Never, unsigned: bool | None = None, kind: KindLike = None, **attributes: Never) -> Self:
-        if more:
-            raise TypeError(f"{cls.__name__} is made of one argument, not {1 + len(more)}: a list of pairs, as [(3, 5), (7, 9)]")
-        # The `__init__` of a subclass takes them.
-        if attributes and cls.__init__ is object.__init__:
-            raise TypeError(f"{cls.__name__}() got an unexpected keyword argument {next(iter(attributes))!r}")
-        return cls._over(*gather(source, given_kind(kind, unsigned)))
+    if TYPE_CHECKING:
+
+        def __new__(cls, source: Source = (), *, unsigned: bool | None = None, kind: KindLike = None, **attributes: Never) -> Self:
+            ...
+
+    else:
+
+        def __new__(cls, source=(), *more, unsigned=None, kind=None, **attributes):
+            if more:
+                raise TypeError(f"{cls.__name__} is made of one argument, not {1 + len(more)}: a list of pairs, as [(3, 5), (7, 9)]")
+            # The `__init__` of a subclass takes them.
+            if attributes and cls.__init__ is object.__init__:
+                raise TypeError(f"{cls.__name__}() got an unexpected keyword argument {next(iter(attributes))!r}")
+            return cls._over(*gather(source, given_kind(kind, unsigned)))
 
     # ---- What it is ----
 
@@ -188,7 +196,7 @@ class AnyRangeSet(Questions):
 
     @classmethod
     def _joined(cls, join: Any, sets: Iterable[Source], kind: Kind | None) -> Self:
-        return cls._over(*join([gather(it, kind) for it in sets], kind))
+        return cls._over(*join(sets_of(sets, kind), kind))
 
     # ---- The ranges ----
 

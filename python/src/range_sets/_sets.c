@@ -33,22 +33,27 @@ static void set_dealloc(Set *self)
 }
 
 /* By a call over both lists. If a set changes or their kinds differ, a method of the class does it. */
-static PyObject *operated(PyObject *a, PyObject *b, _PyCFunctionFast call, const char *method)
+static PyObject *operated(PyObject *a, PyObject *b, _PyCFunctionFast call, const char *method, const char *in_place)
 {
-    if (!PyObject_TypeCheck(a, &set_type) || !PyObject_TypeCheck(b, &set_type)) Py_RETURN_NOTIMPLEMENTED;
+    bool is_left = PyObject_TypeCheck(a, &set_type);
+    if (!is_left || !PyObject_TypeCheck(b, &set_type)) {
+        PyObject *other = is_left ? b : a;
+        if (!PyList_CheckExact(other) && !PyTuple_CheckExact(other) && !PyRange_Check(other)) Py_RETURN_NOTIMPLEMENTED;
+        return PyErr_Format(PyExc_TypeError, "operators take sets alone: %s, and in place %s, takes pairs and ranges too", method + 1, in_place);
+    }
     PyObject *left = ((Set *)a)->now, *right = ((Set *)b)->now;
     PyObject *kind = left == NULL ? NULL : PyTuple_GET_ITEM(left, 1);
     if (kind == NULL || right == NULL || kind != PyTuple_GET_ITEM(right, 1)) return PyObject_CallMethod(a, method, "O", b);
     return set_over(Py_TYPE(a), call(NULL, (PyObject *[]){PyTuple_GET_ITEM(left, 0), PyTuple_GET_ITEM(right, 0)}, 2), kind);
 }
 
-#define OPERATOR(name) \
-    static PyObject *set_##name(PyObject *a, PyObject *b) { return operated(a, b, core_##name, "_" #name); }
+#define OPERATOR(name, in_place) \
+    static PyObject *set_##name(PyObject *a, PyObject *b) { return operated(a, b, core_##name, "_" #name, in_place); }
 
-OPERATOR(union)
-OPERATOR(intersection)
-OPERATOR(difference)
-OPERATOR(symmetric_difference)
+OPERATOR(union, "update")
+OPERATOR(intersection, "intersection_update")
+OPERATOR(difference, "difference_update")
+OPERATOR(symmetric_difference, "symmetric_difference_update")
 
 static PyMethodDef methods[] = {
     {"_over", (PyCFunction)(void (*)(void))set_of, METH_FASTCALL | METH_CLASS, NULL},

@@ -2,7 +2,7 @@
 
 from __future__ import annotations
 
-from typing import Any, Callable, Self, overload
+from typing import TYPE_CHECKING, Any, Callable, Self, overload
 
 from . import _core
 from ._core import Boundaries, Chunks
@@ -47,6 +47,12 @@ class RangeSet(AnyRangeSet):
 
     __slots__ = ()
     __module__ = "range_sets"
+
+    if not TYPE_CHECKING:
+
+        def __getattr__(self, name):
+            is_there = not name.startswith("_") and hasattr(MutableRangeSet, name)
+            self._refuse(name, ": a MutableRangeSet has it, which changes" if is_there else "")
 
     def __hash__(self) -> int:
         boundaries, kind = self._now
@@ -134,6 +140,12 @@ class MutableRangeSet(AnyRangeSet):
     __module__ = "range_sets"
     __hash__ = None  # type: ignore[assignment]
     _chunks: Chunks
+
+    if not TYPE_CHECKING:
+
+        def __getattr__(self, name):
+            found = {"insert": "add", "remove": "discard"}.get(name)
+            self._refuse(name, f": {found} changes the set" if found else "")
 
     @classmethod
     def _over(cls, boundaries: Boundaries, kind: Kind) -> Self:

@@ -15,7 +15,7 @@ from ._core import Boundaries
 from ._floats import FLOAT, mirrored
 from ._kept import Kept
 from ._kind import NAN, NO_KIND, SIGNED, UNSIGNED, Element, Kind, Now
-from ._kinds import kind_of, kind_of_first, mixed, whole
+from ._kinds import OF_FLOATS, kind_of, kind_of_first, mixed, whole
 from ._numbers import typecode_of
 from ._postgres import Bounds, half_open
 from ._times import AWARE, DELTA, NAIVE, Numpys, of_dtype
@@ -99,7 +99,7 @@ def ends_of(item: Any, wanted: str) -> tuple[Any, Any]:
             return start, end
         except (TypeError, ValueError):
             pass
-    raise TypeError(f"expected {wanted}, not {reprlib.repr(item)}")
+    raise _source_error(item, wanted)
 
 
 class Form(Enum):
@@ -157,7 +157,7 @@ def gather(source: Any, kind: Kind | None) -> Now:
         case Form.TABLE:
             return _ranges_of_table(source, kind)
         case Form.OTHER:
-            return gather(_items_of(source), kind)
+            return gather(items_of(source, "pairs, ranges or sets"), kind)
 
 
 def union_of(sets: list[Now], kind: Kind | None = None) -> Now:
@@ -409,13 +409,27 @@ def _ranges_of_table(table: Any, kind: Kind | None) -> Now:
     return _ranges_of_buffer(table, kind)
 
 
-def _items_of(source: Any) -> list[Any]:
+def items_of(source: Any, wanted: str, of_table: str = "") -> list[Any]:
+    """What an iterable gives, unless it is a text or a table, of which the error says how it is read."""
     if isinstance(source, str):
-        raise TypeError("expected pairs, ranges or sets, not a text; RangeSet.parse reads one")
+        raise TypeError(f"expected {wanted}, not a text; RangeSet.parse reads one")
+    if hasattr(source, "iloc"):
+        raise TypeError(f"expected {wanted}, not a table: {of_table}")
     try:
-        return list(source)
+        items = iter(source)
     except TypeError:
-        raise TypeError(f"expected pairs, ranges or sets, not {reprlib.repr(source)}") from None
+        raise _source_error(source, wanted) from None
+    return list(items)
+
+
+def sets_of(source: Any, kind: Kind | None) -> list[Now]:
+    """The sets that an iterable gives, or what makes them."""
+    return [gather(it, kind) for it in items_of(source, "sets, as in a list", "zip(t['start'], t['end']) has the range of each row")]
+
+
+def _source_error(source: Any, wanted: str) -> TypeError:
+    hint = "; from_values makes a set of elements" if "set" in wanted and kind_of(source) is not None else ""
+    return TypeError(f"expected {wanted}, not {reprlib.repr(source)}{hint}")
 
 
 def _codes_of(values: Iterable[Any], kind: Kind, is_given: bool) -> list[int]:
@@ -424,7 +438,7 @@ def _codes_of(values: Iterable[Any], kind: Kind, is_given: bool) -> list[int]:
         return [*map(kind.code, values)]
     except TypeError as error:
         if kind is SIGNED and not is_given and str(error).startswith("'float'"):
-            raise TypeError(f"{error}: kind='float' makes a set of floats") from None
+            raise TypeError(f"{error}: {OF_FLOATS}") from None
         raise
 
 

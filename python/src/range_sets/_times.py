@@ -45,6 +45,9 @@ class Dates(Timed):
     def value(self, code: int) -> date:
         return date.fromordinal(code + _FIRST_DAY)
 
+    def hint(self, name: str) -> str:
+        return "; a column's .dt.date has dates, and so has an array.astype('M8[D]')" if name.startswith("datetime64[") else ""
+
 
 class Times(Timed):
     """Times with a time zone or without one, by their microseconds from 1970 on. Those with one are kept in UTC."""
