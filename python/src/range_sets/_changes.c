@@ -45,12 +45,36 @@ static range_set_status put(Steps *self, Range range, size_t number)
     return self->is_signed ? PUT(i64, &self->handle.i64, range, number) : PUT(u64, &self->handle.u64, range, number);
 }
 
+/* Counts a range that has the value of a number, unless that is none or another one. */
+static void count_apart(Steps *self, size_t number, size_t from)
+{
+    if (number == NONE || number == from) return;
+    self->len++;
+    count_ranges(&self->values, number, 1);
+}
+
+/* The ranges that lose keys are counted down, and up again as far as they are left; so is the new one, which takes in those of its number
+ * just below and above. */
 static range_set_status change(Steps *self, Change it)
 {
+    if (is_reversed(it.range, self->is_signed)) return RANGE_SET_DONE;
     Range near = around(self, it.range);
-    count_in(self, near, -1);
+    size_t below = NONE, above = NONE;
+    Stretch old;
+    for (Walk walk = {near}; step(self, &walk, &old);) {
+        self->len--;
+        count_ranges(&self->values, old.value, -1);
+        if (!is_reversed((Range){old.start, it.range.start, true}, self->is_signed)) below = old.value;
+        if (it.range.has_end && !ends_below(self, &old, near)) above = old.value;
+    }
     range_set_status status = put(self, it.range, it.number);
-    count_in(self, near, 1);
+    if (status != RANGE_SET_DONE) {
+        count_in(self, near, 1);
+        return status;
+    }
+    count_apart(self, below, it.number);
+    count_apart(self, above, it.number);
+    count_apart(self, it.number, NONE);
     return status;
 }
 
@@ -166,7 +190,8 @@ Py_ssize_t join(const Steps *self, const Change *pieces, size_t count, Change *j
         Change *last = len > 0 ? &joined[len - 1] : NULL;
         bool touches = last != NULL && last->range.has_end && last->range.end == it->range.start;
         size_t number = touches ? last->number : NONE, above;
-        if (!touches && self->len > 0 && it->range.start != LEAST(self)) number = number_at(self, it->range.start - 1);
+        bool is_value = it->number != NONE && self->len > 0;
+        if (!touches && is_value && it->range.start != LEAST(self)) number = number_at(self, it->range.start - 1);
         int is_one = are_of_one(self, number, it->number);
         if (is_one < 0 || self->changes != seen) return is_one;
         if (touches && is_one) {
@@ -178,7 +203,7 @@ Py_ssize_t join(const Steps *self, const Change *pieces, size_t count, Change *j
         }
         bool has_next = i + 1 < count;
         Range up_to = {last->range.end, has_next ? pieces[i + 1].range.start : 0, has_next};
-        if (self->len == 0 || !last->range.has_end || (has_next && up_to.start == up_to.end)) continue;
+        if (!is_value || !last->range.has_end || (has_next && up_to.start == up_to.end)) continue;
         above = number_at(self, up_to.start);
         is_one = are_of_one(self, last->number, above);
         if (is_one < 0 || self->changes != seen) return is_one;
