@@ -230,6 +230,16 @@ class EachKind(unittest.TestCase):
             with self.assertRaises(TypeError):
                 call()
 
+    def test_reversed_pairs_are_empty(self):
+        for name, elements in ELEMENTS.items():
+            with self.subTest(kind=name):
+                pair = elements[2], elements[1]
+                nothing, made = RangeSet(kind=name), MutableRangeSet([pair], kind=name)
+                made.add(*pair)
+                for other in (RangeSet(pair, kind=name), RangeSet([pair], kind=name), RangeSet([[*pair]], kind=name), nothing.insert(*pair)):
+                    self.assertEqual((other, len(other)), (made, 0))
+                self.assertEqual(RangeMap([(pair, "a")], kind=name), RangeMap(kind=name))
+
     def test_kinds_do_not_mix(self):
         made = {name: RangeSet((elements[1], elements[2]), kind=name) for name, elements in ELEMENTS.items()}
         # Of these a set of one makes a set of another.

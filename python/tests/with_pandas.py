@@ -200,6 +200,26 @@ class Frames(unittest.TestCase):
         for asked in (times.dt.date, times.to_numpy().astype("M8[D]")):
             self.assertEqual(days.contains(asked).tolist(), [True, False])
 
+    def test_elements_that_are_missing(self):
+        """They are no members; calls that count raise an error."""
+        column = pandas.array([5, None, 20], dtype="Int64")
+        for made, asked, error in (
+            (RangeSet([(0, 10)]), column, OverflowError),
+            (RangeSet([(0, 10)]), pandas.Series(column), OverflowError),
+            (RangeSet([(0.0, 10.0)]), numpy.array([5.0, numpy.nan, 20.0]), TypeError),
+            (RangeSet([(0.0, 10.0)]), pandas.array([5.0, None, 20.0], dtype="Float64"), TypeError),
+            (RangeSet([(pandas.Timestamp(0), pandas.Timestamp(10))]), pandas.Series(pandas.to_datetime([5, None, 20])), ValueError),
+        ):
+            with self.subTest(asked=asked):
+                self.assertEqual(made.contains(asked).tolist(), [True, False, False])
+                self.assertEqual(made.overlaps(asked, asked).tolist(), [False] * 3)
+                self.assertEqual(made.range_at(asked)[0].mask.tolist(), [False, True, True])
+                self.assertEqual(RangeMap([(made[0], "a")]).get(asked).tolist(), ["a", None, None])
+                self.assertRaises(error, made.rank, asked)
+                self.assertRaises(error, made.covered_within, asked, asked)
+                if not isinstance(made.kind, str) or made.kind != "float":
+                    self.assertRaises((TypeError, ValueError), RangeSet.from_values, asked)
+
     def test_frames_as_values(self):
         """They join by identity alone."""
         other = self.frame.drop(columns="name")

@@ -13,7 +13,7 @@ from ._times import AWARE, DELTA
 
 
 def codes_of_each(kind: Kind, values: Any) -> tuple[Any, Any]:
-    """The numbers of the elements in an array of numpy, or in what it makes one of; and which are no elements, as NaT, NaN, and whole
+    """The numbers of the elements in an array of numpy, or in what it makes one of; and which are no elements, as NaT, NaN, NA, and whole
     numbers out of range. The numbers of these mean nothing."""
     import numpy
 
@@ -36,10 +36,15 @@ def codes_of_each(kind: Kind, values: Any) -> tuple[Any, Any]:
     # As which numpy has times of units that Python has no type for.
     if found.dtype.kind in "mM" and any(isinstance(it, int) for it in elements):
         raise kind.array_type_error(found.dtype)
-    codes = [None if it != it else kind.code(it) if kind.is_whole else kind.number(it) for it in elements]
+    codes = [None if _is_gone(it) else kind.code(it) if kind.is_whole else kind.number(it) for it in elements]
     none = [it is None or not kind.least <= it <= kind.most for it in codes]
     numbers = [0 if is_none else it for it, is_none in zip(codes, none)]
     return numpy.array(numbers, dtype=typecode_of(kind.unsigned)).reshape(found.shape), numpy.array(none, dtype=bool).reshape(found.shape)
+
+
+def _is_gone(element: Any) -> bool:
+    # Of two of pandas' NA each comparison is NA, and has no truth.
+    return type(element).__name__ == "NAType" or element != element
 
 
 def codes_of_floats(floats: Any) -> Any:

@@ -36,7 +36,7 @@ class Questions(Operators):
             raise asked_error(value, kind, error) from None
 
     def contains(self, values: Any) -> Any:
-        """For each element of an array whether it is a member, as a numpy array of bools. NaT and NaN are none.
+        """For each element of an array whether it is a member, as a numpy array of bools. NaT, NaN and NA are none.
 
         Cost: a search for each, and a short one if they are in order.
 
