@@ -179,7 +179,10 @@ static int are_of_one(const Steps *self, size_t a, size_t b)
     return a == b ? 1 : are_one(self->values.places[a].value, self->values.places[b].value);
 }
 
-Py_ssize_t join(const Steps *self, const Change *pieces, size_t count, Change *joined)
+/* Gives ranges in order that touch one with an equal value its number: one of these before, or one of the map. Of two values of the map the
+ * lower one's stays. Is given a list for as many; returns how many ranges these are, or -1 where an `==` raises an error; or breaks off
+ * where one changes the map. */
+static Py_ssize_t join(const Steps *self, const Change *pieces, size_t count, Change *joined)
 {
     uint64_t seen = self->changes;
     size_t len = 0;

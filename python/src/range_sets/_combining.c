@@ -7,7 +7,7 @@ typedef struct {
     Steps *made;
     PyObject *how, *missing;
     /* The longest ranges whose keys have one value or none in each map, and one in either; and the numbers of these, or NONE. That of a
-     * piece is the one of what is made of its pair; before that it is NONE if no other piece has the pair. */
+     * piece is the one of its value; before that it is NONE if no other piece has the pair. */
     Change *pieces;
     size_t (*pairs)[2];
     size_t len;
@@ -63,48 +63,56 @@ static bool meet(Meeting *meeting)
     return true;
 }
 
-/* Makes a value of a pair. */
-static bool make_value(Meeting *meeting, const size_t *pair, size_t *number)
+/* What is made of a pair, which a caller owns. */
+static PyObject *made_of(const Meeting *meeting, const size_t *pair)
 {
     PyObject *both[2];
     for (int i = 0; i < 2; i++)
         both[i] = pair[i] == NONE ? meeting->missing : meeting->maps[i]->values.places[pair[i]].value;
-    PyObject *value = PyObject_Vectorcall(meeting->how, both, 2, NULL);
-    bool is_kept = value != NULL && find_or_add(&meeting->made->values, value, number);
-    Py_XDECREF(value);
-    return is_kept;
+    return PyObject_Vectorcall(meeting->how, both, 2, NULL);
 }
 
-/* The same, unless a piece before has the pair. Two of one hash that begin alike are one pair. */
-static bool make_once(Meeting *meeting, size_t piece)
+/* The same, once for all pieces of a pair: the first has the number of what was made as its second one. Two of one hash that begin alike are
+ * one pair. */
+static PyObject *made_once(Meeting *meeting, size_t piece)
 {
-    const size_t *pair = meeting->pairs[piece];
-    size_t *number = &meeting->pieces[piece].number, first;
+    size_t *pair = meeting->pairs[piece], first;
     uint64_t hash = pair[0] * 0xD1B54A32D192ED03u + pair[1];
+    Values *values = &meeting->made->values;
     size_t slot = first_slot(&meeting->firsts, hash);
     for (; (first = next_number(&meeting->firsts, hash, &slot)) != NONE; slot++) {
-        if (meeting->pairs[first][0] != pair[0]) continue;
-        *number = meeting->pieces[first].number;
-        return true;
+        if (meeting->pairs[first][0] == pair[0]) return Py_NewRef(values->places[meeting->pairs[first][1]].value);
     }
-    return make_value(meeting, pair, number) && add_number(&meeting->firsts, hash, piece);
+    PyObject *value = made_of(meeting, pair);
+    if (value != NULL && !(find_or_add(values, value, &pair[1]) && add_number(&meeting->firsts, hash, piece))) Py_CLEAR(value);
+    return value;
 }
 
-/* Leaves with each piece the number of what is made of its pair, in order and once for each pair, and joins the pieces. */
+/* Leaves with a piece the number of its value, or of the one before it if these touch and are one. */
+static bool number_value(Meeting *meeting, size_t piece, PyObject *value)
+{
+    Values *values = &meeting->made->values;
+    Change *it = &meeting->pieces[piece], *before = piece > 0 ? it - 1 : NULL;
+    bool touches = before != NULL && before->range.has_end && before->range.end == it->range.start;
+    int is_one = touches ? are_one(values->places[before->number].value, value) : 0;
+    if (is_one > 0) it->number = before->number;
+    return is_one > 0 || (is_one == 0 && find_or_add(values, value, &it->number));
+}
+
+/* Leaves with each piece the number of what is made of its pair, in order and once for each pair. */
 static bool make_values(Meeting *meeting)
 {
     bool fits = true;
     for (size_t i = 0; fits && i < meeting->len; i++) {
         const size_t *pair = meeting->pairs[i];
-        size_t *number = &meeting->pieces[i].number;
         int side = pair[0] == NONE;
-        if (meeting->missing == NULL && pair[!side] == NONE)
-            fits = find_or_add(&meeting->made->values, meeting->maps[side]->values.places[pair[side]].value, number);
-        else fits = *number == NONE ? make_value(meeting, pair, number) : make_once(meeting, i);
+        PyObject *value;
+        if (meeting->missing == NULL && pair[!side] == NONE) value = Py_NewRef(meeting->maps[side]->values.places[pair[side]].value);
+        else value = meeting->pieces[i].number == NONE ? made_of(meeting, pair) : made_once(meeting, i);
+        fits = value != NULL && number_value(meeting, i, value);
+        Py_XDECREF(value);
     }
-    Py_ssize_t len = fits ? join(meeting->made, meeting->pieces, meeting->len, meeting->pieces) : -1;
-    meeting->len = len;
-    return len >= 0;
+    return fits;
 }
 
 /* Another map of what a function makes of the values of both, once for each pair that meets. Is given the other map, the function, and

@@ -74,11 +74,6 @@ Steps *new_steps(PyTypeObject *type, bool is_signed);
 /* Does changes of ranges in order, each of which begins where the one before ends or above, in a map that has nothing there. */
 range_set_status put_in_order(Steps *self, const Change *changes, size_t count);
 
-/* Gives pieces that touch a range with an equal value its number: one of these before, or one of the map. Of two values of the map the lower
- * one's stays. They are in order, and the last list has room for as many. Returns how many ranges these are, or -1 where an `==` raises an
- * error; or breaks off where one changes the map. */
-Py_ssize_t join(const Steps *self, const Change *pieces, size_t count, Change *joined);
-
 /* Goes back to what the map was before changes that were refused memory midway; and forgets what it was. */
 bool settle(Steps *self);
 void forget_undo(Steps *self);
