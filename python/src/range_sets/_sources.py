@@ -411,15 +411,16 @@ def _ranges_of_table(table: Any, kind: Kind | None) -> Now:
 
 def items_of(source: Any, wanted: str, of_table: str = "") -> list[Any]:
     """What an iterable gives, unless it is a text or a table, of which the error says how it is read."""
-    if isinstance(source, str):
-        raise TypeError(f"expected {wanted}, not a text; RangeSet.parse reads one")
-    if hasattr(source, "iloc"):
-        raise TypeError(f"expected {wanted}, not a table: {of_table}")
-    try:
-        items = iter(source)
-    except TypeError:
-        raise _source_error(source, wanted) from None
-    return list(items)
+    if type(source) is not list:
+        if isinstance(source, str):
+            raise TypeError(f"expected {wanted}, not a text; RangeSet.parse reads one")
+        if hasattr(source, "iloc"):
+            raise TypeError(f"expected {wanted}, not a table: {of_table}")
+        try:
+            source = iter(source)
+        except TypeError:
+            raise _source_error(source, wanted) from None
+    return list(source)
 
 
 def sets_of(source: Any, kind: Kind | None) -> list[Now]:

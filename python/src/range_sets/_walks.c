@@ -12,8 +12,8 @@ typedef struct {
 
 enum { UNKNOWN = 2 };
 
-/* Whether the value of a number is the one; -1 where an `==` raises an error, or there is no memory. */
-static int is_sought(const Steps *self, Sought *sought, size_t number)
+/* Compares the value of a number, whose code may change the map; -1 where it raises an error, or there is no memory. */
+static int ask(Steps *self, Sought *sought, size_t number)
 {
     if (number >= sought->room) {
         size_t room = self->values.room;
@@ -23,9 +23,9 @@ static int is_sought(const Steps *self, Sought *sought, size_t number)
         sought->answers = longer;
         sought->room = room;
     }
-    int answer = sought->answers[number];
-    if (answer == UNKNOWN) sought->answers[number] = answer = are_one(self->values.places[number].value, sought->value);
-    return answer;
+    int answer = are_one(self->values.places[number].value, sought->value);
+    sought->answers[number] = answer;
+    return settle(self) ? answer : -1;
 }
 
 /* The boundaries of the keys that have the value, or with NULL any. Beyond the range there may be more or fewer. */
@@ -39,8 +39,9 @@ static PyObject *keys_of(Steps *self, Range range, PyObject *value)
     /* No value is dropped, so that none gets the number of one that was compared. */
     self->values.readers++;
     for (Walk walk = {range}; items != NULL && step(self, &walk, &it);) {
-        is_one = value == NULL ? 1 : is_sought(self, &sought, it.value);
-        if (is_one < 0 || !settle(self)) break;
+        if (value != NULL) is_one = it.value < sought.room ? sought.answers[it.value] : UNKNOWN;
+        if (is_one == UNKNOWN) is_one = ask(self, &sought, it.value);
+        if (is_one < 0) break;
         if (!is_one) continue;
         if (len > 0 && items[len - 1] == it.start) len--;
         else items[len++] = it.start;
