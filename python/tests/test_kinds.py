@@ -236,7 +236,12 @@ class EachKind(unittest.TestCase):
                 pair = elements[2], elements[1]
                 nothing, made = RangeSet(kind=name), MutableRangeSet([pair], kind=name)
                 made.add(*pair)
-                for other in (RangeSet(pair, kind=name), RangeSet([pair], kind=name), RangeSet([[*pair]], kind=name), nothing.insert(*pair)):
+                for other in (
+                    RangeSet(pair, kind=name),
+                    RangeSet([pair], kind=name),
+                    RangeSet([[*pair]], kind=name),
+                    nothing.insert(*pair),
+                ):
                     self.assertEqual((other, len(other)), (made, 0))
                 self.assertEqual(RangeMap([(pair, "a")], kind=name), RangeMap(kind=name))
 

@@ -1324,6 +1324,15 @@ class Meanwhile(unittest.TestCase):
                         count += 1
                         self.assertLess(count, 9)
                 self.assertEqual(count, 1)
+        made, count = RangeMap([((0, 5), "a"), ((7, 9), "b")]), 0
+        with self.assertRaisesRegex(RuntimeError, "more or fewer ranges"):
+            for (start, end), value in made.items():
+                # As many ranges, each above the one that it stands for.
+                made.remove(start, end)
+                made.put(20 * end, 20 * end + 1, value)
+                count += 1
+                self.assertLess(count, 9)
+        self.assertEqual((count, len(made)), (2, 2))
         made = RangeMap([((0, 5), "a"), ((7, 9), "b")])
         for keys, value in made.items():
             made.put(*keys, value + "!")

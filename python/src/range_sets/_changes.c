@@ -215,7 +215,7 @@ static Py_ssize_t join(const Steps *self, const Change *pieces, size_t count, Ch
             last->range = cut(self, &all, up_to, last->range.start);
         }
         if (is_one && !is_known) last->number = above;
-        is_known = is_known || is_one;
+        is_known |= is_one;
     }
     return len;
 }
@@ -298,9 +298,9 @@ static PyObject *change_joined(Steps *self, const Change *pieces, size_t count, 
     Py_ssize_t len = -1;
     if (joined == NULL) return PyErr_NoMemory();
     do {
-        if (!settle(self)) break;
+        bool is_whole = settle(self);
         seen = self->changes;
-        len = self->kind == kind ? join(self, pieces, count, joined) : 0;
+        len = !is_whole ? -1 : self->kind == kind ? join(self, pieces, count, joined) : 0;
     } while (len >= 0 && self->changes != seen);
     bool is_kind = self->kind == kind, is_alone = laid->handle.u64.at != NULL && self->len == 0 && (size_t)len == count;
     bool is_done = len >= 0 && is_kind && (is_alone ? take_over(self, laid) : change_all(self, joined, len));

@@ -119,12 +119,12 @@ PyObject *steps_equals(Steps *self, PyObject *object)
 
 /* ---- Ranges in turn ---- */
 
-/* An iterator over ranges, their values, or both, of a map that has as many as it had. */
+/* An iterator over ranges, their values, or both, of a map that has as many as it had. It gives no more than these. */
 typedef struct {
     PyObject_HEAD
     Steps *steps;
     Walk walk;
-    size_t len;
+    size_t len, given;
     bool has_keys, has_values;
 } Items;
 
@@ -154,12 +154,13 @@ static PyObject *items_next(Items *self)
 {
     Steps *steps = self->steps;
     Stretch it;
-    if (!settle(steps)) return NULL;
-    if (steps->len != self->len && !self->walk.is_done) {
+    if (self->walk.is_done || !settle(steps)) return NULL;
+    bool is_same = steps->len == self->len;
+    if (is_same && !step(steps, &self->walk, &it)) return NULL;
+    if (!is_same || self->given++ == self->len) {
         self->len = SIZE_MAX;
         return PyErr_Format(PyExc_RuntimeError, "the map got more or fewer ranges while it was read: list(m.items()) has them as they are");
     }
-    if (!step(steps, &self->walk, &it)) return NULL;
     /* All is read before other code runs. */
     PyObject *value = self->has_values ? Py_NewRef(value_of(steps, &it)) : NULL;
     if (!self->has_keys) return value;
@@ -206,6 +207,7 @@ static PyObject *iterated(Steps *self, PyObject *const *args, Py_ssize_t n, bool
     made->steps = (Steps *)Py_NewRef(self);
     made->walk = (Walk){.left = range, .is_done = is_reversed(range, self->is_signed)};
     made->len = self->len;
+    made->given = 0;
     made->has_keys = has_keys;
     made->has_values = has_values;
     PyObject_GC_Track(made);
