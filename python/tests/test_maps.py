@@ -1,4 +1,4 @@
-"""RangeMap: rows, made-up changes compared with a dict, and values whose `==`, hash and release are watched."""
+"""RangeMap: rows, made-up changes compared with a dict, and values whose `==` and release are watched."""
 
 import contextlib
 import copy
@@ -1412,6 +1412,9 @@ class Meanwhile(unittest.TestCase):
             (lambda: made.remove(2, 10), [((0, 2), "a"), ((10, 12), "c")]),
             (lambda: made.update([((3, 7), "d"), ((20, None), "e"), ((4, 5), [1])]), None),
             (lambda: made.update([((n, n + 1), str(n)) for n in range(3, 40)]), None),
+            (lambda: made.update([((14, 16), [1]), ((12, 15), [1]), ((20, 22), [2]), ((22, 23), [2])]), None),
+            (lambda: RangeMap([((5, 9), [1]), ((9, 12), [1]), ((0, 6), [2])]), items),
+            (lambda: made.find([1]), items),
             (lambda: made.__setitem__(some, "c"), None),
             (lambda: made.__delitem__(some), None),
             (lambda: made.clear(), []),

@@ -53,9 +53,10 @@ ROWS = [
 class Messages(unittest.TestCase):
     def test_errors_that_name_the_way_out(self):
         for call, error, said in ROWS:
-            with self.subTest(call=call), self.assertRaises(error) as raised:
-                eval(call, {**globals(), "changing": changing})
-            self.assertIn(said, str(raised.exception), call)
+            with self.subTest(call=call):
+                with self.assertRaises(error) as raised:
+                    eval(call, {**globals(), "changing": changing})
+                self.assertIn(said, str(raised.exception))
 
     def test_the_ways_out(self):
         self.assertTrue(numbers.covers(0, 5) and not hasattr(numbers, "add") and not hasattr(changing, "remove"))

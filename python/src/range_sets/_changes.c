@@ -179,6 +179,14 @@ static int are_of_one(const Steps *self, size_t a, size_t b)
     return a == b ? 1 : are_one(self->values.places[a].value, self->values.places[b].value);
 }
 
+/* Whether ranges in order may touch one of these or of the map. */
+static bool may_touch(const Steps *self, const Change *pieces, size_t count)
+{
+    bool may = self->len > 0;
+    for (size_t i = 1; !may && i < count; i++) may = pieces[i].range.start == pieces[i - 1].range.end;
+    return may;
+}
+
 /* Gives ranges in order that touch one with an equal value its number: one of these before, or one of the map. Of two values of the map the
  * lower one's stays. Is given a list for as many; returns how many ranges these are, or -1 where an `==` raises an error; or breaks off
  * where one changes the map. */
@@ -291,20 +299,22 @@ static bool take_over(Steps *self, Steps *laid)
 }
 
 /* Changes a map of a kind, or returns False if it has another by now. Where an `==` changes the map, neighbours are compared anew. */
-static PyObject *change_joined(Steps *self, const Change *pieces, size_t count, PyObject *kind, Steps *laid)
+static PyObject *change_joined(Steps *self, Change *pieces, size_t count, PyObject *kind, Steps *laid)
 {
-    Change *joined = PyMem_Malloc(count * sizeof *joined);
-    uint64_t seen = 0;
-    Py_ssize_t len = -1;
+    if (!settle(self)) return NULL;
+    bool may_join = may_touch(self, pieces, count);
+    Change *joined = may_join ? PyMem_Malloc(count * sizeof *joined) : pieces;
+    uint64_t seen;
+    Py_ssize_t len;
     if (joined == NULL) return PyErr_NoMemory();
     do {
-        bool is_whole = settle(self);
+        len = settle(self) ? (Py_ssize_t)count : -1;
         seen = self->changes;
-        len = !is_whole ? -1 : self->kind == kind ? join(self, pieces, count, joined) : 0;
+        if (len >= 0 && may_join && self->kind == kind) len = join(self, pieces, count, joined);
     } while (len >= 0 && self->changes != seen);
     bool is_kind = self->kind == kind, is_alone = laid->handle.u64.at != NULL && self->len == 0 && (size_t)len == count;
     bool is_done = len >= 0 && is_kind && (is_alone ? take_over(self, laid) : change_all(self, joined, len));
-    PyMem_Free(joined);
+    if (may_join) PyMem_Free(joined);
     return is_done ? Py_True : len >= 0 && !is_kind ? Py_False : NULL;
 }
 

@@ -72,7 +72,8 @@ class Times(Timed):
         return self.first + code * _MICROSECOND
 
     def hint(self, name: str) -> str:
-        return of_timestamps(name) if self.zone is None and name.startswith("datetime64[") else ""
+        is_alike = self.zone is None and name.startswith("datetime64[")
+        return f"; with kind={name!r} pandas' Timestamps make such a set" if is_alike else ""
 
 
 class Deltas(Timed):
@@ -159,10 +160,6 @@ def _refuse_nanoseconds(value: Any, part: str) -> None:
     refuse_nat(value)
     if getattr(value, part, 0):
         raise ValueError(f"expected microseconds, and {value!r} has nanoseconds: numpy's datetime64[ns] keep them")
-
-
-def of_timestamps(name: str) -> str:
-    return f"; with kind={name!r} pandas' Timestamps make such a set"
 
 
 DATE, DELTA = Dates(), Deltas()
